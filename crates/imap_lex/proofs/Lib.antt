@@ -1,0 +1,4 @@
+pub mod Crlf
+pub mod Runs
+pub mod Lines
+pub mod Readings

@@ -1,0 +1,35 @@
+//! Why a piece of the stream wasn't taken.
+
+use std::alloc::AllocError;
+use std::error::Error;
+use std::fmt;
+
+#[derive(Clone, Copy, Debug, PartialEq, Eq)]
+pub enum LexError {
+    /// Memory ran out. The piece may be fed again.
+    Memory,
+    /// A [`Frame::Hangup`](crate::Frame::Hangup) was told before, so that nothing more is taken.
+    Closed,
+}
+
+impl fmt::Display for LexError {
+    fn fmt<W: fmt::Write>(&self, f: &mut fmt::Formatter<W>) -> fmt::Result {
+        match self {
+            LexError::Memory => write!(f, "out of memory"),
+            LexError::Closed => write!(f, "the stream was hung up"),
+        }
+    }
+}
+
+impl Error for LexError {}
+
+impl From<AllocError> for LexError {
+    ghost use Rattle.std.specs.Prelude.{◌≡◌};
+    ghost use Rattle.imap_lex.specs.declared.error.LexError.TheVariants.{Memory};
+
+    ghost from_gives = { λ _ error. error ≡ Memory };
+
+    fn from(_error: AllocError) -> LexError {
+        LexError::Memory
+    }
+}
