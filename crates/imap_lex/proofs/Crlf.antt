@@ -1,6 +1,6 @@
 -- Where CRLF stands in octets.
-use Rattle.std.proofs.Common.{◌≡◌, ◌∙◌, suc, ap, sym, refl, ℕ, ◌+◌, ◌-◌, ◌≤◌, ◌⊎◌, inl, inr, Bool, List, [], ◌∷◌, ◌++◌, append_assoc, length, length-append, take, arith, true, false}
-use Rattle.std.specs.Prelude.{eqb, ◌&&◌}
+use Rattle.std.proofs.Common.{◌≡◌, ◌∙◌, suc, ap, sym, refl, ℕ, ◌+◌, ◌-◌, ◌≤◌, inl, inr, List, [], ◌∷◌, ◌++◌, append_assoc, length, length-append, take, arith, true, false}
+use Rattle.std.specs.Prelude.{eqb}
 use Rattle.std.specs.List.{ends_with}
 use Rattle.std.proofs.Math.Seq.{take-append_seam, take-append-add}
 use Rattle.std.proofs.lemmas.Bool.{cases_Bool, false_from_ne_true, eqb-true}

@@ -1,12 +1,14 @@
 -- Each stream has a reading, and a framer tells it.
-use Rattle.std.proofs.Common.{◌≡◌, ◌∙◌, ap, sym, refl, subst, ℕ, ◌+◌, ◌<◌, ◌≤◌, ◌⊎◌, inl, inr, List, [], ◌∷◌, ◌++◌, append_assoc, append-nil, length, length-append, arith, true, false, map}
+use Rattle.std.proofs.Common.{◌≡◌, ◌∙◌, ap, sym, refl, subst, ℕ, ◌+◌, ◌<◌, ◌≤◌, ◌⊎◌, inl, inr, List, [], ◌∷◌, ◌++◌, append_assoc, append-nil, length, length-append, take, drop, arith, true, false, map}
 use Rattle.std.specs.Prelude.{eqb}
 use Rattle.std.specs.List.{ends_with, concat, AllByRecursion}
 use Rattle.std.proofs.lemmas.Bool.{cases_Bool}
 use Rattle.std.proofs.Math.Nat.{eq-or-lt_of_le}
-use Rattle.imap_lex.specs.declared.frame.Frame.TheVariants.{Whole}
-use Rattle.imap_lex.specs.Framing.{awaiting, crlf, line_outcome, after, run}
-use Rattle.imap_lex.specs.Stream.{HasNoCrlf, IsLine, Ending, unended, too_long, IsEnding, ending_octets, ending_told, Reading, octets_of, IsReading, EachHasReading, ToldAsRead}
+use Rattle.std.proofs.lemmas.List.{take_at, drop_at, append_cancel_left}
+use Rattle.imap_lex.specs.declared.frame.Frame.{Frame}
+use Rattle.imap_lex.specs.declared.frame.Frame.TheVariants.{Whole, Hangup}
+use Rattle.imap_lex.specs.Framing.{awaiting, crlf, Outcome, line_outcome, after, run}
+use Rattle.imap_lex.specs.Stream.{HasNoCrlf, IsLine, Ending, unended, too_long, IsEnding, ending_octets, ending_told, ending_left, Reading, octets_of, told_of, IsReading, EachHasReading, HasOneReading, ToldAsRead}
 use Rattle.imap_lex.proofs.Crlf.{ends_with-crlf, no_crlf_before, HasNoCrlf-push, IsLine-push, HasNoCrlf-line}
 use Rattle.imap_lex.proofs.Runs.{run-hung_up, run-append, line_outcome-too_long, line_outcome-ended, line_outcome-unended}
 
@@ -31,20 +33,50 @@ run-line line rest is =
     ∙ run-append (awaiting []) (text ++ 13 ∷ []) (10 ∷ rest)
     ∙ rw (run-unended [] (text ++ 13 ∷ []) (HasNoCrlf-line line text is is.ends.1) fits, ended) refl
 
-told-ending : (e : Ending) → IsEnding e → (run (awaiting []) (ending_octets e)).told ≡ ending_told e
-told-ending (unended octets) is = rw (run-unended [] octets is.0 is.1) refl
-told-ending (too_long text octet unread) is =
+run-ending : (e : Ending) → IsEnding e → run (awaiting []) (ending_octets e) ≡ record { told = ending_told e; next = ending_left e }
+run-ending (unended octets) is = run-unended [] octets is.0 is.1
+run-ending (too_long text octet unread) is =
     let over : 8192 < length (text ++ octet ∷ []) = omega (arith, length-append text (octet ∷ []), is.1) in
     let fits : length text ≤ 8192 = omega (arith, is.1) in
     rw (run-append (awaiting []) text (octet ∷ unread), run-unended [] text is.0 fits, line_outcome-too_long _ over, run-hung_up unread) refl
 
-told-lines : (lines : List (List ℕ)) (e : Ending) → AllByRecursion IsLine lines → IsEnding e → (run (awaiting []) (concat lines ++ ending_octets e)).told ≡ map Whole lines ++ ending_told e
-told-lines [] e all is = told-ending e is
-told-lines (l ∷ lines) e all is =
-    rw (append_assoc l (concat lines) (ending_octets e), run-line l (concat lines ++ ending_octets e) all.0, told-lines lines e all.1 is) refl
+run-lines : (lines : List (List ℕ)) (e : Ending) → AllByRecursion IsLine lines → IsEnding e → run (awaiting []) (concat lines ++ ending_octets e) ≡ record { told = map Whole lines ++ ending_told e; next = ending_left e }
+run-lines [] e all is = run-ending e is
+run-lines (l ∷ lines) e all is =
+    rw (append_assoc l (concat lines) (ending_octets e), run-line l (concat lines ++ ending_octets e) all.0, run-lines lines e all.1 is) refl
 
 pub told_as_read : ToldAsRead
-told_as_read r is = told-lines r.lines r.ending is.0 is.1
+told_as_read r is = run-lines r.lines r.ending is.0 is.1
+
+-- ---- one reading
+
+abbrev lines_told : List Frame → List (List ℕ)
+lines_told [] = []
+lines_told (Whole line ∷ frames) = line ∷ lines_told frames
+lines_told (Hangup ∷ frames) = lines_told frames
+
+lines_told-ending : (lines : List (List ℕ)) (e : Ending) → lines_told (map Whole lines ++ ending_told e) ≡ lines
+lines_told-ending [] (unended octets) = refl
+lines_told-ending [] (too_long text octet unread) = refl
+lines_told-ending (l ∷ lines) e = ap (λ (ls : List (List ℕ)). l ∷ ls) (lines_told-ending lines e)
+
+same_ending : (e f : Ending) → IsEnding e → IsEnding f → ending_octets e ≡ ending_octets f → ending_left e ≡ ending_left f → e ≡ f
+same_ending (unended octets) (unended others) he hf same left = ap unended same
+same_ending (unended octets) (too_long text octet unread) he hf same left = absurd cc
+same_ending (too_long text octet unread) (unended octets) he hf same left = absurd cc
+same_ending (too_long text octet unread) (too_long text' octet' unread') he hf same left =
+    let texts : text ≡ text' = sym (take_at text (octet ∷ unread) 8192 he.1) ∙ ap (take 8192) same ∙ take_at text' (octet' ∷ unread') 8192 hf.1 in
+    let rests : ◌≡◌ {A = List ℕ} (octet ∷ unread) (octet' ∷ unread') = sym (drop_at text (octet ∷ unread) 8192 he.1) ∙ ap (drop 8192) same ∙ drop_at text' (octet' ∷ unread') 8192 hf.1 in
+    cc
+
+pub has_one_reading : HasOneReading
+has_one_reading r s hr hs same =
+    let told : ◌≡◌ {A = Outcome} (record { told = told_of r; next = ending_left r.ending }) (record { told = told_of s; next = ending_left s.ending }) = sym (told_as_read r hr) ∙ ap (run (awaiting [])) same ∙ told_as_read s hs in
+    let lines : r.lines ≡ s.lines = sym (lines_told-ending r.lines r.ending) ∙ ap (λ (o : Outcome). lines_told o.told) told ∙ lines_told-ending s.lines s.ending in
+    let rests : ending_octets r.ending ≡ ending_octets s.ending = append_cancel_left (concat r.lines) (ending_octets r.ending) (ending_octets s.ending) (same ∙ ap (λ (ls : List (List ℕ)). concat ls ++ ending_octets s.ending) (sym lines)) in
+    let endings : r.ending ≡ s.ending = same_ending r.ending s.ending hr.1 hs.1 rests (ap (λ (o : Outcome). o.next) told) in
+    let same_lines : r ≡ record { lines = s.lines; ending = r.ending } = ap (λ (ls : List (List ℕ)). let q : Reading = record { lines = ls; ending = r.ending } in q) lines in
+    same_lines ∙ ap (λ (e : Ending). let q : Reading = record { lines = s.lines; ending = e } in q) endings
 
 -- ---- a reading, made octet by octet
 

@@ -5,7 +5,7 @@ use Rattle.std.specs.List.{ends_with}
 use Rattle.std.proofs.lemmas.Bool.{lt-ltb, le-ltb}
 use Rattle.imap_lex.specs.declared.frame.Frame.{Frame}
 use Rattle.imap_lex.specs.declared.frame.Frame.TheVariants.{Whole, Hangup}
-use Rattle.imap_lex.specs.Framing.{Framing, awaiting, hung_up, crlf, Outcome, line_outcome, octet_outcome, after, run}
+use Rattle.imap_lex.specs.Framing.{awaiting, hung_up, crlf, Outcome, line_outcome, octet_outcome, after, run}
 use Rattle.imap_lex.specs.Stream.{AnyCut}
 
 pub after-after : (first second : List Frame) (o : Outcome) → after first (after second o) ≡ after (first ++ second) o

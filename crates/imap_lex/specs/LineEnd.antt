@@ -5,8 +5,10 @@ use Rattle.imap_lex.specs.declared.line.LineEnd.{LineEnd}
 use Rattle.imap_lex.specs.declared.line.LineEnd.TheVariants.{After, Missing, TooLong}
 use Rattle.imap_lex.specs.declared.framer.Rest.{Rest}
 use Rattle.imap_lex.specs.declared.framer.Rest.TheVariants as rest
-use Rattle.imap_lex.specs.Framing.{Framing, awaiting, hung_up, Outcome, after, run}
+use Rattle.imap_lex.specs.Framing.{Framing, awaiting, hung_up, after, run}
 
+-- What `front` and then `piece` do: they make one line and the rest of the piece is read anew, or they make none, or
+-- too long a one.
 abbrev pub Finds : LineEnd → List ℕ → List ℕ → Type 0
 Finds (After len) front piece =
     (0 < len) × (len ≤ length piece) × (run (awaiting front) piece ≡ after (Whole (front ++ take len piece) ∷ []) (run (awaiting []) (drop len piece)))

@@ -3,7 +3,7 @@ use Rattle.std.specs.Prelude.{◌≡◌, ◌≤◌, ℕ, List, [], ◌∷◌, �
 use Rattle.std.specs.List.{concat, AllByRecursion}
 use Rattle.imap_lex.specs.declared.frame.Frame.{Frame}
 use Rattle.imap_lex.specs.declared.frame.Frame.TheVariants.{Whole, Hangup}
-use Rattle.imap_lex.specs.Framing.{Framing, awaiting, crlf, Outcome, after, run}
+use Rattle.imap_lex.specs.Framing.{Framing, awaiting, hung_up, crlf, after, run}
 
 -- CRLF stands nowhere in the octets
 abbrev pub HasNoCrlf : List ℕ → Type 0
@@ -47,14 +47,23 @@ octets_of r = concat r.lines ++ ending_octets r.ending
 abbrev pub told_of : Reading → List Frame
 told_of r = map Whole r.lines ++ ending_told r.ending
 
+-- what a framer goes on with behind the ending
+abbrev pub ending_left : Ending → Framing
+ending_left (unended octets) = awaiting octets
+ending_left (too_long text octet unread) = hung_up
+
 -- every stream has a reading
 abbrev pub EachHasReading : Type 0
 EachHasReading = (stream : List ℕ) → (r : Reading) × IsReading r × (octets_of r ≡ stream)
 
--- and of a stream with this reading, a framer tells just this
-abbrev pub ToldAsRead : Type 0
-ToldAsRead = (r : Reading) → IsReading r → (run (awaiting []) (octets_of r)).told ≡ told_of r
+-- and no other
+abbrev pub HasOneReading : Type 0
+HasOneReading = (r s : Reading) → IsReading r → IsReading s → octets_of r ≡ octets_of s → r ≡ s
 
--- a piece, and then another, is the two as one
+-- A framer tells the stream as it is read, and holds the octets that make no line yet.
+abbrev pub ToldAsRead : Type 0
+ToldAsRead = (r : Reading) → IsReading r → run (awaiting []) (octets_of r) ≡ record { told = told_of r; next = ending_left r.ending }
+
+-- Two pieces, one after the other, do what they do as one.
 abbrev pub AnyCut : Type 0
 AnyCut = (state : Framing) (first second : List ℕ) → run state (first ++ second) ≡ after (run state first).told (run (run state first).next second)

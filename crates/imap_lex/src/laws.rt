@@ -1,11 +1,12 @@
 //! Laws of every stream.
 
-ghost use Rattle.imap_lex.specs.Stream.{EachHasReading, ToldAsRead, AnyCut};
+ghost use Rattle.imap_lex.specs.Stream.{EachHasReading, HasOneReading, ToldAsRead, AnyCut};
 
-/// Each stream is lines, and behind them an unended line or one that is too long, in one way, and a framer tells just
-/// these lines.
+/// Each stream is lines, and behind them octets that make no line yet or a line that is too long. It is so in one way,
+/// and a framer tells these lines and holds these octets.
 pub fn one_reading()
     ensures each { EachHasReading }
+    ensures once { HasOneReading }
     ensures told { ToldAsRead }
 {}
 

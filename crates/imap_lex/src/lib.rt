@@ -18,3 +18,6 @@ pub use frame::Frame;
 pub use framer::Framer;
 pub use octets::Octets;
 pub use tag::Tag;
+
+#[cfg(test)]
+mod tests;

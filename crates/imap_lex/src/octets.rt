@@ -49,7 +49,8 @@ impl Octets {
     pub fn into_vec(self) -> Vec<u8>
         ensures { result.items ≡ self }
     {
-        self.0
+        let Octets(octets) = self;
+        octets
     }
 
     pub fn try_copy(&self, alloc: Global) -> Result<Octets, AllocError>

@@ -1,5 +1,5 @@
-use Rattle.std.proofs.Common.{◌∙◌, sym, arith}
-use Rattle.imap_lex.proofs.Lines.{finds_too_long, finds_end, IsReadTo-next, ends_with_cr-next}
+use Rattle.std.proofs.Common.{sym, arith}
+use Rattle.imap_lex.proofs.Lines.{finds_too_long, IsReadTo-next, ends_with_cr-next}
 use Rattle.imap_lex.proofs.line.line_end.Goals as goal
 use Rattle.imap_lex.proofs.line.line_end.Goals.{else-after_cr-via-then-after_cr+else-octet-eq10, else-after_cr-via-else-after_cr}
 

@@ -1,0 +1,5 @@
+use Rattle.imap_grammar.proofs.Requests.{each_spells, spells_once}
+use Rattle.imap_grammar.proofs.laws.one_request.Goals as goal
+
+pub returns : goal.returns
+returns c = record { some = each_spells; once = spells_once }
