@@ -1,0 +1,12 @@
+pub mod AclSet
+pub mod Entries
+pub mod Kept
+pub mod Lent
+pub mod Listed
+pub mod Numbered
+pub mod Runs
+pub mod Sameness
+pub mod Steps
+pub mod Replay
+pub mod Superiors
+pub mod Views

@@ -1,0 +1,14 @@
+pub mod Accounts
+pub mod Effects
+pub mod Finite
+pub mod Machine
+pub mod Opening
+pub mod Planned
+pub mod Printed
+pub mod Reply
+pub mod Same
+pub mod Sessions
+pub mod Shown
+pub mod Trace
+pub mod View
+pub mod World

@@ -1,0 +1,70 @@
+-- The machine: the mailboxes and all open sessions, and what one step makes of them.
+use Rattle.std.specs.Prelude.{◌≡◌, ℕ, ◌≤◌, List, [], ◌∷◌, length, take, Option, Some, None}
+use Rattle.std.specs.FinMap as map
+use Rattle.imap_core.specs.declared.response.Response.{Response}
+use Rattle.imap_core.specs.declared.sessions.SessionChange.{SessionChange}
+use Rattle.imap_core.specs.declared.sessions.SessionChange.TheVariants as session
+use Rattle.imap_core.specs.declared.site.Site.{Site}
+use Rattle.imap_core.specs.declared.step.SessionId.{SessionId}
+use Rattle.imap_core.specs.declared.step.Step.{Step}
+use Rattle.imap_core.specs.Accounts.{Accounts}
+use Rattle.imap_core.specs.Effects.{after_all}
+use Rattle.imap_core.specs.Reply.{Outcome, told, reply}
+use Rattle.imap_core.specs.Sessions.{Own}
+use Rattle.imap_core.specs.View.{View, view}
+use Rattle.imap_core.specs.World.{World}
+
+pub record State : Type 0 where
+  pub site : Site
+  pub world : World
+  pub accounts : Accounts
+
+-- what a user may see, and the user's own sessions, if the user is known
+abbrev pub view_of : State → List ℕ → View
+view_of state user = view state.site.administrator user state.world
+
+abbrev pub own_of : State → List ℕ → Option Own
+own_of state user = map.get state.accounts user
+
+-- a user whom nobody knows is told nothing
+abbrev pub outcome_for : View → Option Own → Step → Outcome
+outcome_for view None step = told []
+outcome_for view (Some own) step = reply step.who.user view own step.who.number step.act
+
+abbrev pub outcome : State → Step → Outcome
+outcome state step = outcome_for (view_of state step.who.user) (own_of state step.who.user) step
+
+abbrev pub answer : State → Step → List Response
+answer state step = (outcome state step).replies
+
+-- ---- sessions after a step
+
+abbrev pub with_own : Accounts → List ℕ → (Own → Own) → Option Own → Accounts
+with_own accounts user f None = accounts
+with_own accounts user f (Some own) = map.insert accounts user (f own)
+
+abbrev pub settled : Accounts → SessionId → SessionChange → Accounts
+settled accounts who session.Keep = accounts
+settled accounts who (session.Put fresh) = with_own accounts who.user (λ own. map.insert own who.number fresh) (map.get accounts who.user)
+settled accounts who session.End = with_own accounts who.user (λ own. map.remove own who.number) (map.get accounts who.user)
+
+abbrev pub next : State → Step → State
+next state step = record {
+  site = state.site;
+  world = after_all (outcome state step).effects state.world;
+  accounts = settled state.accounts step.who (outcome state step).session;
+}
+
+-- ---- runs
+
+abbrev pub answers : State → List Step → List (List Response)
+answers state [] = []
+answers state (step ∷ steps) = answer state step ∷ answers (next state step) steps
+
+abbrev pub after_steps : State → List Step → State
+after_steps state [] = state
+after_steps state (step ∷ steps) = after_steps (next state step) steps
+
+-- the first steps were made, and the others not
+abbrev pub IsPartWay : State → List Step → State → Type 0
+IsPartWay state steps reached = (made : ℕ) × (made ≤ length steps) × (reached ≡ after_steps state (take made steps))

@@ -1,0 +1,97 @@
+//! The open sessions of one user.
+
+ghost use Rattle.std.specs.Prelude.{◌≡◌, ◌<◌, ◌≤◌, ◌==◌, ◌⊎◌, not, filter, length, vec_len, true, IfOk, nat_le};
+ghost use Rattle.std.specs.List.{list_any};
+ghost use Rattle.std.specs.Vec.{vec_capacity};
+ghost use Rattle.std.specs.FinMap as map;
+
+use std::alloc::{AllocError, Global};
+use std::marker::Model;
+
+/// How many sessions a user may have open at once.
+pub const MAX_SESSIONS: usize = 16;
+
+/// What is kept of an open session. Nothing yet: no command selects a mailbox.
+#[derive(Clone, Copy)]
+pub struct Session;
+
+/// What becomes of a session.
+#[derive(Clone, Copy)]
+pub enum SessionChange {
+    Keep,
+    /// It is opened, or begins anew.
+    Put(Session),
+    End,
+}
+
+/// The open sessions of one user, by their numbers, with room for as many as may be open. With
+/// so few a plain walk finds one.
+#[derive(Drop)]
+pub struct OwnSessions {
+    entries: Vec<(u32, Session)>,
+}
+
+impl Model for OwnSessions {
+    ghost use Rattle.std.specs.FinMap as map;
+    ghost use Rattle.imap_core.specs.Sessions.{Own, own_code, IsKept};
+
+    ghost Value = { Own };
+
+    ghost coded = { own_code };
+
+    ghost view = { λ s. map.from_entries s.entries.items };
+
+    ghost invariant = { λ s. IsKept s.entries };
+}
+
+impl OwnSessions {
+    pub fn new(alloc: Global) -> Result<OwnSessions, AllocError>
+        ensures { IfOk result (λ own. own ≡ map.empty) }
+    {
+        let entries = Vec::with_capacity(alloc, MAX_SESSIONS)?;
+        Ok(OwnSessions { entries })
+    }
+
+    pub fn is_open(&self, number: u32) -> bool
+        ensures { result ≡ map.contains_key self.now number }
+    {
+        stands_in(&self.entries, number)
+    }
+
+    /// Whether as many are open as may be.
+    pub fn is_full(&self) -> bool
+        ensures { result ≡ nat_le 16 (map.len self.now) }
+    {
+        self.entries.len() >= MAX_SESSIONS
+    }
+
+    /// Opens a session, or begins an open one anew.
+    pub fn put(&mut self, number: u32, session: Session)
+        requires { (map.len self.old < 16) ⊎ (map.contains_key self.old number ≡ true) }
+        ensures { self.new ≡ map.insert self.old number session }
+    {
+        take_out(&mut self.entries, number);
+        self.entries.push_reserved((number, session));
+    }
+
+    /// Closes a session, if it is open.
+    pub fn remove(&mut self, number: u32)
+        ensures { self.new ≡ map.remove self.old number }
+    {
+        take_out(&mut self.entries, number);
+    }
+}
+
+fn stands_in(entries: &[(u32, Session)], number: u32) -> bool
+    ensures { result ≡ list_any (λ e. e.0 == number) entries.now }
+{
+    entries.iter().any(|entry| entry.0 == number)
+}
+
+fn take_out(entries: &mut Vec<(u32, Session)>, number: u32)
+    ensures items { entries.new.items ≡ filter (λ e. not (e.0 == number)) entries.old.items }
+    ensures capacity { vec_capacity entries.new ≡ vec_capacity entries.old }
+    ensures bound { vec_len entries.new ≤ vec_len entries.old }
+{
+    entries.retain(|entry| entry.0 != number);
+}

@@ -1,0 +1,11 @@
+pub mod NameLaws
+pub mod Parts
+pub mod Composed
+pub mod UserLaws
+pub mod PlaceLaws
+pub mod AboveLaws
+pub mod ViewLaws
+pub mod PathLaws
+pub mod InboxWord
+pub mod ReadLaws
+pub mod ShownLaws

@@ -1,0 +1,63 @@
+-- From a path by the rules to a name.
+use Rattle.std.proofs.Common.{◌≡◌, ℕ, ◌≤◌, Bool, true, false, cond, List, length, refl, sym, ap, ◌∙◌, subst, Option, Some, None}
+use Rattle.std.specs.Prelude.{chars, nat_lt}
+use Rattle.std.specs.Str.{is_utf8}
+use Rattle.std.specs.List.{list_any}
+use Rattle.std.proofs.lemmas.Bool.{ltb-false}
+use Rattle.unicode_normalization.specs.Forms.{is_nfc}
+use Rattle.imap_names.specs.declared.error.NameError.{NameError}
+use Rattle.imap_names.specs.Name.{Name, named, root_of, components, path_of, is_empty}
+use Rattle.imap_names.specs.Text.{components_of, has_control}
+use Rattle.imap_names.specs.Valid.{is_reserved, with_inbox, is_root, IsName}
+use Rattle.imap_names.specs.Reading.{path_fault}
+use Rattle.imap_names.proofs.NameLaws.{root_of-named, components-named}
+use Rattle.imap_names.proofs.Parts.{path_of-text}
+
+-- the path breaks no rule of the tree
+pub record KeepsRules (root path : List ℕ) : Type 0 where
+  pub unreserved : is_reserved root (components_of path) ≡ false
+  pub filled : list_any is_empty (components_of path) ≡ false
+  pub short : length path ≤ 255
+  pub shallow : length (components_of path) ≤ 16
+
+-- and it is NFC text without controls
+pub record IsText (path : List ℕ) : Type 0 where
+  pub utf8 : is_utf8 path ≡ true
+  pub nfc : is_nfc (chars path) ≡ true
+  pub printable : has_control path ≡ false
+
+pub IsName-from : (root path : List ℕ) → is_root root ≡ true → KeepsRules root path → IsText path → with_inbox (components_of path) ≡ components_of path → IsName (named root (components_of path))
+IsName-from root path tree rules text inbox =
+    let r : root_of (named root (components_of path)) ≡ root = root_of-named root (components_of path) in
+    let c : components (named root (components_of path)) ≡ components_of path = components-named root (components_of path) in
+    let p : path_of (named root (components_of path)) ≡ path = path_of-text root path in
+    record {
+      tree = ap is_root r ∙ tree;
+      parted = ap components_of p ∙ sym c;
+      filled = ap (list_any is_empty) c ∙ rules.filled;
+      shallow = subst (λ (z : List (List ℕ)). length z ≤ 16) (sym c) rules.shallow;
+      short = subst (λ (z : List ℕ). length z ≤ 255) (sym p) rules.short;
+      utf8 = ap is_utf8 p ∙ text.utf8;
+      nfc = ap (λ z. is_nfc (chars z)) p ∙ text.nfc;
+      printable = ap has_control p ∙ text.printable;
+      unreserved = ap (λ z. is_reserved z (components (named root (components_of path)))) r ∙ ap (is_reserved root) c ∙ rules.unreserved;
+      inbox = ap with_inbox c ∙ inbox ∙ sym c;
+    }
+
+-- one test of the rules
+passed : (b : Bool) (error : NameError) (rest : Option NameError) → cond b (Some error) rest ≡ None → (b ≡ false) × (rest ≡ None)
+passed true error rest h = cc
+passed false error rest h = (refl, h)
+
+pub path_fault-none : (root path : List ℕ) → path_fault root path ≡ None → KeepsRules root path
+path_fault-none root path h =
+    let a = passed (is_reserved root (components_of path)) _ _ h in
+    let b = passed (list_any is_empty (components_of path)) _ _ a.1 in
+    let c = passed (nat_lt 255 (length path)) _ _ b.1 in
+    let d = passed (nat_lt 16 (length (components_of path))) _ _ c.1 in
+    record {
+      unreserved = a.0;
+      filled = b.0;
+      short = ltb-false 255 (length path) c.0;
+      shallow = ltb-false 16 (length (components_of path)) d.0;
+    }

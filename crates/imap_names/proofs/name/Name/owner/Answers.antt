@@ -1,0 +1,10 @@
+use Rattle.std.proofs.Common.{ap, ◌∙◌}
+use Rattle.imap_names.specs.Tree.{root_of_tree}
+use Rattle.imap_names.proofs.ViewLaws.{root_is}
+use Rattle.imap_names.proofs.name.Name.owner.Goals as goal
+
+pub returns-in-User : goal.returns-in-User
+returns-in-User c = root_is c.self.inside c.args.self.now c.self.view_is ∙ ap root_of_tree c.in-User.is
+
+pub returns-in-Shared : goal.returns-in-Shared
+returns-in-Shared c = root_is c.self.inside c.args.self.now c.self.view_is ∙ ap root_of_tree c.in-Shared.is

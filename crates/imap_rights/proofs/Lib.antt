@@ -1,0 +1,12 @@
+pub mod Sets
+pub mod Texts
+pub mod Letters
+pub mod Finite
+pub mod Found
+pub mod Printed
+pub mod Places
+pub mod Puts
+pub mod Changed
+pub mod ReadBack
+pub mod Given
+pub mod AclLaws

@@ -1,0 +1,13 @@
+//! Theorems on the definitions that the contracts cite. The functions do nothing.
+
+ghost use Rattle.imap_rights.specs.Laws.{LettersAreRead, RightsAreThoseGiven};
+
+/// What is printed of rights is read as the same rights.
+pub fn letters_are_read()
+    ensures { LettersAreRead }
+{}
+
+/// Which rights a user has, right by right.
+pub fn rights_are_those_given()
+    ensures { RightsAreThoseGiven }
+{}

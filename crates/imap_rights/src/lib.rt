@@ -1,0 +1,16 @@
+//! Access rights of mailboxes (RFC 4314): sets of rights, identifiers, access control lists and effective rights.
+#![tactic(auto)]
+
+mod acl;
+mod change;
+mod identifier;
+pub mod laws;
+mod rights;
+
+pub use acl::{Acl, AclError};
+pub use change::{RightsChange, read_rights};
+pub use identifier::{Identifier, IdentifierError};
+pub use rights::Rights;
+
+#[cfg(test)]
+mod tests;

@@ -1,0 +1,164 @@
+//! The head of a script: who the users are, the limits, and the mailboxes that are there from the start.
+
+use crate::line::{LineError, read_number};
+use imap_core::{Core, Limits, World};
+use imap_names::{Name, UserName, read_full};
+use imap_rights::{Acl, Identifier, read_rights};
+use std::alloc::{AllocError, Global};
+use std::collections::HashSet;
+
+/// The most messages of a mailbox that a script may ask for, and what it gets without asking.
+const MOST_MESSAGES: u64 = 1_000_000;
+
+const DEFAULT_MESSAGES: u64 = 10_000;
+
+/// The most octets of a message that a script may ask for, and what it gets without asking.
+const MOST_OCTETS: u64 = 1_073_741_824;
+
+const DEFAULT_OCTETS: u64 = 33_554_432;
+
+/// The word that a line of the head begins with.
+#[derive(Clone, Copy, Debug, PartialEq, Eq)]
+pub(crate) enum HeadWord {
+    Admin,
+    User,
+    Limit,
+    Mailbox,
+    Acl,
+}
+
+impl HeadWord {
+    pub(crate) fn read(word: &str) -> Option<HeadWord> {
+        match word {
+            "admin" => Some(HeadWord::Admin),
+            "user" => Some(HeadWord::User),
+            "limit" => Some(HeadWord::Limit),
+            "mailbox" => Some(HeadWord::Mailbox),
+            "acl" => Some(HeadWord::Acl),
+            _ => None,
+        }
+    }
+}
+
+/// What a host starts with.
+#[derive(Drop)]
+pub(crate) struct Head {
+    administrator: UserName,
+    /// The other users, each once.
+    users: Vec<UserName>,
+    limits: Limits,
+    world: World,
+    /// The names of all users, the administrator among them.
+    known: HashSet<String>,
+    /// The mailbox that was made or chosen last.
+    chosen: Option<Name>,
+}
+
+impl Head {
+    /// The head of which the first line names the administrator.
+    pub(crate) fn begin(alloc: Global, administrator: &str) -> Result<Head, LineError> {
+        let administrator = read_user(alloc, administrator)?;
+        let mut known = HashSet::new(alloc);
+        known.insert(String::from_str(alloc, administrator.as_str())?)?;
+        Ok(Head {
+            administrator,
+            users: Vec::new(alloc),
+            limits: Limits {
+                max_messages: DEFAULT_MESSAGES,
+                max_octets: DEFAULT_OCTETS,
+            },
+            world: World::new(alloc),
+            known,
+            chosen: None,
+        })
+    }
+
+    /// Takes a further line. After a refusal the head is of no use.
+    pub(crate) fn take(
+        &mut self,
+        alloc: Global,
+        word: HeadWord,
+        rest: &str,
+    ) -> Result<(), LineError> {
+        match word {
+            HeadWord::Admin => Err(LineError::Bad),
+            HeadWord::User => self.add_user(alloc, rest),
+            HeadWord::Limit => self.set_limit(rest),
+            HeadWord::Mailbox => self.choose_mailbox(alloc, rest),
+            HeadWord::Acl => self.set_entry(alloc, rest),
+        }
+    }
+
+    /// Starts the host.
+    pub(crate) fn open(self, alloc: Global) -> Result<Core, AllocError> {
+        let Head {
+            administrator,
+            users,
+            limits,
+            world,
+            known: _,
+            chosen: _,
+        } = self;
+        let (core, _) = Core::open(alloc, world, administrator, users.as_slice(), limits)?;
+        Ok(core)
+    }
+
+    fn add_user(&mut self, alloc: Global, name: &str) -> Result<(), LineError> {
+        let user = read_user(alloc, name)?;
+        if self.known.insert(String::from_str(alloc, name)?)? {
+            self.users.push(user)?;
+        }
+        Ok(())
+    }
+
+    fn set_limit(&mut self, text: &str) -> Result<(), LineError> {
+        let (limit, number) = text.split_once(' ').ok_or(LineError::Bad)?;
+        match limit {
+            "max_messages" => {
+                self.limits.max_messages = read_number(number, 1, MOST_MESSAGES).ok_or(
+                    LineError::Bad,
+                )?;
+            }
+            "max_octets" => {
+                self.limits.max_octets = read_number(number, 1, MOST_OCTETS).ok_or(LineError::Bad)?;
+            }
+            _ => return Err(LineError::Bad),
+        }
+        Ok(())
+    }
+
+    /// Chooses a mailbox, and makes it first where it isn't there.
+    fn choose_mailbox(&mut self, alloc: Global, text: &str) -> Result<(), LineError> {
+        let name = read_full(alloc, text.as_bytes())?;
+        if !self.knows_owner_of(&name) {
+            return Err(LineError::Bad);
+        }
+        if self.world.mailbox(&name).is_none() {
+            self.world.place(name.try_copy(alloc)?, Acl::new(alloc))?;
+        }
+        self.chosen = Some(name);
+        Ok(())
+    }
+
+    /// Whether the name lies in the tree of a known user or in the one that all share.
+    fn knows_owner_of(&self, name: &Name) -> bool {
+        match name.owner() {
+            Some(owner) => self.known.contains(owner.as_str()),
+            None => true,
+        }
+    }
+
+    /// Sets an entry of the chosen mailbox's access control list.
+    fn set_entry(&mut self, alloc: Global, text: &str) -> Result<(), LineError> {
+        let (identifier, rights) = text.rsplit_once(' ').ok_or(LineError::Bad)?;
+        let identifier = Identifier::read(alloc, identifier.as_bytes())?;
+        let change = read_rights(rights.as_bytes()).ok_or(LineError::Bad)?;
+        let name = self.chosen.as_ref().ok_or(LineError::Bad)?;
+        self.world.set_acl(name, identifier, change)?;
+        Ok(())
+    }
+}
+
+fn read_user(alloc: Global, name: &str) -> Result<UserName, LineError> {
+    UserName::read(alloc, name)?.ok_or(LineError::Bad)
+}

@@ -1,0 +1,158 @@
+//! A host on which a script's steps are made.
+
+use crate::deed::{Deed, ScriptStep};
+use crate::scenario::Scenario;
+use crate::script::ScriptError;
+use crate::transcript::Transcript;
+use imap_core::{Act, Core, Farewell, Response, Step};
+use imap_grammar::parse;
+use imap_lex::{Frame, Framer, LexError};
+use std::alloc::Global;
+use std::collections::HashMap;
+use std::io::Write;
+
+/// Makes the steps of a script, and writes what the sessions are told.
+pub(crate) fn run<O: Write + Drop>(
+    alloc: Global,
+    scenario: Scenario,
+    output: O,
+) -> Result<(), ScriptError> {
+    let Scenario { head, steps } = scenario;
+    let mut host = Host {
+        core: head.open(alloc)?,
+        framers: HashMap::new(alloc),
+        transcript: Transcript::new(alloc, output)?,
+    };
+    for step in steps.iter() {
+        host.make(alloc, step)?;
+    }
+    host.transcript.finish()
+}
+
+/// A host, its connections, and where it is written what they are told.
+#[derive(Drop)]
+struct Host<O: Write + Drop> {
+    core: Core,
+    /// A framer for each open session, by its label.
+    framers: HashMap<String, Framer>,
+    transcript: Transcript<O>,
+}
+
+impl<O: Write + Drop> Host<O> {
+    fn make(&mut self, alloc: Global, step: &ScriptStep) -> Result<(), ScriptError> {
+        match &step.deed {
+            Deed::Open => self.open(alloc, step),
+            Deed::Poll => self.act(alloc, step, Act::Poll),
+            Deed::Leave => self.leave(alloc, step),
+            Deed::Send(octets) => self.receive(alloc, step, octets.as_slice()),
+        }
+    }
+
+    /// Begins a stream, unless the session is refused.
+    fn open(&mut self, alloc: Global, step: &ScriptStep) -> Result<(), ScriptError> {
+        let replies = self.replies(alloc, step, Act::Open)?;
+        if is_greeted(replies.as_slice()) {
+            let label = String::from_str(alloc, step.label.as_str())?;
+            self.framers.insert(label, Framer::new(alloc))?;
+        }
+        self.transcript
+            .tell(alloc, step.label.as_str(), replies.as_slice())
+    }
+
+    fn leave(&mut self, alloc: Global, step: &ScriptStep) -> Result<(), ScriptError> {
+        self.framers.remove(step.label.as_str());
+        self.act(alloc, step, Act::Leave)
+    }
+
+    /// Takes octets of the session's client. What comes behind the end of the session is dropped.
+    fn receive(
+        &mut self,
+        alloc: Global,
+        step: &ScriptStep,
+        octets: &[u8],
+    ) -> Result<(), ScriptError> {
+        for frame in self.frames(alloc, step, octets)? {
+            if !self.framers.contains_key(step.label.as_str()) {
+                return Ok(());
+            }
+            match frame {
+                Frame::Whole(line) => self.act(alloc, step, act_of(alloc, line.as_slice())?)?,
+                Frame::Hangup => self.hang_up(alloc, step)?,
+            }
+        }
+        Ok(())
+    }
+
+    /// The frames that end in these octets: none, if the session isn't open.
+    fn frames(
+        &mut self,
+        alloc: Global,
+        step: &ScriptStep,
+        octets: &[u8],
+    ) -> Result<Vec<Frame>, ScriptError> {
+        match self.framers.get_mut(step.label.as_str()) {
+            Some(framer) => match framer.feed(alloc, octets) {
+                Ok(frames) => Ok(frames),
+                Err(LexError::Closed) => Ok(Vec::new(alloc)),
+                Err(LexError::Memory) => Err(ScriptError::Memory),
+            },
+            None => Ok(Vec::new(alloc)),
+        }
+    }
+
+    /// Ends a session whose line was too long.
+    fn hang_up(&mut self, alloc: Global, step: &ScriptStep) -> Result<(), ScriptError> {
+        let farewell = [Response::Bye(Farewell::LimitReached)];
+        self.transcript
+            .tell(alloc, step.label.as_str(), farewell.as_slice())?;
+        self.leave(alloc, step)
+    }
+
+    /// Makes an act of an open session.
+    fn act(&mut self, alloc: Global, step: &ScriptStep, act: Act) -> Result<(), ScriptError> {
+        let replies = self.replies(alloc, step, act)?;
+        if is_dismissed(replies.as_slice()) {
+            self.framers.remove(step.label.as_str());
+        }
+        self.transcript
+            .tell(alloc, step.label.as_str(), replies.as_slice())
+    }
+
+    /// Makes the act, and gives what the session is told.
+    fn replies(
+        &mut self,
+        alloc: Global,
+        step: &ScriptStep,
+        act: Act,
+    ) -> Result<Vec<Response>, ScriptError> {
+        let step = Step {
+            who: step.who.try_copy(alloc)?,
+            at: step.at,
+            act,
+        };
+        let prepared = self.core.prepare(alloc, &step)?;
+        Ok(self.core.commit(prepared))
+    }
+}
+
+/// What a line asks for. The line that ends IDLE (RFC 2177) is read as such at any time.
+fn act_of(alloc: Global, line: &[u8]) -> Result<Act, ScriptError> {
+    if line.eq_ignore_ascii_case(b"DONE\r\n") {
+        return Ok(Act::Done);
+    }
+    Ok(Act::Do(parse(alloc, line)?))
+}
+
+/// Whether a session was opened, by what it is told.
+fn is_greeted(replies: &[Response]) -> bool {
+    replies
+        .iter()
+        .any(|reply| matches!(reply, Response::Greeting))
+}
+
+/// Whether a session was ended, by what it is told.
+fn is_dismissed(replies: &[Response]) -> bool {
+    replies
+        .iter()
+        .any(|reply| matches!(reply, Response::Bye(_)))
+}

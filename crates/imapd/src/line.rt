@@ -1,0 +1,80 @@
+//! What the lines of a script have in common.
+
+ghost use Rattle.std.specs.Prelude.{◌≤◌, IfSome};
+
+use hex::FromHexError;
+use imap_core::WorldError;
+use imap_names::NameError;
+use imap_rights::IdentifierError;
+use std::alloc::{AllocError, AllocFailed};
+
+/// Why a line of a script wasn't taken.
+#[derive(Clone, Copy, Debug, PartialEq, Eq)]
+pub(crate) enum LineError {
+    /// It isn't as a script's lines are, or can't stand where it stands.
+    Bad,
+    Memory,
+}
+
+impl From<AllocError> for LineError {
+    fn from(_error: AllocError) -> LineError {
+        LineError::Memory
+    }
+}
+
+impl<T: Drop> From<AllocFailed<T>> for LineError {
+    fn from(_error: AllocFailed<T>) -> LineError {
+        LineError::Memory
+    }
+}
+
+impl From<NameError> for LineError {
+    fn from(error: NameError) -> LineError {
+        match error {
+            NameError::Memory => LineError::Memory,
+            _ => LineError::Bad,
+        }
+    }
+}
+
+impl From<IdentifierError> for LineError {
+    fn from(error: IdentifierError) -> LineError {
+        match error {
+            IdentifierError::Memory => LineError::Memory,
+            IdentifierError::Invalid => LineError::Bad,
+        }
+    }
+}
+
+impl From<WorldError> for LineError {
+    fn from(error: WorldError) -> LineError {
+        match error {
+            WorldError::Memory => LineError::Memory,
+            _ => LineError::Bad,
+        }
+    }
+}
+
+impl From<FromHexError> for LineError {
+    fn from(error: FromHexError) -> LineError {
+        match error {
+            FromHexError::OutOfMemory => LineError::Memory,
+            _ => LineError::Bad,
+        }
+    }
+}
+
+/// Reads a decimal number in this range, with leading zeros or without.
+pub(crate) fn read_number(text: &str, least: u64, most: u64) -> Option<u64>
+    ensures { IfSome result (λ n. (least ≤ n) × (n ≤ most)) }
+{
+    if !text.bytes().all(|octet| octet.is_ascii_digit()) {
+        return None;
+    }
+    let number = text.parse::<u64>().ok()?;
+    if least <= number && number <= most {
+        Some(number)
+    } else {
+        None
+    }
+}
