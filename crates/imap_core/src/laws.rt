@@ -5,5 +5,4 @@ ghost use Rattle.imap_core.specs.Trace.{Isolation};
 /// To each user, any two runs that begin alike and have one trace for that user send the same octets.
 pub fn isolation()
     ensures { Isolation }
-{
-}
+{}

@@ -4,7 +4,7 @@ ghost use Rattle.std.specs.Prelude.{◌≡◌, ◌∷◌, [], IfOk};
 ghost use Rattle.std.specs.FinMap as map;
 ghost use Rattle.imap_names.specs.Reading.{name_read};
 ghost use Rattle.imap_core.specs.View.{view};
-ghost use Rattle.imap_core.specs.Reply.{told, ended, refused, rights_told, rights_asked, command_outcome, request_outcome, opening, if_open, reply};
+ghost use Rattle.imap_core.specs.Reply.{told, ended, done, refused, rights_told, rights_asked, command_outcome, request_outcome, opening, if_open, reply};
 ghost use Rattle.imap_core.specs.Planned.{Plans};
 
 use crate::response::{Farewell, Refusal, Response};
@@ -129,6 +129,14 @@ fn malformed(alloc: Global, tag: &Option<Tag>) -> Result<Plan, AllocError>
     Ok(Plan::told(vec![in alloc; refused]?))
 }
 
+fn done(alloc: Global, tag: &Tag) -> Result<Response, AllocError>
+    ensures { IfOk result (λ response. response ≡ done tag.now) }
+{
+    Ok(Response::Done {
+        tag: tag.try_copy(alloc)?,
+    })
+}
+
 fn command_plan(
     alloc: Global,
     world: &World,
@@ -139,15 +147,15 @@ fn command_plan(
 ) -> Result<Plan, AllocError>
     ensures { IfOk result (λ plan. Plans plan (command_outcome user.now (view site.now.administrator user.now world.now) tag.now body.now)) }
 {
-    let done = Response::Done {
-        tag: tag.try_copy(alloc)?,
-    };
     match body {
-        Body::Capability => Ok(Plan::told(vec![in alloc; Response::Capability, done]?)),
-        Body::Noop => Ok(Plan::told(vec![in alloc; done]?)),
+        Body::Capability => {
+            let done = done(alloc, tag)?;
+            Ok(Plan::told(vec![in alloc; Response::Capability, done]?))
+        }
+        Body::Noop => Ok(Plan::told(vec![in alloc; done(alloc, tag)?]?)),
         Body::Logout => {
             let bye = Response::Bye(Farewell::LoggingOut);
-            Ok(Plan::ended(vec![in alloc; bye, done]?))
+            Ok(Plan::ended(vec![in alloc; bye, done(alloc, tag)?]?))
         }
         Body::MyRights { mailbox } => rights_plan(alloc, world, site, user, tag, mailbox),
     }
@@ -188,8 +196,7 @@ fn named_rights_plan(
                 mailbox: Octets::from_vec(shown.into_bytes()),
                 rights: seen.rights(),
             };
-            let tag = tag.try_copy(alloc)?;
-            Ok(Plan::told(vec![in alloc; rights, Response::Done { tag }]?))
+            Ok(Plan::told(vec![in alloc; rights, done(alloc, tag)?]?))
         }
         None => Plan::refused(alloc, tag, Refusal::NonExistent),
     }
