@@ -2,7 +2,7 @@
 use Rattle.std.specs.Prelude.{◌≡◌, ℕ, Bool, true, false, cond, ◌==◌, ◌&&◌, ◌||◌, ◌⊎◌, not, nat_lt, List, [], ◌∷◌, Option, Some, None, option_map}
 use Rattle.imap_grammar.specs.Rule.{Rule, ◌>>◌, ◌<|>◌, octet, some_of}
 
--- ASTRING-CHAR: 0x21 to 0x7E other than ( ) { % * " \
+-- ASTRING-CHAR: what ASCII prints, but for the space and ( ) { % * " \
 abbrev pub is_astring_char : ℕ → Bool
 is_astring_char b = nat_lt 32 b && nat_lt b 127 && not (b == 40 || b == 41 || b == 123 || b == 37 || b == 42 || b == 34 || b == 92)
 

@@ -10,9 +10,9 @@ use unicode_normalization::is_nfc;
 /// The most octets of a user name.
 const MAX_OCTETS: usize = 64;
 
-/// A user's name: NFC text (RFC 5198) of 1 to 64 octets without space, `/` and control characters.
+/// A user's name: NFC text (RFC 5198), not empty, with at most 64 octets and no space, `/` or control character.
 ///
-/// It isn't `anyone` and begins neither with `-` nor with `group:`, which mean other things in an ACL (RFC 4314).
+/// `anyone`, and what has `-` or `group:` at its head, is no user: these mean other things in an ACL (RFC 4314).
 /// Contracts see its octets.
 #[derive(Debug, Drop)]
 pub struct UserName {

@@ -52,7 +52,7 @@ union a b = bit_or a b
 abbrev pub all_rights : ℕ
 all_rights = 2047
 
--- who holds one of l, r, i, k, x and a may know that the mailbox is there (section 4, of MYRIGHTS)
+-- the rights of which any lets its holder know that the mailbox is there (section 4, of MYRIGHTS)
 abbrev pub visible_rights : ℕ
 visible_rights = union lookup (union read (union insert (union create (union delete_mailbox administer))))
 
@@ -64,7 +64,7 @@ less a b = bit_xor a (bit_and a b)
 abbrev pub has_any : ℕ → ℕ → Bool
 has_any rights some = not (bit_and rights some == 0)
 
--- the letters l r s w i p k x t e a, in the order in which they are printed, each with its right (section 2.1)
+-- lrswipkxtea, in the order in which they are printed, each with its right (section 2.1)
 abbrev pub letters : List (ℕ × ℕ)
 letters =
     (108, lookup) ∷ (114, read) ∷ (115, seen) ∷ (119, write) ∷ (105, insert) ∷ (112, post) ∷ (107, create)

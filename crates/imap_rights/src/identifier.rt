@@ -45,8 +45,8 @@ impl From<AllocError> for IdentifierError {
 }
 
 impl Identifier {
-    /// Reads a text of 1 to 255 octets without control characters, which are counted in Normalization
-    /// Form C and behind one leading `-`.
+    /// Reads a text without control characters. It is not empty and has at most 255 octets, counted in
+    /// Normalization Form C and behind one leading `-`.
     pub fn read(alloc: Global, octets: &[u8]) -> Result<Identifier, IdentifierError>
         ensures ok { IfOk result (λ identifier. identifier_read octets.now ≡ Some identifier) }
         ensures invalid { result ≡ Err IdentifierError.Invalid → identifier_read octets.now ≡ None }

@@ -1,0 +1,158 @@
+mod faults;
+mod isolation;
+mod machine;
+mod rows;
+
+use crate::command_line::{CommandLineError, Task, task_of};
+use crate::script::{ScriptError, script};
+use crate::{misused, script_failed};
+use rows::{Row, SCRIPTS, STORED, UNSEEN};
+use std::alloc::{AllocError, Global};
+use std::process::ExitCode;
+use std::test::Fail;
+
+/// The end of the line that a session is greeted with.
+const READY: &[u8] = b"] shared mailbox profile ready\n";
+
+/// What running the script writes.
+fn transcript<R: AllocGlobal>(rt: &R, text: &[u8]) -> Result<Vec<u8>, ScriptError> {
+    let mut written = Vec::new(rt.alloc());
+    script(rt, text, &mut written)?;
+    Ok(written)
+}
+
+fn without_greetings(alloc: Global, transcript: &[u8]) -> Result<Vec<u8>, AllocError> {
+    let mut others = Vec::new(alloc);
+    for line in transcript.split_inclusive(|octet| *octet == b'\n') {
+        if !line.ends_with(READY) {
+            others.extend_from_slice(line)?;
+        }
+    }
+    Ok(others)
+}
+
+#[test]
+fn writes_transcripts(rt: HostRuntime) -> Result<(), Fail> {
+    for Row { script, told } in [STORED, rows::BEGUN_ANEW] {
+        let written = transcript(&rt, script.as_bytes())?;
+        assert_eq!(rt; written.as_slice(), told.as_bytes(), "of {script}");
+    }
+    for Row { script, told } in SCRIPTS {
+        let written = without_greetings(rt.alloc(), &transcript(&rt, script.as_bytes())?)?;
+        assert_eq!(rt; written.as_slice(), told.as_bytes(), "of {script}");
+    }
+    Ok(())
+}
+
+#[test]
+fn hidden_absent_and_unknown_are_alike(rt: HostRuntime) -> Result<(), Fail> {
+    for (head, owner) in UNSEEN {
+        let text = format!(in rt.alloc();
+            "admin root\nuser ann\nuser bob\n{head}bob.1 open\n\
+            bob.1 < b1 MYRIGHTS \"Other Users/{owner}/Work\"\n"
+        )?;
+        let written = without_greetings(rt.alloc(), &transcript(&rt, text.as_bytes())?)?;
+        let wanted: &[u8] = b"bob.1 > b1 NO [NONEXISTENT] no such mailbox\n";
+        assert_eq!(rt; written.as_slice(), wanted, "of {owner}");
+    }
+    Ok(())
+}
+
+/// A script in which ann sends a line of so many octets, its CRLF among them, and more behind it.
+fn with_a_line_of(alloc: Global, count: usize) -> Result<Vec<u8>, AllocError> {
+    let mut text = Vec::from_slice(alloc, b"admin root\nuser ann\nann.1 open\nann.1 < ")?;
+    for _ in 0..count.saturating_sub(2) {
+        text.push(b'+')?;
+    }
+    text.extend_from_slice(b"\nann.1 < a1 NOOP\nann.1 open\nann.1 < a2 NOOP\n")?;
+    Ok(text)
+}
+
+#[test]
+fn a_line_may_be_too_long(rt: HostRuntime) -> Result<(), Fail> {
+    let cases: [(usize, &[u8]); 2] = [
+        (
+            8192,
+            b"ann.1 > * BAD malformed command\nann.1 > a1 OK done\nann.1 > a2 OK done\n",
+        ),
+        (8193, b"ann.1 > * BYE limit reached\nann.1 > a2 OK done\n"),
+    ];
+    for (count, wanted) in cases {
+        let text = with_a_line_of(rt.alloc(), count)?;
+        let written = without_greetings(rt.alloc(), &transcript(&rt, &text)?)?;
+        assert_eq!(rt; written.as_slice(), wanted, "at {count}");
+    }
+    Ok(())
+}
+
+#[test]
+fn seventeen_sessions(rt: HostRuntime) -> Result<(), Fail> {
+    let mut text = String::from_str(rt.alloc(), "admin root\nuser ann\n")?;
+    for number in 1..18 {
+        write!(text, "ann.{number} open\n")?;
+    }
+    text.push_str(
+        "ann.17 < a1 NOOP\nann.16 < a2 NOOP\nann.1 leave\nann.17 open\nann.17 < a3 NOOP\n",
+    )?;
+    let written = without_greetings(rt.alloc(), &transcript(&rt, text.as_bytes())?)?;
+    let wanted: &[u8] = b"ann.17 > * BYE limit reached\nann.16 > a2 OK done\nann.17 > a3 OK done\n";
+    assert_eq!(rt; written.as_slice(), wanted);
+    Ok(())
+}
+
+#[test]
+fn finds_the_first_bad_line(rt: HostRuntime) -> Result<(), Fail> {
+    for (text, wanted) in rows::BAD {
+        match transcript(&rt, text) {
+            Err(ScriptError::Bad { line }) => assert_eq!(rt; line, wanted, "of {text:?}"),
+            _ => assert_eq!(rt; 0, wanted, "of {text:?}"),
+        }
+    }
+    Ok(())
+}
+
+fn words(alloc: Global, texts: &[&str]) -> Result<Vec<String>, AllocError> {
+    texts
+        .iter()
+        .map(|text| String::from_str(alloc, text))
+        .try_collect(alloc)
+}
+
+#[test]
+fn reads_command_lines(rt: HostRuntime) -> Result<(), Fail> {
+    let alloc = rt.alloc();
+    let task = task_of(alloc, &words(alloc, &["imapd", "script"])?)?;
+    assert_eq!(rt; task, Task::Script);
+    let cases: [&[&str]; 4] = [
+        &["imapd", "frob"],
+        &["imapd", "script", "x"],
+        &["imapd", "--help"],
+        &["imapd", "help"],
+    ];
+    for texts in cases {
+        match task_of(alloc, &words(alloc, texts)?) {
+            Err(error @ CommandLineError::Usage(_)) => {
+                assert!(rt; misused(&rt, &error) == ExitCode::from(2))
+            }
+            _ => assert!(rt; false, "{texts:?}"),
+        }
+    }
+    match task_of(alloc, &words(alloc, &["imapd"])?) {
+        Err(error) => {
+            let text = error.to_string(alloc)?;
+            assert_eq!(rt; text.as_str(), "imapd: bad command line\n");
+            assert!(rt; misused(&rt, &error) == ExitCode::from(2));
+        }
+        Ok(_) => assert!(rt; false, "no task"),
+    }
+    Ok(())
+}
+
+#[test]
+fn ends_with_a_status(rt: HostRuntime) {
+    let bad = ScriptError::Bad { line: 3 };
+    assert!(rt; script_failed(&rt, &bad) == ExitCode::from(2));
+    assert!(rt; script_failed(&rt, &ScriptError::Io) == ExitCode::from(3));
+    assert!(rt; script_failed(&rt, &ScriptError::Memory) == ExitCode::from(4));
+    assert!(rt; misused(&rt, &CommandLineError::Memory) == ExitCode::from(4));
+}
