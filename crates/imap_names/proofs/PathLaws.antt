@@ -6,7 +6,7 @@ use Rattle.std.specs.List.{list_any}
 use Rattle.std.proofs.lemmas.Bool.{ltb-false}
 use Rattle.unicode_normalization.specs.Forms.{is_nfc}
 use Rattle.imap_names.specs.declared.error.NameError.{NameError}
-use Rattle.imap_names.specs.Name.{Name, named, root_of, components, path_of, is_empty}
+use Rattle.imap_names.specs.Name.{named, root_of, components, path_of, is_empty}
 use Rattle.imap_names.specs.Text.{components_of, has_control}
 use Rattle.imap_names.specs.Valid.{is_reserved, with_inbox, is_root, IsName}
 use Rattle.imap_names.specs.Reading.{path_fault}

@@ -2,7 +2,7 @@
 use Rattle.std.proofs.Common.{◌≡◌, ◌≢◌, ℕ, cond, Bool, true, false, not, List, [], refl, sym, ap, ◌∙◌, subst, arith, Result, Option, None, Some, Ok, Err}
 use Rattle.std.specs.Prelude.{◌||◌, codes}
 use Rattle.std.specs.Char.{is_control}
-use Rattle.std.specs.List.{list_any, join_with_byte}
+use Rattle.std.specs.List.{list_any}
 use Rattle.std.specs.Str.{IsUtf8, is_utf8}
 use Rattle.std.proofs.lemmas.Bool.{or_right, cond-true, cond-false, false_from_ne_true}
 use Rattle.std.proofs.lemmas.Str.{chars-IsAscii, IsUtf8-from_ascii, is_utf8-from_IsUtf8, IsUtf8-from_is_utf8}
