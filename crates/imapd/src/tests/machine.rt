@@ -1,7 +1,6 @@
 //! The calls of the machine, on their happy paths and at their refusals.
 
 use imap_core::{Act, Core, Limits, SessionId, Step, World, WorldError, print};
-use imap_grammar::parse;
 use imap_names::{Name, UserName, read_full};
 use imap_rights::{Acl, Identifier, RightsChange, read_rights};
 use std::alloc::Global;
@@ -30,10 +29,6 @@ fn step(alloc: Global, text: &str, number: u32, act: Act) -> Result<Step, Fail> 
         number,
     };
     Ok(Step { who, at: 0, act })
-}
-
-fn command(alloc: Global, octets: &[u8]) -> Result<Act, Fail> {
-    Ok(Act::Do(parse(alloc, octets)?))
 }
 
 #[test]
@@ -105,27 +100,5 @@ fn a_step_is_prepared_and_committed(rt: HostRuntime) -> Result<(), Fail> {
     let replies = core.commit(prepared);
     let octets = print(alloc, &replies)?;
     assert!(rt; octets.starts_with(b"* PREAUTH [CAPABILITY IMAP4rev2 "));
-    Ok(())
-}
-
-#[test]
-fn a_run_makes_its_steps_in_order(rt: HostRuntime) -> Result<(), Fail> {
-    let alloc = rt.alloc();
-    let root = user(alloc, "root")?;
-    let (mut core, _change) = Core::open(alloc, World::new(alloc), root, &[], LIMITS)?;
-    let steps = vec![in alloc;
-        step(alloc, "root", 1, command(alloc, b"a0 NOOP\r\n")?)?,
-        step(alloc, "root", 1, Act::Open)?,
-        step(alloc, "root", 1, command(alloc, b"a1 NOOP\r\n")?)?,
-        step(alloc, "zed", 1, Act::Open)?,
-        step(alloc, "root", 1, Act::Leave)?,
-        step(alloc, "root", 1, command(alloc, b"a2 NOOP\r\n")?)?,
-    ]?;
-    let said = core.run(alloc, &steps)?;
-    let counts = said
-        .iter()
-        .map(|replies| replies.len())
-        .collect::<Vec<usize>>(alloc)?;
-    assert_eq!(rt; counts.as_slice(), [0, 1, 1, 0, 0, 0].as_slice());
     Ok(())
 }
