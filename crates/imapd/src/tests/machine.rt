@@ -1,6 +1,7 @@
 //! The calls of the machine, on their happy paths and at their refusals.
 
-use imap_core::{Act, Core, Limits, SessionId, Step, World, WorldError, print};
+use imap_core::{Act, Core, Limits, Response, SessionId, Step, World, WorldError, print};
+use imap_grammar::parse;
 use imap_names::{Name, UserName, read_full};
 use imap_rights::{Acl, Identifier, RightsChange, read_rights};
 use std::alloc::Global;
@@ -29,6 +30,10 @@ fn step(alloc: Global, text: &str, number: u32, act: Act) -> Result<Step, Fail> 
         number,
     };
     Ok(Step { who, at: 0, act })
+}
+
+fn command(alloc: Global, octets: &[u8]) -> Result<Act, Fail> {
+    Ok(Act::Do(parse(alloc, octets)?))
 }
 
 #[test]
@@ -100,5 +105,35 @@ fn a_step_is_prepared_and_committed(rt: HostRuntime) -> Result<(), Fail> {
     let replies = core.commit(prepared);
     let octets = print(alloc, &replies)?;
     assert!(rt; octets.starts_with(b"* PREAUTH [CAPABILITY IMAP4rev2 "));
+    Ok(())
+}
+
+/// A session that root opens, asks and leaves, and a command that comes too late.
+fn visit(alloc: Global) -> Result<Vec<Step>, Fail> {
+    let mut steps = Vec::new(alloc);
+    steps.push(step(alloc, "root", 1, Act::Open)?)?;
+    steps.push(step(alloc, "root", 1, command(alloc, b"a1 NOOP\r\n")?)?)?;
+    steps.push(step(alloc, "root", 1, Act::Leave)?)?;
+    steps.push(step(alloc, "root", 1, command(alloc, b"a2 NOOP\r\n")?)?)?;
+    Ok(steps)
+}
+
+fn counts(alloc: Global, said: &[Vec<Response>]) -> Result<Vec<usize>, Fail> {
+    let mut counts = Vec::new(alloc);
+    for replies in said.iter() {
+        counts.push(replies.len())?;
+    }
+    Ok(counts)
+}
+
+#[test]
+fn a_run_makes_its_steps_in_order(rt: HostRuntime) -> Result<(), Fail> {
+    let alloc = rt.alloc();
+    let root = user(alloc, "root")?;
+    let (mut core, _change) = Core::open(alloc, World::new(alloc), root, &[], LIMITS)?;
+    let steps = visit(alloc)?;
+    let said = core.run(alloc, &steps)?;
+    let counted = counts(alloc, &said)?;
+    assert_eq!(rt; counted.as_slice(), [1, 1, 0, 0].as_slice());
     Ok(())
 }
