@@ -1,7 +1,9 @@
 -- The octets in which responses are printed (RFC 9051, sections 7 and 9).
-use Rattle.std.specs.Prelude.{ℕ, Bool, ◌==◌, ◌&&◌, ◌||◌, not, nat_lt, List, [], ◌∷◌, ◌++◌, length, codes, flat_map, Option, Some, None, if◌then◌else◌}
+use Rattle.std.specs.Prelude.{ℕ, Bool, ◌==◌, ◌&&◌, not, List, [], ◌∷◌, ◌++◌, length, codes, flat_map, Option, Some, None, if◌then◌else◌}
 use Rattle.std.specs.List.{list_all}
 use Rattle.std.specs.Str.{str_eq_ignore_ascii_case}
+use Rattle.imap_lex.specs.Framing.{crlf}
+use Rattle.imap_grammar.specs.Lexical.{is_astring_char, is_quoted_special}
 use Rattle.imap_rights.specs.Rights.{bits, letters_of}
 use Rattle.imap_core.specs.declared.response.Response.{Response}
 use Rattle.imap_core.specs.declared.response.Response.TheVariants as response
@@ -10,22 +12,15 @@ use Rattle.imap_core.specs.declared.response.Farewell.TheVariants as farewell
 use Rattle.imap_core.specs.declared.response.Refusal.{Refusal}
 use Rattle.imap_core.specs.declared.response.Refusal.TheVariants as refusal
 
-abbrev pub line_end : List ℕ
-line_end = 13 ∷ 10 ∷ []
-
 -- ---- strings
-
--- printable ASCII but for the space and ( ) { % * " \
-abbrev pub is_astring_octet : ℕ → Bool
-is_astring_octet b = nat_lt 32 b && nat_lt b 127 && not (b == 40 || b == 41 || b == 123 || b == 37 || b == 42 || b == 34 || b == 92)
 
 -- an atom string that doesn't read as NIL needs no quotes
 abbrev pub is_bare : List ℕ → Bool
-is_bare text = not (length text == 0) && list_all is_astring_octet text && not (str_eq_ignore_ascii_case text (codes "NIL"))
+is_bare text = not (length text == 0) && list_all is_astring_char text && not (str_eq_ignore_ascii_case text (codes "NIL"))
 
 -- quotes and backslashes get a backslash before them
 abbrev pub escaped : ℕ → List ℕ
-escaped b = if b == 34 || b == 92 then 92 ∷ b ∷ [] else b ∷ []
+escaped b = if is_quoted_special b then 92 ∷ b ∷ [] else b ∷ []
 
 abbrev pub quoted : List ℕ → List ℕ
 quoted text = 34 ∷ flat_map escaped text ++ 34 ∷ []
@@ -74,7 +69,7 @@ line_text (response.Done tag) = tag ++ codes " OK done"
 line_text (response.Refused tag refusal) = tag_text tag ++ codes " " ++ refusal_text refusal
 
 abbrev pub line : Response → List ℕ
-line response = line_text response ++ line_end
+line response = line_text response ++ crlf
 
 -- one line behind the other
 abbrev pub printed : List Response → List ℕ

@@ -2,7 +2,8 @@
 
 ghost use Rattle.std.specs.Prelude.{◌≡◌, ◌++◌, OnOk, IfOk};
 ghost use Rattle.std.specs.List.{list_all};
-ghost use Rattle.imap_core.specs.Printed.{is_astring_octet, is_bare, quoted, astring, capabilities, farewell_text, refusal_text, tag_text, line_text, line, printed};
+ghost use Rattle.imap_grammar.specs.Lexical.{is_astring_char};
+ghost use Rattle.imap_core.specs.Printed.{is_bare, quoted, astring, capabilities, farewell_text, refusal_text, tag_text, line_text, line, printed};
 
 use crate::response::{Farewell, Refusal, Response};
 use imap_lex::{Octets, Tag};
@@ -123,18 +124,18 @@ impl Refusal {
     }
 }
 
-/// An octet of an atom string (RFC 9051, section 9, ASTRING-CHAR).
-fn is_astring_octet(octet: u8) -> bool
-    ensures { result ≡ is_astring_octet octet }
+/// ASTRING-CHAR (RFC 9051, section 9).
+fn is_astring_char(octet: u8) -> bool
+    ensures { result ≡ is_astring_char octet }
 {
     matches!(octet, 0x21..=0x7e)
         && !matches!(octet, b'(' | b')' | b'{' | b'%' | b'*' | b'"' | b'\\')
 }
 
 fn is_atom_string(text: &[u8]) -> bool
-    ensures { result ≡ list_all is_astring_octet text.now }
+    ensures { result ≡ list_all is_astring_char text.now }
 {
-    text.iter().all(|octet| is_astring_octet(*octet))
+    text.iter().all(|octet| is_astring_char(*octet))
 }
 
 fn is_bare(text: &[u8]) -> bool

@@ -1,6 +1,7 @@
 //! Reading a name from the octets of a command.
-ghost use Rattle.std.specs.Prelude.{◌≡◌, ℕ, List, ◌∷◌, false, true, chars, string_bytes, option_copied, length, IfOk};
+ghost use Rattle.std.specs.Prelude.{◌≡◌, ℕ, List, ◌∷◌, false, true, chars, string_bytes, option_copied, length, IfOk, Err};
 ghost use Rattle.std.specs.List.{list_any};
+ghost use Rattle.std.specs.Str.{IsUtf8};
 ghost use Rattle.unicode_normalization.specs.Forms.{is_nfc};
 ghost use Rattle.imap_names.specs.Answer.{Reads, ReadsAs};
 ghost use Rattle.imap_names.specs.Name.{is_empty};
@@ -43,6 +44,7 @@ struct Place<'a> {
 pub fn read_name(alloc: Global, user: &UserName, text: &[u8]) -> Result<Name, NameError>
     ensures read { Reads result (name_read user.now text.now) }
     ensures valid { IfOk result IsName }
+    ensures not_text { ¬ (IsUtf8 text.now) → result ≡ Err NameError.Control }
 {
     read_by(alloc, Some(user), text)
 }
@@ -51,6 +53,7 @@ pub fn read_name(alloc: Global, user: &UserName, text: &[u8]) -> Result<Name, Na
 pub fn read_full(alloc: Global, text: &[u8]) -> Result<Name, NameError>
     ensures read { Reads result (full_name_read text.now) }
     ensures valid { IfOk result IsName }
+    ensures not_text { ¬ (IsUtf8 text.now) → result ≡ Err NameError.Control }
 {
     read_by(alloc, None, text)
 }
@@ -58,6 +61,7 @@ pub fn read_full(alloc: Global, text: &[u8]) -> Result<Name, NameError>
 fn read_by(alloc: Global, own: Option<&UserName>, text: &[u8]) -> Result<Name, NameError>
     ensures read { Reads result (read_by (option_copied own.entry) text.now) }
     ensures valid { IfOk result IsName }
+    ensures not_text { ¬ (IsUtf8 text.now) → result ≡ Err NameError.Control }
 {
     let Ok(text) = str::from_utf8(text) else {
         return Err(NameError::Control);

@@ -74,7 +74,7 @@ impl Head {
     }
 
     /// Takes a further line. After a refusal the head is of no use.
-    pub(crate) fn take(
+    pub(crate) fn take_line(
         &mut self,
         alloc: Global,
         word: HeadWord,

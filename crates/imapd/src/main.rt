@@ -5,13 +5,13 @@
 #![tactic(auto)]
 
 mod command_line;
-mod deed;
 mod head;
-mod host;
 mod input;
 mod line;
+mod run;
 mod scenario;
 pub mod script;
+mod step;
 #[cfg(test)]
 mod tests;
 mod transcript;

@@ -1,9 +1,9 @@
 //! A whole script, read.
 
-use crate::deed::ScriptStep;
 use crate::head::{Head, HeadWord};
 use crate::line::{LineError, read_number};
 use crate::script::ScriptError;
+use crate::step::ScriptStep;
 use std::alloc::Global;
 use std::str;
 
@@ -23,7 +23,7 @@ impl Scenario {
         let mut draft = Draft::new(alloc);
         let mut line = 1u64;
         for octets in text.split_inclusive(|octet| *octet == b'\n') {
-            match draft.take(alloc, octets) {
+            match draft.take_line(alloc, octets) {
                 Ok(()) => line = line.saturating_add(1),
                 Err(LineError::Bad) => return Err(ScriptError::Bad { line }),
                 Err(LineError::Memory) => return Err(ScriptError::Memory),
@@ -60,7 +60,7 @@ impl Draft {
     }
 
     /// Takes a line, with the LF that ends it or without one.
-    fn take(&mut self, alloc: Global, octets: &[u8]) -> Result<(), LineError> {
+    fn take_line(&mut self, alloc: Global, octets: &[u8]) -> Result<(), LineError> {
         let octets = octets.strip_suffix(b"\n").unwrap_or(octets);
         let line = str::from_utf8(octets).map_err(|_| LineError::Bad)?;
         if line.is_empty() || line.starts_with("#") {
@@ -83,7 +83,7 @@ impl Draft {
             return Err(LineError::Bad);
         }
         match &mut self.head {
-            Some(head) => head.take(alloc, word, rest),
+            Some(head) => head.take_line(alloc, word, rest),
             None if word == HeadWord::Admin => {
                 self.head = Some(Head::begin(alloc, rest)?);
                 Ok(())

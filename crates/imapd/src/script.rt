@@ -1,7 +1,7 @@
 //! Running a script.
 
-use crate::host;
 use crate::input::read_all;
+use crate::run::run_scenario;
 use crate::scenario::Scenario;
 use std::alloc::{AllocError, AllocFailed};
 use std::io::{Read, Write};
@@ -48,5 +48,5 @@ pub fn script<R: AllocGlobal, I: Read + Drop, O: Write + Drop>(
     let alloc = rt.alloc();
     let text = read_all(alloc, input, MOST_READS)?;
     let scenario = Scenario::read(alloc, text.as_slice())?;
-    host::run(alloc, scenario, output)
+    run_scenario(alloc, scenario, output)
 }

@@ -85,18 +85,69 @@ fn a_line_may_be_too_long(rt: HostRuntime) -> Result<(), Fail> {
     Ok(())
 }
 
+/// What ends a session, or keeps it from opening, and what it tells then.
+const ENDINGS: [(&str, &[u8]); 3] = [
+    (
+        "ann.1 open\nann.1 < a1 LOGOUT\n",
+        b"ann.1 > * BYE logging out\nann.1 > a1 OK done\n",
+    ),
+    ("ann.1 open\nann.1 leave\n", b""),
+    ("ann.1 poll\n", b""),
+];
+
 #[test]
-fn seventeen_sessions(rt: HostRuntime) -> Result<(), Fail> {
-    let mut text = String::from_str(rt.alloc(), "admin root\nuser ann\n")?;
-    for number in 1..18 {
+fn a_long_line_may_come_too_late(rt: HostRuntime) -> Result<(), Fail> {
+    let alloc = rt.alloc();
+    for (ending, wanted) in ENDINGS {
+        let mut text = format!(in alloc; "admin root\nuser ann\n{ending}ann.1 < ")?;
+        text.push_str(&"+".repeat(alloc, 9000)?)?;
+        text.push_str("\n")?;
+        let written = without_greetings(alloc, &transcript(&rt, text.as_bytes())?)?;
+        assert_eq!(rt; written.as_slice(), wanted, "behind {ending}");
+    }
+    Ok(())
+}
+
+/// A script in which ann opens so many sessions.
+fn opening(alloc: Global, count: u32) -> Result<String, AllocError> {
+    let mut text = String::from_str(alloc, "admin root\nuser ann\n")?;
+    for number in 1..=count {
         write!(text, "ann.{number} open\n")?;
     }
+    Ok(text)
+}
+
+#[test]
+fn seventeen_sessions(rt: HostRuntime) -> Result<(), Fail> {
+    let alloc = rt.alloc();
+    let mut text = opening(alloc, 17)?;
+    text.push_str("ann.17 < ")?;
+    text.push_str(&"+".repeat(alloc, 9000)?)?;
     text.push_str(
-        "ann.17 < a1 NOOP\nann.16 < a2 NOOP\nann.1 leave\nann.17 open\nann.17 < a3 NOOP\n",
+        "\nann.17 < a1 NOOP\nann.16 < a2 NOOP\nann.1 leave\nann.17 open\nann.17 < a3 NOOP\n",
     )?;
-    let written = without_greetings(rt.alloc(), &transcript(&rt, text.as_bytes())?)?;
+    let written = without_greetings(alloc, &transcript(&rt, text.as_bytes())?)?;
     let wanted: &[u8] = b"ann.17 > * BYE limit reached\nann.16 > a2 OK done\nann.17 > a3 OK done\n";
     assert_eq!(rt; written.as_slice(), wanted);
+    Ok(())
+}
+
+/// A script whose head sets so many entries of one list.
+fn setting_entries(alloc: Global, count: u32) -> Result<String, AllocError> {
+    let mut text = String::from_str(alloc, "admin root\nmailbox Shared/News\n")?;
+    for number in 1..=count {
+        write!(text, "acl reader{number} l\n")?;
+    }
+    Ok(text)
+}
+
+#[test]
+fn a_head_fills_an_access_control_list(rt: HostRuntime) -> Result<(), Fail> {
+    let full = setting_entries(rt.alloc(), 64)?;
+    assert!(rt; transcript(&rt, full.as_bytes())?.is_empty());
+    let over = setting_entries(rt.alloc(), 65)?;
+    let ran = transcript(&rt, over.as_bytes());
+    assert!(rt; matches!(&ran, Err(ScriptError::Bad { line: 67 })));
     Ok(())
 }
 

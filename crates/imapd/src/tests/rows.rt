@@ -142,6 +142,7 @@ acl ann l
 acl ann 
 mailbox Shared/News
 acl cy zoe l
+acl ann p
 at 253402300799
 at 0
 bob.1 open
@@ -149,12 +150,15 @@ bob.1 < b1 MYRIGHTS Shared/News
 bob.1 < b2 MYRIGHTS Shared/News/Old
 ann.1 open
 ann.1 < a1 MYRIGHTS Shared/News/Old
+ann.1 < a2 MYRIGHTS Shared/News
 ",
         told: "bob.1 > * MYRIGHTS Shared/News lrs
 bob.1 > b1 OK done
 bob.1 > * MYRIGHTS Shared/News/Old rkxte
 bob.1 > b2 OK done
 ann.1 > a1 NO [NONEXISTENT] no such mailbox
+ann.1 > * MYRIGHTS Shared/News lrsp
+ann.1 > a2 OK done
 ",
     },
     // Names that are printed in quotes.

@@ -5,17 +5,17 @@ use imap_core::SessionId;
 use imap_names::UserName;
 use std::alloc::Global;
 
-/// What a session does.
+/// What happens to a session.
 #[derive(Debug, Drop)]
-pub(crate) enum Deed {
+pub(crate) enum Event {
     Open,
     Poll,
     Leave,
     /// Its client sends these octets.
-    Send(Vec<u8>),
+    Octets(Vec<u8>),
 }
 
-/// What a line of a script has a session do.
+/// What a line of a script says.
 #[derive(Debug, Drop)]
 pub(crate) struct ScriptStep {
     pub(crate) who: SessionId,
@@ -23,7 +23,7 @@ pub(crate) struct ScriptStep {
     pub(crate) label: String,
     /// Seconds from 1970-01-01 UTC.
     pub(crate) at: u64,
-    pub(crate) deed: Deed,
+    pub(crate) event: Event,
 }
 
 impl ScriptStep {
@@ -36,7 +36,7 @@ impl ScriptStep {
     ) -> Result<Option<ScriptStep>, LineError> {
         let (user, number) = session.rsplit_once('.').ok_or(LineError::Bad)?;
         let number = read_number(number, 1, u64::from(u32::MAX)).ok_or(LineError::Bad)? as u32;
-        let deed = Deed::read(alloc, text)?;
+        let event = Event::read(alloc, text)?;
         let Some(user) = UserName::read(alloc, user)? else {
             return Ok(None);
         };
@@ -47,29 +47,30 @@ impl ScriptStep {
             who,
             label,
             at,
-            deed,
+            event,
         }))
     }
 }
 
-impl Deed {
-    fn read(alloc: Global, text: &str) -> Result<Deed, LineError> {
+impl Event {
+    fn read(alloc: Global, text: &str) -> Result<Event, LineError> {
         match text {
-            "open" => return Ok(Deed::Open),
-            "poll" => return Ok(Deed::Poll),
-            "leave" => return Ok(Deed::Leave),
-            _ => {}
+            "open" => Ok(Event::Open),
+            "poll" => Ok(Event::Poll),
+            "leave" => Ok(Event::Leave),
+            _ => Ok(Event::Octets(read_octets(alloc, text)?)),
         }
-        if let Some(line) = text.strip_prefix("<") {
-            return send_line(alloc, line.strip_prefix(" ").unwrap_or(line));
-        }
-        let digits = text.strip_prefix("raw ").ok_or(LineError::Bad)?;
-        Ok(Deed::Send(hex::decode(alloc, digits)?))
     }
 }
 
-fn send_line(alloc: Global, line: &str) -> Result<Deed, LineError> {
-    let mut octets = Vec::from_slice(alloc, line.as_bytes())?;
-    octets.extend_from_slice(b"\r\n")?;
-    Ok(Deed::Send(octets))
+/// The octets of `< TEXT`, with a CRLF behind them, or of `raw HEX`.
+fn read_octets(alloc: Global, text: &str) -> Result<Vec<u8>, LineError> {
+    if let Some(line) = text.strip_prefix("<") {
+        let line = line.strip_prefix(" ").unwrap_or(line);
+        let mut octets = Vec::from_slice(alloc, line.as_bytes())?;
+        octets.extend_from_slice(b"\r\n")?;
+        return Ok(octets);
+    }
+    let digits = text.strip_prefix("raw ").ok_or(LineError::Bad)?;
+    Ok(hex::decode(alloc, digits)?)
 }

@@ -1,8 +1,8 @@
-//! A host on which a script's steps are made.
+//! Running a script that was read.
 
-use crate::deed::{Deed, ScriptStep};
 use crate::scenario::Scenario;
 use crate::script::ScriptError;
+use crate::step::{Event, ScriptStep};
 use crate::transcript::Transcript;
 use imap_core::{Act, Core, Farewell, Response, Step};
 use imap_grammar::parse;
@@ -12,39 +12,39 @@ use std::collections::HashMap;
 use std::io::Write;
 
 /// Makes the steps of a script, and writes what the sessions are told.
-pub(crate) fn run<O: Write + Drop>(
+pub(crate) fn run_scenario<O: Write + Drop>(
     alloc: Global,
     scenario: Scenario,
     output: O,
 ) -> Result<(), ScriptError> {
     let Scenario { head, steps } = scenario;
-    let mut host = Host {
+    let mut run = Run {
         core: head.open(alloc)?,
         framers: HashMap::new(alloc),
         transcript: Transcript::new(alloc, output)?,
     };
     for step in steps.iter() {
-        host.make(alloc, step)?;
+        run.make(alloc, step)?;
     }
-    host.transcript.finish()
+    run.transcript.finish()
 }
 
-/// A host, its connections, and where it is written what they are told.
+/// The machine, the connections to it, and where it is written what they are told.
 #[derive(Drop)]
-struct Host<O: Write + Drop> {
+struct Run<O: Write + Drop> {
     core: Core,
     /// A framer for each open session, by its label.
     framers: HashMap<String, Framer>,
     transcript: Transcript<O>,
 }
 
-impl<O: Write + Drop> Host<O> {
+impl<O: Write + Drop> Run<O> {
     fn make(&mut self, alloc: Global, step: &ScriptStep) -> Result<(), ScriptError> {
-        match &step.deed {
-            Deed::Open => self.open(alloc, step),
-            Deed::Poll => self.act(alloc, step, Act::Poll),
-            Deed::Leave => self.leave(alloc, step),
-            Deed::Send(octets) => self.receive(alloc, step, octets.as_slice()),
+        match &step.event {
+            Event::Open => self.open(alloc, step),
+            Event::Poll => self.act(alloc, step, Act::Poll),
+            Event::Leave => self.leave(alloc, step),
+            Event::Octets(octets) => self.receive(alloc, step, octets.as_slice()),
         }
     }
 
