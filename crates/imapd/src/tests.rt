@@ -85,6 +85,12 @@ fn a_line_may_be_too_long(rt: HostRuntime) -> Result<(), Fail> {
     Ok(())
 }
 
+/// The text of a step in which ann's session sends a line that is too long.
+fn long_line(alloc: Global, number: u32) -> Result<String, AllocError> {
+    let line = "+".repeat(alloc, 9000)?;
+    format!(in alloc; "ann.{number} < {line}\n")
+}
+
 /// What ends a session, or keeps it from opening, and what it tells then.
 const ENDINGS: [(&str, &[u8]); 3] = [
     (
@@ -99,9 +105,8 @@ const ENDINGS: [(&str, &[u8]); 3] = [
 fn a_long_line_may_come_too_late(rt: HostRuntime) -> Result<(), Fail> {
     let alloc = rt.alloc();
     for (ending, wanted) in ENDINGS {
-        let mut text = format!(in alloc; "admin root\nuser ann\n{ending}ann.1 < ")?;
-        text.push_str(&"+".repeat(alloc, 9000)?)?;
-        text.push_str("\n")?;
+        let line = long_line(alloc, 1)?;
+        let text = format!(in alloc; "admin root\nuser ann\n{ending}{line}")?;
         let written = without_greetings(alloc, &transcript(&rt, text.as_bytes())?)?;
         assert_eq!(rt; written.as_slice(), wanted, "behind {ending}");
     }
@@ -121,13 +126,14 @@ fn opening(alloc: Global, count: u32) -> Result<String, AllocError> {
 fn seventeen_sessions(rt: HostRuntime) -> Result<(), Fail> {
     let alloc = rt.alloc();
     let mut text = opening(alloc, 17)?;
-    text.push_str("ann.17 < ")?;
-    text.push_str(&"+".repeat(alloc, 9000)?)?;
-    text.push_str(
-        "\nann.17 < a1 NOOP\nann.16 < a2 NOOP\nann.1 leave\nann.17 open\nann.17 < a3 NOOP\n",
-    )?;
+    text.push_str(&long_line(alloc, 17)?)?;
+    text.push_str("ann.17 < a1 NOOP\nann.16 < a2 NOOP\nann.1 leave\nann.17 open\n")?;
+    text.push_str("ann.17 < a3 NOOP\n")?;
+    text.push_str(&long_line(alloc, 2)?)?;
+    text.push_str("ann.18 open\nann.18 < a4 NOOP\n")?;
     let written = without_greetings(alloc, &transcript(&rt, text.as_bytes())?)?;
-    let wanted: &[u8] = b"ann.17 > * BYE limit reached\nann.16 > a2 OK done\nann.17 > a3 OK done\n";
+    let wanted: &[u8] = b"ann.17 > * BYE limit reached\nann.16 > a2 OK done\nann.17 > a3 OK done\n\
+        ann.2 > * BYE limit reached\nann.18 > a4 OK done\n";
     assert_eq!(rt; written.as_slice(), wanted);
     Ok(())
 }
