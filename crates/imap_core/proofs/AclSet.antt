@@ -1,9 +1,9 @@
 -- A list of mailboxes of which one gets another access control list.
-use Rattle.std.proofs.Common.{◌≡◌, ℕ, ◌<◌, List, length, get_or, take, Option, Some, None, Result, Ok, Err, refl, sym, ap, subst, ◌∙◌}
+use Rattle.std.proofs.Common.{◌≡◌, ℕ, ◌<◌, List, length, get_or, take, Some, None, Result, Ok, Err, sym, ap, subst, ◌∙◌}
 use Rattle.std.proofs.Math.ListN.{set}
 use Rattle.std.specs.FinMap as map
 use Rattle.std.specs.FinMap.{find}
-use Rattle.imap_names.specs.Name.{Name, Names, name_cmp}
+use Rattle.imap_names.specs.Name.{Name, name_cmp}
 use Rattle.imap_rights.specs.Acl.{AclMap}
 use Rattle.imap_rights.specs.declared.change.RightsChange.{RightsChange}
 use Rattle.imap_core.specs.declared.world.Mailbox.{Mailbox}

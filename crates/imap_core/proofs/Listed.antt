@@ -1,10 +1,10 @@
 -- A walk through a list of entries by their names.
-use Rattle.std.proofs.Common.{◌≡◌, ◌≢◌, ℕ, suc, ◌+◌, ◌<◌, ◌≤◌, Bool, true, false, cond, List, [], ◌∷◌, ◌++◌, length, get_or, take, drop, drop-cons, add-one, Option, Some, None, refl, sym, ap, ◌∙◌, arith}
+use Rattle.std.proofs.Common.{◌≡◌, ℕ, suc, ◌+◌, ◌<◌, ◌≤◌, Bool, true, false, cond, List, [], ◌∷◌, ◌++◌, length, get_or, take, drop, drop-cons, add-one, Option, Some, None, refl, sym, ap, ◌∙◌}
 use Rattle.std.proofs.lemmas.List.{drop_all, take_all, take_more, take-append-drop, drop-set, take-set}
 use Rattle.std.proofs.Math.ListN.{set}
 use Rattle.std.specs.FinMap as map
 use Rattle.std.specs.FinMap.{find}
-use Rattle.imap_names.specs.Name.{Name, Names, name_cmp}
+use Rattle.imap_names.specs.Name.{Name, name_cmp}
 use Rattle.imap_names.proofs.NameLaws.{is_name_at, is_name_at-same, equal_names, get_listed, get_put, same_names}
 
 not_at : (q n : Name) → (n ≡ q → ⊥) → (b : Bool) → is_name_at q n ≡ b → b ≡ false

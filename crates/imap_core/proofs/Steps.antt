@@ -1,8 +1,7 @@
 -- What one step leaves of the mailboxes and of each user's sessions.
-use Rattle.std.proofs.Common.{◌≡◌, ℕ, Bool, true, false, cond, List, [], ◌∷◌, Option, Some, None, Result, Ok, Err, refl, sym, ap, ◌∙◌}
+use Rattle.std.proofs.Common.{◌≡◌, ℕ, Bool, true, false, cond, List, [], Option, Some, None, Result, Ok, Err, refl, ap, ◌∙◌}
 use Rattle.std.specs.Str.{bytes_eq}
-use Rattle.std.specs.Ordering.{nat_cmp, eq_by_cmp}
-use Rattle.std.specs.Cmp.Lexicographic.{slice_cmp, nat_list_cmp_total, nat_list_eq_equiv}
+use Rattle.std.specs.Cmp.Lexicographic.{nat_list_cmp_total, nat_list_eq_equiv}
 use Rattle.std.proofs.lemmas.Map.Text.{is_eq-slice_cmp}
 use Rattle.std.proofs.lemmas.Slice.Eq.{bytes_eq-Decides}
 use Rattle.std.specs.FinMap as map
@@ -23,10 +22,9 @@ use Rattle.imap_core.specs.declared.step.Step.{Step}
 use Rattle.imap_core.specs.Accounts.{Accounts}
 use Rattle.imap_core.specs.Effects.{after_all}
 use Rattle.imap_core.specs.Machine.{State, outcome_for, outcome, next, view_of, own_of, with_own, settled}
-use Rattle.imap_core.specs.Reply.{Outcome, told, reply, rights_told, rights_asked, command_outcome, request_outcome, opening, if_open}
+use Rattle.imap_core.specs.Reply.{Outcome, told, reply, rights_told, rights_asked, command_outcome, request_outcome}
 use Rattle.imap_core.specs.Sessions.{Own}
 use Rattle.imap_core.specs.View.{View, Seen}
-use Rattle.imap_core.specs.World.{World}
 
 -- ---- no command that is built changes a mailbox
 
@@ -47,6 +45,7 @@ command_changes user view tag body.Capability = refl
 command_changes user view tag body.Noop = refl
 command_changes user view tag body.Logout = refl
 command_changes user view tag (body.MyRights mailbox) = rights_asked_changes user view tag (name_read user mailbox)
+command_changes user view tag _ = refl
 
 request_changes : (user : List ℕ) (view : View) (what : Request) → (request_outcome user view what).effects ≡ []
 request_changes user view (request.Command tag what) = command_changes user view tag what

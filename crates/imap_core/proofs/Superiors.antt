@@ -1,5 +1,5 @@
 -- The name right above another, and how many components lie between.
-use Rattle.std.proofs.Common.{◌≡◌, ◌≢◌, ℕ, suc, ◌+◌, ◌-◌, ◌≤◌, List, [], ◌∷◌, ◌++◌, length, length-append, refl, sym, ap, subst, ◌∙◌, arith}
+use Rattle.std.proofs.Common.{◌≡◌, ◌≢◌, ◌+◌, [], ◌∷◌, length, length-append, refl, sym, ap, ◌∙◌, arith}
 use Rattle.imap_names.specs.Name.{Name, components, path_of, IsAbove}
 use Rattle.imap_names.specs.Text.{components_of}
 use Rattle.imap_names.specs.Valid.{IsName}

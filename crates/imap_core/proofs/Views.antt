@@ -1,5 +1,5 @@
 -- What is found in a view.
-use Rattle.std.proofs.Common.{◌≡◌, ℕ, Bool, true, false, cond, List, [], ◌∷◌, Option, Some, None, refl, sym, ap, ◌∙◌}
+use Rattle.std.proofs.Common.{◌≡◌, ℕ, true, false, cond, List, [], ◌∷◌, Some, None, refl, sym, ap, ◌∙◌}
 use Rattle.std.specs.Prelude.{option_and_then}
 use Rattle.std.specs.FinMap as map
 use Rattle.imap_names.specs.Name.{Name, name_cmp}
@@ -7,10 +7,9 @@ use Rattle.imap_names.specs.UserName.{is_user_name}
 use Rattle.imap_names.proofs.UserLaws.{is_empty-user}
 use Rattle.imap_names.proofs.NameLaws.{name_cmp-IsAntisymmetric}
 use Rattle.imap_rights.specs.Rights.{has_any, visible_rights, administer}
-use Rattle.imap_rights.specs.Acl.{AclMap}
 use Rattle.imap_rights.specs.Effective.{effective}
 use Rattle.imap_core.specs.World.{World}
-use Rattle.imap_core.specs.View.{Seen, View, view, seen_at, seen_with, owner_by_root, owner_of}
+use Rattle.imap_core.specs.View.{view, seen_at, seen_with, owner_by_root, owner_of}
 use Rattle.imap_core.specs.declared.world.Mailbox.{Mailbox}
 use Rattle.imap_core.proofs.Kept.{get-keep}
 

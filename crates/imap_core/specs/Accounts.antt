@@ -1,5 +1,5 @@
 -- The users whom the host knows, with their open sessions.
-use Rattle.std.specs.Prelude.{ℕ, List, map, refl}
+use Rattle.std.specs.Prelude.{ℕ, List, map}
 use Rattle.std.specs.Ordering.{nat_cmp}
 use Rattle.std.specs.Cmp.Lexicographic.{slice_cmp}
 use Rattle.std.specs.FinMap.{FinMap, from_entries}

@@ -1,5 +1,5 @@
 -- What effects do to the mailboxes.
-use Rattle.std.specs.Prelude.{ℕ, List, [], ◌∷◌}
+use Rattle.std.specs.Prelude.{List, [], ◌∷◌}
 use Rattle.imap_rights.specs.Acl.{owner_acl}
 use Rattle.imap_core.specs.World.{World, with_mailbox, inbox, first_validity}
 use Rattle.imap_core.specs.declared.effect.Effect.{Effect}

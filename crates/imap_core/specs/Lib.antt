@@ -4,7 +4,6 @@ pub mod Finite
 pub mod Machine
 pub mod Opening
 pub mod Planned
-pub mod Printed
 pub mod Reply
 pub mod Same
 pub mod Sessions

@@ -1,7 +1,7 @@
 -- The machine: the mailboxes and all open sessions, and what one step makes of them.
 use Rattle.std.specs.Prelude.{◌≡◌, ℕ, ◌≤◌, List, [], ◌∷◌, length, take, Option, Some, None}
 use Rattle.std.specs.FinMap as map
-use Rattle.imap_core.specs.declared.response.Response.{Response}
+use Rattle.imap_print.specs.declared.response.Response.{Response}
 use Rattle.imap_core.specs.declared.sessions.SessionChange.{SessionChange}
 use Rattle.imap_core.specs.declared.sessions.SessionChange.TheVariants as session
 use Rattle.imap_core.specs.declared.site.Site.{Site}

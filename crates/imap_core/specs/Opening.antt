@@ -1,5 +1,5 @@
 -- What is made when a host starts.
-use Rattle.std.specs.Prelude.{◌≡◌, ℕ, List, [], ◌∷◌, if◌then◌else◌}
+use Rattle.std.specs.Prelude.{ℕ, List, [], ◌∷◌, if◌then◌else◌}
 use Rattle.std.specs.FinMap as map
 use Rattle.imap_core.specs.declared.effect.Effect.{Effect}
 use Rattle.imap_core.specs.declared.effect.Effect.TheVariants.{CreateInbox}

@@ -1,7 +1,7 @@
 -- What the code has prepared, against what is to be answered.
-use Rattle.std.specs.Prelude.{◌≡◌, ◌⊎◌, ◌<◌, true, ℕ, List, [], ◌∷◌, Option, Some, None}
+use Rattle.std.specs.Prelude.{◌≡◌, ◌⊎◌, ◌<◌, true, ℕ, List, [], Option, Some, None}
 use Rattle.std.specs.FinMap as map
-use Rattle.imap_core.specs.declared.response.Response.{Response}
+use Rattle.imap_print.specs.declared.response.Response.{Response}
 use Rattle.imap_core.specs.declared.sessions.SessionChange.{SessionChange}
 use Rattle.imap_core.specs.declared.sessions.SessionChange.TheVariants as session
 use Rattle.imap_core.specs.declared.effect.Effect.{Effect}

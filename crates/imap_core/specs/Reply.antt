@@ -1,5 +1,5 @@
 -- What a step is answered, and what becomes of its session: by what the user sees, and the user's own sessions, alone.
-use Rattle.std.specs.Prelude.{ℕ, Bool, not, ◌&&◌, nat_le, List, [], ◌∷◌, Option, Some, None, Result, Ok, Err, if◌then◌else◌}
+use Rattle.std.specs.Prelude.{ℕ, not, ◌&&◌, nat_le, List, [], ◌∷◌, Option, Some, None, Result, Ok, Err, if◌then◌else◌}
 use Rattle.std.specs.FinMap as map
 use Rattle.imap_grammar.specs.declared.request.Request.{Request}
 use Rattle.imap_grammar.specs.declared.request.Request.TheVariants as request
@@ -9,13 +9,12 @@ use Rattle.imap_names.specs.Name.{Name}
 use Rattle.imap_names.specs.Reading.{name_read}
 use Rattle.imap_names.specs.Showing.{shown}
 use Rattle.imap_names.specs.declared.error.NameError.{NameError}
-use Rattle.imap_core.specs.declared.response.Response.{Response}
-use Rattle.imap_core.specs.declared.response.Response.TheVariants as response
-use Rattle.imap_core.specs.declared.response.Farewell.TheVariants.{LoggingOut, LimitReached}
-use Rattle.imap_core.specs.declared.response.Refusal.{Refusal}
-use Rattle.imap_core.specs.declared.response.Refusal.TheVariants.{NonExistent, Limit, Malformed}
+use Rattle.imap_print.specs.declared.response.Response.{Response}
+use Rattle.imap_print.specs.declared.response.Response.TheVariants as response
+use Rattle.imap_print.specs.declared.response.Farewell.TheVariants.{LoggingOut, LimitReached}
+use Rattle.imap_print.specs.declared.response.Refusal.{Refusal}
+use Rattle.imap_print.specs.declared.response.Refusal.TheVariants.{NonExistent, Cannot, Limit, Malformed, WrongState}
 use Rattle.imap_core.specs.declared.effect.Effect.{Effect}
-use Rattle.imap_core.specs.declared.sessions.Session.{Session}
 use Rattle.imap_core.specs.declared.sessions.SessionChange.{SessionChange}
 use Rattle.imap_core.specs.declared.sessions.SessionChange.TheVariants as session
 use Rattle.imap_core.specs.declared.step.Act.{Act}
@@ -38,7 +37,7 @@ abbrev pub ended : List Response → Outcome
 ended replies = record { replies = replies; session = session.End; effects = [] }
 
 abbrev pub done : List ℕ → Response
-done tag = response.Done tag
+done tag = response.Done tag None
 
 abbrev pub refused : List ℕ → Refusal → Outcome
 refused tag refusal = told (response.Refused (Some tag) refusal ∷ [])
@@ -53,13 +52,15 @@ abbrev pub rights_asked : List ℕ → View → List ℕ → Result Name NameErr
 rights_asked user view tag (Err error) = refused tag NonExistent
 rights_asked user view tag (Ok name) = rights_told user tag name (map.get view.seen name)
 
--- ---- commands (RFC 9051, section 6.1)
+-- ---- commands (RFC 9051, sections 6.1 and 6.2: a session is authenticated when it begins); what isn't built yet can't be done
 
 abbrev pub command_outcome : List ℕ → View → List ℕ → Body → Outcome
 command_outcome user view tag body.Capability = told (response.Capability ∷ done tag ∷ [])
 command_outcome user view tag body.Noop = told (done tag ∷ [])
 command_outcome user view tag body.Logout = ended (response.Bye LoggingOut ∷ done tag ∷ [])
+command_outcome user view tag body.Authenticate = refused tag WrongState
 command_outcome user view tag (body.MyRights mailbox) = rights_asked user view tag (name_read user mailbox)
+command_outcome user view tag _ = refused tag Cannot
 
 abbrev pub request_outcome : List ℕ → View → Request → Outcome
 request_outcome user view (request.Command tag body) = command_outcome user view tag body

@@ -1,15 +1,15 @@
 -- What a run is to one user, and that it is this user's alone to tell.
-use Rattle.std.specs.Prelude.{◌≡◌, ℕ, Bool, true, false, List, [], ◌∷◌, Option, Some, None, bytes_eq, refl, if◌then◌else◌}
+use Rattle.std.specs.Prelude.{◌≡◌, ℕ, Bool, true, false, List, [], ◌∷◌, Option, bytes_eq, refl, if◌then◌else◌}
 use Rattle.std.specs.FinMap as map
 use Rattle.std.specs.Coded.{Coded, coded_ℕ, coded_list, coded_option, coded×, code_by}
 use Rattle.imap_names.specs.Name.{Names}
 use Rattle.imap_rights.specs.Acl.{AclMap, acl_code}
-use Rattle.imap_core.specs.declared.response.Response.{Response}
+use Rattle.imap_print.specs.declared.response.Response.{Response}
 use Rattle.imap_core.specs.declared.step.Act.{Act}
 use Rattle.imap_core.specs.declared.step.Act.TheVariants as act
 use Rattle.imap_core.specs.declared.step.Step.{Step}
 use Rattle.imap_core.specs.Machine.{State, answer, next, view_of, own_of}
-use Rattle.imap_core.specs.Printed.{printed}
+use Rattle.imap_print.specs.Printed.{printed}
 use Rattle.imap_core.specs.Same.{same}
 use Rattle.imap_core.specs.View.{Seen, View}
 

@@ -1,6 +1,5 @@
 -- What a user may see of the mailboxes (RFC 4314, sections 4 and 6), and nothing else.
 use Rattle.std.specs.Prelude.{ℕ, List, [], ◌∷◌, Option, Some, None, if◌then◌else◌}
-use Rattle.std.specs.FinMap as map
 use Rattle.imap_names.specs.Name.{Name, Names, root_of}
 use Rattle.imap_rights.specs.Rights.{has_any, visible_rights, administer}
 use Rattle.imap_rights.specs.Acl.{AclMap}

@@ -2,7 +2,7 @@
 //!
 //! [`World`] holds the mailboxes, [`Core`] these and the open sessions of all users. A step is made in two halves:
 //! [`Core::prepare`] finds the replies and the change, and may be refused for want of memory; [`Core::commit`] makes
-//! them, and cannot. [`print`] gives the octets of the replies.
+//! them, and cannot.
 //!
 //! What a user is answered is defined in `specs/Reply.antt` by what that user may see (`specs/View.antt`) and by the
 //! user's own sessions, and by nothing else.
@@ -14,8 +14,6 @@ pub mod laws;
 mod machine;
 mod opening;
 mod plan;
-mod printing;
-mod response;
 mod sessions;
 mod site;
 mod step;
@@ -24,8 +22,6 @@ mod world;
 
 pub use effect::{Change, Effect};
 pub use machine::{Core, Prepared};
-pub use printing::print;
-pub use response::{Farewell, Refusal, Response};
 pub use sessions::{Session, SessionChange};
 pub use site::{Limits, Site};
 pub use step::{Act, SessionId, Step};

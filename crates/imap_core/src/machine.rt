@@ -11,12 +11,12 @@ use crate::accounts::Accounts;
 use crate::effect::Change;
 use crate::opening::Opening;
 use crate::plan::{Plan, step_plan};
-use crate::response::Response;
 use crate::sessions::{Session, SessionChange};
 use crate::site::{Limits, Site};
 use crate::step::{SessionId, Step};
 use crate::world::World;
 use imap_names::UserName;
+use imap_print::Response;
 use std::alloc::{AllocError, Global};
 
 /// The mailboxes and the open sessions of all users.

@@ -7,7 +7,6 @@ ghost use Rattle.imap_core.specs.View.{view};
 ghost use Rattle.imap_core.specs.Reply.{told, ended, done, refused, rights_told, rights_asked, command_outcome, request_outcome, opening, if_open, reply};
 ghost use Rattle.imap_core.specs.Planned.{Plans};
 
-use crate::response::{Farewell, Refusal, Response};
 use crate::sessions::{OwnSessions, Session, SessionChange};
 use crate::site::Site;
 use crate::step::{Act, Step};
@@ -16,6 +15,7 @@ use crate::world::World;
 use imap_grammar::{Body, Request};
 use imap_lex::{Octets, Tag};
 use imap_names::{Name, NameError, UserName, read_name, show_name};
+use imap_print::{Farewell, Refusal, Response};
 use std::alloc::{AllocError, Global};
 
 /// The responses to a step, and what becomes of its session.
@@ -134,6 +134,7 @@ fn done(alloc: Global, tag: &Tag) -> Result<Response, AllocError>
 {
     Ok(Response::Done {
         tag: tag.try_copy(alloc)?,
+        code: None,
     })
 }
 
@@ -157,7 +158,10 @@ fn command_plan(
             let bye = Response::Bye(Farewell::LoggingOut);
             Ok(Plan::ended(vec![in alloc; bye, done(alloc, tag)?]?))
         }
+        Body::Authenticate => Plan::refused(alloc, tag, Refusal::WrongState),
         Body::MyRights { mailbox } => rights_plan(alloc, world, site, user, tag, mailbox),
+        // What isn't built yet can't be done.
+        _ => Plan::refused(alloc, tag, Refusal::Cannot),
     }
 }
 
@@ -193,7 +197,7 @@ fn named_rights_plan(
         Some(seen) => {
             let shown = show_name(alloc, user, name)?;
             let rights = Response::MyRights {
-                mailbox: Octets::from_vec(shown.into_bytes()),
+                mailbox: Octets::from_vec(shown.into_bytes())?,
                 rights: seen.rights(),
             };
             Ok(Plan::told(vec![in alloc; rights, done(alloc, tag)?]?))

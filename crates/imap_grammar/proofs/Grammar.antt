@@ -1,77 +1,150 @@
--- The laws of the productions.
-use Rattle.std.proofs.Common.{◌≡◌, ◌≢◌, ℕ, Bool, true, false, not, cond, eqb, List, [], ◌∷◌, Some, refl, arith}
-use Rattle.std.specs.Prelude.{find}
-use Rattle.std.specs.Char.{to_ascii_lowercase}
-use Rattle.std.specs.Str.{str_eq_ignore_ascii_case}
+-- The laws of commands.
+use Rattle.std.proofs.Common.{◌≡◌, ℕ, Bool, true, false, not, eqb, List, refl, arith}
 use Rattle.std.proofs.lemmas.Bool.Decides.{nat_tests}
+use Rattle.imap_syntax.specs.declared.set.Numbering.TheVariants.{Sequence, Uid}
+use Rattle.imap_grammar.specs.declared.request.Body.{Body}
+use Rattle.imap_grammar.specs.declared.select.SelectParameters.{SelectParameters}
+use Rattle.imap_grammar.specs.Selecting.{parameters}
 use Rattle.imap_grammar.specs.declared.verb.Verb.{Verb}
-use Rattle.imap_grammar.specs.declared.verb.Verb.TheVariants.{Capability, Logout, MyRights, Noop}
-use Rattle.imap_grammar.specs.declared.verb.TheConstants.{VERBS}
-use Rattle.imap_grammar.specs.Rule.{ConsistsOf}
-use Rattle.imap_grammar.specs.Lexical.{is_astring_char, is_tag_char}
-use Rattle.imap_grammar.specs.Words.{verb_name}
-use Rattle.imap_grammar.specs.Grammar.{arguments, command, tag_front}
-use Rattle.imap_grammar.proofs.RuleLaws.{StopsAt, Lawful, MayFollow, then_lawful, ended_lawful, give_lawful, give_follows, octet_lawful, octet_then_follows, then_follows, after_anything, some_of_lawful}
-use Rattle.imap_grammar.proofs.Words.{IsTable, keyword_lawful}
-use Rattle.imap_grammar.proofs.Opens.{octet_opens, then_opens, or_opens, opens_follows, or_apart}
-use Rattle.imap_grammar.proofs.Strings.{crlf_lawful, astring_lawful}
-
--- ---- the names of commands
-
-either_case : (a b : ℕ) → to_ascii_lowercase a ≡ to_ascii_lowercase b → is_astring_char b ≡ true → is_astring_char a ≡ true
-either_case a b e h = grind (arith, nat_tests)
-
-verb_finds : (v : Verb) → find (λ u. str_eq_ignore_ascii_case (verb_name v) (verb_name u)) VERBS ≡ Some v
-verb_finds Capability = refl
-verb_finds Logout = refl
-verb_finds MyRights = refl
-verb_finds Noop = refl
-
-abbrev all_pass : (ℕ → Bool) → List ℕ → Bool
-all_pass test [] = true
-all_pass test (b ∷ text) = cond (test b) (all_pass test text) false
-
-consists_by : (test : ℕ → Bool) (b : ℕ) (text : List ℕ) (v : Bool) → test b ≡ v → cond v (all_pass test text) false ≡ true → (all_pass test text ≡ true → ConsistsOf test text) → ConsistsOf test (b ∷ text)
-consists_by test b text true e h f = (e, f h)
-consists_by test b text false e h f = absurd cc
-
-consists_from : (test : ℕ → Bool) (text : List ℕ) → all_pass test text ≡ true → ConsistsOf test text
-consists_from test [] h = tt
-consists_from test (b ∷ text) h = consists_by test b text (test b) refl h (consists_from test text)
-
-verb_passes : (v : Verb) → all_pass is_astring_char (verb_name v) ≡ true
-verb_passes Capability = refl
-verb_passes Logout = refl
-verb_passes MyRights = refl
-verb_passes Noop = refl
-
-verb_filled : (v : Verb) → verb_name v ≢ []
-verb_filled Capability e = cc
-verb_filled Logout e = cc
-verb_filled MyRights e = cc
-verb_filled Noop e = cc
-
-verb_table : IsTable is_astring_char verb_name VERBS
-verb_table = record {
-  finds = verb_finds;
-  passes = λ v. consists_from _ _ (verb_passes v);
-  filled = verb_filled;
-  caseless = either_case;
-}
+use Rattle.imap_grammar.specs.declared.verb.Verb.TheVariants as verb
+use Rattle.imap_grammar.specs.declared.verb.UidVerb.{UidVerb}
+use Rattle.imap_grammar.specs.declared.verb.UidVerb.TheVariants as uid
+use Rattle.imap_syntax.specs.Rule.{Rule, give, ◌>>=◌, octet}
+use Rattle.imap_grammar.specs.Stores.{argument}
+use Rattle.imap_syntax.specs.Lexical.{is_astring_char, is_atom_char, is_tag_char}
+use Rattle.imap_grammar.specs.Grammar.{status, enable, uid_arguments, uid_command, arguments, command, tag_front}
+use Rattle.imap_syntax.proofs.RuleLaws.{Anything, StopsAt, Lawful, MayFollow, then_lawful, ended_lawful, give_lawful, give_follows, octet_lawful, octet_then_follows, then_follows, after_anything, some_of_lawful}
+use Rattle.imap_syntax.proofs.Words.{keyword_lawful}
+use Rattle.imap_grammar.proofs.Tables.{verb_table, uid_verb_table}
+use Rattle.imap_syntax.proofs.Opens.{octet_opens, then_opens, or_opens, opens_follows, or_apart}
+use Rattle.imap_syntax.proofs.Strings.{crlf_lawful}
+use Rattle.imap_syntax.proofs.Ends.{AtCr, cr_ends, cr_stops, end_stops, before, give_before, items_lawful, listed_lawful}
+use Rattle.imap_grammar.proofs.QueryLaws.{fetch_lawful, search_lawful}
+use Rattle.imap_grammar.proofs.Listing.{status_item_lawful, list_lawful}
+use Rattle.imap_grammar.proofs.Appending.{append_lawful}
+use Rattle.imap_grammar.proofs.AnythingLaws.{anything_lawful, anything_follows}
+use Rattle.imap_grammar.proofs.Selecting.{parameters_lawful, parameters_follow}
+use Rattle.imap_grammar.proofs.Stores.{argument_lawful, argument_follows, last_argument, copy_lawful, move_lawful, uid_expunge_lawful, store_lawful}
 
 -- ---- commands
 
-arguments_lawful : (v : Verb) → Lawful (StopsAt is_astring_char) (arguments v)
-arguments_lawful Capability = give_lawful _
-arguments_lawful Logout = give_lawful _
-arguments_lawful Noop = give_lawful _
-arguments_lawful MyRights = ended_lawful (octet_lawful 32) (λ u. then_lawful astring_lawful (λ m. give_lawful _) (λ m. give_follows _))
+-- what begins with a space
+abbrev Spaced : {A : Type 0} → Rule A → Type 0
+Spaced q = MayFollow (StopsAt is_astring_char) AtCr q
 
-arguments_follow : (v : Verb) → MayFollow (StopsAt is_astring_char) (StopsAt is_astring_char) (arguments v)
-arguments_follow Capability = give_follows _
-arguments_follow Logout = give_follows _
-arguments_follow Noop = give_follows _
-arguments_follow MyRights = octet_then_follows _ 32 (λ rest. refl)
+spaced : {A : Type 0} (next : Unit {0} → Rule A) → Spaced (octet 32 >>= next)
+spaced next = octet_then_follows next 32 (λ rest. refl)
+
+spaced_argument : {A : Type 0} (next : List ℕ → Rule A) → Spaced (argument >>= next)
+spaced_argument next = then_follows (argument_follows {After = Anything} (λ rest. refl)) (λ a. after_anything _)
+
+-- an argument, and then another
+one_more : {A : Type 0} {next : List ℕ → Rule A} → ((a : List ℕ) → Lawful AtCr (next a)) → ((a : List ℕ) → Spaced (next a)) → Lawful AtCr (argument >>= next)
+one_more law follows = then_lawful argument_lawful law follows
+
+status_lawful : Lawful AtCr status
+status_lawful = one_more (λ mailbox. ended_lawful (octet_lawful 32) (λ u. ended_lawful (listed_lawful status_item_lawful) (λ items. give_lawful _))) (λ mailbox. spaced _)
+
+-- a mailbox and its parameters
+parameters_behind_argument : (make : List ℕ → SelectParameters → Body) → Lawful AtCr (do mailbox ← argument; given ← parameters; give (make mailbox given))
+parameters_behind_argument make =
+    one_more (λ mailbox. then_lawful parameters_lawful (λ given. give_lawful _) (λ given. give_follows _))
+    (λ mailbox. then_follows parameters_follow (λ given. give_follows _))
+
+enable_lawful : Lawful AtCr enable
+enable_lawful =
+    ended_lawful (octet_lawful 32) (λ u.
+    then_lawful (items_lawful (before (end_stops is_atom_char refl refl refl) (some_of_lawful is_atom_char))) (λ words. give_lawful _)
+    (λ words. give_before _ (λ rest n. (cr_ends rest n, cr_stops (λ b. eqb b 32) refl rest n))))
+
+uid_lawful : (word : UidVerb) → Lawful AtCr (uid_arguments word)
+uid_lawful uid.Copy = copy_lawful Uid
+uid_lawful uid.Expunge = uid_expunge_lawful
+uid_lawful uid.Fetch = fetch_lawful Uid
+uid_lawful uid.Move = move_lawful Uid
+uid_lawful uid.Search = search_lawful Uid
+uid_lawful uid.Store = store_lawful Uid
+
+uid_follows : (word : UidVerb) → Spaced (uid_arguments word)
+uid_follows uid.Copy = spaced _
+uid_follows uid.Expunge = spaced _
+uid_follows uid.Fetch = spaced _
+uid_follows uid.Move = spaced _
+uid_follows uid.Search = spaced _
+uid_follows uid.Store = spaced _
+
+uid_command_lawful : Lawful AtCr uid_command
+uid_command_lawful = ended_lawful (octet_lawful 32) (λ u. then_lawful (keyword_lawful uid_verb_table) uid_lawful uid_follows)
+
+arguments_lawful : (v : Verb) → Lawful AtCr (arguments v)
+arguments_lawful verb.Append = append_lawful
+arguments_lawful verb.Authenticate = anything_lawful
+arguments_lawful verb.Capability = give_lawful _
+arguments_lawful verb.Close = give_lawful _
+arguments_lawful verb.Copy = copy_lawful Sequence
+arguments_lawful verb.Create = last_argument _
+arguments_lawful verb.Delete = last_argument _
+arguments_lawful verb.DeleteAcl = one_more (λ a. last_argument _) (λ a. spaced_argument _)
+arguments_lawful verb.Enable = enable_lawful
+arguments_lawful verb.Examine = parameters_behind_argument _
+arguments_lawful verb.Expunge = give_lawful _
+arguments_lawful verb.Fetch = fetch_lawful Sequence
+arguments_lawful verb.GetAcl = last_argument _
+arguments_lawful verb.Idle = give_lawful _
+arguments_lawful verb.List = list_lawful
+arguments_lawful verb.ListRights = one_more (λ a. last_argument _) (λ a. spaced_argument _)
+arguments_lawful verb.Login = anything_lawful
+arguments_lawful verb.Logout = give_lawful _
+arguments_lawful verb.Move = move_lawful Sequence
+arguments_lawful verb.MyRights = last_argument _
+arguments_lawful verb.Namespace = give_lawful _
+arguments_lawful verb.Noop = give_lawful _
+arguments_lawful verb.Rename = one_more (λ a. last_argument _) (λ a. spaced_argument _)
+arguments_lawful verb.Search = search_lawful Sequence
+arguments_lawful verb.Select = parameters_behind_argument _
+arguments_lawful verb.SetAcl = one_more (λ a. one_more (λ b. last_argument _) (λ b. spaced_argument _)) (λ a. spaced_argument _)
+arguments_lawful verb.StartTls = anything_lawful
+arguments_lawful verb.Status = status_lawful
+arguments_lawful verb.Store = store_lawful Sequence
+arguments_lawful verb.Subscribe = last_argument _
+arguments_lawful verb.Uid = uid_command_lawful
+arguments_lawful verb.Unselect = give_lawful _
+arguments_lawful verb.Unsubscribe = last_argument _
+
+arguments_follow : (v : Verb) → Spaced (arguments v)
+arguments_follow verb.Append = spaced_argument _
+arguments_follow verb.Authenticate = anything_follows
+arguments_follow verb.Capability = give_before _ (cr_stops is_astring_char refl)
+arguments_follow verb.Close = give_before _ (cr_stops is_astring_char refl)
+arguments_follow verb.Copy = spaced _
+arguments_follow verb.Create = spaced_argument _
+arguments_follow verb.Delete = spaced_argument _
+arguments_follow verb.DeleteAcl = spaced_argument _
+arguments_follow verb.Enable = spaced _
+arguments_follow verb.Examine = spaced_argument _
+arguments_follow verb.Expunge = give_before _ (cr_stops is_astring_char refl)
+arguments_follow verb.Fetch = spaced _
+arguments_follow verb.GetAcl = spaced_argument _
+arguments_follow verb.Idle = give_before _ (cr_stops is_astring_char refl)
+arguments_follow verb.List = spaced _
+arguments_follow verb.ListRights = spaced_argument _
+arguments_follow verb.Login = anything_follows
+arguments_follow verb.Logout = give_before _ (cr_stops is_astring_char refl)
+arguments_follow verb.Move = spaced _
+arguments_follow verb.MyRights = spaced_argument _
+arguments_follow verb.Namespace = give_before _ (cr_stops is_astring_char refl)
+arguments_follow verb.Noop = give_before _ (cr_stops is_astring_char refl)
+arguments_follow verb.Rename = spaced_argument _
+arguments_follow verb.Search = spaced _
+arguments_follow verb.Select = spaced_argument _
+arguments_follow verb.SetAcl = spaced_argument _
+arguments_follow verb.StartTls = anything_follows
+arguments_follow verb.Status = spaced_argument _
+arguments_follow verb.Store = spaced _
+arguments_follow verb.Subscribe = spaced_argument _
+arguments_follow verb.Uid = spaced _
+arguments_follow verb.Unselect = give_before _ (cr_stops is_astring_char refl)
+arguments_follow verb.Unsubscribe = spaced_argument _
 
 pub command_lawful : {After : List ℕ → Type 0} → Lawful After command
 command_lawful =

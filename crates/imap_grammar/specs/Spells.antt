@@ -9,6 +9,10 @@ use Rattle.imap_grammar.specs.Grammar.{command, tag_front}
 abbrev pub BeginsWithTag : List ℕ → List ℕ → Type 0
 BeginsWithTag frame tag = (front : List ℕ) × (rest : List ℕ) × tag_front.spells tag front × (frame ≡ front ++ rest)
 
+-- some tag, so
+abbrev pub HasTag : List ℕ → Type 0
+HasTag frame = (tag : List ℕ) × BeginsWithTag frame tag
+
 abbrev pub IsNoCommand : List ℕ → Type 0
 IsNoCommand frame = (tag : List ℕ) (body : Body) → command.spells (tag, body) frame → ⊥
 

@@ -1,86 +1,182 @@
 //! Commands as clients spell them (RFC 9051, section 9).
 
-ghost use Rattle.std.specs.Prelude.{◌≡◌, IfOk};
-ghost use Rattle.std.specs.List.{find};
-ghost use Rattle.std.specs.Str.{str_eq_ignore_ascii_case};
-ghost use Rattle.imap_grammar.specs.declared.verb.TheConstants.{VERBS};
-ghost use Rattle.imap_grammar.specs.Rule.{keyword};
-ghost use Rattle.imap_grammar.specs.Reading.{Gives};
-ghost use Rattle.imap_grammar.specs.Lexical.{is_astring_char};
-ghost use Rattle.imap_grammar.specs.Words.{verb_name};
-ghost use Rattle.imap_grammar.specs.Grammar.{arguments, command, tag_front};
-ghost use Rattle.imap_grammar.specs.Spells.{Spells, SpellsNoOther, tag_read, request_read};
+ghost use Rattle.std.specs.Prelude.{◌≡◌, IfOk, IfErr};
+ghost use Rattle.std.specs.Option.{IsSome};
+ghost use Rattle.imap_syntax.specs.declared.fault.Fault.TheVariants.{Memory};
+ghost use Rattle.imap_syntax.specs.Reading.{Gives, Finds};
+ghost use Rattle.imap_grammar.specs.Grammar.{enable, status, uid_command, arguments, ended, command, tag_front};
+ghost use Rattle.imap_grammar.specs.Spells.{HasTag, Spells, SpellsNoOther, tag_read, request_read};
 
-use crate::cursor::Cursor;
-use crate::fault::Fault;
+use crate::anything::read_anything;
+use crate::append::read_append;
+use crate::list::read_list;
+use crate::queries::{read_fetch, read_search};
 use crate::request::{Body, Request};
-use crate::verb::{VERBS, Verb};
-use imap_lex::Tag;
+use crate::select::read_parameters;
+use crate::store::{read_argument, read_copy, read_move, read_store, read_uid_expunge};
+use crate::verb::{UidVerb, Verb};
+use imap_lex::{Octets, Tag};
+use imap_query::StatusItem;
+use imap_syntax::{Cursor, Fault, Item, Numbering, WordOf};
 use std::alloc::{AllocError, Global};
 
-fn verb_of(word: &[u8]) -> Option<Verb>
-    ensures { result ≡ find (λ verb. str_eq_ignore_ascii_case word.now (verb_name verb)) VERBS }
-{
-    VERBS
-        .iter()
-        .copied()
-        .find(|verb| word.eq_ignore_ascii_case(verb.name()))
+/// A word of ENABLE.
+pub(crate) struct Capability;
+
+impl Item for Capability {
+    ghost use Rattle.imap_syntax.specs.Rule.{some_of};
+    ghost use Rattle.imap_syntax.specs.Lexical.{is_atom_char};
+
+    type Read = Octets;
+
+    ghost item_read = { (some_of is_atom_char).read };
+
+    fn item(cursor: &mut Cursor<'_>, alloc: Global) -> Result<Octets, Fault> {
+        Ok(Octets::from_slice(alloc, cursor.atom()?)?)
+    }
 }
 
-impl<'a> Cursor<'a> {
-    fn verb(&mut self) -> Result<Verb, Fault>
-        ensures { Gives (λ v. v) result self.new.rest.now ((keyword is_astring_char verb_name VERBS).read self.old.rest.now) }
-    {
-        let word = self.atom_string()?;
-        verb_of(word).ok_or(Fault::Unread)
-    }
+fn read_enable(cursor: &mut Cursor<'_>, alloc: Global) -> Result<Body, Fault>
+    ensures { Gives (λ b. b) result cursor.new (enable.read cursor.old) }
+{
+    cursor.space()?;
+    let capabilities = cursor.separated::<Capability>(alloc, b' ')?;
+    Ok(Body::Enable { capabilities })
+}
 
-    /// What stands behind the command's name.
-    fn arguments(&mut self, alloc: Global, verb: Verb) -> Result<Body, Fault>
-        ensures { Gives (λ b. b) result self.new.rest.now ((arguments verb).read self.old.rest.now) }
-    {
-        match verb {
-            Verb::Capability => Ok(Body::Capability),
-            Verb::Logout => Ok(Body::Logout),
-            Verb::Noop => Ok(Body::Noop),
-            Verb::MyRights => {
-                self.space()?;
-                let mailbox = self.astring(alloc)?;
-                Ok(Body::MyRights { mailbox })
-            }
-        }
-    }
+fn read_status(cursor: &mut Cursor<'_>, alloc: Global) -> Result<Body, Fault>
+    ensures { Gives (λ b. b) result cursor.new (status.read cursor.old) }
+{
+    let mailbox = read_argument(cursor, alloc)?;
+    cursor.space()?;
+    let items = cursor.listed::<WordOf<StatusItem>>(alloc)?;
+    Ok(Body::Status { mailbox, items })
+}
 
-    /// `command`
-    fn command(&mut self, alloc: Global) -> Result<(Tag, Body), Fault>
-        ensures { Gives (λ c. c) result self.new.rest.now (command.read self.old.rest.now) }
-    {
-        let tag = self.tag()?;
-        self.space()?;
-        let verb = self.verb()?;
-        let body = self.arguments(alloc, verb)?;
-        self.crlf()?;
-        Ok((Tag::from_slice(alloc, tag)?, body))
+fn read_uid_command(cursor: &mut Cursor<'_>, alloc: Global) -> Result<Body, Fault>
+    ensures { Gives (λ b. b) result cursor.new (uid_command.read cursor.old) }
+{
+    cursor.space()?;
+    match cursor.keyword::<UidVerb>()? {
+        UidVerb::Copy => read_copy(cursor, alloc, Numbering::Uid),
+        UidVerb::Expunge => read_uid_expunge(cursor, alloc),
+        UidVerb::Move => read_move(cursor, alloc, Numbering::Uid),
+        UidVerb::Store => read_store(cursor, alloc, Numbering::Uid),
+        UidVerb::Fetch => read_fetch(cursor, alloc, Numbering::Uid),
+        UidVerb::Search => read_search(cursor, alloc, Numbering::Uid),
     }
+}
 
-    /// A tag, and behind it a space or CRLF.
-    fn tag_front(&mut self) -> Result<&'a [u8], Fault>
-        ensures { Gives (λ s. s.now) result self.new.rest.now (tag_front.read self.old.rest.now) }
-    {
-        let tag = self.tag()?;
-        match self.rest {
-            [b' ', ..] => self.space()?,
-            _ => self.crlf()?,
-        }
-        Ok(tag)
+/// What stands behind the command's name.
+fn read_arguments(cursor: &mut Cursor<'_>, alloc: Global, verb: Verb) -> Result<Body, Fault>
+    ensures { Gives (λ b. b) result cursor.new ((arguments verb).read cursor.old) }
+{
+    match verb {
+        Verb::Append => read_append(cursor, alloc),
+        Verb::Authenticate | Verb::Login | Verb::StartTls => read_anything(cursor),
+        Verb::Capability => Ok(Body::Capability),
+        Verb::Close => Ok(Body::Close),
+        Verb::Copy => read_copy(cursor, alloc, Numbering::Sequence),
+        Verb::Create => Ok(Body::Create {
+            mailbox: read_argument(cursor, alloc)?,
+        }),
+        Verb::Delete => Ok(Body::Delete {
+            mailbox: read_argument(cursor, alloc)?,
+        }),
+        Verb::DeleteAcl => Ok(Body::DeleteAcl {
+            mailbox: read_argument(cursor, alloc)?,
+            identifier: read_argument(cursor, alloc)?,
+        }),
+        Verb::Enable => read_enable(cursor, alloc),
+        Verb::Examine => Ok(Body::Examine {
+            mailbox: read_argument(cursor, alloc)?,
+            parameters: read_parameters(cursor, alloc)?,
+        }),
+        Verb::Expunge => Ok(Body::Expunge),
+        Verb::Fetch => read_fetch(cursor, alloc, Numbering::Sequence),
+        Verb::GetAcl => Ok(Body::GetAcl {
+            mailbox: read_argument(cursor, alloc)?,
+        }),
+        Verb::Idle => Ok(Body::Idle),
+        Verb::List => read_list(cursor, alloc),
+        Verb::ListRights => Ok(Body::ListRights {
+            mailbox: read_argument(cursor, alloc)?,
+            identifier: read_argument(cursor, alloc)?,
+        }),
+        Verb::Logout => Ok(Body::Logout),
+        Verb::Move => read_move(cursor, alloc, Numbering::Sequence),
+        Verb::MyRights => Ok(Body::MyRights {
+            mailbox: read_argument(cursor, alloc)?,
+        }),
+        Verb::Namespace => Ok(Body::Namespace),
+        Verb::Noop => Ok(Body::Noop),
+        Verb::Rename => Ok(Body::Rename {
+            from: read_argument(cursor, alloc)?,
+            to: read_argument(cursor, alloc)?,
+        }),
+        Verb::Search => read_search(cursor, alloc, Numbering::Sequence),
+        Verb::Select => Ok(Body::Select {
+            mailbox: read_argument(cursor, alloc)?,
+            parameters: read_parameters(cursor, alloc)?,
+        }),
+        Verb::SetAcl => Ok(Body::SetAcl {
+            mailbox: read_argument(cursor, alloc)?,
+            identifier: read_argument(cursor, alloc)?,
+            rights: read_argument(cursor, alloc)?,
+        }),
+        Verb::Status => read_status(cursor, alloc),
+        Verb::Store => read_store(cursor, alloc, Numbering::Sequence),
+        Verb::Subscribe => Ok(Body::Subscribe {
+            mailbox: read_argument(cursor, alloc)?,
+        }),
+        Verb::Uid => read_uid_command(cursor, alloc),
+        Verb::Unselect => Ok(Body::Unselect),
+        Verb::Unsubscribe => Ok(Body::Unsubscribe {
+            mailbox: read_argument(cursor, alloc)?,
+        }),
     }
+}
+
+/// What was read, where the command ends here.
+fn ended<T: Drop>(cursor: &mut Cursor<'_>, read: T) -> Result<T, Fault>
+    ensures { Finds (λ r. r) result cursor.new ((ended read).read cursor.old) }
+{
+    cursor.crlf()?;
+    Ok(read)
+}
+
+/// `command`
+fn read_command(cursor: &mut Cursor<'_>, alloc: Global) -> Result<(Tag, Body), Fault>
+    ensures exact { Gives (λ c. c) result cursor.new (command.read cursor.old) }
+    ensures memory { IfErr result (λ fault. fault ≡ Memory → IsSome (tag_front.read cursor.old)) }
+{
+    let tag = cursor.tag()?;
+    cursor.space()?;
+    let verb = cursor.keyword::<Verb>()?;
+    let tag = Tag::from_slice(alloc, tag)?;
+    let body = read_arguments(cursor, alloc, verb)?;
+    ended(cursor, (tag, body))
+}
+
+/// A tag, and behind it a space or CRLF.
+fn read_tag_front<'a>(cursor: &mut Cursor<'a>) -> Result<&'a [u8], Fault>
+    ensures { Finds (λ s. s.now) result cursor.new (tag_front.read cursor.old) }
+{
+    let tag = cursor.tag()?;
+    match cursor.rest() {
+        [b' ', ..] => cursor.space()?,
+        _ => cursor.crlf()?,
+    }
+    Ok(tag)
 }
 
 /// The answer to a frame that is no command.
-fn malformed(alloc: Global, frame: &[u8]) -> Result<Request, AllocError>
-    ensures { IfOk result (λ request. request ≡ Request.Malformed (tag_read (tag_front.read frame.now))) }
+fn malformed(alloc: Global, frame: &Octets) -> Result<Request, AllocError>
+    ensures exact { IfOk result (λ request. request ≡ Request.Malformed (tag_read (tag_front.read frame.now))) }
+    ensures memory { IfErr result (λ _. IsSome (tag_front.read frame.now)) }
 {
-    match Cursor::new(frame).tag_front() {
+    let mut cursor = Cursor::new(frame);
+    match read_tag_front(&mut cursor) {
         Ok(tag) => {
             let tag = Tag::from_slice(alloc, tag)?;
             Ok(Request::Malformed { tag: Some(tag) })
@@ -90,22 +186,31 @@ fn malformed(alloc: Global, frame: &[u8]) -> Result<Request, AllocError>
     }
 }
 
-fn read_request(alloc: Global, frame: &[u8]) -> Result<Request, AllocError>
-    ensures { IfOk result (λ request. request ≡ request_read frame.now) }
+fn read_request(alloc: Global, frame: &Octets) -> Result<Request, AllocError>
+    ensures exact { IfOk result (λ request. request ≡ request_read frame.now) }
+    ensures memory { IfErr result (λ _. IsSome (tag_front.read frame.now)) }
 {
     let mut cursor = Cursor::new(frame);
-    match cursor.command(alloc) {
-        Ok((tag, body)) if cursor.rest.is_empty() => Ok(Request::Command { tag, body }),
+    match read_command(&mut cursor, alloc) {
+        Ok((tag, body)) => {
+            if cursor.rest().is_empty() {
+                return Ok(Request::Command { tag, body });
+            }
+            drop(body);
+            malformed(alloc, frame)
+        }
+        Err(Fault::Unread) => malformed(alloc, frame),
         Err(Fault::Memory) => Err(AllocError),
-        _ => malformed(alloc, frame),
     }
 }
 
-/// What a frame asks for. It may have any octets: where they are no command it is `Malformed`.
-pub fn parse(alloc: Global, octets: &[u8]) -> Result<Request, AllocError>
-    ensures spelt { IfOk result (λ request. Spells octets.now request) }
-    ensures only { IfOk result (λ request. SpellsNoOther octets.now request) }
-    ensures exact { IfOk result (λ request. request ≡ request_read octets.now) }
+/// What a frame asks for. It may have any octets: where they are no command it is `Malformed`. The message of APPEND
+/// shares the frame's octets. A frame that begins with no tag takes no memory.
+pub fn parse(alloc: Global, frame: &Octets) -> Result<Request, AllocError>
+    ensures spelt { IfOk result (λ request. Spells frame.now request) }
+    ensures only { IfOk result (λ request. SpellsNoOther frame.now request) }
+    ensures exact { IfOk result (λ request. request ≡ request_read frame.now) }
+    ensures memory { IfErr result (λ _. HasTag frame.now) }
 {
-    read_request(alloc, octets)
+    read_request(alloc, frame)
 }

@@ -1,8 +1,14 @@
 //! What a frame asks for.
 
+use crate::list::{ListReturn, Patterns, Selection};
+use crate::select::SelectParameters;
+use crate::store::StoreChange;
 use imap_lex::{Octets, Tag};
+use imap_query::{FetchItem, SearchKeys, SearchReturn, StatusItem};
+use imap_syntax::{DateTime, Flags, Items, MessageSet, Numbering};
 
-/// What a command asks for, apart from its tag.
+/// What a command asks for, apart from its tag. Names of mailboxes, identifiers and rights stand as the client sent
+/// them, without their quotes and escapes.
 #[derive(Debug, Drop)]
 pub enum Body {
     /// RFC 9051, section 6.1.1.
@@ -11,9 +17,138 @@ pub enum Body {
     Noop,
     /// RFC 9051, section 6.1.3.
     Logout,
-    /// RFC 4314, section 3.5: the rights that the user has on this mailbox. The name stands as the client sent it,
-    /// without its quotes and escapes.
-    MyRights { mailbox: Octets },
+    /// RFC 9051, section 6.3.10.
+    Namespace,
+    /// RFC 9051, section 6.3.13.
+    Idle,
+    /// RFC 9051, section 6.4.1.
+    Close,
+    /// RFC 9051, section 6.4.2.
+    Unselect,
+    /// LOGIN, AUTHENTICATE or STARTTLS (RFC 9051, section 6.2), with anything behind it: sessions are authenticated
+    /// when they begin.
+    Authenticate,
+    /// RFC 9051, section 6.3.1.
+    Enable {
+        capabilities: Items<Octets>,
+    },
+    /// RFC 9051, section 6.3.2.
+    Select {
+        mailbox: Octets,
+        parameters: SelectParameters,
+    },
+    /// RFC 9051, section 6.3.3.
+    Examine {
+        mailbox: Octets,
+        parameters: SelectParameters,
+    },
+    /// RFC 9051, section 6.3.4.
+    Create {
+        mailbox: Octets,
+    },
+    /// RFC 9051, section 6.3.5.
+    Delete {
+        mailbox: Octets,
+    },
+    /// RFC 9051, section 6.3.6.
+    Rename {
+        from: Octets,
+        to: Octets,
+    },
+    /// RFC 9051, section 6.3.7.
+    Subscribe {
+        mailbox: Octets,
+    },
+    /// RFC 9051, section 6.3.8.
+    Unsubscribe {
+        mailbox: Octets,
+    },
+    /// RFC 9051, section 6.3.9.
+    List {
+        selection: Option<Items<Selection>>,
+        reference: Octets,
+        patterns: Patterns,
+        returns: Option<Items<ListReturn>>,
+    },
+    /// RFC 9051, section 6.3.11.
+    Status {
+        mailbox: Octets,
+        items: Items<StatusItem>,
+    },
+    /// RFC 9051, section 6.3.12.
+    Append {
+        mailbox: Octets,
+        flags: Flags,
+        date: Option<DateTime>,
+        message: Octets,
+    },
+    /// RFC 4314, section 3.1.
+    SetAcl {
+        mailbox: Octets,
+        identifier: Octets,
+        rights: Octets,
+    },
+    /// RFC 4314, section 3.2.
+    DeleteAcl {
+        mailbox: Octets,
+        identifier: Octets,
+    },
+    /// RFC 4314, section 3.3.
+    GetAcl {
+        mailbox: Octets,
+    },
+    /// RFC 4314, section 3.4.
+    ListRights {
+        mailbox: Octets,
+        identifier: Octets,
+    },
+    /// RFC 4314, section 3.5.
+    MyRights {
+        mailbox: Octets,
+    },
+    /// RFC 9051, section 6.4.3.
+    Expunge,
+    /// RFC 9051, section 6.4.9.
+    UidExpunge {
+        messages: MessageSet,
+    },
+    /// RFC 9051, section 6.4.4. Without RETURN or with `RETURN ()`, `returns` is empty.
+    Search {
+        numbering: Numbering,
+        returns: Items<SearchReturn>,
+        charset: Option<Octets>,
+        keys: SearchKeys,
+    },
+    /// RFC 9051, section 6.4.5; RFC 7162, sections 3.1.4.1 and 3.2.6 for the modifiers.
+    Fetch {
+        numbering: Numbering,
+        messages: MessageSet,
+        items: Items<FetchItem>,
+        changed_since: Option<u64>,
+        vanished: bool,
+    },
+    /// RFC 9051, section 6.4.6.
+    Store {
+        numbering: Numbering,
+        messages: MessageSet,
+        /// RFC 7162, section 3.1.3.
+        unchanged_since: Option<u64>,
+        change: StoreChange,
+        silent: bool,
+        flags: Flags,
+    },
+    /// RFC 9051, section 6.4.7.
+    Copy {
+        numbering: Numbering,
+        messages: MessageSet,
+        mailbox: Octets,
+    },
+    /// RFC 9051, section 6.4.8.
+    Move {
+        numbering: Numbering,
+        messages: MessageSet,
+        mailbox: Octets,
+    },
 }
 
 /// What a frame of the stream asks for.

@@ -1,4 +1,12 @@
 pub mod Crlf
 pub mod Runs
 pub mod Lines
+pub mod Tails
+pub mod Steps
+pub mod Turns
+pub mod Feeds
+pub mod Marks
+pub mod Ends
+pub mod Told
 pub mod Readings
+pub mod Only

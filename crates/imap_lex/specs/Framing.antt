@@ -1,38 +1,85 @@
--- What each octet of a stream does to a framer (RFC 9051, sections 2.2 and 2.2.1: a line ends with CRLF).
-use Rattle.std.specs.Prelude.{ℕ, Bool, List, [], ◌∷◌, ◌++◌, length, nat_lt, eqb, if◌then◌else◌}
+-- What each octet of a stream does to a framer (RFC 9051, sections 2.2.1 and 4.3; RFC 7888, section 4).
+use Rattle.std.specs.Prelude.{ℕ, ◌+◌, ◌-◌, min, List, [], ◌∷◌, ◌++◌, nat_lt, eqb, if◌then◌else◌, Option, Some, None}
 use Rattle.std.specs.List.{ends_with}
 use Rattle.imap_lex.specs.declared.frame.Frame.{Frame}
-use Rattle.imap_lex.specs.declared.frame.Frame.TheVariants.{Whole, Hangup}
+use Rattle.imap_lex.specs.declared.frame.Frame.TheVariants.{Whole, Continue, Reject, Hangup}
+use Rattle.imap_lex.specs.CommandTag.{tag_of}
+use Rattle.imap_lex.specs.Mark.{Announced, line_mark}
 
 -- CR and LF
 abbrev pub crlf : List ℕ
 crlf = 13 ∷ 10 ∷ []
 
--- the octets of a line whose end is still to come, or the end of all reading
-pub data Framing : Type 0 where
-  awaiting : (line : List ℕ) → Framing
-  hung_up : Framing
+-- a line so far, or how many octets of a literal are still to come
+pub data Part : Type 0 where
+  line : (octets : List ℕ) → Part
+  literal : (left : ℕ) → Part
 
-abbrev pub framing : Bool → List ℕ → Framing
-framing closed line = if closed then hung_up else awaiting line
+-- a command so far: its octets, how many of them are outside literals, and how many more its literals may have
+pub record Begun : Type 0 where
+  pub octets : List ℕ
+  pub part : Part
+  pub outside : ℕ
+  pub room : ℕ
+
+-- awaiting the rest of a command, where the literals of one may have `limit` octets, or reading no more
+pub data Framing : Type 0 where
+  awaiting : (limit : ℕ) (begun : Begun) → Framing
+  hung_up : Framing
 
 -- the frames that octets bring, and where they leave a framer
 pub record Outcome : Type 0 where
   pub told : List Frame
   pub next : Framing
 
--- a line as it is with its last octet: too long, ended, or to go on
-abbrev pub line_outcome : List ℕ → Outcome
-line_outcome line =
-    if nat_lt 8192 (length line)
-    then record { told = Hangup ∷ []; next = hung_up }
-    else (if ends_with eqb line crlf
-    then record { told = Whole line ∷ []; next = awaiting [] }
-    else record { told = []; next = awaiting line })
+-- no octet of a command has come
+abbrev pub start : ℕ → Begun
+start limit = record { octets = []; part = line []; outside = 0; room = limit }
+
+abbrev pub goes_on : ℕ → List Frame → Begun → Outcome
+goes_on limit told b = record { told = told; next = awaiting limit b }
+
+abbrev pub ends : ℕ → Frame → Outcome
+ends limit frame = record { told = frame ∷ []; next = awaiting limit (start limit) }
+
+abbrev pub hangs_up : Outcome
+hangs_up = record { told = Hangup ∷ []; next = hung_up }
+
+-- what follows a mark of this size
+abbrev pub part_of_size : ℕ → Part
+part_of_size size = if nat_lt 0 size then literal size else line []
+
+abbrev pub before_literal : Begun → ℕ → Begun
+before_literal b size = record { octets = b.octets; part = part_of_size size; outside = b.outside; room = b.room - size }
+
+-- A line has ended, with a mark or without.
+abbrev pub line_outcome : ℕ → Begun → Option Announced → Outcome
+line_outcome limit b None = ends limit (Whole b.octets)
+line_outcome limit b (Some mark) =
+    if mark.waits
+    then (if nat_lt b.room mark.size
+    then ends limit (Reject (tag_of b.octets))
+    else goes_on limit (Continue ∷ []) (before_literal b mark.size))
+    else (if nat_lt (min b.room 4096) mark.size
+    then hangs_up
+    else goes_on limit [] (before_literal b mark.size))
+
+-- An octet outside literals has come, the last of the line.
+abbrev pub in_line : ℕ → Begun → List ℕ → Outcome
+in_line limit b octets =
+    if nat_lt 8192 b.outside then hangs_up
+    else (if ends_with eqb octets crlf then line_outcome limit b (line_mark octets)
+    else goes_on limit [] b)
+
+abbrev pub part_outcome : ℕ → List ℕ → ℕ → ℕ → Part → ℕ → Outcome
+part_outcome limit octets outside room (line so_far) b =
+    in_line limit (record { octets = octets ++ b ∷ []; part = line (so_far ++ b ∷ []); outside = outside + 1; room = room }) (so_far ++ b ∷ [])
+part_outcome limit octets outside room (literal left) b =
+    goes_on limit [] (record { octets = octets ++ b ∷ []; part = part_of_size (left - 1); outside = outside; room = room })
 
 abbrev pub octet_outcome : Framing → ℕ → Outcome
-octet_outcome (awaiting line) octet = line_outcome (line ++ octet ∷ [])
-octet_outcome hung_up octet = record { told = []; next = hung_up }
+octet_outcome (awaiting limit begun) b = part_outcome limit begun.octets begun.outside begun.room begun.part b
+octet_outcome hung_up b = record { told = []; next = hung_up }
 
 -- an outcome, with frames that were told before
 abbrev pub after : List Frame → Outcome → Outcome
@@ -41,4 +88,4 @@ after frames o = record { told = frames ++ o.told; next = o.next }
 -- what octets do, one after another
 abbrev pub run : Framing → List ℕ → Outcome
 run state [] = record { told = []; next = state }
-run state (octet ∷ octets) = after (octet_outcome state octet).told (run (octet_outcome state octet).next octets)
+run state (b ∷ bs) = after (octet_outcome state b).told (run (octet_outcome state b).next bs)

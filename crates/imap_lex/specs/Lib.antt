@@ -1,3 +1,10 @@
+pub mod Chars
+pub mod CommandTag
+pub mod ErrorText
+pub mod Mark
+pub mod Held
 pub mod Framing
 pub mod LineEnd
+pub mod Places
+pub mod Found
 pub mod Stream

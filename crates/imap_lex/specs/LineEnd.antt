@@ -1,22 +1,24 @@
 -- What a piece of a stream does to the line that it goes on with.
-use Rattle.std.specs.Prelude.{◌≡◌, ℕ, ◌<◌, ◌≤◌, List, [], ◌∷◌, ◌++◌, length, take, drop}
-use Rattle.imap_lex.specs.declared.frame.Frame.TheVariants.{Whole, Hangup}
+use Rattle.std.specs.Prelude.{◌≡◌, ℕ, ◌-◌, ◌<◌, ◌≤◌, true, false, List, [], ◌∷◌, ◌++◌, eqb, length, take}
+use Rattle.std.specs.List.{ends_with}
 use Rattle.imap_lex.specs.declared.line.LineEnd.{LineEnd}
 use Rattle.imap_lex.specs.declared.line.LineEnd.TheVariants.{After, Missing, TooLong}
-use Rattle.imap_lex.specs.declared.framer.Rest.{Rest}
-use Rattle.imap_lex.specs.declared.framer.Rest.TheVariants as rest
-use Rattle.imap_lex.specs.Framing.{Framing, awaiting, hung_up, after, run}
+use Rattle.imap_lex.specs.Framing.{crlf}
 
--- What `front` and then `piece` do: they make one line and the rest of the piece is read anew, or they make none, or
--- too long a one.
-abbrev pub Finds : LineEnd → List ℕ → List ℕ → Type 0
-Finds (After len) front piece =
-    (0 < len) × (len ≤ length piece) × (run (awaiting front) piece ≡ after (Whole (front ++ take len piece) ∷ []) (run (awaiting []) (drop len piece)))
-Finds Missing front piece = run (awaiting front) piece ≡ record { told = []; next = awaiting (front ++ piece) }
-Finds TooLong front piece = run (awaiting front) piece ≡ record { told = Hangup ∷ []; next = hung_up }
+-- With none of these octets behind `front` a CRLF comes.
+abbrev pub IsUnended : List ℕ → List ℕ → Type 0
+IsUnended front [] = Unit {0}
+IsUnended front (b ∷ bs) = (ends_with eqb (front ++ b ∷ []) crlf ≡ false) × IsUnended (front ++ b ∷ []) bs
 
--- where a piece leaves the framer that held these octets before it
-abbrev pub left_by : Rest → List ℕ → List ℕ → Framing
-left_by rest.Continues held piece = awaiting (held ++ piece)
-left_by (rest.Begins line) held piece = awaiting line.now
-left_by rest.TooLong held piece = hung_up
+-- the first CRLF ends with so many octets of the piece
+pub record IsEnd (front piece : List ℕ) (len : ℕ) : Type 0 where
+  pub some : 0 < len
+  pub within : len ≤ length piece
+  pub first : IsUnended front (take (len - 1) piece)
+  pub ends : ends_with eqb (front ++ take len piece) crlf ≡ true
+
+-- what is found in the piece behind `front`, where the line may have `room` octets more
+abbrev pub Finds : (front : List ℕ) (room : ℕ) (piece : List ℕ) → LineEnd → Type 0
+Finds front room piece (After len) = IsEnd front piece len × (len ≤ room)
+Finds front room piece Missing = IsUnended front piece × (length piece ≤ room)
+Finds front room piece TooLong = IsUnended front (take room piece) × (room < length piece)

@@ -1,68 +1,152 @@
--- What a stream of commands is (RFC 9051, section 2.2: lines that end with CRLF).
-use Rattle.std.specs.Prelude.{◌≡◌, ◌≤◌, ℕ, List, [], ◌∷◌, ◌++◌, length, map}
-use Rattle.std.specs.List.{concat, AllByRecursion}
+-- What a stream of commands is (RFC 9051, sections 2.2.1, 4.3 and 9; RFC 7888, section 4).
+use Rattle.std.specs.Prelude.{◌≡◌, ◌≤◌, ◌<◌, ◌⊎◌, ℕ, ◌+◌, ◌-◌, true, false, List, [], ◌∷◌, ◌++◌, length, if◌then◌else◌}
+use Rattle.std.specs.List.{flat_map, AllByRecursion}
 use Rattle.imap_lex.specs.declared.frame.Frame.{Frame}
-use Rattle.imap_lex.specs.declared.frame.Frame.TheVariants.{Whole, Hangup}
-use Rattle.imap_lex.specs.Framing.{Framing, awaiting, hung_up, crlf, after, run}
+use Rattle.imap_lex.specs.declared.frame.Frame.TheVariants.{Whole, Continue, Reject, Hangup}
+use Rattle.imap_lex.specs.CommandTag.{tag_of}
+use Rattle.imap_lex.specs.Mark.{Announced, IsMarked}
+use Rattle.imap_lex.specs.Framing.{Part, line, Framing, awaiting, hung_up, crlf, start, part_of_size, after, run}
 
 -- CRLF stands nowhere in the octets
 abbrev pub HasNoCrlf : List ℕ → Type 0
 HasNoCrlf octets = (front back : List ℕ) → octets ≡ front ++ (crlf ++ back) → ⊥
 
--- octets that end with CRLF, have none before, and are 8192 at most
+-- octets that end with CRLF, and have none before
 pub record IsLine (octets : List ℕ) : Type 0 where
   pub ends : (text : List ℕ) × (octets ≡ text ++ crlf)
   pub no_earlier : (front back : List ℕ) → octets ≡ front ++ (crlf ++ back) → back ≡ []
-  pub fits : length octets ≤ 8192
 
--- what stands behind the last line
+-- a line that announces a literal
+pub record IsMarkedLine (octets : List ℕ) (mark : Announced) : Type 0 where
+  pub is_line : IsLine octets
+  pub marked : IsMarked octets mark
+
+-- a line that announces none
+pub record IsLastLine (octets : List ℕ) : Type 0 where
+  pub is_line : IsLine octets
+  pub unmarked : (mark : Announced) → IsMarked octets mark → ⊥
+
+-- a literal for which the client doesn't wait is short
+abbrev pub IsShort : Announced → Type 0
+IsShort mark = mark.waits ≡ false → mark.size ≤ 4096
+
+-- a line that announces a literal, and the literal
+pub record Section : Type 0 where
+  pub line : List ℕ
+  pub mark : Announced
+  pub literal : List ℕ
+
+pub record IsSection (s : Section) : Type 0 where
+  pub marked : IsMarkedLine s.line s.mark
+  pub short : IsShort s.mark
+  pub size : length s.literal ≡ s.mark.size
+
+-- the octets of sections, and how many of them are outside literals and inside
+abbrev pub sections_octets : List Section → List ℕ
+sections_octets [] = []
+sections_octets (s ∷ ss) = (s.line ++ s.literal) ++ sections_octets ss
+
+abbrev pub outside : List Section → ℕ
+outside [] = 0
+outside (s ∷ ss) = length s.line + outside ss
+
+abbrev pub inside : List Section → ℕ
+inside [] = 0
+inside (s ∷ ss) = s.mark.size + inside ss
+
+-- a client that waits is told to go on
+abbrev pub asked : Announced → List Frame
+asked mark = if mark.waits then Continue ∷ [] else []
+
+abbrev pub sections_told : List Section → List Frame
+sections_told [] = []
+sections_told (s ∷ ss) = asked s.mark ++ sections_told ss
+
+-- The sections with which a command begins are within its limits, and so many octets more outside literals and inside.
+pub record IsBegun (limit : ℕ) (ss : List Section) (more_outside more_inside : ℕ) : Type 0 where
+  pub each : AllByRecursion IsSection ss
+  pub outside : outside ss + more_outside ≤ 8192
+  pub inside : inside ss + more_inside ≤ limit
+
+-- a command, or the beginning of one that is dropped for a literal over the limit
+pub data Item : Type 0 where
+  command : (sections : List Section) (last : List ℕ) → Item
+  dropped : (sections : List Section) (last : List ℕ) (mark : Announced) → Item
+
+abbrev pub IsItem : ℕ → Item → Type 0
+IsItem limit (command ss last) = IsBegun limit ss (length last) 0 × IsLastLine last
+IsItem limit (dropped ss last mark) = IsBegun limit ss (length last) 0 × IsMarkedLine last mark × (mark.waits ≡ true) × (limit < inside ss + mark.size)
+
+abbrev pub item_octets : Item → List ℕ
+item_octets (command ss last) = sections_octets ss ++ last
+item_octets (dropped ss last mark) = sections_octets ss ++ last
+
+abbrev pub item_told : Item → List Frame
+item_told (command ss last) = sections_told ss ++ Whole (sections_octets ss ++ last) ∷ []
+item_told (dropped ss last mark) = sections_told ss ++ Reject (tag_of (sections_octets ss ++ last)) ∷ []
+
+-- What stands behind the last item: a part of a line, or of a literal; or an octet too many outside literals, or a
+-- literal over its limit that the client doesn't wait for, and whatever follows.
 pub data Ending : Type 0 where
-  unended : (octets : List ℕ) → Ending
-  too_long : (text : List ℕ) (octet : ℕ) (unread : List ℕ) → Ending
+  in_line : (sections : List Section) (so_far : List ℕ) → Ending
+  in_literal : (sections : List Section) (part : Section) → Ending
+  too_long : (sections : List Section) (text : List ℕ) (octet : ℕ) (unread : List ℕ) → Ending
+  too_large : (sections : List Section) (last : List ℕ) (mark : Announced) (unread : List ℕ) → Ending
 
--- octets without CRLF that may still become a line, or 8192 of them and a further one
-abbrev pub IsEnding : Ending → Type 0
-IsEnding (unended octets) = HasNoCrlf octets × (length octets ≤ 8192)
-IsEnding (too_long text octet unread) = HasNoCrlf text × (length text ≡ 8192)
+abbrev pub IsEnding : ℕ → Ending → Type 0
+IsEnding limit (in_line ss so_far) = IsBegun limit ss (length so_far) 0 × HasNoCrlf so_far
+IsEnding limit (in_literal ss s) = IsBegun limit ss (length s.line) s.mark.size × IsMarkedLine s.line s.mark × IsShort s.mark × (length s.literal < s.mark.size)
+IsEnding limit (too_long ss text octet unread) = IsBegun limit ss (length text) 0 × HasNoCrlf text × (outside ss + length text ≡ 8192)
+IsEnding limit (too_large ss last mark unread) = IsBegun limit ss (length last) 0 × IsMarkedLine last mark × (mark.waits ≡ false) × ((limit < inside ss + mark.size) ⊎ (4096 < mark.size))
 
 abbrev pub ending_octets : Ending → List ℕ
-ending_octets (unended octets) = octets
-ending_octets (too_long text octet unread) = text ++ octet ∷ unread
+ending_octets (in_line ss so_far) = sections_octets ss ++ so_far
+ending_octets (in_literal ss s) = sections_octets ss ++ (s.line ++ s.literal)
+ending_octets (too_long ss text octet unread) = sections_octets ss ++ (text ++ octet ∷ unread)
+ending_octets (too_large ss last mark unread) = sections_octets ss ++ (last ++ unread)
 
 abbrev pub ending_told : Ending → List Frame
-ending_told (unended octets) = []
-ending_told (too_long text octet unread) = Hangup ∷ []
+ending_told (in_line ss so_far) = sections_told ss
+ending_told (in_literal ss s) = sections_told ss ++ asked s.mark
+ending_told (too_long ss text octet unread) = sections_told ss ++ Hangup ∷ []
+ending_told (too_large ss last mark unread) = sections_told ss ++ Hangup ∷ []
 
--- a stream, read as lines and an ending
-pub record Reading : Type 0 where
-  pub lines : List (List ℕ)
-  pub ending : Ending
-
-abbrev pub IsReading : Reading → Type 0
-IsReading r = AllByRecursion IsLine r.lines × IsEnding r.ending
-
-abbrev pub octets_of : Reading → List ℕ
-octets_of r = concat r.lines ++ ending_octets r.ending
-
-abbrev pub told_of : Reading → List Frame
-told_of r = map Whole r.lines ++ ending_told r.ending
+-- awaiting the rest of a command that goes on behind its sections
+abbrev pub amid : ℕ → List Section → (more : List ℕ) → Part → (outside room : ℕ) → Framing
+amid limit ss more part outside room = awaiting limit (record { octets = sections_octets ss ++ more; part = part; outside = outside; room = room })
 
 -- what a framer goes on with behind the ending
-abbrev pub ending_left : Ending → Framing
-ending_left (unended octets) = awaiting octets
-ending_left (too_long text octet unread) = hung_up
+abbrev pub ending_left : ℕ → Ending → Framing
+ending_left limit (in_line ss so_far) = amid limit ss so_far (line so_far) (outside ss + length so_far) (limit - inside ss)
+ending_left limit (in_literal ss s) = amid limit ss (s.line ++ s.literal) (part_of_size (s.mark.size - length s.literal)) (outside ss + length s.line) (limit - inside ss - s.mark.size)
+ending_left limit (too_long ss text octet unread) = hung_up
+ending_left limit (too_large ss last mark unread) = hung_up
+
+-- a stream, read as items and an ending
+pub record Reading : Type 0 where
+  pub items : List Item
+  pub ending : Ending
+
+abbrev pub IsReading : ℕ → Reading → Type 0
+IsReading limit r = AllByRecursion (IsItem limit) r.items × IsEnding limit r.ending
+
+abbrev pub octets_of : Reading → List ℕ
+octets_of r = flat_map item_octets r.items ++ ending_octets r.ending
+
+abbrev pub told_of : Reading → List Frame
+told_of r = flat_map item_told r.items ++ ending_told r.ending
 
 -- every stream has a reading
 abbrev pub EachHasReading : Type 0
-EachHasReading = (stream : List ℕ) → (r : Reading) × IsReading r × (octets_of r ≡ stream)
+EachHasReading = (limit : ℕ) (stream : List ℕ) → (r : Reading) × IsReading limit r × (octets_of r ≡ stream)
 
 -- and no other
 abbrev pub HasOneReading : Type 0
-HasOneReading = (r s : Reading) → IsReading r → IsReading s → octets_of r ≡ octets_of s → r ≡ s
+HasOneReading = (limit : ℕ) (r s : Reading) → IsReading limit r → IsReading limit s → octets_of r ≡ octets_of s → r ≡ s
 
--- A framer tells the stream as it is read, and holds the octets that make no line yet.
+-- A framer tells the stream as it is read, and holds the octets that make no item yet.
 abbrev pub ToldAsRead : Type 0
-ToldAsRead = (r : Reading) → IsReading r → run (awaiting []) (octets_of r) ≡ record { told = told_of r; next = ending_left r.ending }
+ToldAsRead = (limit : ℕ) (r : Reading) → IsReading limit r → run (awaiting limit (start limit)) (octets_of r) ≡ record { told = told_of r; next = ending_left limit r.ending }
 
 -- Two pieces, one after the other, do what they do as one.
 abbrev pub AnyCut : Type 0

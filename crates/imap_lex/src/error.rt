@@ -13,10 +13,15 @@ pub enum LexError {
 }
 
 impl fmt::Display for LexError {
+    ghost use Rattle.std.specs.Prelude.{Some};
+    ghost use Rattle.imap_lex.specs.ErrorText.{error_text};
+
+    ghost output = { λ error. Some (error_text error) };
+
     fn fmt<W: fmt::Write>(&self, f: &mut fmt::Formatter<W>) -> fmt::Result {
         match self {
-            LexError::Memory => write!(f, "out of memory"),
-            LexError::Closed => write!(f, "the stream was hung up"),
+            LexError::Memory => f.write_str("out of memory"),
+            LexError::Closed => f.write_str("the stream was hung up"),
         }
     }
 }

@@ -1,43 +1,44 @@
-//! Octets that are owned.
+//! Octets that are shared.
 
-ghost use Rattle.std.specs.Prelude.{◌≡◌, ◌++◌, IfOk};
+ghost use Rattle.std.specs.Prelude.{◌≡◌, ◌≤◌, length, slice_range, IfOk, IfErr};
 
-use std::alloc::{AllocError, Global};
+use bytes::Bytes;
+use std::alloc::{AllocError, AllocFailed, Global};
 use std::marker::Model;
 
 /// Octets of any number and any value, as a string of RFC 9051, section 4.3 has them.
+///
+/// A copy or a part of them shares them.
 #[derive(Debug, Drop)]
-pub struct Octets(Vec<u8>);
+pub struct Octets(Bytes);
 
 impl Model for Octets {
     ghost use Rattle.std.specs.Prelude.{ℕ, List};
 
     ghost Value = { List ℕ };
 
-    ghost view = { λ o. o.0.items };
+    ghost view = { λ o. o.0 };
 }
 
 impl Octets {
-    pub fn from_vec(octets: Vec<u8>) -> Octets
-        ensures { result ≡ octets.items }
+    pub fn from_vec(octets: Vec<u8>) -> Result<Octets, AllocError>
+        ensures { IfOk result (λ made. made ≡ octets.items) }
     {
-        Octets(octets)
+        Ok(Octets::try_from_vec(octets)?)
+    }
+
+    /// The same, and the octets come back where memory runs out.
+    pub(crate) fn try_from_vec(octets: Vec<u8>) -> Result<Octets, AllocFailed<Vec<u8>>>
+        ensures ok { IfOk result (λ made. made ≡ octets.items) }
+        ensures err { IfErr result (λ failed. failed.value.items ≡ octets.items) }
+    {
+        Ok(Octets(Bytes::from_vec(octets)?))
     }
 
     pub fn from_slice(alloc: Global, octets: &[u8]) -> Result<Octets, AllocError>
         ensures { IfOk result (λ copy. copy ≡ octets.now) }
     {
-        Ok(Octets(Vec::from_slice(alloc, octets)?))
-    }
-
-    /// The octets of `front`, and those of `back` behind them.
-    pub(crate) fn joined(alloc: Global, front: &[u8], back: &[u8]) -> Result<Octets, AllocError>
-        ensures { IfOk result (λ whole. whole ≡ front.now ++ back.now) }
-    {
-        let mut octets = Vec::with_capacity(alloc, front.len() + back.len())?;
-        octets.extend_from_slice(front)?;
-        octets.extend_from_slice(back)?;
-        Ok(Octets(octets))
+        Ok(Octets(Bytes::copy_from_slice(alloc, octets)?))
     }
 
     pub fn as_slice(&self) -> &[u8]
@@ -46,24 +47,19 @@ impl Octets {
         self.0.as_slice()
     }
 
-    pub fn into_vec(self) -> Vec<u8>
-        ensures { result.items ≡ self }
+    /// The octets from `start` up to `end`, which aren't copied.
+    pub fn slice(&self, start: usize, end: usize) -> Result<Octets, AllocError>
+        requires order { start ≤ end }
+        requires within { end ≤ length self.now }
+        ensures { IfOk result (λ part. part ≡ slice_range self.now start end) }
     {
-        let Octets(octets) = self;
-        octets
+        Ok(Octets(self.0.slice(start..end)?))
     }
 
-    pub fn try_copy(&self, alloc: Global) -> Result<Octets, AllocError>
+    /// The same octets once more, which aren't copied.
+    pub fn try_copy(&self) -> Result<Octets, AllocError>
         ensures { IfOk result (λ copy. copy ≡ self.now) }
     {
-        Octets::from_slice(alloc, self.as_slice())
-    }
-}
-
-impl From<Vec<u8>> for Octets {
-    ghost from_gives = { λ octets made. made ≡ octets.items };
-
-    fn from(octets: Vec<u8>) -> Octets {
-        Octets::from_vec(octets)
+        Ok(Octets(self.0.clone()?))
     }
 }

@@ -1,13 +1,13 @@
 //! The tag of a command.
 
-ghost use Rattle.std.specs.Prelude.{◌≡◌, IfOk};
+ghost use Rattle.std.specs.Prelude.{◌≡◌, ◌≤◌, length, IfOk};
+ghost use Rattle.imap_lex.specs.CommandTag.{tag_length, tag_of};
 
+use crate::chars::is_tag_char;
 use std::alloc::{AllocError, Global};
 use std::marker::Model;
 
 /// The word with which a client begins a command, and the server its answer (RFC 9051, section 9, `tag`).
-///
-/// Which octets a tag may have is the grammar's to say: here any will do.
 #[derive(Debug, Drop)]
 pub struct Tag(Vec<u8>);
 
@@ -26,6 +26,17 @@ impl Tag {
         Ok(Tag(Vec::from_slice(alloc, octets)?))
     }
 
+    /// The tag with which the octets of a command begin, a space behind it.
+    pub(crate) fn of_command(alloc: Global, command: &[u8]) -> Result<Option<Tag>, AllocError>
+        ensures { IfOk result (λ tag. tag ≡ tag_of command.now) }
+    {
+        let (tag, behind) = command.split_at(tag_length(command));
+        if tag.is_empty() || !behind.starts_with(b" ") {
+            return Ok(None);
+        }
+        Ok(Some(Tag::from_slice(alloc, tag)?))
+    }
+
     pub fn as_slice(&self) -> &[u8]
         ensures { result.now ≡ self.now }
     {
@@ -37,4 +48,15 @@ impl Tag {
     {
         Tag::from_slice(alloc, self.as_slice())
     }
+}
+
+/// How many octets in front may be of a tag.
+fn tag_length(octets: &[u8]) -> usize
+    ensures count { result ≡ tag_length octets.now }
+    ensures within { result ≤ length octets.now }
+{
+    octets
+        .iter()
+        .take_while(|octet| is_tag_char(**octet))
+        .count()
 }

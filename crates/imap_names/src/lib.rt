@@ -16,6 +16,3 @@ pub use name::{Name, Tree, inbox, is_above};
 pub use read::{read_full, read_name};
 pub use show::show_name;
 pub use user_name::UserName;
-
-#[cfg(test)]
-mod tests;

@@ -11,6 +11,3 @@ pub use acl::{Acl, AclError};
 pub use change::{RightsChange, read_rights};
 pub use identifier::{Identifier, IdentifierError};
 pub use rights::Rights;
-
-#[cfg(test)]
-mod tests;

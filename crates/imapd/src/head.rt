@@ -89,6 +89,10 @@ impl Head {
         }
     }
 
+    pub(crate) fn max_octets(&self) -> u64 {
+        self.limits.max_octets
+    }
+
     /// Starts the host.
     pub(crate) fn open(self, alloc: Global) -> Result<Core, AllocError> {
         let Head {

@@ -4,9 +4,10 @@ use crate::scenario::Scenario;
 use crate::script::ScriptError;
 use crate::step::{Event, ScriptStep};
 use crate::transcript::Transcript;
-use imap_core::{Act, Core, Farewell, Response, Step};
-use imap_grammar::parse;
-use imap_lex::{Frame, Framer, LexError};
+use imap_core::{Act, Core, SessionId, Step};
+use imap_grammar::{Request, parse};
+use imap_lex::{Frame, Framer, LexError, Octets, Tag};
+use imap_print::{Farewell, Response};
 use std::alloc::Global;
 use std::collections::HashMap;
 use std::io::Write;
@@ -18,8 +19,10 @@ pub(crate) fn run_scenario<O: Write + Drop>(
     output: O,
 ) -> Result<(), ScriptError> {
     let Scenario { head, steps } = scenario;
+    let max_octets = head.max_octets();
     let mut run = Run {
         core: head.open(alloc)?,
+        max_octets,
         framers: HashMap::new(alloc),
         transcript: Transcript::new(alloc, output)?,
     };
@@ -33,6 +36,8 @@ pub(crate) fn run_scenario<O: Write + Drop>(
 #[derive(Drop)]
 struct Run<O: Write + Drop> {
     core: Core,
+    /// The most octets that the literals of one command may have together.
+    max_octets: u64,
     /// A framer for each open session, by its label.
     framers: HashMap<String, Framer>,
     transcript: Transcript<O>,
@@ -53,7 +58,8 @@ impl<O: Write + Drop> Run<O> {
         let replies = self.replies(alloc, step, Act::Open)?;
         if is_greeted(replies.as_slice()) {
             let label = String::from_str(alloc, step.label.as_str())?;
-            self.framers.insert(label, Framer::new(alloc))?;
+            self.framers
+                .insert(label, Framer::new(alloc, self.max_octets))?;
         }
         self.transcript
             .tell(alloc, step.label.as_str(), replies.as_slice())
@@ -76,7 +82,9 @@ impl<O: Write + Drop> Run<O> {
                 return Ok(());
             }
             match frame {
-                Frame::Whole(line) => self.act(alloc, step, act_of(alloc, line.as_slice())?)?,
+                Frame::Whole(command) => self.act(alloc, step, act_of(alloc, &command)?)?,
+                Frame::Continue => self.tell(alloc, step, Response::Ready)?,
+                Frame::Reject(tag) => self.act(alloc, step, Act::Do(rejected(tag)))?,
                 Frame::Hangup => self.hang_up(alloc, step)?,
             }
         }
@@ -100,12 +108,22 @@ impl<O: Write + Drop> Run<O> {
         }
     }
 
-    /// Ends a session whose line was too long.
+    /// Ends a session that sent too long a line, or too long a literal without waiting.
     fn hang_up(&mut self, alloc: Global, step: &ScriptStep) -> Result<(), ScriptError> {
-        let farewell = [Response::Bye(Farewell::LimitReached)];
-        self.transcript
-            .tell(alloc, step.label.as_str(), farewell.as_slice())?;
+        self.tell(alloc, step, Response::Bye(Farewell::LimitReached))?;
         self.leave(alloc, step)
+    }
+
+    /// Tells the session what no step of the machine answers.
+    fn tell(
+        &mut self,
+        alloc: Global,
+        step: &ScriptStep,
+        response: Response,
+    ) -> Result<(), ScriptError> {
+        let responses = [response];
+        self.transcript
+            .tell(alloc, step.label.as_str(), responses.as_slice())
     }
 
     /// Makes an act of an open session.
@@ -125,22 +143,42 @@ impl<O: Write + Drop> Run<O> {
         step: &ScriptStep,
         act: Act,
     ) -> Result<Vec<Response>, ScriptError> {
+        let (who, act) = named(alloc, &step.who, act)?;
         let step = Step {
-            who: step.who.try_copy(alloc)?,
+            who,
             at: step.at,
             act,
         };
-        let prepared = self.core.prepare(alloc, &step)?;
+        let replies = self.answers(alloc, &step);
+        drop(step);
+        replies
+    }
+
+    fn answers(&mut self, alloc: Global, step: &Step) -> Result<Vec<Response>, ScriptError> {
+        let prepared = self.core.prepare(alloc, step)?;
         Ok(self.core.commit(prepared))
     }
 }
 
-/// What a line asks for. The line that ends IDLE (RFC 2177) is read as such at any time.
-fn act_of(alloc: Global, line: &[u8]) -> Result<Act, ScriptError> {
-    if line.eq_ignore_ascii_case(b"DONE\r\n") {
+/// A session beside its act. It is generic as the proof that a request is let go is long.
+fn named<A: Drop>(alloc: Global, who: &SessionId, act: A) -> Result<(SessionId, A), ScriptError> {
+    Ok((who.try_copy(alloc)?, act))
+}
+
+/// What a frame asks for. The line that ends IDLE (RFC 2177) is read as such at any time.
+fn act_of(alloc: Global, frame: &Octets) -> Result<Act, ScriptError> {
+    if frame.as_slice().eq_ignore_ascii_case(b"DONE\r\n") {
         return Ok(Act::Done);
     }
-    Ok(Act::Do(parse(alloc, line)?))
+    Ok(Act::Do(parse(alloc, frame)?))
+}
+
+/// What a command asks for whose literal was refused before it came.
+fn rejected(tag: Option<Tag>) -> Request {
+    match tag {
+        Some(tag) => Request::TooBig { tag },
+        None => Request::Malformed { tag: None },
+    }
 }
 
 /// Whether a session was opened, by what it is told.

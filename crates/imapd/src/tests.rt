@@ -1,5 +1,6 @@
 mod faults;
 mod isolation;
+mod literals;
 mod machine;
 mod rows;
 

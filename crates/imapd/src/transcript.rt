@@ -1,7 +1,7 @@
 //! What the sessions were told.
 
 use crate::script::ScriptError;
-use imap_core::{Response, print};
+use imap_print::{Response, print};
 use std::alloc::Global;
 use std::io::{self, BufWriter, Write};
 

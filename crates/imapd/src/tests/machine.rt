@@ -1,10 +1,13 @@
 //! The calls of the machine, on their happy paths and at their refusals.
 
-use imap_core::{Act, Core, Limits, Response, SessionId, Step, World, WorldError, print};
+use imap_core::{Act, Core, Limits, SessionId, Step, World, WorldError};
 use imap_grammar::parse;
+use imap_lex::Octets;
 use imap_names::{Name, UserName, read_full};
+use imap_print::{Response, print};
 use imap_rights::{Acl, Identifier, RightsChange, read_rights};
 use std::alloc::Global;
+use std::process::Abort;
 use std::test::Fail;
 
 const LIMITS: Limits = Limits {
@@ -24,22 +27,23 @@ fn rights(text: &[u8]) -> Result<RightsChange, Fail> {
     Ok(read_rights(text).ok_or("no rights")?)
 }
 
-fn step(alloc: Global, text: &str, number: u32, act: Act) -> Result<Step, Fail> {
-    let who = SessionId {
-        user: user(alloc, text)?,
-        number,
-    };
-    Ok(Step { who, at: 0, act })
+/// Root's first session.
+fn session(alloc: Global) -> Result<SessionId, Fail> {
+    Ok(SessionId {
+        user: user(alloc, "root")?,
+        number: 1,
+    })
+}
+
+fn step(who: SessionId, act: Act) -> Step {
+    Step { who, at: 0, act }
 }
 
 fn command(alloc: Global, octets: &[u8]) -> Result<Act, Fail> {
-    Ok(Act::Do(parse(alloc, octets)?))
+    Ok(Act::Do(parse(alloc, &Octets::from_slice(alloc, octets)?)?))
 }
 
-#[test]
-fn mailboxes_are_placed(rt: HostRuntime) -> Result<(), Fail> {
-    let alloc = rt.alloc();
-    let mut world = World::new(alloc);
+fn place_mailboxes(rt: &impl Abort, alloc: Global, world: &mut World) -> Result<(), Fail> {
     let news = name(alloc, b"Shared/News")?;
     assert!(rt; world.mailbox(&news).is_none());
     assert_eq!(rt; world.place(news.try_copy(alloc)?, Acl::new(alloc)), Ok(()));
@@ -57,9 +61,21 @@ fn mailboxes_are_placed(rt: HostRuntime) -> Result<(), Fail> {
 }
 
 #[test]
-fn lists_are_changed(rt: HostRuntime) -> Result<(), Fail> {
-    let alloc = rt.alloc();
-    let mut world = World::new(alloc);
+fn mailboxes_are_placed(rt: HostRuntime) -> Result<(), Fail> {
+    let mut world = World::new(rt.alloc());
+    place_mailboxes(&rt, rt.alloc(), &mut world)
+}
+
+/// Sets 63 entries of the mailbox's list.
+fn fill_list(rt: &impl Abort, alloc: Global, world: &mut World, name: &Name) -> Result<(), Fail> {
+    for number in 2..=64u8 {
+        let other = Identifier::read(alloc, &[b'u', b'0' + number / 10, b'0' + number % 10])?;
+        assert_eq!(rt; world.set_acl(name, other, rights(b"+l")?), Ok(()));
+    }
+    Ok(())
+}
+
+fn change_lists(rt: &impl Abort, alloc: Global, world: &mut World) -> Result<(), Fail> {
     let news = name(alloc, b"Shared/News")?;
     let bob = Identifier::read(alloc, b"bob")?;
     assert_eq!(rt;
@@ -71,16 +87,19 @@ fn lists_are_changed(rt: HostRuntime) -> Result<(), Fail> {
         .ok()
         .ok_or("not placed")?;
     assert_eq!(rt; world.set_acl(&news, bob, rights(b"lr")?), Ok(()));
-    for number in 2..=64u8 {
-        let other = Identifier::read(alloc, &[b'u', b'0' + number / 10, b'0' + number % 10])?;
-        assert_eq!(rt; world.set_acl(&news, other, rights(b"+l")?), Ok(()));
-    }
+    fill_list(rt, alloc, world, &news)?;
     let late = Identifier::read(alloc, b"late")?;
     assert_eq!(rt;
         world.set_acl(&news, late, rights(b"l")?),
         Err(WorldError::Limit)
     );
     Ok(())
+}
+
+#[test]
+fn lists_are_changed(rt: HostRuntime) -> Result<(), Fail> {
+    let mut world = World::new(rt.alloc());
+    change_lists(&rt, rt.alloc(), &mut world)
 }
 
 #[test]
@@ -93,28 +112,43 @@ fn a_host_starts_with_an_inbox_for_each_user(rt: HostRuntime) -> Result<(), Fail
     Ok(())
 }
 
+/// Root's first session opens.
+fn opening(alloc: Global) -> Result<Vec<Step>, Fail> {
+    let mut steps = Vec::new(alloc);
+    steps.push(step(session(alloc)?, Act::Open))?;
+    Ok(steps)
+}
+
+/// How many replies and effects are prepared for the step, and what is told once it is made.
+fn made(alloc: Global, core: &mut Core, step: &Step) -> Result<(usize, usize, Vec<u8>), Fail> {
+    let prepared = core.prepare(alloc, step)?;
+    let replies = prepared.replies().len();
+    let effects = prepared.change().effects().len();
+    let told = core.commit(prepared);
+    Ok((replies, effects, print(alloc, &told)?))
+}
+
 #[test]
 fn a_step_is_prepared_and_committed(rt: HostRuntime) -> Result<(), Fail> {
     let alloc = rt.alloc();
     let root = user(alloc, "root")?;
     let (mut core, _change) = Core::open(alloc, World::new(alloc), root, &[], LIMITS)?;
-    let open = step(alloc, "root", 1, Act::Open)?;
-    let prepared = core.prepare(alloc, &open)?;
-    assert_eq!(rt; prepared.replies().len(), 1);
-    assert_eq!(rt; prepared.change().effects().len(), 0);
-    let replies = core.commit(prepared);
-    let octets = print(alloc, &replies)?;
-    assert!(rt; octets.starts_with(b"* PREAUTH [CAPABILITY IMAP4rev2 "));
+    let steps = opening(alloc)?;
+    for step in steps.iter() {
+        let (replies, effects, octets) = made(alloc, &mut core, step)?;
+        assert_eq!(rt; (replies, effects), (1, 0));
+        assert!(rt; octets.starts_with(b"* PREAUTH [CAPABILITY IMAP4rev2 "));
+    }
     Ok(())
 }
 
 /// A session that root opens, asks and leaves, and a command that comes too late.
 fn visit(alloc: Global) -> Result<Vec<Step>, Fail> {
     let mut steps = Vec::new(alloc);
-    steps.push(step(alloc, "root", 1, Act::Open)?)?;
-    steps.push(step(alloc, "root", 1, command(alloc, b"a1 NOOP\r\n")?)?)?;
-    steps.push(step(alloc, "root", 1, Act::Leave)?)?;
-    steps.push(step(alloc, "root", 1, command(alloc, b"a2 NOOP\r\n")?)?)?;
+    steps.push(step(session(alloc)?, Act::Open))?;
+    steps.push(step(session(alloc)?, command(alloc, b"a1 NOOP\r\n")?))?;
+    steps.push(step(session(alloc)?, Act::Leave))?;
+    steps.push(step(session(alloc)?, command(alloc, b"a2 NOOP\r\n")?))?;
     Ok(steps)
 }
 

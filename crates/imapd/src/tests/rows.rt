@@ -38,7 +38,7 @@ ann.1 > a2 OK done
 };
 
 /// Scripts with what they tell beside greetings.
-pub(super) const SCRIPTS: [Row; 9] = [
+pub(super) const SCRIPTS: [Row; 11] = [
     // A head alone.
     Row {
         script: "admin root\nuser ann\nuser ann\nuser root\n",
@@ -67,6 +67,35 @@ ann.1 < a4 NOOP
         told: "ann.1 > * BYE logging out
 ann.1 > a1 OK done
 ann.1 > a4 OK done
+",
+    },
+    // A literal over the limit that the host's administrator has set.
+    Row {
+        script: "admin root
+user ann
+limit max_octets 4
+ann.1 open
+ann.1 < a1 APPEND INBOX {5}
+ann.1 < a2 NOOP
+",
+        told: "ann.1 > a1 NO [LIMIT] limit reached
+ann.1 > a2 OK done
+",
+    },
+    // No commands, a command that has no place here, and one that isn't built yet.
+    Row {
+        script: "admin root
+user ann
+ann.1 open
+ann.1 < a1 FROB
+ann.1 < +x NOOP
+ann.1 < a2 LOGIN ann x
+ann.1 < a3 CREATE Box
+",
+        told: "ann.1 > a1 BAD malformed command
+ann.1 > * BAD malformed command
+ann.1 > a2 BAD not in this state
+ann.1 > a3 NO [CANNOT] not possible
 ",
     },
     // Acts of a session that isn't open, or was left.

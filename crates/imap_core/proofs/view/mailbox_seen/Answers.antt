@@ -1,9 +1,8 @@
-use Rattle.std.proofs.Common.{◌≡◌, true, false, Some, None, sym, ap, ◌∙◌, rules, arith, Option}
+use Rattle.std.proofs.Common.{◌≡◌, Some, None, rules}
 use Rattle.std.specs.FinMap as map
-use Rattle.imap_rights.specs.Rights.{bits, has_any, visible_rights}
+use Rattle.imap_rights.specs.Rights.{bits}
 use Rattle.imap_rights.specs.Effective.{effective}
 use Rattle.imap_core.specs.View.{owner_of}
-use Rattle.imap_core.specs.declared.world.Mailbox.{Mailbox}
 use Rattle.imap_core.proofs.Views.{absent_is_unseen, visible_is_seen, hidden_is_unseen}
 use Rattle.imap_core.proofs.view.mailbox_seen.Goals as goal
 

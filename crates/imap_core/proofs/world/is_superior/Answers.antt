@@ -1,4 +1,4 @@
-use Rattle.std.proofs.Common.{◌≡◌, ◌-◌, eqb, eq-eqb, true, arith, sym, ◌∙◌}
+use Rattle.std.proofs.Common.{◌≡◌, ◌-◌, eq-eqb, arith, sym, ◌∙◌}
 use Rattle.std.proofs.lemmas.Bool.{eqb-true}
 use Rattle.imap_core.proofs.Superiors.{above_by_one, superior_is_above, superior_is_shorter}
 use Rattle.imap_core.proofs.world.is_superior.Goals as goal

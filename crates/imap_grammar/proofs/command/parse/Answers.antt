@@ -1,11 +1,14 @@
-use Rattle.std.proofs.Common.{subst, sym, ◌∙◌}
-use Rattle.std.proofs.lemmas.Result.{IfOk-weaker}
-use Rattle.imap_grammar.specs.Spells.{Spells}
-use Rattle.imap_grammar.proofs.Requests.{read_is_spelt, spelt_is_read}
+use Rattle.std.proofs.Common.{◌≡◌}
+use Rattle.std.proofs.lemmas.Result.{IfOk-weaker, IfErr-weaker}
+use Rattle.imap_grammar.specs.Spells.{Spells, SpellsNoOther, request_read}
+use Rattle.imap_grammar.proofs.Requests.{has_tag, spells_of, spells_no_other}
 use Rattle.imap_grammar.proofs.command.parse.Goals as goal
 
 pub returns-clause-spelt : goal.returns-clause-spelt
-returns-clause-spelt c = IfOk-weaker c.read_request.result _ _ (λ r e. subst (Spells c.args.octets.now) (sym e) (read_is_spelt c.args.octets.now)) c.read_request.ensures
+returns-clause-spelt c = IfOk-weaker c.read_request.result (λ r. r ≡ request_read c.args.frame.now) (Spells c.args.frame.now) (spells_of c.args.frame.now) c.read_request.ensures.exact
 
 pub returns-clause-only : goal.returns-clause-only
-returns-clause-only c = IfOk-weaker c.read_request.result _ _ (λ r e other h. sym (spelt_is_read c.args.octets.now other h) ∙ sym e) c.read_request.ensures
+returns-clause-only c = IfOk-weaker c.read_request.result (λ r. r ≡ request_read c.args.frame.now) (SpellsNoOther c.args.frame.now) (spells_no_other c.args.frame.now) c.read_request.ensures.exact
+
+pub returns-clause-memory : goal.returns-clause-memory
+returns-clause-memory c = IfErr-weaker c.read_request.result _ _ (λ _ h. has_tag c.args.frame.now h) c.read_request.ensures.memory

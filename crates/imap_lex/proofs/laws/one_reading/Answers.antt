@@ -1,4 +1,6 @@
-use Rattle.imap_lex.proofs.Readings.{each_has_reading, has_one_reading, told_as_read}
+use Rattle.imap_lex.proofs.Only.{has_one_reading}
+use Rattle.imap_lex.proofs.Readings.{each_has_reading}
+use Rattle.imap_lex.proofs.Told.{told_as_read}
 use Rattle.imap_lex.proofs.laws.one_reading.Goals as goal
 
 pub returns : goal.returns

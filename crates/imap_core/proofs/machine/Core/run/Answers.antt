@@ -1,6 +1,6 @@
-use Rattle.std.proofs.Common.{◌≡◌, ◌+◌, ◌∷◌, ◌++◌, [], map, drop, ap, sym, ◌∙◌, arith}
+use Rattle.std.proofs.Common.{◌≡◌, ◌+◌, ◌++◌, map, drop, ap, ◌∙◌, arith}
 use Rattle.std.proofs.lemmas.List.{map_push}
-use Rattle.imap_core.specs.Machine.{State, answer, answers, next}
+use Rattle.imap_core.specs.Machine.{State, answers, next}
 use Rattle.imap_core.specs.Planned.{state_of, committed}
 use Rattle.imap_core.proofs.Runs.{this_step, told_on, rest_on, made_on}
 use Rattle.imap_core.proofs.machine.Core.run.Goals as goal

@@ -1,6 +1,6 @@
-use Rattle.std.proofs.Common.{sym, ap, ◌∙◌, ◌≡◌, ◌<◌, rules, subst, arith, ◌≤◌, ◌⊎◌, true, length, length-append, ◌++◌, ◌∷◌, []}
+use Rattle.std.proofs.Common.{sym, ap, ◌∙◌, ◌≡◌, ◌<◌, subst, arith, ◌⊎◌, true, length, length-append, ◌++◌, ◌∷◌, []}
 use Rattle.std.specs.FinMap as map
-use Rattle.imap_core.specs.Sessions.{are_apart, Own}
+use Rattle.imap_core.specs.Sessions.{Own}
 use Rattle.imap_core.proofs.Numbered.{numbered-put, are_apart-put, fewer_others}
 use Rattle.imap_core.proofs.sessions.OwnSessions.put.Goals as goal
 

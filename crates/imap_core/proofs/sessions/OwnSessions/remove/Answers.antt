@@ -1,6 +1,5 @@
-use Rattle.std.proofs.Common.{sym, ap, ◌∙◌, ◌≡◌, rules, subst, arith, ◌≤◌, length}
+use Rattle.std.proofs.Common.{ap, ◌∙◌, arith, length}
 use Rattle.std.specs.FinMap as map
-use Rattle.imap_core.specs.Sessions.{are_apart}
 use Rattle.imap_core.proofs.Numbered.{numbered-others, are_apart-others, length-others}
 use Rattle.imap_core.proofs.sessions.OwnSessions.remove.Goals as goal
 

@@ -1,0 +1,68 @@
+//! The mark with which a line announces a literal, as `{12}` or `{12+}`.
+
+ghost use Rattle.std.specs.Prelude.{◌≡◌, ◌++◌, option_map};
+ghost use Rattle.imap_lex.specs.Mark.{LineTail, with_octet, with_octets, line_mark};
+ghost use Rattle.imap_lex.specs.Held.{held_tail, held_mark};
+
+/// A literal that is to follow (RFC 9051, section 4.3; RFC 7888).
+#[derive(Clone, Copy)]
+pub(crate) struct Mark {
+    /// How many octets it announces; `u128::MAX` for more, which is over any limit too.
+    pub(crate) size: u128,
+    /// Whether the client waits until it is told to go on.
+    pub(crate) waits: bool,
+}
+
+/// What the octets of a line end with, as far as they were read.
+#[derive(Clone, Copy)]
+enum Tail {
+    Text,
+    Brace,
+    Digits(u128),
+    Plus(u128),
+    Closed(Mark),
+    Cr(Mark),
+    Crlf(Mark),
+}
+
+impl Tail {
+    fn with_octet(self, octet: u8) -> Tail
+        ensures { (t : LineTail) → self ≡ held_tail t → result ≡ held_tail (with_octet t octet) }
+    {
+        match (octet, self) {
+            (b'{', _) => Tail::Brace,
+            (b'0'..=b'9', Tail::Brace) => Tail::Digits(u128::from(octet - b'0')),
+            (b'0'..=b'9', Tail::Digits(size)) => {
+                let digit = u128::from(octet - b'0');
+                Tail::Digits(size.saturating_mul(10).saturating_add(digit))
+            }
+            (b'+', Tail::Digits(size)) => Tail::Plus(size),
+            (b'}', Tail::Digits(size)) => Tail::Closed(Mark { size, waits: true }),
+            (b'}', Tail::Plus(size)) => Tail::Closed(Mark { size, waits: false }),
+            (b'\r', Tail::Closed(mark)) => Tail::Cr(mark),
+            (b'\n', Tail::Cr(mark)) => Tail::Crlf(mark),
+            _ => Tail::Text,
+        }
+    }
+
+    /// What a line ends with that ended so before these octets.
+    fn with_octets(self, octets: &[u8]) -> Tail
+        ensures { (t : LineTail) → self ≡ held_tail t → result ≡ held_tail (with_octets t octets.now) }
+    {
+        let mut tail = self;
+        for octet in octets {
+            tail = tail.with_octet(*octet);
+        }
+        tail
+    }
+}
+
+/// The mark with which the line ends whose octets are those of `front` and then of `back`.
+pub(crate) fn line_mark(front: &[u8], back: &[u8]) -> Option<Mark>
+    ensures { result ≡ option_map held_mark (line_mark (front.now ++ back.now)) }
+{
+    match Tail::Text.with_octets(front).with_octets(back) {
+        Tail::Crlf(mark) => Some(mark),
+        _ => None,
+    }
+}

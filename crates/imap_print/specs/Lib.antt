@@ -1,0 +1,11 @@
+pub mod Words
+pub mod Strings
+pub mod Sets
+pub mod Flags
+pub mod Dates
+pub mod Fetched
+pub mod Mailboxes
+pub mod Printed
+pub mod Ranges
+pub mod ReadBack
+pub mod Lines

@@ -1,0 +1,40 @@
+-- What a client reads where a name or a set is printed.
+use Rattle.std.specs.Prelude.{◌≡◌, ◌≢◌, ℕ, ◌<◌, ◌^◌, Bool, true, false, ◌==◌, ◌||◌, not, List, [], ◌∷◌, ◌++◌, map, Some}
+use Rattle.std.specs.Char.{is_ascii_digit}
+use Rattle.std.specs.List.{list_all, AllByRecursion}
+use Rattle.imap_syntax.specs.declared.set.SeqNumber.TheVariants as number
+use Rattle.imap_syntax.specs.declared.set.SeqRange.{SeqRange}
+use Rattle.imap_syntax.specs.Lexical.{is_astring_char, astring}
+use Rattle.imap_syntax.specs.Sets.{seq_set}
+use Rattle.imap_print.specs.Sets.{Range, runs, set_text}
+use Rattle.imap_print.specs.Strings.{astring_text}
+
+-- neither NUL, CR nor LF, which no quoted string may have
+abbrev pub may_be_quoted : ℕ → Bool
+may_be_quoted octet = not (octet == 0 || octet == 13 || octet == 10)
+
+-- an atom ends before it
+abbrev pub IsDelimited : List ℕ → Type 0
+IsDelimited [] = Unit {0}
+IsDelimited (octet ∷ rest) = is_astring_char octet ≡ false
+
+-- The grammar's `astring` reads the name back, and leaves what stands behind it.
+abbrev pub NamesAreReadBack : Type 0
+NamesAreReadBack = (name rest : List ℕ) → list_all may_be_quoted name ≡ true → IsDelimited rest → astring.read (astring_text name ++ rest) ≡ Some (name, rest)
+
+-- a message number or UID
+abbrev pub IsNumber : ℕ → Type 0
+IsNumber n = (0 < n) × (n < 2 ^ 32)
+
+-- a set ends before it
+abbrev pub EndsSet : List ℕ → Type 0
+EndsSet [] = Unit {0}
+EndsSet (octet ∷ rest) = (is_ascii_digit octet || octet == 58 || octet == 44) ≡ false
+
+abbrev pub seq_range_of : Range → SeqRange
+seq_range_of range = record { first = number.Number range.first; last = number.Number range.last }
+
+-- The grammar's `sequence-set` reads the ranges of a set back, and leaves what stands behind them.
+abbrev pub SetsAreReadBack : Type 0
+SetsAreReadBack =
+    (numbers rest : List ℕ) → numbers ≢ [] → AllByRecursion IsNumber numbers → EndsSet rest → seq_set.read (set_text numbers ++ rest) ≡ Some (map seq_range_of (runs numbers), rest)

@@ -1,0 +1,44 @@
+-- Words with something between them.
+use Rattle.std.specs.Prelude.{◌≡◌, ℕ, Bool, true, false, ◌||◌, List, [], ◌∷◌, ◌++◌, flat_map, Option, Some, None}
+
+-- an octet before each word
+abbrev pub before_each : ℕ → List (List ℕ) → List ℕ
+before_each octet words = flat_map (λ word. octet ∷ word) words
+
+-- the words, with an octet between each two of them
+abbrev pub joined : ℕ → List (List ℕ) → List ℕ
+joined octet [] = []
+joined octet (word ∷ words) = word ++ before_each octet words
+
+-- words that go on after others, or begin
+abbrev pub further : (begun : Bool) → ℕ → List (List ℕ) → List ℕ
+further false octet words = joined octet words
+further true octet words = before_each octet words
+
+-- a list in parentheses, with spaces between
+abbrev pub in_parentheses : List (List ℕ) → List ℕ
+in_parentheses words = 40 ∷ joined 32 words ++ 41 ∷ []
+
+-- a word that may be left away
+abbrev pub given : Bool → List ℕ → List (List ℕ)
+given true word = word ∷ []
+given false word = []
+
+abbrev pub given_by : {A : Type 0} → (A → List ℕ) → Option A → List (List ℕ)
+given_by text (Some value) = text value ∷ []
+given_by text None = []
+
+-- what stands between a word and those before it
+abbrev pub space : (begun : Bool) → List ℕ
+space true = 32 ∷ []
+space false = []
+
+abbrev pub are_there : List (List ℕ) → Bool
+are_there [] = false
+are_there (word ∷ words) = true
+
+-- `new` is `old` and behind it words of a list, of which some stand there already where `begun` says so; `now` says
+-- whether some stand there by now
+pub record GoesOn (old : List ℕ) (begun : Bool) (words : List (List ℕ)) (new : List ℕ) (now : Bool) : Type 0 where
+  pub printed : new ≡ old ++ further begun 32 words
+  pub any : now ≡ (begun || are_there words)

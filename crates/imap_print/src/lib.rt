@@ -1,0 +1,31 @@
+//! Every line that the server sends.
+//!
+//! [`Response`] has a variant for each line of RFC 9051, section 7, and of its extensions that the server may send, and
+//! [`print`] gives the octets of a list of these. `specs/Printed.antt` says which octets they are, and [`laws`] what a
+//! client reads in them.
+#![tactic(auto)]
+
+mod acl;
+mod copied;
+mod enabled;
+mod fetch;
+mod flag;
+pub mod laws;
+mod list;
+mod numbering;
+mod printing;
+mod response;
+mod search;
+mod status;
+
+pub use acl::AclEntry;
+pub use copied::CopiedUids;
+pub use enabled::EnabledCapabilities;
+pub use fetch::{FetchedItems, FetchedSection};
+pub use flag::FlagSet;
+pub use list::{Children, ListAttributes};
+pub use numbering::Numbers;
+pub use printing::print;
+pub use response::{Code, Farewell, Refusal, Response};
+pub use search::SearchResults;
+pub use status::StatusValue;

@@ -1,0 +1,18 @@
+//! What is told of a mailbox name.
+
+/// Whether there are names below a name.
+#[derive(Clone, Copy, Debug, PartialEq, Eq)]
+pub enum Children {
+    /// It is not told.
+    Untold,
+    Has,
+    HasNo,
+}
+
+/// The attributes of a mailbox name (RFC 9051, section 7.3.1).
+#[derive(Clone, Copy, Debug, PartialEq, Eq)]
+pub struct ListAttributes {
+    pub non_existent: bool,
+    pub children: Children,
+    pub subscribed: bool,
+}

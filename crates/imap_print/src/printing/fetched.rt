@@ -1,0 +1,156 @@
+//! What was fetched of a message (RFC 9051, section 7.5.2).
+
+ghost use Rattle.std.specs.Prelude.{◌≡◌, ◌++◌, IfOk, OnOk, codes, decimal, map, false};
+ghost use Rattle.imap_print.specs.Words.{GoesOn, given_by};
+ghost use Rattle.imap_print.specs.Flags.{flags_text};
+ghost use Rattle.imap_print.specs.Dates.{date_time_text};
+ghost use Rattle.imap_print.specs.Fetched.{literal_text, section_text, origin_text, body_text, fetched_words, fetched_text};
+
+use super::dates::push_date_time;
+use super::flags::push_flags;
+use super::numbers::push_number;
+use super::strings::push_names;
+use super::words::{push_named, push_space, widened};
+use crate::fetch::{FetchedItems, FetchedSection};
+use crate::flag::FlagSet;
+use imap_query::Section;
+use imap_syntax::DateTime;
+use std::alloc::AllocError;
+
+fn push_literal(out: &mut Vec<u8>, octets: &[u8]) -> Result<(), AllocError>
+    ensures { OnOk result (out.new.items ≡ out.old.items ++ literal_text octets.now) }
+{
+    out.push(b'{')?;
+    push_number(out, octets.len() as u64)?;
+    out.extend_from_slice(b"}\r\n")?;
+    out.extend_from_slice(octets)?;
+    Ok(())
+}
+
+fn push_section(out: &mut Vec<u8>, section: &Section) -> Result<(), AllocError>
+    ensures { OnOk result (out.new.items ≡ out.old.items ++ section_text section.now) }
+{
+    match section {
+        Section::Whole => Ok(()),
+        Section::Header => out.extend_from_slice(b"HEADER"),
+        Section::Text => out.extend_from_slice(b"TEXT"),
+        Section::Fields(names) => {
+            out.extend_from_slice(b"HEADER.FIELDS ")?;
+            push_names(out, names.as_slice())
+        }
+        Section::FieldsNot(names) => {
+            out.extend_from_slice(b"HEADER.FIELDS.NOT ")?;
+            push_names(out, names.as_slice())
+        }
+    }
+}
+
+fn push_origin(out: &mut Vec<u8>, origin: Option<u64>) -> Result<(), AllocError>
+    ensures { OnOk result (out.new.items ≡ out.old.items ++ origin_text origin) }
+{
+    if let Some(origin) = origin {
+        out.push(b'<')?;
+        push_number(out, origin)?;
+        out.push(b'>')?;
+    }
+    Ok(())
+}
+
+fn push_body(out: &mut Vec<u8>, body: &FetchedSection) -> Result<(), AllocError>
+    ensures { OnOk result (out.new.items ≡ out.old.items ++ body_text body.now) }
+{
+    out.extend_from_slice(b"BODY[")?;
+    push_section(out, &body.section)?;
+    out.push(b']')?;
+    push_origin(out, body.origin)?;
+    out.push(b' ')?;
+    push_literal(out, body.octets.as_slice())?;
+    Ok(())
+}
+
+fn push_fetched_flags(
+    out: &mut Vec<u8>,
+    begun: bool,
+    flags: &Option<FlagSet>,
+) -> Result<bool, AllocError>
+    ensures { IfOk result (λ now. GoesOn out.old.items begun (given_by (λ set. codes "FLAGS " ++ flags_text set) flags.now) out.new.items now) }
+{
+    match flags {
+        Some(flags) => {
+            push_space(out, begun)?;
+            out.extend_from_slice(b"FLAGS ")?;
+            push_flags(out, flags)?;
+            Ok(true)
+        }
+        None => Ok(begun),
+    }
+}
+
+fn push_internal_date(
+    out: &mut Vec<u8>,
+    begun: bool,
+    date: Option<DateTime>,
+) -> Result<bool, AllocError>
+    ensures { IfOk result (λ now. GoesOn out.old.items begun (given_by (λ time. codes "INTERNALDATE " ++ date_time_text time) date) out.new.items now) }
+{
+    match date {
+        Some(date) => {
+            push_space(out, begun)?;
+            out.extend_from_slice(b"INTERNALDATE ")?;
+            push_date_time(out, date)?;
+            Ok(true)
+        }
+        None => Ok(begun),
+    }
+}
+
+fn push_mod_seq(out: &mut Vec<u8>, begun: bool, mod_seq: Option<u64>) -> Result<bool, AllocError>
+    ensures { IfOk result (λ now. GoesOn out.old.items begun (given_by (λ n. codes "MODSEQ (" ++ decimal n ++ codes ")") mod_seq) out.new.items now) }
+{
+    match mod_seq {
+        Some(mod_seq) => {
+            push_space(out, begun)?;
+            out.extend_from_slice(b"MODSEQ (")?;
+            push_number(out, mod_seq)?;
+            out.push(b')')?;
+            Ok(true)
+        }
+        None => Ok(begun),
+    }
+}
+
+fn push_bodies(
+    out: &mut Vec<u8>,
+    begun: bool,
+    bodies: &[FetchedSection],
+) -> Result<bool, AllocError>
+    ensures { IfOk result (λ now. GoesOn out.old.items begun (map body_text bodies.now) out.new.items now) }
+{
+    let mut begun = begun;
+    for body in bodies {
+        push_space(out, begun)?;
+        push_body(out, body)?;
+        begun = true;
+    }
+    Ok(begun)
+}
+
+fn push_fetched_words(out: &mut Vec<u8>, items: &FetchedItems) -> Result<bool, AllocError>
+    ensures { IfOk result (λ now. GoesOn out.old.items false (fetched_words items.now) out.new.items now) }
+{
+    let begun = push_named(out, false, b"UID ", widened(items.uid))?;
+    let begun = push_fetched_flags(out, begun, &items.flags)?;
+    let begun = push_internal_date(out, begun, items.internal_date)?;
+    let begun = push_named(out, begun, b"RFC822.SIZE ", items.size)?;
+    let begun = push_mod_seq(out, begun, items.mod_seq)?;
+    push_bodies(out, begun, items.sections.as_slice())
+}
+
+pub(super) fn push_fetched(out: &mut Vec<u8>, items: &FetchedItems) -> Result<(), AllocError>
+    ensures { OnOk result (out.new.items ≡ out.old.items ++ fetched_text items.now) }
+{
+    out.push(b'(')?;
+    push_fetched_words(out, items)?;
+    out.push(b')')?;
+    Ok(())
+}

@@ -1,0 +1,83 @@
+//! Words with spaces between.
+
+ghost use Rattle.std.specs.Prelude.{◌≡◌, ◌++◌, IfOk, OnOk, decimal};
+ghost use Rattle.imap_print.specs.Words.{space, given, given_by, GoesOn};
+
+use super::numbers::push_number;
+use imap_lex::Octets;
+use std::alloc::AllocError;
+
+/// What stands before a further word.
+pub(super) fn push_space(out: &mut Vec<u8>, begun: bool) -> Result<(), AllocError>
+    ensures { OnOk result (out.new.items ≡ out.old.items ++ space begun) }
+{
+    if begun {
+        out.push(b' ')?;
+    }
+    Ok(())
+}
+
+/// The word, where it is to be there. Tells whether any words are there by now.
+pub(super) fn push_given(
+    out: &mut Vec<u8>,
+    begun: bool,
+    wanted: bool,
+    word: &[u8],
+) -> Result<bool, AllocError>
+    ensures { IfOk result (λ now. GoesOn out.old.items begun (given wanted word.now) out.new.items now) }
+{
+    if wanted {
+        push_space(out, begun)?;
+        out.extend_from_slice(word)?;
+        Ok(true)
+    } else {
+        Ok(begun)
+    }
+}
+
+/// The words of a list.
+pub(super) fn push_words(
+    out: &mut Vec<u8>,
+    begun: bool,
+    words: &[Octets],
+) -> Result<bool, AllocError>
+    ensures { IfOk result (λ now. GoesOn out.old.items begun words.now out.new.items now) }
+{
+    let mut begun = begun;
+    for word in words {
+        push_space(out, begun)?;
+        out.extend_from_slice(word.as_slice())?;
+        begun = true;
+    }
+    Ok(begun)
+}
+
+/// The number of 32 bits as one of 64.
+pub(super) fn widened(number: Option<u32>) -> Option<u64>
+    ensures { result ≡ number }
+{
+    match number {
+        Some(number) => Some(u64::from(number)),
+        None => None,
+    }
+}
+
+/// A number, where it is there, with a word before it.
+pub(super) fn push_named(
+    out: &mut Vec<u8>,
+    begun: bool,
+    name: &[u8],
+    number: Option<u64>,
+) -> Result<bool, AllocError>
+    ensures { IfOk result (λ now. GoesOn out.old.items begun (given_by (λ n. name.now ++ decimal n) number) out.new.items now) }
+{
+    match number {
+        Some(number) => {
+            push_space(out, begun)?;
+            out.extend_from_slice(name)?;
+            push_number(out, number)?;
+            Ok(true)
+        }
+        None => Ok(begun),
+    }
+}

@@ -1,0 +1,12 @@
+pub mod Lengths
+pub mod Tables
+pub mod Sections
+pub mod Fetching
+pub mod Rows
+pub mod KeyLaws
+pub mod Searching
+pub mod WrittenKeys
+pub mod WrittenFetch
+pub mod WrittenSearch
+pub mod LinedQuery
+pub mod WrittenStatus

@@ -1,0 +1,11 @@
+pub mod FetchWords
+pub mod StatusWords
+pub mod Status
+pub mod Sections
+pub mod Fetch
+pub mod SearchWords
+pub mod Keys
+pub mod Search
+pub mod Searching
+pub mod WrittenFetch
+pub mod WrittenSearch

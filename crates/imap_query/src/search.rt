@@ -1,0 +1,129 @@
+//! What SEARCH looks for (RFC 9051, section 6.4.4).
+
+ghost use Rattle.std.specs.Prelude.{◌≡◌, map};
+ghost use Rattle.imap_query.specs.Keys.{key_of, all_tokens};
+
+use imap_lex::Octets;
+use imap_syntax::{Date, Flag, Keyword, MessageSet, is_astring_char};
+use std::marker::Model;
+
+/// What is told of the messages found.
+#[derive(Clone, Copy, Debug, PartialEq, Eq)]
+pub enum SearchReturn {
+    Min,
+    Max,
+    All,
+    Count,
+    Save,
+}
+
+/// Where a text is looked for.
+#[derive(Clone, Copy, Debug, PartialEq, Eq)]
+pub enum SearchIn {
+    Bcc,
+    Body,
+    Cc,
+    From,
+    Subject,
+    Text,
+    To,
+}
+
+/// How the internal date is to stand to the date asked for.
+#[derive(Clone, Copy, Debug, PartialEq, Eq)]
+pub enum SearchDate {
+    Before,
+    On,
+    Since,
+}
+
+/// A key of SEARCH (RFC 9051, section 6.4.4).
+#[derive(Debug, Drop)]
+pub enum SearchKey {
+    All,
+    /// Whether the flag is set.
+    Flag { flag: Flag, set: bool },
+    Contains { place: SearchIn, text: Octets },
+    /// In the header fields of this name.
+    Header { field: Octets, text: Octets },
+    Date { relation: SearchDate, date: Date },
+    Larger(u64),
+    Smaller(u64),
+    /// RFC 7162, section 3.1.5.
+    ModSeq(u64),
+    Numbers(MessageSet),
+    Uids(MessageSet),
+    Not(Box<SearchKey>),
+    Or(Box<SearchKey>, Box<SearchKey>),
+    /// Each of them, in parentheses.
+    Group(Vec<SearchKey>),
+    /// A key of RFC 9051 that is read and not served: SENTBEFORE, SENTON or SENTSINCE.
+    Unserved,
+}
+
+pub(crate) const SEARCH_RETURNS: [SearchReturn; 5] = [
+    SearchReturn::Min,
+    SearchReturn::Max,
+    SearchReturn::All,
+    SearchReturn::Count,
+    SearchReturn::Save,
+];
+
+impl Keyword for SearchReturn {
+    ghost use Rattle.imap_syntax.specs.Lexical.{is_astring_char};
+    ghost use Rattle.imap_query.specs.SearchWords.{search_return_name};
+    ghost use Rattle.imap_query.specs.declared.search.TheConstants.{SEARCH_RETURNS};
+
+    ghost test = { is_astring_char };
+
+    ghost name_of = { search_return_name };
+
+    ghost table = { SEARCH_RETURNS };
+
+    fn takes(octet: u8) -> bool {
+        is_astring_char(octet)
+    }
+
+    fn name(self) -> &'static [u8] {
+        match self {
+            SearchReturn::Min => b"MIN",
+            SearchReturn::Max => b"MAX",
+            SearchReturn::All => b"ALL",
+            SearchReturn::Count => b"COUNT",
+            SearchReturn::Save => b"SAVE",
+        }
+    }
+
+    fn all() -> &'static [SearchReturn] {
+        &SEARCH_RETURNS
+    }
+}
+
+/// One key or more: a message is found where it meets each.
+///
+/// Contracts see the keys without where they lie in memory, each as its tokens, an operator before its operands.
+#[derive(Debug, Drop)]
+pub struct SearchKeys(Vec<SearchKey>);
+
+impl Model for SearchKeys {
+    ghost use Rattle.std.specs.Prelude.{List, map};
+    ghost use Rattle.imap_query.specs.Keys.{Token, key_of, all_tokens};
+
+    ghost Value = { List Token };
+
+    ghost view = { λ s. all_tokens (map key_of s.0.items) };
+}
+
+impl SearchKeys {
+    pub fn from_vec(keys: Vec<SearchKey>) -> SearchKeys
+        ensures { result ≡ all_tokens (map key_of keys.items) }
+    {
+        SearchKeys(keys)
+    }
+
+    pub fn as_slice(&self) -> &[SearchKey]
+        ensures { all_tokens (map key_of result.now) ≡ self.now }
+    {
+        self.0.as_slice()
+    }
+}

@@ -1,0 +1,57 @@
+//! What STATUS asks for (RFC 9051, section 6.3.11; RFC 7162, section 3.1.2.3).
+
+use imap_syntax::{Keyword, is_astring_char};
+
+/// An item of STATUS.
+#[derive(Clone, Copy, Debug, PartialEq, Eq)]
+pub enum StatusItem {
+    Messages,
+    UidNext,
+    UidValidity,
+    Unseen,
+    Deleted,
+    Size,
+    HighestModSeq,
+}
+
+pub(crate) const STATUS_ITEMS: [StatusItem; 7] = [
+    StatusItem::Messages,
+    StatusItem::UidNext,
+    StatusItem::UidValidity,
+    StatusItem::Unseen,
+    StatusItem::Deleted,
+    StatusItem::Size,
+    StatusItem::HighestModSeq,
+];
+
+impl Keyword for StatusItem {
+    ghost use Rattle.imap_syntax.specs.Lexical.{is_astring_char};
+    ghost use Rattle.imap_query.specs.StatusWords.{status_name};
+    ghost use Rattle.imap_query.specs.declared.status.TheConstants.{STATUS_ITEMS};
+
+    ghost test = { is_astring_char };
+
+    ghost name_of = { status_name };
+
+    ghost table = { STATUS_ITEMS };
+
+    fn takes(octet: u8) -> bool {
+        is_astring_char(octet)
+    }
+
+    fn name(self) -> &'static [u8] {
+        match self {
+            StatusItem::Messages => b"MESSAGES",
+            StatusItem::UidNext => b"UIDNEXT",
+            StatusItem::UidValidity => b"UIDVALIDITY",
+            StatusItem::Unseen => b"UNSEEN",
+            StatusItem::Deleted => b"DELETED",
+            StatusItem::Size => b"SIZE",
+            StatusItem::HighestModSeq => b"HIGHESTMODSEQ",
+        }
+    }
+
+    fn all() -> &'static [StatusItem] {
+        &STATUS_ITEMS
+    }
+}

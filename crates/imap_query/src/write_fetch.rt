@@ -1,0 +1,166 @@
+//! What FETCH asks for, written.
+
+ghost use Rattle.std.specs.Prelude.{◌≡◌, ◌++◌, ◌∷◌, [], OnOk, codes, decimal};
+ghost use Rattle.imap_query.specs.WrittenFetch.{field_name, section_fits, section_text, partial_fits, partial_text, peek_text, body_text, fetch_items, changed_fits, modifiers_text};
+
+use crate::fetch::{BodySection, FetchItem, Partial, Section};
+use crate::section::{FieldName, has_line_end};
+use imap_lex::Octets;
+use imap_syntax::{
+    Spelling, mod_sequence_fits, number64_fits, push_between, push_listed, push_number,
+    push_string, some_fit, string_fits,
+};
+use std::alloc::AllocError;
+
+impl Spelling for FieldName {
+    ghost use Rattle.imap_query.specs.WrittenFetch.{field_name};
+
+    type Value = Octets;
+
+    ghost writing = { field_name };
+
+    fn fits(name: &Octets) -> bool {
+        string_fits(name) && !has_line_end(name.as_slice())
+    }
+
+    fn push(out: &mut Vec<u8>, name: &Octets) -> Result<(), AllocError> {
+        push_string(out, name)
+    }
+}
+
+fn section_fits(section: &Section) -> bool
+    ensures { result ≡ section_fits section.now }
+{
+    match section {
+        Section::Whole | Section::Header | Section::Text => true,
+        Section::Fields(names) | Section::FieldsNot(names) => {
+            some_fit::<FieldName>(names.as_slice())
+        }
+    }
+}
+
+fn push_section(out: &mut Vec<u8>, section: &Section) -> Result<(), AllocError>
+    ensures { OnOk result (out.new.items ≡ out.old.items ++ section_text section.now) }
+{
+    match section {
+        Section::Whole => Ok(()),
+        Section::Header => out.extend_from_slice(b"HEADER"),
+        Section::Text => out.extend_from_slice(b"TEXT"),
+        Section::Fields(names) => {
+            out.extend_from_slice(b"HEADER.FIELDS ")?;
+            push_listed::<FieldName>(out, names.as_slice())
+        }
+        Section::FieldsNot(names) => {
+            out.extend_from_slice(b"HEADER.FIELDS.NOT ")?;
+            push_listed::<FieldName>(out, names.as_slice())
+        }
+    }
+}
+
+fn partial_fits(range: &Option<Partial>) -> bool
+    ensures { result ≡ partial_fits range.now }
+{
+    match range {
+        Some(range) => number64_fits(range.offset) && mod_sequence_fits(range.count),
+        None => true,
+    }
+}
+
+fn push_partial(out: &mut Vec<u8>, range: &Option<Partial>) -> Result<(), AllocError>
+    ensures { OnOk result (out.new.items ≡ out.old.items ++ partial_text range.now) }
+{
+    match range {
+        Some(range) => {
+            push_between(out, b"<", range.offset, b".")?;
+            push_between(out, b"", range.count, b">")
+        }
+        None => Ok(()),
+    }
+}
+
+fn push_peek(out: &mut Vec<u8>, peek: bool) -> Result<(), AllocError>
+    ensures { OnOk result (out.new.items ≡ out.old.items ++ peek_text peek) }
+{
+    if peek {
+        out.extend_from_slice(b"BODY.PEEK[")
+    } else {
+        out.extend_from_slice(b"BODY[")
+    }
+}
+
+fn push_body_section(out: &mut Vec<u8>, body: &BodySection) -> Result<(), AllocError>
+    ensures { OnOk result (out.new.items ≡ out.old.items ++ body_text body.now) }
+{
+    push_peek(out, body.peek)?;
+    push_section(out, &body.section)?;
+    out.push(b']')?;
+    push_partial(out, &body.partial)
+}
+
+impl Spelling for FetchItem {
+    ghost use Rattle.imap_query.specs.WrittenFetch.{fetch_item};
+
+    type Value = FetchItem;
+
+    ghost writing = { fetch_item };
+
+    fn fits(item: &FetchItem) -> bool {
+        match item {
+            FetchItem::Section(body) => section_fits(&body.section) && partial_fits(&body.partial),
+            _ => true,
+        }
+    }
+
+    /// An item that isn't served is written as ENVELOPE.
+    fn push(out: &mut Vec<u8>, item: &FetchItem) -> Result<(), AllocError> {
+        match item {
+            FetchItem::Uid => out.extend_from_slice(b"UID"),
+            FetchItem::Flags => out.extend_from_slice(b"FLAGS"),
+            FetchItem::InternalDate => out.extend_from_slice(b"INTERNALDATE"),
+            FetchItem::Rfc822Size => out.extend_from_slice(b"RFC822.SIZE"),
+            FetchItem::ModSeq => out.extend_from_slice(b"MODSEQ"),
+            FetchItem::Section(body) => push_body_section(out, body),
+            FetchItem::Unserved => out.extend_from_slice(b"ENVELOPE"),
+        }
+    }
+}
+
+/// Whether the items can be written.
+pub fn items_fit(items: &[FetchItem]) -> bool
+    ensures { result ≡ fetch_items.fits items.now }
+{
+    some_fit::<FetchItem>(items)
+}
+
+/// Writes the items in parentheses.
+pub fn push_items(out: &mut Vec<u8>, items: &[FetchItem]) -> Result<(), AllocError>
+    ensures { OnOk result (out.new.items ≡ out.old.items ++ fetch_items.text items.now) }
+{
+    push_listed::<FetchItem>(out, items)
+}
+
+/// Whether CHANGEDSINCE's mod-sequence can be written, where there is one.
+pub fn changed_fits(changed_since: Option<u64>) -> bool
+    ensures { result ≡ changed_fits changed_since }
+{
+    match changed_since {
+        Some(since) => mod_sequence_fits(since),
+        None => true,
+    }
+}
+
+/// The modifiers and the space before them (RFC 7162, sections 3.1.4.1 and 3.2.6).
+pub fn push_modifiers(
+    out: &mut Vec<u8>,
+    changed_since: Option<u64>,
+    vanished: bool,
+) -> Result<(), AllocError>
+    ensures { OnOk result (out.new.items ≡ out.old.items ++ modifiers_text changed_since vanished) }
+{
+    match (changed_since, vanished) {
+        (None, false) => Ok(()),
+        (None, true) => out.extend_from_slice(b" (VANISHED)"),
+        (Some(since), false) => push_between(out, b" (CHANGEDSINCE ", since, b")"),
+        (Some(since), true) => push_between(out, b" (CHANGEDSINCE ", since, b" VANISHED)"),
+    }
+}

@@ -1,0 +1,10 @@
+pub mod Rule
+pub mod First
+pub mod Reading
+pub mod Lexical
+pub mod Sets
+pub mod Flags
+pub mod Dates
+pub mod Writing
+pub mod Written
+pub mod WrittenDates

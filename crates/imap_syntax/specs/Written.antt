@@ -1,0 +1,112 @@
+-- The one spelling in which strings, sets and flags are written.
+use Rattle.std.specs.Prelude.{ℕ, Bool, true, not, ◌==◌, ◌&&◌, ◌||◌, nat_lt, List, [], ◌∷◌, ◌++◌, length, codes, decimal, flat_map, find, is_none, if◌then◌else◌}
+use Rattle.std.specs.List.{list_any}
+use Rattle.std.specs.Str.{str_eq_ignore_ascii_case}
+use Rattle.imap_syntax.specs.declared.set.SeqNumber.{SeqNumber}
+use Rattle.imap_syntax.specs.declared.set.SeqNumber.TheVariants as number
+use Rattle.imap_syntax.specs.declared.set.SeqRange.{SeqRange}
+use Rattle.imap_syntax.specs.declared.set.MessageSet.{MessageSet}
+use Rattle.imap_syntax.specs.declared.set.MessageSet.TheVariants as messages
+use Rattle.imap_syntax.specs.declared.flag.Flag.{Flag}
+use Rattle.imap_syntax.specs.declared.flag.Flag.TheVariants as flag
+use Rattle.imap_syntax.specs.declared.flag.SystemFlag.TheVariants as system
+use Rattle.imap_syntax.specs.declared.flag.TheConstants.{SYSTEM_FLAGS}
+use Rattle.imap_syntax.specs.Lexical.{is_atom_char, is_quoted_special, has_nul}
+use Rattle.imap_syntax.specs.Flags.{flag_name}
+use Rattle.imap_syntax.specs.Writing as writing
+use Rattle.imap_syntax.specs.Writing.{Writing, some_of, separated}
+
+-- NUL, CR and LF
+abbrev pub is_unquotable : ℕ → Bool
+is_unquotable b = b == 0 || b == 13 || b == 10
+
+-- none of them stands in it
+abbrev pub is_quotable : List ℕ → Bool
+is_quotable octets = not (list_any is_unquotable octets)
+
+-- a quoted-special with a backslash before it
+abbrev pub escaped : ℕ → List ℕ
+escaped b = if is_quoted_special b then 92 ∷ b ∷ [] else b ∷ []
+
+abbrev pub quoted_text : List ℕ → List ℕ
+quoted_text octets = 34 ∷ flat_map escaped octets ++ 34 ∷ []
+
+-- `quoted`
+abbrev pub quoted : Writing (List ℕ)
+quoted = record { fits = is_quotable; text = quoted_text }
+
+abbrev pub literal_text : List ℕ → List ℕ
+literal_text octets = codes "{" ++ decimal (length octets) ++ codes "}\r\n" ++ octets
+
+-- `string`: quoted where it can be, else a literal
+abbrev pub string : Writing (List ℕ)
+string = record {
+  fits = λ octets. is_quotable octets || (not (has_nul octets) && nat_lt (length octets) 18446744073709551616);
+  text = λ octets. if is_quotable octets then quoted_text octets else literal_text octets;
+}
+
+-- `atom`
+abbrev pub atom : Writing (List ℕ)
+atom = some_of is_atom_char
+
+-- `mod-sequence-value` (RFC 7162, section 7)
+abbrev pub mod_sequence : Writing ℕ
+mod_sequence = writing.number 1 9223372036854775807
+
+-- `mod-sequence-valzer`, and `number64`
+abbrev pub number64 : Writing ℕ
+number64 = writing.number 0 9223372036854775807
+
+-- ---- sets
+
+abbrev pub number_fits : SeqNumber → Bool
+number_fits number.Last = true
+number_fits (number.Number n) = (writing.number 1 4294967295).fits n
+
+abbrev pub number_text : SeqNumber → List ℕ
+number_text number.Last = codes "*"
+number_text (number.Number n) = decimal n
+
+-- `seq-range`: both ends
+abbrev pub seq_range : Writing SeqRange
+seq_range = record {
+  fits = λ range. number_fits range.first && number_fits range.last;
+  text = λ range. number_text range.first ++ 58 ∷ number_text range.last;
+}
+
+abbrev pub seq_set : Writing (List SeqRange)
+seq_set = separated 44 seq_range
+
+abbrev pub set_fits : MessageSet → Bool
+set_fits messages.Saved = true
+set_fits (messages.Numbers ranges) = seq_set.fits ranges
+
+abbrev pub set_text : MessageSet → List ℕ
+set_text messages.Saved = codes "$"
+set_text (messages.Numbers ranges) = seq_set.text ranges
+
+abbrev pub message_set : Writing MessageSet
+message_set = record { fits = set_fits; text = set_text }
+
+-- ---- flags
+
+-- none of the words that have a meaning of their own
+abbrev pub is_other : List ℕ → Bool
+is_other word = is_none (find (λ known. str_eq_ignore_ascii_case word (flag_name known)) SYSTEM_FLAGS)
+
+abbrev pub flag_fits : Flag → Bool
+flag_fits (flag.Other word) = atom.fits word && is_other word
+flag_fits (flag.Keyword word) = atom.fits word
+flag_fits _ = true
+
+abbrev pub flag_text : Flag → List ℕ
+flag_text flag.Answered = 92 ∷ flag_name system.Answered
+flag_text flag.Deleted = 92 ∷ flag_name system.Deleted
+flag_text flag.Draft = 92 ∷ flag_name system.Draft
+flag_text flag.Flagged = 92 ∷ flag_name system.Flagged
+flag_text flag.Seen = 92 ∷ flag_name system.Seen
+flag_text (flag.Other word) = 92 ∷ word
+flag_text (flag.Keyword word) = word
+
+abbrev pub message_flag : Writing Flag
+message_flag = record { fits = flag_fits; text = flag_text }

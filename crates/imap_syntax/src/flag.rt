@@ -1,0 +1,123 @@
+//! Flags (RFC 9051, section 9, `flag`).
+
+ghost use Rattle.std.specs.Prelude.{◌≡◌, IfOk};
+ghost use Rattle.imap_syntax.specs.Reading.{Gives};
+ghost use Rattle.imap_syntax.specs.Flags.{system_flag, flag_of, message_flag};
+
+use crate::cursor::{Cursor, Item, Keyword, word_of};
+use crate::fault::Fault;
+use crate::items::Items;
+use crate::lexical::is_atom_char;
+use imap_lex::Octets;
+use std::alloc::{AllocError, Global};
+
+/// A flag as a command names it; the five of RFC 9051, section 2.3.2, in any case.
+#[derive(Debug, Drop)]
+pub enum Flag {
+    Answered,
+    Deleted,
+    Draft,
+    Flagged,
+    Seen,
+    /// Another word that stands behind a backslash, without it.
+    Other(Octets),
+    Keyword(Octets),
+}
+
+pub type Flags = Items<Flag>;
+
+/// The words behind a backslash that have a meaning.
+#[derive(Clone, Copy)]
+pub(crate) enum SystemFlag {
+    Answered,
+    Deleted,
+    Draft,
+    Flagged,
+    Seen,
+}
+
+pub(crate) const SYSTEM_FLAGS: [SystemFlag; 5] = [
+    SystemFlag::Answered,
+    SystemFlag::Deleted,
+    SystemFlag::Draft,
+    SystemFlag::Flagged,
+    SystemFlag::Seen,
+];
+
+impl Keyword for SystemFlag {
+    ghost use Rattle.imap_syntax.specs.Lexical.{is_atom_char};
+    ghost use Rattle.imap_syntax.specs.Flags.{flag_name};
+    ghost use Rattle.imap_syntax.specs.declared.flag.TheConstants.{SYSTEM_FLAGS};
+
+    ghost test = { is_atom_char };
+
+    ghost name_of = { flag_name };
+
+    ghost table = { SYSTEM_FLAGS };
+
+    fn takes(octet: u8) -> bool {
+        is_atom_char(octet)
+    }
+
+    fn name(self) -> &'static [u8] {
+        match self {
+            SystemFlag::Answered => b"ANSWERED",
+            SystemFlag::Deleted => b"DELETED",
+            SystemFlag::Draft => b"DRAFT",
+            SystemFlag::Flagged => b"FLAGGED",
+            SystemFlag::Seen => b"SEEN",
+        }
+    }
+
+    fn all() -> &'static [SystemFlag] {
+        &SYSTEM_FLAGS
+    }
+}
+
+impl SystemFlag {
+    fn flag(self) -> Flag
+        ensures { result ≡ system_flag self }
+    {
+        match self {
+            SystemFlag::Answered => Flag::Answered,
+            SystemFlag::Deleted => Flag::Deleted,
+            SystemFlag::Draft => Flag::Draft,
+            SystemFlag::Flagged => Flag::Flagged,
+            SystemFlag::Seen => Flag::Seen,
+        }
+    }
+}
+
+fn flag_of(alloc: Global, backslash: bool, word: &[u8]) -> Result<Flag, AllocError>
+    ensures { IfOk result (λ flag. flag ≡ flag_of backslash word.now) }
+{
+    if !backslash {
+        return Ok(Flag::Keyword(Octets::from_slice(alloc, word)?));
+    }
+    match word_of::<SystemFlag>(word) {
+        Some(known) => Ok(known.flag()),
+        None => Ok(Flag::Other(Octets::from_slice(alloc, word)?)),
+    }
+}
+
+impl Item for Flag {
+    ghost use Rattle.imap_syntax.specs.Flags.{message_flag};
+
+    type Read = Flag;
+
+    ghost item_read = { message_flag.read };
+
+    fn item(cursor: &mut Cursor<'_>, alloc: Global) -> Result<Flag, Fault> {
+        cursor.flag(alloc)
+    }
+}
+
+impl Cursor<'_> {
+    pub(crate) fn flag(&mut self, alloc: Global) -> Result<Flag, Fault>
+        ensures { Gives (λ f. f) result self.new (message_flag.read self.old) }
+    {
+        let backslash = self.has(b'\\');
+        let word = self.atom()?;
+        Ok(flag_of(alloc, backslash, word)?)
+    }
+}

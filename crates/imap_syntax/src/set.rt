@@ -1,0 +1,94 @@
+//! Sets of messages (RFC 9051, section 9, `sequence-set`).
+
+ghost use Rattle.std.specs.Prelude.{◌≡◌};
+ghost use Rattle.imap_syntax.specs.Reading.{Gives, Finds};
+ghost use Rattle.imap_syntax.specs.Sets.{seq_number, seq_range, seq_set, message_set};
+
+use crate::cursor::{Cursor, Item};
+use crate::fault::Fault;
+use crate::items::Items;
+use std::alloc::Global;
+
+/// A message by its number or UID, from 1 on, or `*`, the greatest that is there.
+#[derive(Clone, Copy, Debug, PartialEq, Eq)]
+pub enum SeqNumber {
+    Number(u32),
+    Last,
+}
+
+/// Both ends as written, either way round. A single number is both.
+#[derive(Clone, Copy, Debug, PartialEq, Eq)]
+pub struct SeqRange {
+    pub first: SeqNumber,
+    pub last: SeqNumber,
+}
+
+/// One range or more.
+pub type SeqSet = Items<SeqRange>;
+
+/// The messages that a command is about.
+#[derive(Debug, Drop)]
+pub enum MessageSet {
+    /// `$`: what the last SEARCH has saved.
+    Saved,
+    Numbers(SeqSet),
+}
+
+/// What the numbers of a set stand for.
+#[derive(Clone, Copy, Debug, PartialEq, Eq)]
+pub enum Numbering {
+    Sequence,
+    Uid,
+}
+
+impl Item for SeqRange {
+    ghost use Rattle.imap_syntax.specs.Sets.{seq_range};
+
+    type Read = SeqRange;
+
+    ghost item_read = { seq_range.read };
+
+    fn item(cursor: &mut Cursor<'_>, _alloc: Global) -> Result<SeqRange, Fault> {
+        cursor.seq_range()
+    }
+}
+
+impl Cursor<'_> {
+    fn seq_number(&mut self) -> Result<SeqNumber, Fault>
+        ensures { Finds (λ n. n) result self.new (seq_number.read self.old) }
+    {
+        if self.has(b'*') {
+            return Ok(SeqNumber::Last);
+        }
+        let number = self.nz_number(u64::from(u32::MAX))?;
+        Ok(SeqNumber::Number(number as u32))
+    }
+
+    fn seq_range(&mut self) -> Result<SeqRange, Fault>
+        ensures { Finds (λ r. r) result self.new (seq_range.read self.old) }
+    {
+        let first = self.seq_number()?;
+        if !self.has(b':') {
+            return Ok(SeqRange { first, last: first });
+        }
+        let last = self.seq_number()?;
+        Ok(SeqRange { first, last })
+    }
+
+    /// Ranges with commas between them (`sequence-set` without `$`).
+    pub fn seq_set(&mut self, alloc: Global) -> Result<SeqSet, Fault>
+        ensures { Gives (λ s. s) result self.new (seq_set.read self.old) }
+    {
+        self.separated::<SeqRange>(alloc, b',')
+    }
+
+    /// `sequence-set`: `$` alone, or ranges.
+    pub fn message_set(&mut self, alloc: Global) -> Result<MessageSet, Fault>
+        ensures { Gives (λ s. s) result self.new (message_set.read self.old) }
+    {
+        if self.has(b'$') {
+            return Ok(MessageSet::Saved);
+        }
+        Ok(MessageSet::Numbers(self.seq_set(alloc)?))
+    }
+}

@@ -1,0 +1,477 @@
+//! Random requests written, cut at random, told by a framer, read and written again.
+
+ghost use Rattle.std.specs.Prelude.{◌<◌};
+
+use crate::grammar::written::{shown, text_of};
+use imap_grammar::*;
+use imap_lex::{Frame, Framer, LexError, Octets, Tag};
+use std::alloc::{AllocError, Global};
+use std::process::Abort;
+use std::test::Fail;
+
+/// Marsaglia's xorshift generator.
+#[derive(Drop)]
+struct Random {
+    state: u64,
+}
+
+impl Random {
+    fn next(&mut self) -> u64 {
+        self.state ^= self.state.wrapping_mul(1 << 13);
+        self.state ^= self.state >> 7;
+        self.state ^= self.state.wrapping_mul(1 << 17);
+        self.state
+    }
+
+    fn below(&mut self, limit: u64) -> u64
+        requires { 0 < limit }
+        ensures { result < limit }
+    {
+        self.next() % limit
+    }
+
+    fn coin(&mut self) -> bool {
+        self.below(2) == 0
+    }
+
+    fn byte(&mut self, low: u8, high: u8) -> u8 {
+        (self.below(256) as u8).clamp(low.min(high), high)
+    }
+}
+
+// ---- values
+
+/// Some octets without NUL, of which some are no text.
+fn text(random: &mut Random, alloc: Global) -> Result<Octets, AllocError> {
+    let mut octets = Vec::new(alloc);
+    for _ in 0..random.below(5) {
+        let octet = if random.coin() {
+            random.byte(32, 126)
+        } else {
+            random.byte(1, 255)
+        };
+        octets.push(octet)?;
+    }
+    Octets::from_vec(octets)
+}
+
+fn atom(random: &mut Random, alloc: Global) -> Result<Octets, AllocError> {
+    let mut octets = Vec::new(alloc);
+    octets.push(b'$')?;
+    for _ in 0..random.below(4) {
+        octets.push(random.byte(b'A', b'Z'))?;
+    }
+    Octets::from_vec(octets)
+}
+
+fn number(random: &mut Random) -> SeqNumber {
+    match random.below(3) {
+        0 => SeqNumber::Last,
+        1 => SeqNumber::Number(u32::MAX),
+        _ => SeqNumber::Number(random.below(100) as u32 + 1),
+    }
+}
+
+fn ranges(random: &mut Random, alloc: Global, open: bool) -> Result<SeqSet, AllocError> {
+    let mut all = Vec::new(alloc);
+    for _ in 0..random.below(3) + 1 {
+        let first = SeqNumber::Number(random.below(9) as u32 + 1);
+        let last = if open { number(random) } else { first };
+        all.push(SeqRange { first, last })?;
+    }
+    Ok(Items::from_vec(all))
+}
+
+fn messages(random: &mut Random, alloc: Global) -> Result<MessageSet, AllocError> {
+    if random.below(4) == 0 {
+        return Ok(MessageSet::Saved);
+    }
+    Ok(MessageSet::Numbers(ranges(random, alloc, true)?))
+}
+
+fn numbering(random: &mut Random) -> Numbering {
+    if random.coin() {
+        Numbering::Uid
+    } else {
+        Numbering::Sequence
+    }
+}
+
+fn flag(random: &mut Random, alloc: Global) -> Result<Flag, AllocError> {
+    Ok(match random.below(7) {
+        0 => Flag::Answered,
+        1 => Flag::Deleted,
+        2 => Flag::Draft,
+        3 => Flag::Flagged,
+        4 => Flag::Seen,
+        5 => Flag::Other(atom(random, alloc)?),
+        _ => Flag::Keyword(atom(random, alloc)?),
+    })
+}
+
+fn flags(random: &mut Random, alloc: Global) -> Result<Flags, AllocError> {
+    let mut all = Vec::new(alloc);
+    for _ in 0..random.below(4) {
+        all.push(flag(random, alloc)?)?;
+    }
+    Ok(Items::from_vec(all))
+}
+
+fn date(random: &mut Random) -> Date {
+    Date {
+        year: random.below(10_000) as u16,
+        month: random.below(12) as u8 + 1,
+        day: random.below(28) as u8 + 1,
+    }
+}
+
+fn moment(random: &mut Random) -> DateTime {
+    let zone = Zone {
+        west: random.coin(),
+        hours: random.below(24) as u8,
+        minutes: random.below(60) as u8,
+    };
+    DateTime {
+        date: date(random),
+        hour: random.below(24) as u8,
+        minute: random.below(60) as u8,
+        second: random.below(60) as u8,
+        zone,
+    }
+}
+
+fn size(random: &mut Random) -> u64 {
+    if random.coin() {
+        random.below(1 << 63)
+    } else {
+        random.below(10)
+    }
+}
+
+fn statuses(random: &mut Random, alloc: Global) -> Result<Items<StatusItem>, AllocError> {
+    let mut all = Vec::new(alloc);
+    all.push(StatusItem::UidNext)?;
+    if random.coin() {
+        all.push(StatusItem::HighestModSeq)?;
+    }
+    Ok(Items::from_vec(all))
+}
+
+// ---- what FETCH and SEARCH ask for
+
+fn section(random: &mut Random, alloc: Global) -> Result<Section, AllocError> {
+    let mut names = Vec::new(alloc);
+    names.push(atom(random, alloc)?)?;
+    let names = Items::from_vec(names);
+    Ok(match random.below(5) {
+        0 => Section::Whole,
+        1 => Section::Header,
+        2 => Section::Text,
+        3 => Section::Fields(names),
+        _ => Section::FieldsNot(names),
+    })
+}
+
+fn item(random: &mut Random, alloc: Global) -> Result<FetchItem, AllocError> {
+    let section = section(random, alloc)?;
+    let range = Partial {
+        offset: random.below(100),
+        count: random.below(100) + 1,
+    };
+    Ok(match random.below(8) {
+        0 => FetchItem::Uid,
+        1 => FetchItem::Flags,
+        2 => FetchItem::InternalDate,
+        3 => FetchItem::Rfc822Size,
+        4 => FetchItem::ModSeq,
+        5 => FetchItem::Unserved,
+        _ => FetchItem::Section(BodySection {
+            peek: random.coin(),
+            section,
+            partial: random.coin().then_some(range),
+        }),
+    })
+}
+
+fn items(random: &mut Random, alloc: Global) -> Result<Items<FetchItem>, AllocError> {
+    let mut all = Vec::new(alloc);
+    for _ in 0..random.below(3) + 1 {
+        all.push(item(random, alloc)?)?;
+    }
+    Ok(Items::from_vec(all))
+}
+
+fn plain_key(random: &mut Random, alloc: Global) -> Result<SearchKey, AllocError> {
+    Ok(match random.below(10) {
+        0 => SearchKey::All,
+        1 => SearchKey::Flag {
+            flag: Flag::Keyword(atom(random, alloc)?),
+            set: random.coin(),
+        },
+        2 => SearchKey::Contains {
+            place: SearchIn::Subject,
+            text: text(random, alloc)?,
+        },
+        3 => SearchKey::Header {
+            field: atom(random, alloc)?,
+            text: text(random, alloc)?,
+        },
+        4 => SearchKey::Date {
+            relation: SearchDate::On,
+            date: date(random),
+        },
+        5 => SearchKey::Larger(size(random)),
+        6 => SearchKey::ModSeq(size(random)),
+        7 => SearchKey::Numbers(messages(random, alloc)?),
+        8 => SearchKey::Uids(messages(random, alloc)?),
+        _ => SearchKey::Unserved,
+    })
+}
+
+/// The key within another.
+fn around(random: &mut Random, alloc: Global, key: SearchKey) -> Result<SearchKey, AllocError> {
+    let other = plain_key(random, alloc)?;
+    Ok(match random.below(3) {
+        0 => SearchKey::Not(Box::new(alloc, key)?),
+        1 => SearchKey::Or(Box::new(alloc, other)?, Box::new(alloc, key)?),
+        _ => {
+            let mut keys = Vec::new(alloc);
+            keys.push(key)?;
+            keys.push(other)?;
+            SearchKey::Group(keys)
+        }
+    })
+}
+
+fn keys(random: &mut Random, alloc: Global) -> Result<SearchKeys, AllocError> {
+    let mut key = plain_key(random, alloc)?;
+    for _ in 0..random.below(6) {
+        key = around(random, alloc, key)?;
+    }
+    let mut all = Vec::new(alloc);
+    all.push(key)?;
+    all.push(plain_key(random, alloc)?)?;
+    Ok(SearchKeys::from_vec(all))
+}
+
+// ---- commands
+
+fn search(random: &mut Random, alloc: Global) -> Result<Body, AllocError> {
+    let mut returns = Vec::new(alloc);
+    if random.coin() {
+        returns.push(SearchReturn::Count)?;
+        returns.push(SearchReturn::Save)?;
+    }
+    let charset = if random.coin() {
+        Some(atom(random, alloc)?)
+    } else {
+        None
+    };
+    Ok(Body::Search {
+        numbering: numbering(random),
+        returns: Items::from_vec(returns),
+        charset,
+        keys: keys(random, alloc)?,
+    })
+}
+
+fn fetch(random: &mut Random, alloc: Global) -> Result<Body, AllocError> {
+    let since = size(random) / 2 + 1;
+    Ok(Body::Fetch {
+        numbering: numbering(random),
+        messages: messages(random, alloc)?,
+        items: items(random, alloc)?,
+        changed_since: random.coin().then_some(since),
+        vanished: random.coin(),
+    })
+}
+
+fn store(random: &mut Random, alloc: Global) -> Result<Body, AllocError> {
+    let since = size(random);
+    Ok(Body::Store {
+        numbering: numbering(random),
+        messages: messages(random, alloc)?,
+        unchanged_since: random.coin().then_some(since),
+        change: StoreChange::Remove,
+        silent: random.coin(),
+        flags: flags(random, alloc)?,
+    })
+}
+
+fn select(random: &mut Random, alloc: Global) -> Result<Body, AllocError> {
+    let known_uids = if random.coin() {
+        Some(ranges(random, alloc, false)?)
+    } else {
+        None
+    };
+    let known = QresyncArg {
+        validity: u32::MAX,
+        mod_seq: size(random) / 2 + 1,
+        known_uids,
+    };
+    Ok(Body::Select {
+        mailbox: text(random, alloc)?,
+        parameters: SelectParameters {
+            condstore: random.coin(),
+            qresync: if random.coin() { Some(known) } else { None },
+        },
+    })
+}
+
+fn list(random: &mut Random, alloc: Global) -> Result<Body, AllocError> {
+    let mut patterns = Vec::new(alloc);
+    patterns.push(text(random, alloc)?)?;
+    patterns.push(text(random, alloc)?)?;
+    let mut returns = Vec::new(alloc);
+    returns.push(ListReturn::Children)?;
+    returns.push(ListReturn::Status(statuses(random, alloc)?))?;
+    Ok(Body::List {
+        selection: None,
+        reference: text(random, alloc)?,
+        patterns: Patterns::Many(Items::from_vec(patterns)),
+        returns: Some(Items::from_vec(returns)),
+    })
+}
+
+fn append(random: &mut Random, alloc: Global) -> Result<Body, AllocError> {
+    let mut message = Vec::new(alloc);
+    for _ in 0..random.below(40) {
+        message.push(random.byte(0, 255))?;
+    }
+    let date = moment(random);
+    Ok(Body::Append {
+        mailbox: text(random, alloc)?,
+        flags: flags(random, alloc)?,
+        date: random.coin().then_some(date),
+        message: Octets::from_vec(message)?,
+    })
+}
+
+fn named(random: &mut Random, alloc: Global) -> Result<Body, AllocError> {
+    let name = text(random, alloc)?;
+    let other = text(random, alloc)?;
+    Ok(match random.below(4) {
+        0 => Body::Create { mailbox: name },
+        1 => Body::Rename {
+            from: name,
+            to: other,
+        },
+        2 => Body::SetAcl {
+            mailbox: name,
+            identifier: other,
+            rights: atom(random, alloc)?,
+        },
+        _ => Body::Status {
+            mailbox: name,
+            items: statuses(random, alloc)?,
+        },
+    })
+}
+
+fn body(random: &mut Random, alloc: Global) -> Result<Body, AllocError> {
+    match random.below(9) {
+        0 => Ok(Body::Idle),
+        1 => Ok(Body::Move {
+            numbering: numbering(random),
+            messages: messages(random, alloc)?,
+            mailbox: text(random, alloc)?,
+        }),
+        2 => search(random, alloc),
+        3 => fetch(random, alloc),
+        4 => store(random, alloc),
+        5 => select(random, alloc),
+        6 => list(random, alloc),
+        7 => append(random, alloc),
+        _ => named(random, alloc),
+    }
+}
+
+fn request(random: &mut Random, alloc: Global) -> Result<Request, AllocError> {
+    let name = atom(random, alloc)?;
+    let tag = Tag::from_slice(alloc, name.as_slice())?;
+    let body = body(random, alloc)?;
+    Ok(Request::Command { tag, body })
+}
+
+// ---- the round
+
+fn random_text(random: &mut Random, alloc: Global) -> Result<Option<Vec<u8>>, AllocError> {
+    text_of(alloc, request(random, alloc)?)
+}
+
+/// That this text is read, and written as it is.
+fn check_again(rt: &impl Abort, alloc: Global, text: &[u8]) -> Result<(), AllocError> {
+    match shown(alloc, text)? {
+        Some(again) => assert_eq!(rt; again.as_slice(), text),
+        None => panic!(rt; "nothing is written for {text:?}"),
+    }
+    Ok(())
+}
+
+/// That the frames are this text, and that the client is to go on. The count of whole ones.
+fn check_frames(
+    rt: &impl Abort,
+    alloc: Global,
+    frames: &[Frame],
+    text: &[u8],
+) -> Result<u64, AllocError> {
+    let mut count: u64 = 0;
+    for frame in frames {
+        match frame {
+            Frame::Whole(octets) => {
+                assert_eq!(rt; octets.as_slice(), text);
+                check_again(rt, alloc, octets.as_slice())?;
+                count = count.saturating_add(1);
+            }
+            Frame::Continue => {}
+            _ => panic!(rt; "refused: {text:?}"),
+        }
+    }
+    Ok(count)
+}
+
+/// Feeds the text in random pieces.
+fn check_text(
+    rt: &impl Abort,
+    alloc: Global,
+    random: &mut Random,
+    framer: &mut Framer,
+    text: &[u8],
+) -> Result<(), LexError> {
+    let mut count: u64 = 0;
+    let size = random.below(20) as usize + 1;
+    for piece in text.chunks(size) {
+        let frames = framer.feed(alloc, piece)?;
+        count = count.saturating_add(check_frames(rt, alloc, &frames, text)?);
+    }
+    assert_eq!(rt; count, 1);
+    Ok(())
+}
+
+/// One request; each is to fit.
+fn round(
+    rt: &impl Abort,
+    alloc: Global,
+    random: &mut Random,
+    framer: &mut Framer,
+) -> Result<(), LexError> {
+    match random_text(random, alloc)? {
+        Some(text) => check_text(rt, alloc, random, framer, text.as_slice()),
+        None => panic!(rt; "nothing is written"),
+    }
+}
+
+fn rounds(rt: &impl Abort, alloc: Global, seed: u64) -> Result<(), LexError> {
+    let mut random = Random { state: seed };
+    let mut framer = Framer::new(alloc, 1 << 20);
+    for _ in 0..400u32 {
+        round(rt, alloc, &mut random, &mut framer)?;
+    }
+    Ok(())
+}
+
+#[test]
+fn what_is_written_is_told_and_read(rt: HostRuntime) -> Result<(), Fail> {
+    rounds(&rt, rt.alloc(), 88_172_645_463_325_252)?;
+    Ok(())
+}

@@ -1,0 +1,15 @@
+//! Tests of the library crates.
+//!
+//! They stand in a crate of their own, as a crate that has tests is proved twice: once without and once with them.
+#![tactic(auto)]
+
+#[cfg(test)]
+mod framing;
+#[cfg(test)]
+mod grammar;
+#[cfg(test)]
+mod names;
+#[cfg(test)]
+mod printing;
+#[cfg(test)]
+mod rights;

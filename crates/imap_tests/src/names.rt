@@ -1,0 +1,269 @@
+use imap_names::{
+    Name, NameError, Tree, UserName, inbox, is_above, read_full, read_name, show_name,
+};
+use std::alloc::Global;
+use std::process::Abort;
+use std::test::Fail;
+
+fn user(alloc: Global, text: &str) -> Result<UserName, Fail> {
+    let read = UserName::read(alloc, text)?;
+    Ok(read.ok_or("a user name")?)
+}
+
+/// Ann reads each text as the error, or as the owner and the path, and shows the name so that it is read again.
+fn ann_reads(
+    rt: &impl Abort,
+    alloc: Global,
+    text: &[u8],
+    owner: &str,
+    path: &str,
+    shown: &str,
+) -> Result<(), Fail> {
+    let ann = user(alloc, "ann")?;
+    let name = read_name(alloc, &ann, text)?;
+    match name.owner() {
+        Some(found) => assert_eq!(rt; found.as_str(), owner, "in {path}"),
+        None => assert_eq!(rt; "", owner, "in {path}"),
+    }
+    assert_eq!(rt; name.path(), path);
+    let back = show_name(alloc, &ann, &name)?;
+    assert_eq!(rt; back.as_str(), shown);
+    let again = read_name(alloc, &ann, back.as_bytes())?;
+    assert!(rt; again.is_same(&name), "{shown}");
+    Ok(())
+}
+
+#[test]
+fn reads_names(rt: HostRuntime) -> Result<(), Fail> {
+    let table = [
+        ("a", "ann", "a", "a"),
+        ("a/b c", "ann", "a/b c", "a/b c"),
+        ("inbox", "ann", "INBOX", "INBOX"),
+        ("Inbox/x", "ann", "INBOX/x", "INBOX/x"),
+        ("x/inbox", "ann", "x/inbox", "x/inbox"),
+        ("inboxes", "ann", "inboxes", "inboxes"),
+        ("e\u{301}", "ann", "\u{e9}", "\u{e9}"),
+        ("shared/x", "ann", "shared/x", "shared/x"),
+        ("x/Shared", "ann", "x/Shared", "x/Shared"),
+        ("Shared/x", "", "x", "Shared/x"),
+        ("Shared/iNBOX", "", "INBOX", "Shared/INBOX"),
+        ("Shared/Shared/x", "", "Shared/x", "Shared/Shared/x"),
+        ("Other Users/bob/x", "bob", "x", "Other Users/bob/x"),
+        (
+            "Other Users/bob/inbox",
+            "bob",
+            "INBOX",
+            "Other Users/bob/INBOX",
+        ),
+        (
+            "Other Users/e\u{301}/x",
+            "\u{e9}",
+            "x",
+            "Other Users/\u{e9}/x",
+        ),
+    ];
+    for (text, owner, path, shown) in table {
+        ann_reads(&rt, rt.alloc(), text.as_bytes(), owner, path, shown)?;
+    }
+    Ok(())
+}
+
+#[test]
+fn refuses_texts(rt: HostRuntime) -> Result<(), Fail> {
+    let ann = user(rt.alloc(), "ann")?;
+    let table: [(&[u8], NameError); 29] = [
+        (b"", NameError::EmptyComponent),
+        (b"/", NameError::EmptyComponent),
+        (b"a//b", NameError::EmptyComponent),
+        (b"a/", NameError::EmptyComponent),
+        (b"/a", NameError::EmptyComponent),
+        (b"Shared/", NameError::EmptyComponent),
+        (b"Shared//x", NameError::EmptyComponent),
+        (b"Other Users/bob/", NameError::EmptyComponent),
+        (b"Shared", NameError::Reserved),
+        (b"Other Users", NameError::Reserved),
+        (b"Other Users/", NameError::Reserved),
+        (b"Other Users//x", NameError::Reserved),
+        (b"Other Users/bob", NameError::Reserved),
+        (b"Other Users/ann", NameError::Reserved),
+        (b"Other Users/ann/x", NameError::Reserved),
+        (b"Other Users/ann/", NameError::Reserved),
+        (b"Other Users/anyone/x", NameError::Reserved),
+        (b"Other Users/-bob/x", NameError::Reserved),
+        (b"Other Users/group:x/y", NameError::Reserved),
+        (b"Other Users/b b/x", NameError::Reserved),
+        (b"Other Users/bob/Shared", NameError::Reserved),
+        (b"Other Users/bob/Shared/", NameError::Reserved),
+        (b"Other Users/bob/Other Users/x", NameError::Reserved),
+        (b"a\0b", NameError::Control),
+        (b"a\xc2\x85", NameError::Control),
+        (b"a\x7f//", NameError::Control),
+        (b"Other Users/a\x01b", NameError::Control),
+        (b"Other Users/ann/\n", NameError::Control),
+        (b"a\xff", NameError::Control),
+    ];
+    for (text, error) in table {
+        assert_eq!(rt;
+            read_name(rt.alloc(), &ann, text).err(),
+            Some(error),
+            "{text:?}"
+        );
+    }
+    Ok(())
+}
+
+/// `count` times the text.
+fn repeated(alloc: Global, text: &str, count: usize) -> Result<String, Fail> {
+    let mut all = String::new(alloc);
+    for _ in 0..count {
+        all.push_str(text)?;
+    }
+    Ok(all)
+}
+
+#[test]
+fn keeps_limits(rt: HostRuntime) -> Result<(), Fail> {
+    let ann = user(rt.alloc(), "ann")?;
+    let table = [
+        (repeated(rt.alloc(), "x", 255)?, None),
+        (repeated(rt.alloc(), "x", 256)?, Some(NameError::TooLong)),
+        (repeated(rt.alloc(), "e\u{301}", 127)?, None),
+        (
+            repeated(rt.alloc(), "e\u{301}", 128)?,
+            Some(NameError::TooLong),
+        ),
+        (
+            format!(in rt.alloc(); "{}x", repeated(rt.alloc(), "x/", 15)?)?,
+            None,
+        ),
+        (
+            format!(in rt.alloc(); "{}x", repeated(rt.alloc(), "x/", 16)?)?,
+            Some(NameError::TooDeep),
+        ),
+        (
+            format!(in rt.alloc(); "{}x", repeated(rt.alloc(), "x/", 128)?)?,
+            Some(NameError::TooLong),
+        ),
+        (
+            repeated(rt.alloc(), "x/", 256)?,
+            Some(NameError::EmptyComponent),
+        ),
+    ];
+    for (text, error) in &table {
+        assert_eq!(rt;
+            read_name(rt.alloc(), &ann, text.as_bytes()).err(),
+            *error,
+            "{text}"
+        );
+    }
+    Ok(())
+}
+
+#[test]
+fn reads_user_names(rt: HostRuntime) -> Result<(), Fail> {
+    let table = [
+        ("ann", true),
+        ("\u{e9}", true),
+        ("a-b", true),
+        ("Anyone", true),
+        ("groups", true),
+        ("", false),
+        ("anyone", false),
+        ("-ann", false),
+        ("group:x", false),
+        ("a b", false),
+        ("a/b", false),
+        ("a\tb", false),
+        ("a\u{85}b", false),
+        ("e\u{301}", false),
+    ];
+    for (text, is_user) in table {
+        assert_eq!(rt;
+            UserName::read(rt.alloc(), text)?.is_some(),
+            is_user,
+            "{text:?}"
+        );
+    }
+    let longest = repeated(rt.alloc(), "x", 64)?;
+    assert!(rt; UserName::read(rt.alloc(), longest.as_str())?.is_some());
+    let longer = repeated(rt.alloc(), "x", 65)?;
+    assert!(rt; UserName::read(rt.alloc(), longer.as_str())?.is_none());
+    Ok(())
+}
+
+fn full(alloc: Global, text: &str) -> Result<Name, Fail> {
+    Ok(read_full(alloc, text.as_bytes())?)
+}
+
+#[test]
+fn reads_in_full(rt: HostRuntime) -> Result<(), Fail> {
+    let name = full(rt.alloc(), "Other Users/ann/inbox")?;
+    let ann = user(rt.alloc(), "ann")?;
+    assert!(rt; name.is_inbox());
+    assert!(rt; name.is_same(&inbox(rt.alloc(), &ann)?));
+    assert!(rt; !full(rt.alloc(), "Shared/inbox")?.is_inbox());
+    assert!(rt; !full(rt.alloc(), "Other Users/ann/inbox/x")?.is_inbox());
+    assert_eq!(rt;
+        read_full(rt.alloc(), b"x").err(),
+        Some(NameError::Reserved)
+    );
+    assert_eq!(rt; read_full(rt.alloc(), b"").err(), Some(NameError::Reserved));
+    Ok(())
+}
+
+#[test]
+fn orders_names(rt: HostRuntime) -> Result<(), Fail> {
+    let table = [
+        ("Shared/a", "Shared/a/b", true),
+        ("Shared/a", "Shared/a/b/c", true),
+        ("Shared/a", "Shared/a", false),
+        ("Shared/a", "Shared/ab", false),
+        ("Shared/a/b", "Shared/a", false),
+        ("Shared/a", "Other Users/ann/a/b", false),
+        ("Other Users/ann/a", "Other Users/bob/a/b", false),
+    ];
+    for (above, below, is) in table {
+        let above = full(rt.alloc(), above)?;
+        let below = full(rt.alloc(), below)?;
+        assert_eq!(rt; is_above(&above, &below), is, "{below:?}");
+    }
+    Ok(())
+}
+
+#[test]
+fn names_are_copied(rt: HostRuntime) -> Result<(), Fail> {
+    let name = full(rt.alloc(), "Other Users/ann/a/b")?;
+    let copy = name.try_copy(rt.alloc())?;
+    assert!(rt; copy.is_same(&name));
+    assert_eq!(rt; copy.path(), "a/b");
+    assert!(rt; !name.is_same(&full(rt.alloc(), "Shared/a/b")?));
+    Ok(())
+}
+
+#[test]
+fn users_are_copied(rt: HostRuntime) -> Result<(), Fail> {
+    let ann = user(rt.alloc(), "ann")?;
+    assert!(rt; ann.try_copy(rt.alloc())?.is_same(&ann));
+    assert!(rt; !ann.is_same(&user(rt.alloc(), "bob")?));
+    Ok(())
+}
+
+#[test]
+fn trees_are_copied(rt: HostRuntime) -> Result<(), Fail> {
+    let tree = Tree::User(user(rt.alloc(), "ann")?);
+    assert!(rt; tree.try_copy(rt.alloc())?.is_same(&tree));
+    assert!(rt;
+        full(rt.alloc(), "Other Users/ann/a/b")?
+            .tree()
+            .is_same(&tree)
+    );
+    assert!(rt; !tree.is_same(&Tree::Shared));
+    Ok(())
+}
+
+#[test]
+fn says_errors(rt: HostRuntime) -> Result<(), Fail> {
+    let text = format!(in rt.alloc(); "{}", NameError::TooDeep)?;
+    assert_eq!(rt; text.as_str(), "the path has more than 16 components");
+    Ok(())
+}

@@ -1,0 +1,299 @@
+mod mailboxes;
+mod messages;
+mod values;
+
+use imap_lex::{Octets, Tag};
+use imap_print::*;
+use imap_syntax::Items;
+use std::alloc::{AllocError, Global};
+use std::test::Fail;
+
+fn octets(alloc: Global, text: &str) -> Result<Octets, AllocError> {
+    Octets::from_slice(alloc, text.as_bytes())
+}
+
+fn tag(alloc: Global, text: &str) -> Result<Tag, AllocError> {
+    Tag::from_slice(alloc, text.as_bytes())
+}
+
+fn numbers(alloc: Global, numbers: &[u32]) -> Result<Numbers, AllocError> {
+    Ok(Numbers::from_vec(Vec::from_slice(alloc, numbers)?))
+}
+
+fn words(alloc: Global, texts: &[&str]) -> Result<Items<Octets>, AllocError> {
+    let mut words = Vec::new(alloc);
+    for text in texts {
+        words.push(octets(alloc, text)?)?;
+    }
+    Ok(Items::from_vec(words))
+}
+
+/// What is printed of the responses, as text.
+fn shown_all(alloc: Global, responses: &[Response]) -> Result<String, AllocError> {
+    let printed = print(alloc, responses)?;
+    String::from_utf8_lossy(alloc, printed.as_slice())
+}
+
+/// What is printed of one response, which is let go by `drop`, as that is generic: a proof that lets one go is long.
+fn shown(alloc: Global, response: Response) -> Result<String, AllocError> {
+    let responses = [response];
+    let text = shown_all(alloc, &responses);
+    drop(responses);
+    text
+}
+
+#[test]
+fn lines_without_values(rt: HostRuntime) -> Result<(), Fail> {
+    let alloc = rt.alloc();
+    let rows = [
+        (
+            Response::Greeting,
+            "* PREAUTH [CAPABILITY IMAP4rev2 ACL RIGHTS=texk CONDSTORE ENABLE IDLE QRESYNC] shared mailbox profile ready\r\n",
+        ),
+        (
+            Response::Capability,
+            "* CAPABILITY IMAP4rev2 ACL RIGHTS=texk CONDSTORE ENABLE IDLE QRESYNC\r\n",
+        ),
+        (Response::Bye(Farewell::LoggingOut), "* BYE logging out\r\n"),
+        (
+            Response::Bye(Farewell::LimitReached),
+            "* BYE limit reached\r\n",
+        ),
+        (
+            Response::Bye(Farewell::IdleTooLong),
+            "* BYE idle too long\r\n",
+        ),
+        (
+            Response::Bye(Farewell::MailboxUnavailable),
+            "* BYE selected mailbox is no longer available\r\n",
+        ),
+        (Response::Ready, "+ ready\r\n"),
+        (Response::Idling, "+ idling\r\n"),
+        (
+            Response::Namespace,
+            "* NAMESPACE ((\"\" \"/\")) ((\"Other Users/\" \"/\")) ((\"Shared/\" \"/\"))\r\n",
+        ),
+        (Response::ListRoot, "* LIST (\\Noselect) \"/\" \"\"\r\n"),
+        (Response::Closed, "* OK [CLOSED] closed\r\n"),
+    ];
+    for (response, wanted) in rows {
+        let line = shown(alloc, response)?;
+        assert_eq!(rt; line.as_str(), wanted);
+    }
+    Ok(())
+}
+
+#[test]
+fn no_response_and_many(rt: HostRuntime) -> Result<(), Fail> {
+    let alloc = rt.alloc();
+    assert_eq!(rt; shown_all(alloc, &[])?.as_str(), "");
+    let lines = shown_all(
+        alloc,
+        &[Response::Ready, Response::Exists(3), Response::Closed],
+    )?;
+    assert_eq!(rt;
+        lines.as_str(),
+        "+ ready\r\n* 3 EXISTS\r\n* OK [CLOSED] closed\r\n"
+    );
+    Ok(())
+}
+
+fn done(alloc: Global, code: Option<Code>) -> Result<Response, AllocError> {
+    Ok(Response::Done {
+        tag: tag(alloc, "a7")?,
+        code,
+    })
+}
+
+#[test]
+fn commands_carried_out(rt: HostRuntime) -> Result<(), Fail> {
+    let alloc = rt.alloc();
+    let copied = Code::CopyUid(CopiedUids {
+        validity: 38505,
+        source: numbers(alloc, &[304, 319, 320])?,
+        target: numbers(alloc, &[3956, 3957, 3958])?,
+    });
+    let rows = [
+        (done(alloc, None)?, "a7 OK done\r\n"),
+        (
+            done(alloc, Some(Code::ReadWrite))?,
+            "a7 OK [READ-WRITE] done\r\n",
+        ),
+        (
+            done(alloc, Some(Code::ReadOnly))?,
+            "a7 OK [READ-ONLY] done\r\n",
+        ),
+        (
+            done(
+                alloc,
+                Some(Code::AppendUid {
+                    validity: 38505,
+                    uid: 3955,
+                }),
+            )?,
+            "a7 OK [APPENDUID 38505 3955] done\r\n",
+        ),
+        (
+            done(alloc, Some(copied))?,
+            "a7 OK [COPYUID 38505 304,319:320 3956:3958] done\r\n",
+        ),
+        (
+            done(alloc, Some(Code::HighestModSeq(8)))?,
+            "a7 OK [HIGHESTMODSEQ 8] done\r\n",
+        ),
+        (
+            done(alloc, Some(Code::Modified(numbers(alloc, &[7, 9])?)))?,
+            "a7 OK [MODIFIED 7,9] done\r\n",
+        ),
+    ];
+    for (response, wanted) in rows {
+        let line = shown(alloc, response)?;
+        assert_eq!(rt; line.as_str(), wanted);
+    }
+    Ok(())
+}
+
+fn refused(alloc: Global, refusal: Refusal) -> Result<Response, AllocError> {
+    Ok(Response::Refused {
+        tag: Some(tag(alloc, "b1")?),
+        refusal,
+    })
+}
+
+#[test]
+fn commands_refused(rt: HostRuntime) -> Result<(), Fail> {
+    let alloc = rt.alloc();
+    let rows = [
+        (
+            Refusal::NonExistent,
+            "b1 NO [NONEXISTENT] no such mailbox\r\n",
+        ),
+        (Refusal::NoPerm, "b1 NO [NOPERM] right missing\r\n"),
+        (
+            Refusal::AlreadyExists,
+            "b1 NO [ALREADYEXISTS] name is taken\r\n",
+        ),
+        (Refusal::HasChildren, "b1 NO [HASCHILDREN] names below\r\n"),
+        (Refusal::Cannot, "b1 NO [CANNOT] not possible\r\n"),
+        (Refusal::Limit, "b1 NO [LIMIT] limit reached\r\n"),
+        (Refusal::OverQuota, "b1 NO [OVERQUOTA] mailbox is full\r\n"),
+        (Refusal::TryCreate, "b1 NO [TRYCREATE] no such mailbox\r\n"),
+        (
+            Refusal::ExpungeIssued,
+            "b1 NO [EXPUNGEISSUED] some messages are gone\r\n",
+        ),
+        (Refusal::InUse, "b1 NO [INUSE] selected here\r\n"),
+        (
+            Refusal::Unavailable,
+            "b1 NO [UNAVAILABLE] store refused\r\n",
+        ),
+        (
+            Refusal::BadCharset,
+            "b1 NO [BADCHARSET (US-ASCII UTF-8)] charset unknown\r\n",
+        ),
+        (Refusal::Malformed, "b1 BAD malformed command\r\n"),
+        (Refusal::WrongState, "b1 BAD not in this state\r\n"),
+    ];
+    for (refusal, wanted) in rows {
+        let line = shown(alloc, refused(alloc, refusal)?)?;
+        assert_eq!(rt; line.as_str(), wanted);
+    }
+    let untagged = Response::Refused {
+        tag: None,
+        refusal: Refusal::Malformed,
+    };
+    assert_eq!(rt;
+        shown(alloc, untagged)?.as_str(),
+        "* BAD malformed command\r\n"
+    );
+    Ok(())
+}
+
+#[test]
+fn capabilities_enabled(rt: HostRuntime) -> Result<(), Fail> {
+    let alloc = rt.alloc();
+    let rows = [
+        (false, false, false, "* ENABLED\r\n"),
+        (false, false, true, "* ENABLED QRESYNC\r\n"),
+        (true, false, false, "* ENABLED CONDSTORE\r\n"),
+        (
+            true,
+            true,
+            true,
+            "* ENABLED CONDSTORE IMAP4rev2 QRESYNC\r\n",
+        ),
+    ];
+    for (condstore, imap4rev2, qresync, wanted) in rows {
+        let response = Response::Enabled(EnabledCapabilities {
+            condstore,
+            imap4rev2,
+            qresync,
+        });
+        assert_eq!(rt; shown(alloc, response)?.as_str(), wanted);
+    }
+    Ok(())
+}
+
+fn search(alloc: Global, uid: bool, results: SearchResults) -> Result<Response, AllocError> {
+    Ok(Response::Search {
+        tag: tag(alloc, "a5")?,
+        uid,
+        results,
+    })
+}
+
+fn nothing() -> SearchResults {
+    SearchResults {
+        min: None,
+        max: None,
+        all: None,
+        count: None,
+        mod_seq: None,
+    }
+}
+
+#[test]
+fn searches(rt: HostRuntime) -> Result<(), Fail> {
+    let alloc = rt.alloc();
+    let mut counted = nothing();
+    counted.count = Some(0);
+    let mut all = nothing();
+    all.all = Some(numbers(alloc, &[1, 2, 3])?);
+    let mut with_mod_seq = nothing();
+    with_mod_seq.all = Some(numbers(alloc, &[1])?);
+    with_mod_seq.mod_seq = Some(3);
+    let every = SearchResults {
+        min: Some(2),
+        max: Some(11),
+        all: Some(numbers(alloc, &[2, 10, 11])?),
+        count: Some(3),
+        mod_seq: Some(1_236_715_319_000),
+    };
+    let rows = [
+        (
+            search(alloc, false, counted)?,
+            "* ESEARCH (TAG \"a5\") COUNT 0\r\n",
+        ),
+        (
+            search(alloc, true, all)?,
+            "* ESEARCH (TAG \"a5\") UID ALL 1:3\r\n",
+        ),
+        (
+            search(alloc, false, with_mod_seq)?,
+            "* ESEARCH (TAG \"a5\") ALL 1 MODSEQ 3\r\n",
+        ),
+        (
+            search(alloc, false, nothing())?,
+            "* ESEARCH (TAG \"a5\")\r\n",
+        ),
+        (
+            search(alloc, true, every)?,
+            "* ESEARCH (TAG \"a5\") UID MIN 2 MAX 11 ALL 2,10:11 COUNT 3 MODSEQ 1236715319000\r\n",
+        ),
+    ];
+    for (response, wanted) in rows {
+        let line = shown(alloc, response)?;
+        assert_eq!(rt; line.as_str(), wanted);
+    }
+    Ok(())
+}

@@ -1,0 +1,59 @@
+use super::{numbers, shown, words};
+use imap_print::*;
+use std::alloc::{AllocError, Global};
+use std::test::Fail;
+
+fn vanished(alloc: Global, uids: &[u32]) -> Result<Response, AllocError> {
+    Ok(Response::Vanished {
+        earlier: false,
+        uids: numbers(alloc, uids)?,
+    })
+}
+
+#[test]
+fn sets(rt: HostRuntime) -> Result<(), Fail> {
+    let alloc = rt.alloc();
+    let rows: [(&[u32], &str); 9] = [
+        (&[], "* VANISHED \r\n"),
+        (&[7], "* VANISHED 7\r\n"),
+        (&[1, 3], "* VANISHED 1,3\r\n"),
+        (&[1, 2, 3, 5, 7, 8], "* VANISHED 1:3,5,7:8\r\n"),
+        (&[405, 407, 410, 425], "* VANISHED 405,407,410,425\r\n"),
+        (
+            &[
+                300, 301, 302, 303, 304, 305, 306, 307, 308, 309, 310, 405, 411,
+            ],
+            "* VANISHED 300:310,405,411\r\n",
+        ),
+        (&[3, 2, 1], "* VANISHED 3,2,1\r\n"),
+        (&[2, 2, 3], "* VANISHED 2,2:3\r\n"),
+        (
+            &[4_294_967_294, 4_294_967_295, 0],
+            "* VANISHED 4294967294:4294967295,0\r\n",
+        ),
+    ];
+    for (uids, wanted) in rows {
+        let line = shown(alloc, vanished(alloc, uids)?)?;
+        assert_eq!(rt; line.as_str(), wanted);
+    }
+    let earlier = Response::Vanished {
+        earlier: true,
+        uids: numbers(alloc, &[2, 3])?,
+    };
+    assert_eq!(rt;
+        shown(alloc, earlier)?.as_str(),
+        "* VANISHED (EARLIER) 2:3\r\n"
+    );
+    Ok(())
+}
+
+#[test]
+fn lists_give_their_items_back(rt: HostRuntime) -> Result<(), Fail> {
+    let alloc = rt.alloc();
+    let set = numbers(alloc, &[5, 9])?;
+    assert_eq!(rt; set.as_slice(), [5u32, 9].as_slice());
+    assert_eq!(rt; set.into_vec().as_slice(), [5u32, 9].as_slice());
+    let pair = words(alloc, &["a", "b"])?;
+    assert_eq!(rt; pair.as_slice().len(), 2);
+    Ok(())
+}
