@@ -11,7 +11,7 @@ use Rattle.imap_core.specs.Sessions.{are_apart}
 pub at_number : (m n : ℕ) → eq_by_cmp nat_cmp m n ≡ eqb m n
 at_number m n = grind (arith, nat_tests)
 
-both_true : (a b : Bool) → (a && b) ≡ true → (a ≡ true) × (b ≡ true)
+pub both_true : (a b : Bool) → (a && b) ≡ true → (a ≡ true) × (b ≡ true)
 both_true true b h = (refl, h)
 both_true false b h = absurd (cc)
 

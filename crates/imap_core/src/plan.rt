@@ -138,6 +138,13 @@ fn done(alloc: Global, tag: &Tag) -> Result<Response, AllocError>
     })
 }
 
+/// A response, and behind it that the command was carried out.
+fn with_done(alloc: Global, response: Response, tag: &Tag) -> Result<Vec<Response>, AllocError>
+    ensures { IfOk result (λ replies. replies.items ≡ response ∷ done tag.now ∷ []) }
+{
+    Ok(vec![in alloc; response, done(alloc, tag)?]?)
+}
+
 fn command_plan(
     alloc: Global,
     world: &World,
@@ -149,14 +156,11 @@ fn command_plan(
     ensures { IfOk result (λ plan. Plans plan (command_outcome user.now (view site.now.administrator user.now world.now) tag.now body.now)) }
 {
     match body {
-        Body::Capability => {
-            let done = done(alloc, tag)?;
-            Ok(Plan::told(vec![in alloc; Response::Capability, done]?))
-        }
+        Body::Capability => Ok(Plan::told(with_done(alloc, Response::Capability, tag)?)),
         Body::Noop => Ok(Plan::told(vec![in alloc; done(alloc, tag)?]?)),
         Body::Logout => {
             let bye = Response::Bye(Farewell::LoggingOut);
-            Ok(Plan::ended(vec![in alloc; bye, done(alloc, tag)?]?))
+            Ok(Plan::ended(with_done(alloc, bye, tag)?))
         }
         Body::Authenticate => Plan::refused(alloc, tag, Refusal::WrongState),
         Body::MyRights { mailbox } => rights_plan(alloc, world, site, user, tag, mailbox),
@@ -200,7 +204,7 @@ fn named_rights_plan(
                 mailbox: Octets::from_vec(shown.into_bytes())?,
                 rights: seen.rights(),
             };
-            Ok(Plan::told(vec![in alloc; rights, done(alloc, tag)?]?))
+            Ok(Plan::told(with_done(alloc, rights, tag)?))
         }
         None => Plan::refused(alloc, tag, Refusal::NonExistent),
     }

@@ -1,5 +1,5 @@
 -- What is written comes through a framer as one frame.
-use Rattle.std.proofs.Common.{◌≡◌, ℕ, ◌+◌, ◌-◌, ◌*◌, ◌<◌, ◌≤◌, ◌^◌, true, not, eqb, List, [], ◌∷◌, ◌++◌, length, map, Some, None, refl, sym, ap, subst, ◌∙◌, append_assoc, length-append, arith}
+use Rattle.std.proofs.Common.{◌≡◌, ℕ, ◌+◌, ◌-◌, ◌<◌, ◌≤◌, ◌^◌, true, not, eqb, List, [], ◌∷◌, ◌++◌, length, map, Some, None, refl, sym, ap, subst, ◌∙◌, append_assoc, length-append, arith}
 use Rattle.std.specs.Fmt.{decimal as decimal_text}
 use Rattle.std.specs.Char.{is_ascii_digit}
 use Rattle.std.specs.List.{list_all, AllByRecursion}
@@ -10,7 +10,7 @@ use Rattle.std.proofs.lemmas.Option.{none-some}
 use Rattle.imap_lex.specs.declared.frame.Frame.{Frame}
 use Rattle.imap_lex.specs.declared.frame.Frame.TheVariants.{Whole, Continue}
 use Rattle.imap_lex.specs.Mark as mark
-use Rattle.imap_lex.specs.Mark.{Announced, IsMarked, IsDigit, with_octets, line_mark, value_from}
+use Rattle.imap_lex.specs.Mark.{Announced, IsMarked, IsDigit, with_octets, line_mark}
 use Rattle.imap_lex.specs.Framing as framing
 use Rattle.imap_lex.specs.Framing.{crlf, Framing, awaiting, Outcome, start, run}
 use Rattle.imap_lex.specs.Stream as stream
@@ -67,10 +67,6 @@ none_part = record { unbroken = refl; unmarked = refl }
 
 -- ---- lines that announce a literal
 
-same_value : (n : ℕ) (digits : List ℕ) → value_from n digits ≡ decimal_from n digits
-same_value n [] = refl
-same_value n (d ∷ digits) = let e : n * 10 + (d - 48) ≡ 10 * n + (d - 48) = omega arith in rw e (same_value (10 * n + (d - 48)) digits)
-
 digit_is : (b : ℕ) → is_ascii_digit b ≡ true → IsDigit b
 digit_is b h = (grind (arith, nat_tests), grind (arith, nat_tests))
 
@@ -84,7 +80,7 @@ head_text digits = 123 ∷ (digits ++ 125 ∷ 13 ∷ 10 ∷ [])
 abbrev waiting : ℕ → Announced
 waiting n = record { size = n; waits = true }
 
-marked_by : (front digits : List ℕ) (n : ℕ) → list_all is_ascii_digit digits ≡ true → (digits ≡ [] → ⊥) → value_from 0 digits ≡ n → IsMarked (front ++ head_text digits) (waiting n)
+marked_by : (front digits : List ℕ) (n : ℕ) → list_all is_ascii_digit digits ≡ true → (digits ≡ [] → ⊥) → decimal_from 0 digits ≡ n → IsMarked (front ++ head_text digits) (waiting n)
 marked_by front [] n h some e = absurd (some refl)
 marked_by front (d ∷ digits) n h some e = record { front = front; digit = d; digits = digits; spelt = refl; each = digits_are (d ∷ digits) h; value = sym e }
 
@@ -109,7 +105,7 @@ is_section front octets h lt =
     let digits = decimal_text n in
     let spelt = digits_made n lt in
     let all : list_all is_ascii_digit digits ≡ true = consists_all is_ascii_digit digits spelt.1 in
-    let value : value_from 0 digits ≡ n = same_value 0 digits ∙ number_value n lt in
+    let value : decimal_from 0 digits ≡ n = number_value n lt in
     record { marked = record { is_line = head_line front digits h.unbroken all; marked = marked_by front digits n all spelt.2 value }; short = λ e. absurd cc; size = refl }
 
 -- ---- a text of lines and literals

@@ -4,20 +4,23 @@ ghost use Rattle.std.specs.Prelude.{◌≡◌, IfOk, IfErr};
 ghost use Rattle.std.specs.Option.{IsSome};
 ghost use Rattle.imap_syntax.specs.declared.fault.Fault.TheVariants.{Memory};
 ghost use Rattle.imap_syntax.specs.Reading.{Gives, Finds};
-ghost use Rattle.imap_grammar.specs.Grammar.{enable, status, uid_command, arguments, ended, command, tag_front};
+ghost use Rattle.imap_grammar.specs.Grammar.{enable, uid_command, arguments, ended, command, tag_front};
 ghost use Rattle.imap_grammar.specs.Spells.{HasTag, Spells, SpellsNoOther, tag_read, request_read};
 
 use crate::anything::read_anything;
 use crate::append::read_append;
 use crate::list::read_list;
+use crate::mailboxes::{
+    read_create, read_delete, read_delete_acl, read_examine, read_get_acl, read_list_rights,
+    read_my_rights, read_rename, read_select, read_set_acl, read_status, read_subscribe,
+    read_unsubscribe,
+};
 use crate::queries::{read_fetch, read_search};
 use crate::request::{Body, Request};
-use crate::select::read_parameters;
-use crate::store::{read_argument, read_copy, read_move, read_store, read_uid_expunge};
+use crate::store::{read_copy, read_move, read_store, read_uid_expunge};
 use crate::verb::{UidVerb, Verb};
 use imap_lex::{Octets, Tag};
-use imap_query::StatusItem;
-use imap_syntax::{Cursor, Fault, Item, Numbering, WordOf};
+use imap_syntax::{Cursor, Fault, Item, Numbering};
 use std::alloc::{AllocError, Global};
 
 /// A word of ENABLE.
@@ -44,15 +47,6 @@ fn read_enable(cursor: &mut Cursor<'_>, alloc: Global) -> Result<Body, Fault>
     Ok(Body::Enable { capabilities })
 }
 
-fn read_status(cursor: &mut Cursor<'_>, alloc: Global) -> Result<Body, Fault>
-    ensures { Gives (λ b. b) result cursor.new (status.read cursor.old) }
-{
-    let mailbox = read_argument(cursor, alloc)?;
-    cursor.space()?;
-    let items = cursor.listed::<WordOf<StatusItem>>(alloc)?;
-    Ok(Body::Status { mailbox, items })
-}
-
 fn read_uid_command(cursor: &mut Cursor<'_>, alloc: Global) -> Result<Body, Fault>
     ensures { Gives (λ b. b) result cursor.new (uid_command.read cursor.old) }
 {
@@ -77,63 +71,32 @@ fn read_arguments(cursor: &mut Cursor<'_>, alloc: Global, verb: Verb) -> Result<
         Verb::Capability => Ok(Body::Capability),
         Verb::Close => Ok(Body::Close),
         Verb::Copy => read_copy(cursor, alloc, Numbering::Sequence),
-        Verb::Create => Ok(Body::Create {
-            mailbox: read_argument(cursor, alloc)?,
-        }),
-        Verb::Delete => Ok(Body::Delete {
-            mailbox: read_argument(cursor, alloc)?,
-        }),
-        Verb::DeleteAcl => Ok(Body::DeleteAcl {
-            mailbox: read_argument(cursor, alloc)?,
-            identifier: read_argument(cursor, alloc)?,
-        }),
+        Verb::Create => read_create(cursor, alloc),
+        Verb::Delete => read_delete(cursor, alloc),
+        Verb::DeleteAcl => read_delete_acl(cursor, alloc),
         Verb::Enable => read_enable(cursor, alloc),
-        Verb::Examine => Ok(Body::Examine {
-            mailbox: read_argument(cursor, alloc)?,
-            parameters: read_parameters(cursor, alloc)?,
-        }),
+        Verb::Examine => read_examine(cursor, alloc),
         Verb::Expunge => Ok(Body::Expunge),
         Verb::Fetch => read_fetch(cursor, alloc, Numbering::Sequence),
-        Verb::GetAcl => Ok(Body::GetAcl {
-            mailbox: read_argument(cursor, alloc)?,
-        }),
+        Verb::GetAcl => read_get_acl(cursor, alloc),
         Verb::Idle => Ok(Body::Idle),
         Verb::List => read_list(cursor, alloc),
-        Verb::ListRights => Ok(Body::ListRights {
-            mailbox: read_argument(cursor, alloc)?,
-            identifier: read_argument(cursor, alloc)?,
-        }),
+        Verb::ListRights => read_list_rights(cursor, alloc),
         Verb::Logout => Ok(Body::Logout),
         Verb::Move => read_move(cursor, alloc, Numbering::Sequence),
-        Verb::MyRights => Ok(Body::MyRights {
-            mailbox: read_argument(cursor, alloc)?,
-        }),
+        Verb::MyRights => read_my_rights(cursor, alloc),
         Verb::Namespace => Ok(Body::Namespace),
         Verb::Noop => Ok(Body::Noop),
-        Verb::Rename => Ok(Body::Rename {
-            from: read_argument(cursor, alloc)?,
-            to: read_argument(cursor, alloc)?,
-        }),
+        Verb::Rename => read_rename(cursor, alloc),
         Verb::Search => read_search(cursor, alloc, Numbering::Sequence),
-        Verb::Select => Ok(Body::Select {
-            mailbox: read_argument(cursor, alloc)?,
-            parameters: read_parameters(cursor, alloc)?,
-        }),
-        Verb::SetAcl => Ok(Body::SetAcl {
-            mailbox: read_argument(cursor, alloc)?,
-            identifier: read_argument(cursor, alloc)?,
-            rights: read_argument(cursor, alloc)?,
-        }),
+        Verb::Select => read_select(cursor, alloc),
+        Verb::SetAcl => read_set_acl(cursor, alloc),
         Verb::Status => read_status(cursor, alloc),
         Verb::Store => read_store(cursor, alloc, Numbering::Sequence),
-        Verb::Subscribe => Ok(Body::Subscribe {
-            mailbox: read_argument(cursor, alloc)?,
-        }),
+        Verb::Subscribe => read_subscribe(cursor, alloc),
         Verb::Uid => read_uid_command(cursor, alloc),
         Verb::Unselect => Ok(Body::Unselect),
-        Verb::Unsubscribe => Ok(Body::Unsubscribe {
-            mailbox: read_argument(cursor, alloc)?,
-        }),
+        Verb::Unsubscribe => read_unsubscribe(cursor, alloc),
     }
 }
 

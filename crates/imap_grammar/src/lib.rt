@@ -12,6 +12,7 @@ mod append;
 mod command;
 pub mod laws;
 mod list;
+mod mailboxes;
 mod queries;
 mod request;
 mod select;

@@ -1,8 +1,11 @@
 //! Commands, written.
 
-ghost use Rattle.std.specs.Prelude.{◌≡◌, ◌++◌, ℕ, List, OnOk, IfOk, IfSome, IfNone, option_map};
+ghost use Rattle.std.specs.Prelude.{◌≡◌, ◌&&◌, ◌++◌, ℕ, List, OnOk, IfOk, IfSome, IfNone, option_map};
 ghost use Rattle.std.specs.List.{list_all};
 ghost use Rattle.imap_syntax.specs.Lexical.{is_tag_char};
+ghost use Rattle.imap_syntax.specs.Writing.{word, listed};
+ghost use Rattle.imap_syntax.specs.Written.{string};
+ghost use Rattle.imap_query.specs.StatusWords.{status_name};
 ghost use Rattle.imap_grammar.specs.Spells.{Spells, request_read};
 ghost use Rattle.imap_grammar.specs.WrittenSelect.{parameters};
 ghost use Rattle.imap_grammar.specs.WrittenCommands.{tag as tag_writing, argument_text, status_text, by_numbering, verb_of, body_fits, arguments_text, command_text, request_fits, request_text, written};
@@ -80,7 +83,7 @@ fn body_fits(body: &Body) -> bool
         | Body::Examine {
             mailbox,
             parameters,
-        } => string_fits(mailbox) && parameters_fit(parameters),
+        } => selecting_fits(mailbox, parameters),
         Body::List {
             selection,
             reference,
@@ -99,15 +102,13 @@ fn body_fits(body: &Body) -> bool
         | Body::Unsubscribe { mailbox }
         | Body::GetAcl { mailbox }
         | Body::MyRights { mailbox } => string_fits(mailbox),
-        Body::Rename { from, to } => string_fits(from) && string_fits(to),
-        Body::Status { mailbox, items } => {
-            string_fits(mailbox) && some_fit::<Word<StatusItem>>(items.as_slice())
-        }
+        Body::Rename { from, to } => two_fit(from, to),
+        Body::Status { mailbox, items } => status_fits(mailbox, items.as_slice()),
         Body::SetAcl {
             mailbox,
             identifier,
             rights,
-        } => string_fits(mailbox) && string_fits(identifier) && string_fits(rights),
+        } => string_fits(mailbox) && two_fit(identifier, rights),
         Body::DeleteAcl {
             mailbox,
             identifier,
@@ -115,23 +116,33 @@ fn body_fits(body: &Body) -> bool
         | Body::ListRights {
             mailbox,
             identifier,
-        } => string_fits(mailbox) && string_fits(identifier),
+        } => two_fit(mailbox, identifier),
         Body::UidExpunge { .. }
         | Body::Search { .. }
         | Body::Fetch { .. }
         | Body::Store { .. }
         | Body::Copy { .. }
         | Body::Move { .. } => messages_fit(body),
-        Body::Capability
-        | Body::Noop
-        | Body::Logout
-        | Body::Namespace
-        | Body::Idle
-        | Body::Close
-        | Body::Unselect
-        | Body::Authenticate
-        | Body::Expunge => true,
+        _ => true,
     }
+}
+
+fn two_fit(first: &Octets, second: &Octets) -> bool
+    ensures { result ≡ (string.fits first.now && string.fits second.now) }
+{
+    string_fits(first) && string_fits(second)
+}
+
+fn status_fits(mailbox: &Octets, items: &[StatusItem]) -> bool
+    ensures { result ≡ (string.fits mailbox.now && (listed (word status_name)).fits items.now) }
+{
+    string_fits(mailbox) && some_fit::<Word<StatusItem>>(items)
+}
+
+fn selecting_fits(mailbox: &Octets, given: &SelectParameters) -> bool
+    ensures { result ≡ (string.fits mailbox.now && parameters.fits given.now) }
+{
+    string_fits(mailbox) && parameters_fit(given)
 }
 
 fn push_request(out: &mut Vec<u8>, request: &Request) -> Result<(), AllocError>

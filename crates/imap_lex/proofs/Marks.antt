@@ -3,7 +3,7 @@ use Rattle.std.proofs.Common.{◌≡◌, ◌∙◌, ap, refl, subst, ℕ, ◌+�
 use Rattle.std.specs.List.{AllByRecursion}
 use Rattle.std.specs.Prelude.{eqb, nat_lt, not, ◌&&◌}
 use Rattle.std.proofs.lemmas.Bool.{le-ltb, lt-ltb, ltb-true, ltb-false, eqb-true, false_from_ne_true}
-use Rattle.imap_lex.specs.Mark.{Announced, value_from, IsDigit, closing, IsMarked, LineTail, text, brace, digits, plus, closed, behind_cr, behind_crlf, with_digit, with_plus, with_brace, with_cr, with_lf, is_digit, with_octet, with_octets, mark_at, line_mark, MarksAreRead, MarksAreFound}
+use Rattle.imap_lex.specs.Mark.{Announced, decimal_from, IsDigit, closing, IsMarked, LineTail, text, brace, digits, plus, closed, behind_cr, behind_crlf, with_digit, with_plus, with_brace, with_cr, with_lf, is_digit, with_octet, with_octets, mark_at, line_mark, MarksAreRead, MarksAreFound}
 use Rattle.imap_lex.specs.Stream.{IsLastLine}
 use Rattle.imap_lex.proofs.Tails.{with_octets-append}
 
@@ -13,9 +13,9 @@ not_brace d is = false_from_ne_true _ (λ e. let same = eqb-true d 123 e in omeg
 tests_digit : (d : ℕ) → IsDigit d → is_digit d ≡ true
 tests_digit d is = rw (le-ltb d 48 is.0, lt-ltb d 58 is.1) refl
 
-with_digits : (v : ℕ) (ds : List ℕ) → AllByRecursion IsDigit ds → with_octets (digits v) ds ≡ digits (value_from v ds)
+with_digits : (v : ℕ) (ds : List ℕ) → AllByRecursion IsDigit ds → with_octets (digits v) ds ≡ digits (decimal_from v ds)
 with_digits v [] all = refl
-with_digits v (d ∷ ds) all = rw (not_brace d all.0, tests_digit d all.0) (with_digits (v * 10 + (d - 48)) ds all.1)
+with_digits v (d ∷ ds) all = rw (not_brace d all.0, tests_digit d all.0) (with_digits (10 * v + (d - 48)) ds all.1)
 
 with_closing : (n : ℕ) (waits : Bool) → with_octets (digits n) (closing waits) ≡ behind_crlf (record { size = n; waits = waits })
 with_closing n true = refl
@@ -24,10 +24,10 @@ with_closing n false = refl
 pub marks_are_found : MarksAreFound
 marks_are_found line mark is =
     let d = is.digit in
-    let first : d - 48 ≡ 0 * 10 + (d - 48) = omega arith in
+    let first : d - 48 ≡ 10 * 0 + (d - 48) = omega arith in
     let body : with_octets brace ((d ∷ is.digits) ++ closing mark.waits) ≡ behind_crlf mark =
     with_octets-append brace (d ∷ is.digits) (closing mark.waits)
-    ∙ rw (not_brace d is.each.0, tests_digit d is.each.0, first, with_digits (0 * 10 + (d - 48)) is.digits is.each.1, with_closing, is.value) refl in
+    ∙ rw (not_brace d is.each.0, tests_digit d is.each.0, first, with_digits (10 * 0 + (d - 48)) is.digits is.each.1, with_closing, is.value) refl in
     ap line_mark is.spelt
     ∙ ap mark_at (with_octets-append text is.front (123 ∷ ((d ∷ is.digits) ++ closing mark.waits)) ∙ body)
 
@@ -43,9 +43,9 @@ all_digits-push : (ds : List ℕ) (d : ℕ) → AllByRecursion IsDigit ds → Is
 all_digits-push [] d all is = (is, tt)
 all_digits-push (x ∷ ds) d all is = (all.0, all_digits-push ds d all.1 is)
 
-value-push : (v : ℕ) (ds : List ℕ) (d : ℕ) → value_from v (ds ++ d ∷ []) ≡ value_from v ds * 10 + (d - 48)
+value-push : (v : ℕ) (ds : List ℕ) (d : ℕ) → decimal_from v (ds ++ d ∷ []) ≡ 10 * decimal_from v ds + (d - 48)
 value-push v [] d = refl
-value-push v (x ∷ ds) d = value-push (v * 10 + (x - 48)) ds d
+value-push v (x ∷ ds) d = value-push (10 * v + (x - 48)) ds d
 
 -- a brace and digits, and what follows them
 record Numbered (octets rest : List ℕ) (size : ℕ) : Type 0 where
@@ -54,7 +54,7 @@ record Numbered (octets rest : List ℕ) (size : ℕ) : Type 0 where
   more : List ℕ
   spelt : octets ≡ before ++ 123 ∷ ((digit ∷ more) ++ rest)
   each : AllByRecursion IsDigit (digit ∷ more)
-  value : size ≡ value_from 0 (digit ∷ more)
+  value : size ≡ decimal_from 0 (digit ∷ more)
 
 -- what closes a mark, before CRLF
 abbrev braced : Bool → List ℕ
@@ -97,7 +97,7 @@ means_digit octets (digits n) b means is = record {
   more = means.more ++ b ∷ [];
   spelt = ap (λ (l : List ℕ). l ++ b ∷ []) means.spelt ∙ simp (append_assoc, append-nil) refl;
   each = (means.each.0, all_digits-push means.more b means.each.1 is);
-  value = rw (value-push (0 * 10 + (means.digit - 48)) means.more b, means.value) refl;
+  value = rw (value-push (10 * 0 + (means.digit - 48)) means.more b, means.value) refl;
 }
 means_digit octets (plus n) b means is = tt
 means_digit octets (closed mark) b means is = tt

@@ -8,9 +8,9 @@ pub record Announced : Type 0 where
   pub waits : Bool
 
 -- what decimal digits say
-abbrev pub value_from : ℕ → List ℕ → ℕ
-value_from n [] = n
-value_from n (d ∷ ds) = value_from (n * 10 + (d - 48)) ds
+abbrev pub decimal_from : ℕ → List ℕ → ℕ
+decimal_from n [] = n
+decimal_from n (d ∷ ds) = decimal_from (10 * n + (d - 48)) ds
 
 abbrev pub IsDigit : ℕ → Type 0
 IsDigit b = (48 ≤ b) × (b < 58)
@@ -27,7 +27,7 @@ pub record IsMarked (line : List ℕ) (mark : Announced) : Type 0 where
   pub digits : List ℕ
   pub spelt : line ≡ front ++ 123 ∷ ((digit ∷ digits) ++ closing mark.waits)
   pub each : AllByRecursion IsDigit (digit ∷ digits)
-  pub value : mark.size ≡ value_from 0 (digit ∷ digits)
+  pub value : mark.size ≡ decimal_from 0 (digit ∷ digits)
 
 -- The same, read from the front: what the octets so far end with.
 pub data LineTail : Type 0 where
@@ -41,7 +41,7 @@ pub data LineTail : Type 0 where
 
 abbrev pub with_digit : LineTail → ℕ → LineTail
 with_digit brace b = digits (b - 48)
-with_digit (digits n) b = digits (n * 10 + (b - 48))
+with_digit (digits n) b = digits (10 * n + (b - 48))
 with_digit _ b = text
 
 abbrev pub with_plus : LineTail → LineTail

@@ -42,7 +42,7 @@ use Rattle.imap_print.specs.Mailboxes.{children_words, attributes_text, item_tex
 use Rattle.imap_print.specs.Printed.{farewell_text, refusal_text, tag_text, copied_text, code_text, done_text, enabled_words, earlier_text, results_words, line_text, printed}
 use Rattle.imap_print.specs.Lines.{IsPlain, IsHeld, section_names, flags_keywords, given_tag, texts, literals, EachIsOneLine, AllAreRead}
 use Rattle.imap_print.proofs.Reader.{Settles, settled, settles-append, one_line, is_quiet, Quiet, quiet, quiet-append, quiet_settles, quiet_decimal, tagged, quoted_settles, astring_settles, literal_settles, AllPlain, plain_words_settle, AllSettle, all_settle-append, before_each_settles, words_settle}
-use Rattle.imap_print.proofs.Quoting.{both_hold}
+use Rattle.imap_syntax.proofs.Writing.{both_true}
 
 -- ---- numbers and sets
 
@@ -147,7 +147,7 @@ values_settle values = words_settle (map value_text values) (map_settles value_t
 letters_quiet : (rights : ℕ) (table : List (ℕ × ℕ)) → list_all (λ row. is_quiet row.0) table ≡ true → list_all is_quiet (map (λ row. row.0) (filter (λ row. has_any rights row.1) table)) ≡ true
 letters_quiet rights [] h = refl
 letters_quiet rights (row ∷ table) h =
-    let parts = both_hold (is_quiet row.0) (list_all (λ r. is_quiet r.0) table) h in
+    let parts = both_true (is_quiet row.0) (list_all (λ r. is_quiet r.0) table) h in
     let more = letters_quiet rights table parts.1 in
     elim (has_any rights row.1) as (λ b. list_all is_quiet (map (λ r. r.0) (cond b (row ∷ filter (λ r. has_any rights r.1) table) (filter (λ r. has_any rights r.1) table))) ≡ true) [
       | true ↦ ap (λ (b : Bool). b && list_all is_quiet (map (λ r. r.0) (filter (λ r. has_any rights r.1) table))) parts.0 ∙ more

@@ -3,27 +3,19 @@ use Rattle.std.proofs.Common.{◌≡◌, ◌≢◌, ℕ, Bool, true, false, not,
 use Rattle.std.specs.Prelude.{codes}
 use Rattle.std.specs.List.{list_all}
 use Rattle.std.specs.Str.{str_eq_ignore_ascii_case}
-use Rattle.imap_syntax.specs.Rule.{ConsistsOf}
 use Rattle.imap_syntax.specs.Lexical.{is_astring_char, is_quoted_special, IsQuoted, IsQuotedChar, astring, string}
 use Rattle.imap_syntax.proofs.RuleLaws.{StopsAt}
 use Rattle.imap_syntax.proofs.Strings.{astring_lawful}
+use Rattle.imap_syntax.proofs.Writing.{both_true, consists}
 use Rattle.imap_print.specs.Strings.{is_bare, escaped, quoted_text, astring_text}
 use Rattle.imap_print.specs.ReadBack.{may_be_quoted, IsDelimited, NamesAreReadBack}
-
-pub both_hold : (a b : Bool) → (a && b) ≡ true → (a ≡ true) × (b ≡ true)
-both_hold true b h = (refl, h)
-both_hold false b h = absurd cc
-
-consists : (test : ℕ → Bool) (text : List ℕ) → list_all test text ≡ true → ConsistsOf test text
-consists test [] h = tt
-consists test (octet ∷ text) h = let parts = both_hold (test octet) (list_all test text) h in (parts.0, consists test text parts.1)
 
 -- ---- an atom
 
 pub bare_parts : (name : List ℕ) → is_bare name ≡ true → (list_all is_astring_char name ≡ true) × (not (eqb (length name) 0) ≡ true)
 bare_parts name h =
-    let front = both_hold (not (eqb (length name) 0) && list_all is_astring_char name) (not (str_eq_ignore_ascii_case name (codes "NIL"))) h in
-    let parts = both_hold (not (eqb (length name) 0)) (list_all is_astring_char name) front.0 in
+    let front = both_true (not (eqb (length name) 0) && list_all is_astring_char name) (not (str_eq_ignore_ascii_case name (codes "NIL"))) h in
+    let parts = both_true (not (eqb (length name) 0)) (list_all is_astring_char name) front.0 in
     (parts.1, parts.0)
 
 filled : (name : List ℕ) → not (eqb (length name) 0) ≡ true → name ≢ []
@@ -39,7 +31,7 @@ quoted_char octet more false special plain = inl (rw (plain, special) refl, refl
 quoted_body : (name : List ℕ) → list_all may_be_quoted name ≡ true → IsQuoted name (flat_map escaped name ++ 34 ∷ [])
 quoted_body [] h = refl
 quoted_body (octet ∷ name) h =
-    let parts = both_hold (may_be_quoted octet) (list_all may_be_quoted name) h in
+    let parts = both_true (may_be_quoted octet) (list_all may_be_quoted name) h in
     let more = flat_map escaped name ++ 34 ∷ [] in
     (more, quoted_body name parts.1, subst (IsQuotedChar octet more) (sym (append_assoc (escaped octet) (flat_map escaped name) (34 ∷ []))) (quoted_char octet more (is_quoted_special octet) refl parts.0))
 

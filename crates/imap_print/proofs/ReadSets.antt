@@ -1,26 +1,24 @@
 -- A printed set is read back by the grammar.
-use Rattle.std.proofs.Common.{◌≡◌, ◌≢◌, ℕ, ◌+◌, ◌<◌, ◌^◌, Bool, true, false, not, cond, ◌&&◌, ◌||◌, eqb, ltb, List, [], ◌∷◌, ◌++◌, length, get_or, map, refl, sym, ap, subst, append_assoc, append-nil, inr, codes, arith, rules}
+use Rattle.std.proofs.Common.{◌≡◌, ℕ, ◌+◌, ◌<◌, ◌^◌, Bool, true, false, not, cond, ◌&&◌, ◌||◌, eqb, ltb, List, [], ◌∷◌, ◌++◌, get_or, map, refl, sym, ap, subst, append_assoc, append-nil, inr, codes, arith}
 use Rattle.std.specs.Fmt.{decimal}
 use Rattle.std.specs.Char.{is_ascii_digit}
 use Rattle.std.specs.List.{AllByRecursion}
-use Rattle.std.specs.Str.{all_ascii_digits}
 use Rattle.std.proofs.lemmas.Bool.{eqb-true}
 use Rattle.std.proofs.lemmas.Bool.Decides.{nat_tests}
-use Rattle.std.proofs.lemmas.Fmt.{digits_decimal, digits_value-decimal, decimal_nonempty, first_decimal}
-use Rattle.std.proofs.lemmas.Str.Parse.{IsNumeralModel, numerals_by_fold}
+use Rattle.std.proofs.lemmas.Fmt.{first_decimal}
 use Rattle.imap_syntax.specs.declared.set.SeqNumber.TheVariants as number
 use Rattle.imap_syntax.specs.declared.set.SeqRange.{SeqRange}
-use Rattle.imap_syntax.specs.Rule.{octet, ConsistsOf, IsSeparated}
-use Rattle.imap_syntax.specs.Lexical.{nz_number, begins_with_zero, decimal as value_of, decimal_from}
+use Rattle.imap_syntax.specs.Rule.{octet, IsSeparated}
+use Rattle.imap_syntax.specs.Lexical.{nz_number, begins_with_zero, decimal as value_of}
 use Rattle.imap_syntax.specs.Sets.{seq_number, range_from, seq_range, seq_set}
 use Rattle.imap_syntax.proofs.RuleLaws.{StopsAt, Lawful, ended_lawful, then_lawful, give_lawful, give_follows, octet_lawful}
 use Rattle.imap_syntax.proofs.Opens.{then_opens, or_apart}
 use Rattle.imap_syntax.proofs.Lists.{EndsList, flag_then_lawful, flag_then_follows, separated_lawful}
 use Rattle.imap_syntax.proofs.Numbers.{nz_number_lawful, nz_number_opens}
 use Rattle.imap_syntax.proofs.Ends.{before, give_before, differs}
+use Rattle.imap_syntax.proofs.Writing.{digits_made, number_value}
 use Rattle.imap_print.specs.Sets.{Range, runs, runs_from, range_text}
 use Rattle.imap_print.specs.ReadBack.{IsNumber, EndsSet, seq_range_of, SetsAreReadBack}
-use Rattle.imap_print.proofs.Quoting.{both_hold}
 use Rattle.imap_print.proofs.Runs.{ranges_text, comma}
 
 -- ---- what the grammar reads, with such behind it as may stand behind a set
@@ -56,17 +54,6 @@ ends_list (octet ∷ rest) h = let no = none_holds (is_ascii_digit octet) (eqb o
 
 -- ---- a number
 
-own : IsNumeralModel (λ ds. all_ascii_digits ds ≡ true) (decimal_from 0)
-own = numerals_by_fold _ (search rules) decimal_from (search rules)
-
-all_digits : (digits : List ℕ) → all_ascii_digits digits ≡ true → ConsistsOf is_ascii_digit digits
-all_digits [] h = tt
-all_digits (d ∷ digits) h = let parts = both_hold (is_ascii_digit d) (all_ascii_digits digits) h in (parts.0, all_digits digits parts.1)
-
-filled : (digits : List ℕ) → 0 < length digits → digits ≢ []
-filled [] h = absurd (omega arith)
-filled (d ∷ digits) h = λ e. absurd cc
-
 no_zero_first : (digits : List ℕ) → 48 < get_or digits 0 0 → begins_with_zero digits ≡ false
 no_zero_first [] h = refl
 no_zero_first (d ∷ digits) h = grind (arith, nat_tests)
@@ -75,11 +62,11 @@ number_spelt : (n : ℕ) → IsNumber n → seq_number.spells (number.Number n) 
 number_spelt n h =
     let held : n < 2 ^ 64 = omega (arith, h.1) in
     let digits = decimal n in
-    let value : value_of digits ≡ n = digits_value-decimal own n held in
+    let value : value_of digits ≡ n = number_value n held in
     let small : ltb 4294967295 n ≡ false = grind (arith, nat_tests, h.1) in
     let starts = no_zero_first digits (first_decimal n h.0 held) in
     let passes : (not (begins_with_zero digits) && not (ltb 4294967295 (value_of digits))) ≡ true = rw (starts, value, small) refl in
-    let spelt : (nz_number 4294967295).spells n digits = (digits, digits, [], (refl, all_digits digits (digits_decimal own n held), filled digits (decimal_nonempty n held)), (passes, sym value, refl), sym (append-nil digits)) in
+    let spelt : (nz_number 4294967295).spells n digits = (digits, digits, [], digits_made n held, (passes, sym value, refl), sym (append-nil digits)) in
     inr (n, digits, [], spelt, (refl, refl), sym (append-nil digits))
 
 -- ---- a range

@@ -1,21 +1,21 @@
 -- How a reader goes through text, strings and literals.
-use Rattle.std.proofs.Common.{◌≡◌, ℕ, zero, suc, ◌+◌, ◌-◌, ◌*◌, ◌/◌, ◌%◌, ◌<◌, Bool, true, false, not, cond, ◌&&◌, ◌||◌, eqb, List, [], ◌∷◌, ◌++◌, length, Some, refl, sym, ap, ◌∙◌, append_assoc, arith, rules, flat_map}
+use Rattle.std.proofs.Common.{◌≡◌, ℕ, zero, suc, ◌+◌, ◌-◌, ◌*◌, ◌/◌, ◌%◌, ◌<◌, Bool, true, false, not, cond, ◌&&◌, ◌||◌, eqb, List, [], ◌∷◌, ◌++◌, length, Some, refl, sym, ap, ◌∙◌, append_assoc, arith, flat_map}
 use Rattle.std.specs.Prelude.{codes, ◌==◌}
 use Rattle.std.specs.Fmt.{decimal, digits, digits_onto, digit_glyph}
 use Rattle.std.specs.List.{list_all}
 use Rattle.std.specs.Char.{is_ascii_digit}
 use Rattle.std.specs.Str.{all_ascii_digits}
 use Rattle.std.proofs.lemmas.Fmt.{digits_decimal, digits_value-decimal, decimal_nonempty}
-use Rattle.std.proofs.lemmas.Str.Parse.{IsNumeralModel, numerals_by_fold}
 use Rattle.std.proofs.lemmas.Bool.Decides.{nat_tests}
 use Rattle.std.proofs.lemmas.List.Folds.{list_all-append}
 use Rattle.imap_lex.specs.Framing.{crlf}
-use Rattle.imap_syntax.specs.Lexical.{is_astring_char, is_quoted_special}
+use Rattle.imap_syntax.specs.Lexical.{is_astring_char, is_quoted_special, decimal_from}
 use Rattle.imap_print.specs.Words.{before_each, joined, in_parentheses}
 use Rattle.imap_print.specs.Strings.{is_bare, escaped, quoted_text, astring_text}
 use Rattle.imap_print.specs.Fetched.{literal_text}
 use Rattle.imap_print.specs.Lines.{Place, text, opened, counting, counted, announced, within, ending, ended, broken, literal, next, has_ended, behind_line, is_plain, IsPlain, IsHeld}
-use Rattle.imap_print.proofs.Quoting.{both_hold, bare_parts}
+use Rattle.imap_syntax.proofs.Writing.{both_true, numerals}
+use Rattle.imap_print.proofs.Quoting.{bare_parts}
 
 -- where a reader stands behind octets
 abbrev pub run : Place → List ℕ → Place
@@ -91,7 +91,7 @@ quiet_by false false false h = refl
 quiet_run : (octets : List ℕ) → list_all is_quiet octets ≡ true → run text octets ≡ text
 quiet_run [] h = refl
 quiet_run (octet ∷ octets) h =
-    let parts = both_hold (is_quiet octet) (list_all is_quiet octets) h in
+    let parts = both_true (is_quiet octet) (list_all is_quiet octets) h in
     ap (λ (p : Place). run p octets) (quiet_by (eqb octet 123) (eqb octet 13) (eqb octet 10) parts.0) ∙ quiet_run octets parts.1
 
 pub quiet_settles : {octets : List ℕ} → Quiet octets → Settles octets
@@ -168,7 +168,7 @@ calm_next broken octet calm plain = absurd cc
 calm_run : (place : Place) (octets : List ℕ) → is_calm place ≡ true → IsPlain octets → is_calm (run place octets) ≡ true
 calm_run place [] calm plain = calm
 calm_run place (octet ∷ octets) calm plain =
-    let parts = both_hold (is_plain octet) (list_all is_plain octets) plain in
+    let parts = both_true (is_plain octet) (list_all is_plain octets) plain in
     calm_run (next place octet) octets (calm_next place octet calm parts.0) parts.1
 
 -- an octet that no `{n}` has
@@ -225,7 +225,7 @@ quiet_char octet h = grind (arith, nat_tests)
 quiet_atom : (octets : List ℕ) → list_all is_astring_char octets ≡ true → list_all is_quiet octets ≡ true
 quiet_atom [] h = refl
 quiet_atom (octet ∷ octets) h =
-    let parts = both_hold (is_astring_char octet) (list_all is_astring_char octets) h in
+    let parts = both_true (is_astring_char octet) (list_all is_astring_char octets) h in
     rw (quiet_char octet parts.0, quiet_atom octets parts.1) refl
 
 plain_escape : (octet : ℕ) (special : Bool) → is_plain octet ≡ true → IsPlain (cond special (92 ∷ octet ∷ []) (octet ∷ []))
@@ -235,7 +235,7 @@ plain_escape octet false plain = rw plain refl
 plain_escaped : (octets : List ℕ) → IsPlain octets → IsPlain (flat_map escaped octets)
 plain_escaped [] plain = refl
 plain_escaped (octet ∷ octets) plain =
-    let parts = both_hold (is_plain octet) (list_all is_plain octets) plain in
+    let parts = both_true (is_plain octet) (list_all is_plain octets) plain in
     plain-append (escaped octet) (flat_map escaped octets) (plain_escape octet (is_quoted_special octet) parts.0) (plain_escaped octets parts.1)
 
 pub quoted_settles : (octets : List ℕ) → IsPlain octets → Settles (quoted_text octets)
@@ -252,26 +252,16 @@ astring_settles name plain = name_settles name (is_bare name) refl plain
 
 -- ---- literals
 
-decimal_from : ℕ → List ℕ → ℕ
-decimal_from n [] = n
-decimal_from n (digit ∷ more) = decimal_from (10 * n + (digit - 48)) more
-
-own : IsNumeralModel (λ ds. all_ascii_digits ds ≡ true) (decimal_from 0)
-unfolding decimal_from
-own = numerals_by_fold _ (search rules) decimal_from (search rules)
-
 counts : (n : ℕ) (digits : List ℕ) → all_ascii_digits digits ≡ true → run (counting n) digits ≡ counting (decimal_from n digits)
-unfolding decimal_from
 counts n [] h = refl
 counts n (digit ∷ more) h =
-    let parts = both_hold (is_ascii_digit digit) (all_ascii_digits more) h in
+    let parts = both_true (is_ascii_digit digit) (all_ascii_digits more) h in
     rw parts.0 (counts (10 * n + (digit - 48)) more parts.1)
 
 counts_all : (digits : List ℕ) → 0 < length digits → all_ascii_digits digits ≡ true → run opened digits ≡ counting (decimal_from 0 digits)
-unfolding decimal_from
 counts_all [] some h = absurd (omega arith)
 counts_all (digit ∷ more) some h =
-    let parts = both_hold (is_ascii_digit digit) (all_ascii_digits more) h in
+    let parts = both_true (is_ascii_digit digit) (all_ascii_digits more) h in
     let first : digit - 48 ≡ 0 + (digit - 48) = omega arith in
     rw parts.0 (counts (digit - 48) more parts.1 ∙ ap (λ (m : ℕ). counting (decimal_from m more)) first)
 
@@ -283,7 +273,7 @@ pub literal_settles : (octets : List ℕ) → IsHeld octets → Settles (literal
 literal_settles octets held =
     let n = length octets in
     let number = decimal n in
-    let spelt : run opened number ≡ counting n = counts_all number (decimal_nonempty n held) (digits_decimal own n held) ∙ ap counting (digits_value-decimal own n held) in
+    let spelt : run opened number ≡ counting n = counts_all number (decimal_nonempty n held) (digits_decimal numerals n held) ∙ ap counting (digits_value-decimal numerals n held) in
     let announces : run text (((123 ∷ number) ++ codes "}") ++ crlf) ≡ literal n =
     run-append text ((123 ∷ number) ++ codes "}") crlf
     ∙ ap (λ (p : Place). run p crlf) (run-append text (123 ∷ number) (codes "}") ∙ ap (λ (p : Place). run p (codes "}")) spelt) in

@@ -1,6 +1,5 @@
 -- What SEARCH looks for, without where it lies in memory.
-use Rattle.std.specs.Prelude.{◌≡◌, ℕ, Bool, List, [], ◌∷◌}
-use Rattle.std.proofs.Common.{refl, ap, ◌∙◌}
+use Rattle.std.specs.Prelude.{ℕ, Bool, List, [], ◌∷◌}
 use Rattle.imap_syntax.specs.declared.date.Date.{Date}
 use Rattle.imap_syntax.specs.declared.flag.Flag.{Flag}
 use Rattle.imap_syntax.specs.declared.set.MessageSet.{MessageSet}
@@ -62,7 +61,7 @@ abbrev mutual
   row_of end_of-SearchKey = end
   row_of (more_of-SearchKey key others) = more (key_of key) (row_of others)
 
--- ---- keys as a list of tokens, each operator before its operands, by which they are told apart
+-- ---- keys as a list of tokens, each operator before its operands (`keys_from` in WrittenSearch reads them back)
 
 pub data Token : Type 0 where
   one : (key : Plain) → Token
@@ -85,30 +84,3 @@ abbrev mutual
 abbrev pub all_tokens : List Key → List Token
 all_tokens [] = []
 all_tokens (k ∷ ks) = tokens k (all_tokens ks)
-
-abbrev pub pushed : Token → List Key → List Key
-pushed (one key) keys = plain key ∷ keys
-pushed not_next (k ∷ keys) = negated k ∷ keys
-pushed or_next (k ∷ l ∷ keys) = either k l ∷ keys
-pushed group_end keys = group end ∷ keys
-pushed group_more (k ∷ group others ∷ keys) = group (more k others) ∷ keys
-pushed _ _ = []
-
-abbrev pub from_tokens : List Token → List Key
-from_tokens [] = []
-from_tokens (t ∷ ts) = pushed t (from_tokens ts)
-
-mutual
-  pub from_tokens-key : (k : Key) (rest : List Token) → from_tokens (tokens k rest) ≡ k ∷ from_tokens rest
-  from_tokens-key (plain key) rest = refl
-  from_tokens-key (negated key) rest = ap (pushed not_next) (from_tokens-key key rest)
-  from_tokens-key (either left right) rest = ap (pushed or_next) (from_tokens-key left (tokens right rest) ∙ ap (λ (ks : List Key). left ∷ ks) (from_tokens-key right rest))
-  from_tokens-key (group keys) rest = from_tokens-row keys rest
-
-  pub from_tokens-row : (ks : Keys) (rest : List Token) → from_tokens (row_tokens ks rest) ≡ group ks ∷ from_tokens rest
-  from_tokens-row end rest = refl
-  from_tokens-row (more key others) rest = ap (pushed group_more) (from_tokens-key key (row_tokens others rest) ∙ ap (λ (ks : List Key). key ∷ ks) (from_tokens-row others rest))
-
-pub from_tokens-all : (ks : List Key) → from_tokens (all_tokens ks) ≡ ks
-from_tokens-all [] = refl
-from_tokens-all (k ∷ ks) = from_tokens-key k (all_tokens ks) ∙ ap (λ (others : List Key). k ∷ others) (from_tokens-all ks)

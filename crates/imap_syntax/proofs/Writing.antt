@@ -125,7 +125,7 @@ word_writes test name all = record { made = λ w h. (bytes_eq-Decides (str_to_as
 
 -- ---- numbers
 
-numerals : IsNumeralModel (λ ds. all_ascii_digits ds ≡ true) (decimal_from 0)
+pub numerals : IsNumeralModel (λ ds. all_ascii_digits ds ≡ true) (decimal_from 0)
 numerals = numerals_by_fold _ (search rules) decimal_from (search rules)
 
 pub digits_made : (n : ℕ) → n < 2 ^ 64 → (rule.some_of is_ascii_digit).spells (decimal_text n) (decimal_text n)

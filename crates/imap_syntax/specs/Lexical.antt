@@ -1,8 +1,9 @@
 -- The words and strings of which commands are made (RFC 9051, section 9).
-use Rattle.std.specs.Prelude.{◌≡◌, ℕ, ◌+◌, ◌*◌, ◌-◌, Bool, true, false, cond, ◌==◌, ◌&&◌, ◌||◌, ◌⊎◌, not, nat_lt, List, [], ◌∷◌, Option, Some, None, option_map}
+use Rattle.std.specs.Prelude.{◌≡◌, ℕ, Bool, true, false, cond, ◌==◌, ◌&&◌, ◌||◌, ◌⊎◌, not, nat_lt, List, [], ◌∷◌, Option, Some, None, option_map}
 use Rattle.std.specs.Char.{is_ascii_digit, is_ascii_alphabetic}
 use Rattle.std.specs.List.{list_any}
 pub use Rattle.imap_lex.specs.Chars.{is_astring_char, is_tag_char}
+pub use Rattle.imap_lex.specs.Mark.{decimal_from}
 use Rattle.imap_syntax.specs.Rule.{Rule, give, ◌>>=◌, ◌>>◌, ◌<|>◌, octet, some_of, when, flag, counted}
 
 -- ATOM-CHAR: ASTRING-CHAR except ]
@@ -61,10 +62,6 @@ quoted = do
   quoted_end
 
 -- ---- numbers
-
-abbrev pub decimal_from : ℕ → List ℕ → ℕ
-decimal_from n [] = n
-decimal_from n (d ∷ digits) = decimal_from (10 * n + (d - 48)) digits
 
 -- the number that the digits stand for
 abbrev pub decimal : List ℕ → ℕ

@@ -70,7 +70,7 @@ fn check_all(
 
 #[test]
 fn lines_in_any_pieces(rt: HostRuntime) -> Result<(), Fail> {
-    let cases: [(&[u8], &[u8]); 8] = [
+    const CASES: [(&[u8], &[u8]); 8] = [
         (b"", b""),
         (b"a1 NOOP\r\na2 LOGOUT\r\n", b"[a1 NOOP\r\n][a2 LOGOUT\r\n]"),
         (b"a1 NOOP\r\na2 NO", b"[a1 NOOP\r\n]"),
@@ -80,13 +80,13 @@ fn lines_in_any_pieces(rt: HostRuntime) -> Result<(), Fail> {
         (b"a\r\r\nb\n\r\n", b"[a\r\r\n][b\n\r\n]"),
         (b"\n\r\n\0\x80\xff\r\n\r", b"[\n\r\n][\0\x80\xff\r\n]"),
     ];
-    check_all(&rt, rt.alloc(), 100, &cases)?;
+    check_all(&rt, rt.alloc(), 100, &CASES)?;
     Ok(())
 }
 
 #[test]
 fn literals_in_any_pieces(rt: HostRuntime) -> Result<(), Fail> {
-    let cases: [(&[u8], &[u8]); 9] = [
+    const CASES: [(&[u8], &[u8]); 9] = [
         (
             b"a1 MYRIGHTS {5}\r\nINBOX\r\n",
             b"+[a1 MYRIGHTS {5}\r\nINBOX\r\n]",
@@ -112,13 +112,13 @@ fn literals_in_any_pieces(rt: HostRuntime) -> Result<(), Fail> {
         ),
         (b"\"{2}\r\n{1\r\n", b"+[\"{2}\r\n{1\r\n]"),
     ];
-    check_all(&rt, rt.alloc(), 100, &cases)?;
+    check_all(&rt, rt.alloc(), 100, &CASES)?;
     Ok(())
 }
 
 #[test]
 fn what_is_no_mark(rt: HostRuntime) -> Result<(), Fail> {
-    let cases: [(&[u8], &[u8]); 7] = [
+    const CASES: [(&[u8], &[u8]); 7] = [
         (b"a {}\r\n", b"[a {}\r\n]"),
         (b"a {+}\r\n", b"[a {+}\r\n]"),
         (b"a {-1}\r\n", b"[a {-1}\r\n]"),
@@ -127,13 +127,13 @@ fn what_is_no_mark(rt: HostRuntime) -> Result<(), Fail> {
         (b"a 1}\r\n", b"[a 1}\r\n]"),
         (b"a {1 }\r\n", b"[a {1 }\r\n]"),
     ];
-    check_all(&rt, rt.alloc(), 100, &cases)?;
+    check_all(&rt, rt.alloc(), 100, &CASES)?;
     Ok(())
 }
 
 #[test]
 fn literals_over_the_limit(rt: HostRuntime) -> Result<(), Fail> {
-    let cases: [(&[u8], &[u8]); 9] = [
+    const CASES: [(&[u8], &[u8]); 9] = [
         (b"a1 X {8}\r\n12345678\r\n", b"+[a1 X {8}\r\n12345678\r\n]"),
         (b"a1 X {9}\r\na2 NOOP\r\n", b"(a1)[a2 NOOP\r\n]"),
         (b"{9}\r\na2 NOOP\r\n", b"()[a2 NOOP\r\n]"),
@@ -156,31 +156,31 @@ fn literals_over_the_limit(rt: HostRuntime) -> Result<(), Fail> {
             b"+[a1 X {5}\r\n12345\r\n]+[a2 Y {8}\r\n12345678\r\n]",
         ),
     ];
-    check_all(&rt, rt.alloc(), 8, &cases)?;
+    check_all(&rt, rt.alloc(), 8, &CASES)?;
     Ok(())
 }
 
 #[test]
 fn hangups(rt: HostRuntime) -> Result<(), Fail> {
-    let cases: [(&[u8], &[u8]); 3] = [
+    const CASES: [(&[u8], &[u8]); 3] = [
         (b"a1 X {9+}\r\na2 NOOP\r\n", b"!"),
         (b"a1 NOOP\r\na2 X {9+}\r\n123456789\r\n", b"[a1 NOOP\r\n]!"),
         (b"a1 X {5}\r\n12345 {4+}\r\n1234\r\n", b"+!"),
     ];
-    check_in(&rt, rt.alloc(), 8, 1000, &cases)?;
+    check_in(&rt, rt.alloc(), 8, 1000, &CASES)?;
     check_in(&rt, rt.alloc(), 8, 1, &[(b"a1 X {9+}\r\na\r\n", b"!???")])?;
     Ok(())
 }
 
 #[test]
 fn large_literals(rt: HostRuntime) -> Result<(), Fail> {
-    let cases: [(&[u8], &[u8]); 4] = [
+    const CASES: [(&[u8], &[u8]); 4] = [
         (b"a1 X {4097+}\r\n", b"!"),
         (b"a1 X {4097}\r\n", b"+"),
         (b"a1 X {18446744073709551615}\r\n", b"+"),
         (b"a1 X {18446744073709551616}\r\n", b"(a1)"),
     ];
-    check_all(&rt, rt.alloc(), u64::MAX, &cases)?;
+    check_all(&rt, rt.alloc(), u64::MAX, &CASES)?;
     Ok(())
 }
 
@@ -215,7 +215,7 @@ fn check_long(rt: &impl Abort, alloc: Global, rows: &[Row<'_>]) -> Result<(), Le
 #[test]
 fn limits_of_octets(rt: HostRuntime) -> Result<(), Fail> {
     // The longest line, an unended one that is as long, one that is longer, and one that is longer and has a mark.
-    let lines: [Row; 4] = [
+    const LINES: [Row; 4] = [
         Row {
             front: b"",
             count: 8190,
@@ -241,9 +241,9 @@ fn limits_of_octets(rt: HostRuntime) -> Result<(), Fail> {
             told: 1,
         },
     ];
-    check_long(&rt, rt.alloc(), &lines)?;
+    check_long(&rt, rt.alloc(), &LINES)?;
     // A command whose two lines have 8192 octets, and one more; the longest literal that comes unasked.
-    let commands: [Row; 3] = [
+    const COMMANDS: [Row; 3] = [
         Row {
             front: b"a {3+}\r\n\r\n.",
             count: 8182,
@@ -263,7 +263,7 @@ fn limits_of_octets(rt: HostRuntime) -> Result<(), Fail> {
             told: 4111,
         },
     ];
-    check_long(&rt, rt.alloc(), &commands)?;
+    check_long(&rt, rt.alloc(), &COMMANDS)?;
     Ok(())
 }
 
@@ -282,17 +282,37 @@ fn a_million_octets_one_by_one(rt: HostRuntime) -> Result<(), Fail> {
 }
 
 #[test]
-fn octets_and_tags_are_kept(rt: HostRuntime) -> Result<(), Fail> {
-    let alloc = rt.alloc();
-    let octets = Octets::from_slice(alloc, b"INBOX")?;
+fn octets_are_kept(rt: HostRuntime) -> Result<(), Fail> {
+    let octets = Octets::from_slice(rt.alloc(), b"INBOX")?;
     assert_eq!(rt; octets.try_copy()?.as_slice(), b"INBOX".as_slice());
     assert_eq!(rt; octets.slice(2, 4)?.as_slice(), b"BO".as_slice());
-    let octets = Octets::from_vec(Vec::from_slice(alloc, b"INBOX")?)?;
+    Ok(())
+}
+
+#[test]
+fn octets_are_made_of_a_list(rt: HostRuntime) -> Result<(), Fail> {
+    let octets = Octets::from_vec(Vec::from_slice(rt.alloc(), b"INBOX")?)?;
     assert_eq!(rt; octets.as_slice(), b"INBOX".as_slice());
-    let tag = Tag::from_slice(alloc, b"a1")?;
-    assert_eq!(rt; tag.try_copy(alloc)?.as_slice(), b"a1".as_slice());
-    let shown = format!(in alloc; "{}, {}", LexError::Memory, LexError::Closed)?;
+    Ok(())
+}
+
+#[test]
+fn tags_are_kept(rt: HostRuntime) -> Result<(), Fail> {
+    let tag = Tag::from_slice(rt.alloc(), b"a1")?;
+    let copy = tag.try_copy(rt.alloc())?;
+    assert_eq!(rt; copy.as_slice(), b"a1".as_slice());
+    Ok(())
+}
+
+#[test]
+fn errors_are_told(rt: HostRuntime) -> Result<(), Fail> {
+    let shown = format!(in rt.alloc(); "{}, {}", LexError::Memory, LexError::Closed)?;
     assert_eq!(rt; shown.as_str(), "out of memory, the stream was hung up");
+    Ok(())
+}
+
+#[test]
+fn characters_of_atoms_and_tags(rt: HostRuntime) -> Result<(), Fail> {
     assert!(rt; is_astring_char(b']') && is_astring_char(b'+') && !is_astring_char(b'{'));
     assert!(rt; is_tag_char(b']') && !is_tag_char(b'+') && !is_tag_char(b' '));
     Ok(())

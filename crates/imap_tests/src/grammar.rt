@@ -58,7 +58,7 @@ fn check(rt: &impl Abort, alloc: Global, rows: &[(&[u8], &[u8])]) -> Result<(), 
 
 #[test]
 fn commands(rt: HostRuntime) -> Result<(), Fail> {
-    let rows: [(&[u8], &[u8]); 18] = [
+    const ROWS: [(&[u8], &[u8]); 18] = [
         (b"a1 NOOP\r\n", b"a1 noop"),
         (b"A1 nOoP\r\n", b"A1 noop"),
         (b"a1 CAPABILITY\r\n", b"a1 capability"),
@@ -87,13 +87,13 @@ fn commands(rt: HostRuntime) -> Result<(), Fail> {
             b"a1 rights on \xc3\xa9\xff",
         ),
     ];
-    check(&rt, rt.alloc(), &rows)?;
+    check(&rt, rt.alloc(), &ROWS)?;
     Ok(())
 }
 
 #[test]
 fn malformed_with_a_tag(rt: HostRuntime) -> Result<(), Fail> {
-    let rows: [(&[u8], &[u8]); 30] = [
+    const ROWS: [(&[u8], &[u8]); 30] = [
         (b"a1 NOOP x\r\n", b"BAD a1"),
         (b"a1 NOOP \r\n", b"BAD a1"),
         (b"a1  NOOP\r\n", b"BAD a1"),
@@ -125,13 +125,13 @@ fn malformed_with_a_tag(rt: HostRuntime) -> Result<(), Fail> {
         (b"a1 \r\n", b"BAD a1"),
         (b"DONE\r\n", b"BAD DONE"),
     ];
-    check(&rt, rt.alloc(), &rows)?;
+    check(&rt, rt.alloc(), &ROWS)?;
     Ok(())
 }
 
 #[test]
 fn malformed_without_a_tag(rt: HostRuntime) -> Result<(), Fail> {
-    let rows: [(&[u8], &[u8]); 16] = [
+    const ROWS: [(&[u8], &[u8]); 16] = [
         (b"", b"BAD"),
         (b"\r\n", b"BAD"),
         (b"a1", b"BAD"),
@@ -149,7 +149,7 @@ fn malformed_without_a_tag(rt: HostRuntime) -> Result<(), Fail> {
         (b"a* NOOP\r\n", b"BAD"),
         (b"a\xc3\xa9 NOOP\r\n", b"BAD"),
     ];
-    check(&rt, rt.alloc(), &rows)?;
+    check(&rt, rt.alloc(), &ROWS)?;
     Ok(())
 }
 
@@ -188,7 +188,7 @@ fn check_read(
 
 #[test]
 fn names_and_words(rt: HostRuntime) -> Result<(), Fail> {
-    let good: [&[u8]; 24] = [
+    const GOOD: [&[u8]; 24] = [
         b"a NAMESPACE\r\n",
         b"a idle\r\n",
         b"a Close\r\n",
@@ -214,8 +214,8 @@ fn names_and_words(rt: HostRuntime) -> Result<(), Fail> {
         b"a SELECT INBOX (QRESYNC (67890007 90060115194045000 41:211,214:541) CONDSTORE)\r\n",
         b"a EXAMINE INBOX (QRESYNC (1 1 1:2 (1,2 3,4)))\r\n",
     ];
-    check_read(&rt, rt.alloc(), &good, true)?;
-    let bad: [&[u8]; 26] = [
+    check_read(&rt, rt.alloc(), &GOOD, true)?;
+    const BAD: [&[u8]; 26] = [
         b"a NAMESPACE \r\n",
         b"a CREATE\r\n",
         b"a CREATE (x\r\n",
@@ -243,13 +243,13 @@ fn names_and_words(rt: HostRuntime) -> Result<(), Fail> {
         b"a SELECT x CONDSTORE\r\n",
         b"a SELECT x (QRESYNC (1 9223372036854775808))\r\n",
     ];
-    check_read(&rt, rt.alloc(), &bad, false)?;
+    check_read(&rt, rt.alloc(), &BAD, false)?;
     Ok(())
 }
 
 #[test]
 fn sets_and_flags(rt: HostRuntime) -> Result<(), Fail> {
-    let good: [&[u8]; 13] = [
+    const GOOD: [&[u8]; 13] = [
         b"a COPY 2:4 MEETING\r\n",
         b"a copy 4:2,* x\r\n",
         b"a MOVE $ foo\r\n",
@@ -264,8 +264,8 @@ fn sets_and_flags(rt: HostRuntime) -> Result<(), Fail> {
         b"a STORE 7,5,9 (UNCHANGEDSINCE 0) +FLAGS.SILENT ($MDNSent $Forwarded)\r\n",
         b"a STORE * (unchangedsince 05) FLAGS x\r\n",
     ];
-    check_read(&rt, rt.alloc(), &good, true)?;
-    let bad: [&[u8]; 17] = [
+    check_read(&rt, rt.alloc(), &GOOD, true)?;
+    const BAD: [&[u8]; 17] = [
         b"a COPY 0 x\r\n",
         b"a COPY 01 x\r\n",
         b"a COPY 4294967296 x\r\n",
@@ -284,13 +284,13 @@ fn sets_and_flags(rt: HostRuntime) -> Result<(), Fail> {
         b"a STORE 1 () FLAGS x\r\n",
         b"a STORE 1 FLAGS (x) y\r\n",
     ];
-    check_read(&rt, rt.alloc(), &bad, false)?;
+    check_read(&rt, rt.alloc(), &BAD, false)?;
     Ok(())
 }
 
 #[test]
 fn fetch(rt: HostRuntime) -> Result<(), Fail> {
-    let good: [&[u8]; 22] = [
+    const GOOD: [&[u8]; 22] = [
         b"a FETCH 2:4 (FLAGS BODY[HEADER.FIELDS (DATE FROM)])\r\n",
         b"a FETCH 1 FAST\r\n",
         b"a FETCH 1 all\r\n",
@@ -314,8 +314,8 @@ fn fetch(rt: HostRuntime) -> Result<(), Fail> {
         b"a FETCH 1 BINARY.SIZE[1]\r\n",
         b"a FETCH $ FLAGS\r\n",
     ];
-    check_read(&rt, rt.alloc(), &good, true)?;
-    let bad: [&[u8]; 26] = [
+    check_read(&rt, rt.alloc(), &GOOD, true)?;
+    const BAD: [&[u8]; 26] = [
         b"a FETCH 1 ()\r\n",
         b"a FETCH 1 (FAST)\r\n",
         b"a FETCH 1 (ALL)\r\n",
@@ -343,13 +343,13 @@ fn fetch(rt: HostRuntime) -> Result<(), Fail> {
         b"a FETCH 1 FLAGS (CHANGEDSINCE 1 CHANGEDSINCE 1)\r\n",
         b"a FETCH 1 FLAGS (VANISHED VANISHED)\r\n",
     ];
-    check_read(&rt, rt.alloc(), &bad, false)?;
+    check_read(&rt, rt.alloc(), &BAD, false)?;
     Ok(())
 }
 
 #[test]
 fn append_and_list(rt: HostRuntime) -> Result<(), Fail> {
-    let good: [&[u8]; 20] = [
+    const GOOD: [&[u8]; 20] = [
         b"a APPEND saved-messages (\\Seen) {5}\r\nhello\r\n",
         b"a APPEND x {5+}\r\n\0\r\n\0a\r\n",
         b"a APPEND x ~{2}\r\nab\r\n",
@@ -371,8 +371,8 @@ fn append_and_list(rt: HostRuntime) -> Result<(), Fail> {
         b"a LIST \"\" {2}\r\n%]\r\n",
         b"a LIST \"\" %]\r\n",
     ];
-    check_read(&rt, rt.alloc(), &good, true)?;
-    let bad: [&[u8]; 21] = [
+    check_read(&rt, rt.alloc(), &GOOD, true)?;
+    const BAD: [&[u8]; 21] = [
         b"a APPEND x\r\n",
         b"a APPEND x hello\r\n",
         b"a APPEND x {6}\r\nhello\r\n",
@@ -395,13 +395,13 @@ fn append_and_list(rt: HostRuntime) -> Result<(), Fail> {
         b"a LIST \"\" % RETURN\r\n",
         b"a LIST \"\" % RETURN (STATUS ())\r\n",
     ];
-    check_read(&rt, rt.alloc(), &bad, false)?;
+    check_read(&rt, rt.alloc(), &BAD, false)?;
     Ok(())
 }
 
 #[test]
 fn search(rt: HostRuntime) -> Result<(), Fail> {
-    let good: [&[u8]; 24] = [
+    const GOOD: [&[u8]; 23] = [
         b"a SEARCH RETURN (MIN COUNT) FLAGGED SINCE 1-Feb-1994 NOT FROM \"Smith\"\r\n",
         b"a SEARCH TEXT \"string not in mailbox\"\r\n",
         b"a SEARCH RETURN () CHARSET UTF-8 TEXT {7}\r\n\xd0\xbf\xd0\xbe\xd0\xb1\x21\r\n",
@@ -425,10 +425,9 @@ fn search(rt: HostRuntime) -> Result<(), Fail> {
         b"a SEARCH UNANSWERED UNDELETED UNDRAFT UNFLAGGED UNSEEN\r\n",
         b"a SEARCH ANSWERED DELETED DRAFT FLAGGED SEEN\r\n",
         b"a SEARCH (1 2)\r\n",
-        b"a SEARCH CHARSET x CHARSET-LIKE\r\n",
     ];
-    check_read(&rt, rt.alloc(), &good[..23], true)?;
-    let bad: [&[u8]; 22] = [
+    check_read(&rt, rt.alloc(), &GOOD, true)?;
+    const BAD: [&[u8]; 23] = [
         b"a SEARCH\r\n",
         b"a SEARCH ()\r\n",
         b"a SEARCH NEW\r\n",
@@ -451,9 +450,9 @@ fn search(rt: HostRuntime) -> Result<(), Fail> {
         b"a SEARCH KEYWORD \"x\"\r\n",
         b"a SEARCH NOT\r\n",
         b"a SEARCH OR ALL\r\n",
+        b"a SEARCH CHARSET x CHARSET-LIKE\r\n",
     ];
-    check_read(&rt, rt.alloc(), &bad, false)?;
-    check_read(&rt, rt.alloc(), &good[23..], false)?;
+    check_read(&rt, rt.alloc(), &BAD, false)?;
     Ok(())
 }
 

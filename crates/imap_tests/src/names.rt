@@ -10,7 +10,18 @@ fn user(alloc: Global, text: &str) -> Result<UserName, Fail> {
     Ok(read.ok_or("a user name")?)
 }
 
-/// Ann reads each text as the error, or as the owner and the path, and shows the name so that it is read again.
+fn owner_of(name: &Name) -> &str {
+    name.owner().map_or("", UserName::as_str)
+}
+
+/// What the reader is shown of the name, and whether that is read as the name.
+fn shown_again(alloc: Global, reader: &UserName, name: &Name) -> Result<(String, bool), Fail> {
+    let shown = show_name(alloc, reader, name)?;
+    let is_same = read_name(alloc, reader, shown.as_bytes())?.is_same(name);
+    Ok((shown, is_same))
+}
+
+/// Ann reads the text as the owner and the path, and is shown the name so that it is read again.
 fn ann_reads(
     rt: &impl Abort,
     alloc: Global,
@@ -21,21 +32,15 @@ fn ann_reads(
 ) -> Result<(), Fail> {
     let ann = user(alloc, "ann")?;
     let name = read_name(alloc, &ann, text)?;
-    match name.owner() {
-        Some(found) => assert_eq!(rt; found.as_str(), owner, "in {path}"),
-        None => assert_eq!(rt; "", owner, "in {path}"),
-    }
-    assert_eq!(rt; name.path(), path);
-    let back = show_name(alloc, &ann, &name)?;
-    assert_eq!(rt; back.as_str(), shown);
-    let again = read_name(alloc, &ann, back.as_bytes())?;
-    assert!(rt; again.is_same(&name), "{shown}");
+    assert_eq!(rt; (owner_of(&name), name.path()), (owner, path));
+    let (back, is_same) = shown_again(alloc, &ann, &name)?;
+    assert_eq!(rt; (back.as_str(), is_same), (shown, true));
     Ok(())
 }
 
 #[test]
 fn reads_names(rt: HostRuntime) -> Result<(), Fail> {
-    let table = [
+    const TABLE: [(&str, &str, &str, &str); 15] = [
         ("a", "ann", "a", "a"),
         ("a/b c", "ann", "a/b c", "a/b c"),
         ("inbox", "ann", "INBOX", "INBOX"),
@@ -62,16 +67,21 @@ fn reads_names(rt: HostRuntime) -> Result<(), Fail> {
             "Other Users/\u{e9}/x",
         ),
     ];
-    for (text, owner, path, shown) in table {
+    for &(text, owner, path, shown) in &TABLE {
         ann_reads(&rt, rt.alloc(), text.as_bytes(), owner, path, shown)?;
     }
     Ok(())
 }
 
+/// Why the text is no name to the reader.
+fn refusal(alloc: Global, reader: &UserName, text: &[u8]) -> Option<NameError> {
+    read_name(alloc, reader, text).err()
+}
+
 #[test]
 fn refuses_texts(rt: HostRuntime) -> Result<(), Fail> {
     let ann = user(rt.alloc(), "ann")?;
-    let table: [(&[u8], NameError); 29] = [
+    const TABLE: [(&[u8], NameError); 29] = [
         (b"", NameError::EmptyComponent),
         (b"/", NameError::EmptyComponent),
         (b"a//b", NameError::EmptyComponent),
@@ -102,12 +112,8 @@ fn refuses_texts(rt: HostRuntime) -> Result<(), Fail> {
         (b"Other Users/ann/\n", NameError::Control),
         (b"a\xff", NameError::Control),
     ];
-    for (text, error) in table {
-        assert_eq!(rt;
-            read_name(rt.alloc(), &ann, text).err(),
-            Some(error),
-            "{text:?}"
-        );
+    for &(text, error) in &TABLE {
+        assert_eq!(rt; refusal(rt.alloc(), &ann, text), Some(error), "{text:?}");
     }
     Ok(())
 }
@@ -123,45 +129,29 @@ fn repeated(alloc: Global, text: &str, count: usize) -> Result<String, Fail> {
 
 #[test]
 fn keeps_limits(rt: HostRuntime) -> Result<(), Fail> {
-    let ann = user(rt.alloc(), "ann")?;
-    let table = [
-        (repeated(rt.alloc(), "x", 255)?, None),
-        (repeated(rt.alloc(), "x", 256)?, Some(NameError::TooLong)),
-        (repeated(rt.alloc(), "e\u{301}", 127)?, None),
-        (
-            repeated(rt.alloc(), "e\u{301}", 128)?,
-            Some(NameError::TooLong),
-        ),
-        (
-            format!(in rt.alloc(); "{}x", repeated(rt.alloc(), "x/", 15)?)?,
-            None,
-        ),
-        (
-            format!(in rt.alloc(); "{}x", repeated(rt.alloc(), "x/", 16)?)?,
-            Some(NameError::TooDeep),
-        ),
-        (
-            format!(in rt.alloc(); "{}x", repeated(rt.alloc(), "x/", 128)?)?,
-            Some(NameError::TooLong),
-        ),
-        (
-            repeated(rt.alloc(), "x/", 256)?,
-            Some(NameError::EmptyComponent),
-        ),
+    // So many times the text, and what stands behind it.
+    const TABLE: [(&str, usize, &str, Option<NameError>); 8] = [
+        ("x", 255, "", None),
+        ("x", 256, "", Some(NameError::TooLong)),
+        ("e\u{301}", 127, "", None),
+        ("e\u{301}", 128, "", Some(NameError::TooLong)),
+        ("x/", 15, "x", None),
+        ("x/", 16, "x", Some(NameError::TooDeep)),
+        ("x/", 128, "x", Some(NameError::TooLong)),
+        ("x/", 256, "", Some(NameError::EmptyComponent)),
     ];
-    for (text, error) in &table {
-        assert_eq!(rt;
-            read_name(rt.alloc(), &ann, text.as_bytes()).err(),
-            *error,
-            "{text}"
-        );
+    let ann = user(rt.alloc(), "ann")?;
+    for &(text, count, end, error) in &TABLE {
+        let mut name = repeated(rt.alloc(), text, count)?;
+        name.push_str(end)?;
+        assert_eq!(rt; refusal(rt.alloc(), &ann, name.as_bytes()), error, "{name}");
     }
     Ok(())
 }
 
 #[test]
 fn reads_user_names(rt: HostRuntime) -> Result<(), Fail> {
-    let table = [
+    const TABLE: [(&str, bool); 14] = [
         ("ann", true),
         ("\u{e9}", true),
         ("a-b", true),
@@ -177,13 +167,18 @@ fn reads_user_names(rt: HostRuntime) -> Result<(), Fail> {
         ("a\u{85}b", false),
         ("e\u{301}", false),
     ];
-    for (text, is_user) in table {
+    for &(text, is_user) in &TABLE {
         assert_eq!(rt;
             UserName::read(rt.alloc(), text)?.is_some(),
             is_user,
             "{text:?}"
         );
     }
+    Ok(())
+}
+
+#[test]
+fn measures_user_names(rt: HostRuntime) -> Result<(), Fail> {
     let longest = repeated(rt.alloc(), "x", 64)?;
     assert!(rt; UserName::read(rt.alloc(), longest.as_str())?.is_some());
     let longer = repeated(rt.alloc(), "x", 65)?;
@@ -195,14 +190,27 @@ fn full(alloc: Global, text: &str) -> Result<Name, Fail> {
     Ok(read_full(alloc, text.as_bytes())?)
 }
 
+fn is_inbox_of_ann(alloc: Global, text: &str) -> Result<bool, Fail> {
+    let ann = user(alloc, "ann")?;
+    Ok(full(alloc, text)?.is_same(&inbox(alloc, &ann)?))
+}
+
 #[test]
 fn reads_in_full(rt: HostRuntime) -> Result<(), Fail> {
-    let name = full(rt.alloc(), "Other Users/ann/inbox")?;
-    let ann = user(rt.alloc(), "ann")?;
-    assert!(rt; name.is_inbox());
-    assert!(rt; name.is_same(&inbox(rt.alloc(), &ann)?));
-    assert!(rt; !full(rt.alloc(), "Shared/inbox")?.is_inbox());
-    assert!(rt; !full(rt.alloc(), "Other Users/ann/inbox/x")?.is_inbox());
+    const TABLE: [(&str, bool); 3] = [
+        ("Other Users/ann/inbox", true),
+        ("Shared/inbox", false),
+        ("Other Users/ann/inbox/x", false),
+    ];
+    for &(text, is) in &TABLE {
+        assert_eq!(rt; full(rt.alloc(), text)?.is_inbox(), is, "{text}");
+    }
+    assert!(rt; is_inbox_of_ann(rt.alloc(), "Other Users/ann/inbox")?);
+    Ok(())
+}
+
+#[test]
+fn refuses_in_full(rt: HostRuntime) -> Result<(), Fail> {
     assert_eq!(rt;
         read_full(rt.alloc(), b"x").err(),
         Some(NameError::Reserved)
@@ -213,7 +221,7 @@ fn reads_in_full(rt: HostRuntime) -> Result<(), Fail> {
 
 #[test]
 fn orders_names(rt: HostRuntime) -> Result<(), Fail> {
-    let table = [
+    const TABLE: [(&str, &str, bool); 7] = [
         ("Shared/a", "Shared/a/b", true),
         ("Shared/a", "Shared/a/b/c", true),
         ("Shared/a", "Shared/a", false),
@@ -222,7 +230,7 @@ fn orders_names(rt: HostRuntime) -> Result<(), Fail> {
         ("Shared/a", "Other Users/ann/a/b", false),
         ("Other Users/ann/a", "Other Users/bob/a/b", false),
     ];
-    for (above, below, is) in table {
+    for &(above, below, is) in &TABLE {
         let above = full(rt.alloc(), above)?;
         let below = full(rt.alloc(), below)?;
         assert_eq!(rt; is_above(&above, &below), is, "{below:?}");

@@ -6,6 +6,7 @@ use imap_lex::{Octets, Tag};
 use imap_print::*;
 use imap_syntax::Items;
 use std::alloc::{AllocError, Global};
+use std::process::Abort;
 use std::test::Fail;
 
 fn octets(alloc: Global, text: &str) -> Result<Octets, AllocError> {
@@ -40,6 +41,13 @@ fn shown(alloc: Global, response: Response) -> Result<String, AllocError> {
     let text = shown_all(alloc, &responses);
     drop(responses);
     text
+}
+
+/// That the response is printed as this line.
+fn check(rt: &impl Abort, alloc: Global, response: Response, line: &str) -> Result<(), AllocError> {
+    let printed = shown(alloc, response)?;
+    assert_eq!(rt; printed.as_str(), line);
+    Ok(())
 }
 
 #[test]
@@ -98,58 +106,87 @@ fn no_response_and_many(rt: HostRuntime) -> Result<(), Fail> {
     Ok(())
 }
 
-fn done(alloc: Global, code: Option<Code>) -> Result<Response, AllocError> {
-    Ok(Response::Done {
-        tag: tag(alloc, "a7")?,
-        code,
-    })
+/// That a command that was carried out is answered by this line, with this response code.
+fn check_done(
+    rt: &impl Abort,
+    alloc: Global,
+    code: Option<Code>,
+    line: &str,
+) -> Result<(), AllocError> {
+    let (tag, code) = beside(tag(alloc, "a7"), code)?;
+    check(rt, alloc, Response::Done { tag, code }, line)
+}
+
+/// What was made, and the value beside it. It is generic as the proof that a code is let go is long.
+fn beside<A: Drop, B: Drop>(made: Result<A, AllocError>, value: B) -> Result<(A, B), AllocError> {
+    Ok((made?, value))
 }
 
 #[test]
 fn commands_carried_out(rt: HostRuntime) -> Result<(), Fail> {
     let alloc = rt.alloc();
-    let copied = Code::CopyUid(CopiedUids {
+    let appended = Code::AppendUid {
         validity: 38505,
-        source: numbers(alloc, &[304, 319, 320])?,
-        target: numbers(alloc, &[3956, 3957, 3958])?,
-    });
-    let rows = [
-        (done(alloc, None)?, "a7 OK done\r\n"),
-        (
-            done(alloc, Some(Code::ReadWrite))?,
-            "a7 OK [READ-WRITE] done\r\n",
-        ),
-        (
-            done(alloc, Some(Code::ReadOnly))?,
-            "a7 OK [READ-ONLY] done\r\n",
-        ),
-        (
-            done(
-                alloc,
-                Some(Code::AppendUid {
-                    validity: 38505,
-                    uid: 3955,
-                }),
-            )?,
-            "a7 OK [APPENDUID 38505 3955] done\r\n",
-        ),
-        (
-            done(alloc, Some(copied))?,
-            "a7 OK [COPYUID 38505 304,319:320 3956:3958] done\r\n",
-        ),
-        (
-            done(alloc, Some(Code::HighestModSeq(8)))?,
-            "a7 OK [HIGHESTMODSEQ 8] done\r\n",
-        ),
-        (
-            done(alloc, Some(Code::Modified(numbers(alloc, &[7, 9])?)))?,
-            "a7 OK [MODIFIED 7,9] done\r\n",
-        ),
-    ];
-    for (response, wanted) in rows {
-        let line = shown(alloc, response)?;
-        assert_eq!(rt; line.as_str(), wanted);
-    }
+        uid: 3955,
+    };
+    check_done(&rt, alloc, None, "a7 OK done\r\n")?;
+    check_done(
+        &rt,
+        alloc,
+        Some(appended),
+        "a7 OK [APPENDUID 38505 3955] done\r\n",
+    )?;
+    check_done(
+        &rt,
+        alloc,
+        Some(Code::ReadWrite),
+        "a7 OK [READ-WRITE] done\r\n",
+    )?;
+    check_done(
+        &rt,
+        alloc,
+        Some(Code::ReadOnly),
+        "a7 OK [READ-ONLY] done\r\n",
+    )?;
+    check_done(
+        &rt,
+        alloc,
+        Some(Code::HighestModSeq(8)),
+        "a7 OK [HIGHESTMODSEQ 8] done\r\n",
+    )?;
+    Ok(())
+}
+
+fn copied(alloc: Global, source: &[u32], target: &[u32]) -> Result<Code, AllocError> {
+    Ok(Code::CopyUid(CopiedUids {
+        validity: 38505,
+        source: numbers(alloc, source)?,
+        target: numbers(alloc, target)?,
+    }))
+}
+
+#[test]
+fn messages_that_were_copied(rt: HostRuntime) -> Result<(), Fail> {
+    let alloc = rt.alloc();
+    let copied = copied(alloc, &[304, 319, 320], &[3956, 3957, 3958])?;
+    check_done(
+        &rt,
+        alloc,
+        Some(copied),
+        "a7 OK [COPYUID 38505 304,319:320 3956:3958] done\r\n",
+    )?;
+    Ok(())
+}
+
+#[test]
+fn messages_that_were_modified(rt: HostRuntime) -> Result<(), Fail> {
+    let modified = Code::Modified(numbers(rt.alloc(), &[7, 9])?);
+    check_done(
+        &rt,
+        rt.alloc(),
+        Some(modified),
+        "a7 OK [MODIFIED 7,9] done\r\n",
+    )?;
     Ok(())
 }
 
@@ -162,8 +199,7 @@ fn refused(alloc: Global, refusal: Refusal) -> Result<Response, AllocError> {
 
 #[test]
 fn commands_refused(rt: HostRuntime) -> Result<(), Fail> {
-    let alloc = rt.alloc();
-    let rows = [
+    const ROWS: [(Refusal, &str); 14] = [
         (
             Refusal::NonExistent,
             "b1 NO [NONEXISTENT] no such mailbox\r\n",
@@ -194,25 +230,25 @@ fn commands_refused(rt: HostRuntime) -> Result<(), Fail> {
         (Refusal::Malformed, "b1 BAD malformed command\r\n"),
         (Refusal::WrongState, "b1 BAD not in this state\r\n"),
     ];
-    for (refusal, wanted) in rows {
-        let line = shown(alloc, refused(alloc, refusal)?)?;
-        assert_eq!(rt; line.as_str(), wanted);
+    for &(refusal, line) in &ROWS {
+        check(&rt, rt.alloc(), refused(rt.alloc(), refusal)?, line)?;
     }
+    Ok(())
+}
+
+#[test]
+fn a_refusal_without_a_tag(rt: HostRuntime) -> Result<(), Fail> {
     let untagged = Response::Refused {
         tag: None,
         refusal: Refusal::Malformed,
     };
-    assert_eq!(rt;
-        shown(alloc, untagged)?.as_str(),
-        "* BAD malformed command\r\n"
-    );
+    check(&rt, rt.alloc(), untagged, "* BAD malformed command\r\n")?;
     Ok(())
 }
 
 #[test]
 fn capabilities_enabled(rt: HostRuntime) -> Result<(), Fail> {
-    let alloc = rt.alloc();
-    let rows = [
+    const ROWS: [(bool, bool, bool, &str); 4] = [
         (false, false, false, "* ENABLED\r\n"),
         (false, false, true, "* ENABLED QRESYNC\r\n"),
         (true, false, false, "* ENABLED CONDSTORE\r\n"),
@@ -223,23 +259,27 @@ fn capabilities_enabled(rt: HostRuntime) -> Result<(), Fail> {
             "* ENABLED CONDSTORE IMAP4rev2 QRESYNC\r\n",
         ),
     ];
-    for (condstore, imap4rev2, qresync, wanted) in rows {
+    for &(condstore, imap4rev2, qresync, line) in &ROWS {
         let response = Response::Enabled(EnabledCapabilities {
             condstore,
             imap4rev2,
             qresync,
         });
-        assert_eq!(rt; shown(alloc, response)?.as_str(), wanted);
+        check(&rt, rt.alloc(), response, line)?;
     }
     Ok(())
 }
 
-fn search(alloc: Global, uid: bool, results: SearchResults) -> Result<Response, AllocError> {
-    Ok(Response::Search {
-        tag: tag(alloc, "a5")?,
-        uid,
-        results,
-    })
+/// That what a search found is told by this line.
+fn check_search(
+    rt: &impl Abort,
+    alloc: Global,
+    uid: bool,
+    results: SearchResults,
+    line: &str,
+) -> Result<(), AllocError> {
+    let (tag, results) = beside(tag(alloc, "a5"), results)?;
+    check(rt, alloc, Response::Search { tag, uid, results }, line)
 }
 
 fn nothing() -> SearchResults {
@@ -253,47 +293,70 @@ fn nothing() -> SearchResults {
 }
 
 #[test]
-fn searches(rt: HostRuntime) -> Result<(), Fail> {
-    let alloc = rt.alloc();
+fn searches_that_find_nothing(rt: HostRuntime) -> Result<(), Fail> {
     let mut counted = nothing();
     counted.count = Some(0);
+    check_search(
+        &rt,
+        rt.alloc(),
+        false,
+        counted,
+        "* ESEARCH (TAG \"a5\") COUNT 0\r\n",
+    )?;
+    check_search(
+        &rt,
+        rt.alloc(),
+        false,
+        nothing(),
+        "* ESEARCH (TAG \"a5\")\r\n",
+    )?;
+    Ok(())
+}
+
+#[test]
+fn searches_for_all(rt: HostRuntime) -> Result<(), Fail> {
     let mut all = nothing();
-    all.all = Some(numbers(alloc, &[1, 2, 3])?);
+    all.all = Some(numbers(rt.alloc(), &[1, 2, 3])?);
+    check_search(
+        &rt,
+        rt.alloc(),
+        true,
+        all,
+        "* ESEARCH (TAG \"a5\") UID ALL 1:3\r\n",
+    )?;
+    Ok(())
+}
+
+#[test]
+fn searches_by_mod_sequence(rt: HostRuntime) -> Result<(), Fail> {
     let mut with_mod_seq = nothing();
-    with_mod_seq.all = Some(numbers(alloc, &[1])?);
+    with_mod_seq.all = Some(numbers(rt.alloc(), &[1])?);
     with_mod_seq.mod_seq = Some(3);
+    check_search(
+        &rt,
+        rt.alloc(),
+        false,
+        with_mod_seq,
+        "* ESEARCH (TAG \"a5\") ALL 1 MODSEQ 3\r\n",
+    )?;
+    Ok(())
+}
+
+#[test]
+fn searches_for_everything(rt: HostRuntime) -> Result<(), Fail> {
     let every = SearchResults {
         min: Some(2),
         max: Some(11),
-        all: Some(numbers(alloc, &[2, 10, 11])?),
+        all: Some(numbers(rt.alloc(), &[2, 10, 11])?),
         count: Some(3),
         mod_seq: Some(1_236_715_319_000),
     };
-    let rows = [
-        (
-            search(alloc, false, counted)?,
-            "* ESEARCH (TAG \"a5\") COUNT 0\r\n",
-        ),
-        (
-            search(alloc, true, all)?,
-            "* ESEARCH (TAG \"a5\") UID ALL 1:3\r\n",
-        ),
-        (
-            search(alloc, false, with_mod_seq)?,
-            "* ESEARCH (TAG \"a5\") ALL 1 MODSEQ 3\r\n",
-        ),
-        (
-            search(alloc, false, nothing())?,
-            "* ESEARCH (TAG \"a5\")\r\n",
-        ),
-        (
-            search(alloc, true, every)?,
-            "* ESEARCH (TAG \"a5\") UID MIN 2 MAX 11 ALL 2,10:11 COUNT 3 MODSEQ 1236715319000\r\n",
-        ),
-    ];
-    for (response, wanted) in rows {
-        let line = shown(alloc, response)?;
-        assert_eq!(rt; line.as_str(), wanted);
-    }
+    check_search(
+        &rt,
+        rt.alloc(),
+        true,
+        every,
+        "* ESEARCH (TAG \"a5\") UID MIN 2 MAX 11 ALL 2,10:11 COUNT 3 MODSEQ 1236715319000\r\n",
+    )?;
     Ok(())
 }

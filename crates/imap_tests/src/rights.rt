@@ -77,7 +77,7 @@ fn sets_are_compared(rt: HostRuntime) {
     assert!(rt; rights("lr").less(rights("ra")) == rights("l"));
     assert!(rt; rights("lr").has_any(rights("ra")));
     assert!(rt; !rights("lr").has_any(rights("sa")));
-    for (letters, want) in [
+    const ROWS: [(&str, bool); 8] = [
         ("l", true),
         ("r", true),
         ("i", true),
@@ -86,7 +86,8 @@ fn sets_are_compared(rt: HostRuntime) {
         ("a", true),
         ("swpte", false),
         ("", false),
-    ] {
+    ];
+    for &(letters, want) in &ROWS {
         assert_eq!(rt; rights(letters).show_mailbox(), want, "at {letters:?}");
     }
     laws::letters_are_read();
@@ -95,7 +96,7 @@ fn sets_are_compared(rt: HostRuntime) {
 
 #[test]
 fn identifiers_are_read(rt: HostRuntime) -> Result<(), Fail> {
-    for (text, want) in [
+    const ROWS: [(&str, &str); 7] = [
         ("bob", "bob"),
         ("anyone", "anyone"),
         ("-bob", "-bob"),
@@ -103,21 +104,31 @@ fn identifiers_are_read(rt: HostRuntime) -> Result<(), Fail> {
         ("--", "--"),
         ("a b", "a b"),
         ("e\u{301}", "\u{e9}"),
-    ] {
+    ];
+    for &(text, want) in &ROWS {
         let read = identifier(rt.alloc(), text)?;
         assert_eq!(rt; read.as_bytes(), want.as_bytes(), "at {text:?}");
-        let copy = read.try_copy(rt.alloc())?;
-        assert_eq!(rt; copy.as_bytes(), want.as_bytes());
     }
-    for text in ["", "-", "a\n", "\u{7f}", "-\u{85}", "\0"] {
-        let refused = matches!(identifier(rt.alloc(), text), Err(IdentifierError::Invalid));
-        assert!(rt; refused, "at {text:?}");
+    Ok(())
+}
+
+#[test]
+fn identifiers_are_copied(rt: HostRuntime) -> Result<(), Fail> {
+    let copy = identifier(rt.alloc(), "-bob")?.try_copy(rt.alloc())?;
+    assert_eq!(rt; copy.as_bytes(), b"-bob".as_slice());
+    Ok(())
+}
+
+#[test]
+fn no_identifiers(rt: HostRuntime) -> Result<(), Fail> {
+    const TEXTS: [&[u8]; 7] = [b"", b"-", b"a\n", b"\x7f", b"-\xc2\x85", b"\0", b"a\xff"];
+    for &text in &TEXTS {
+        let read = Identifier::read(rt.alloc(), text);
+        assert!(rt;
+            matches!(read, Err(IdentifierError::Invalid)),
+            "at {text:?}"
+        );
     }
-    let broken = matches!(
-        Identifier::read(rt.alloc(), b"a\xff"),
-        Err(IdentifierError::Invalid)
-    );
-    assert!(rt; broken);
     Ok(())
 }
 
@@ -184,26 +195,47 @@ fn an_owner_keeps_two_rights(rt: HostRuntime) -> Result<(), Fail> {
     Ok(())
 }
 
+/// A list with entries of 64 users.
+fn full_list(alloc: Global) -> Result<Acl, Fail> {
+    let mut acl = Acl::new(alloc);
+    for n in 0..64u32 {
+        let name = format!(in alloc; "user{n}")?;
+        set(&mut acl, alloc, name.as_str(), rights("lr"))?;
+    }
+    Ok(acl)
+}
+
+/// The rights of the entry.
+fn rights_of(acl: &Acl, alloc: Global, name: &str) -> Result<Rights, Fail> {
+    Ok(acl.rights_of(&identifier(alloc, name)?))
+}
+
+fn remove(acl: &mut Acl, alloc: Global, name: &str) -> Result<(), Fail> {
+    acl.remove(&identifier(alloc, name)?);
+    Ok(())
+}
+
 #[test]
 fn a_list_is_full_at_64(rt: HostRuntime) -> Result<(), Fail> {
-    let mut acl = Acl::new(rt.alloc());
-    for n in 0..64u32 {
-        let name = format!(in rt.alloc(); "user{n}")?;
-        acl.set(identifier(rt.alloc(), name.as_str())?, rights("lr"))?;
-    }
+    let mut acl = full_list(rt.alloc())?;
+    let bob = identifier(rt.alloc(), "bob")?;
+    assert!(rt; acl.set(bob, rights("l")) == Err(AclError::Full));
+    set(&mut acl, rt.alloc(), "bob", Rights::empty())?;
+    set(&mut acl, rt.alloc(), "user9", rights("a"))?;
     assert_eq!(rt; acl.len(), 64);
-    let full = acl.set(identifier(rt.alloc(), "bob")?, rights("l"));
-    assert!(rt; full == Err(AclError::Full));
-    acl.set(identifier(rt.alloc(), "bob")?, Rights::empty())?;
-    acl.set(identifier(rt.alloc(), "user9")?, rights("a"))?;
-    assert_eq!(rt; acl.len(), 64);
+    Ok(())
+}
+
+#[test]
+fn entries_are_removed(rt: HostRuntime) -> Result<(), Fail> {
+    let mut acl = full_list(rt.alloc())?;
     let copy = acl.try_copy(rt.alloc())?;
-    acl.set(identifier(rt.alloc(), "user9")?, Rights::empty())?;
-    acl.remove(&identifier(rt.alloc(), "user10")?);
-    acl.remove(&identifier(rt.alloc(), "user10")?);
+    set(&mut acl, rt.alloc(), "user9", Rights::empty())?;
+    remove(&mut acl, rt.alloc(), "user10")?;
+    remove(&mut acl, rt.alloc(), "user10")?;
     assert_eq!(rt; acl.len(), 62);
     assert_eq!(rt; copy.len(), 64);
-    assert!(rt; copy.rights_of(&identifier(rt.alloc(), "user9")?) == rights("a"));
-    assert!(rt; acl.rights_of(&identifier(rt.alloc(), "user11")?) == rights("lr"));
+    assert!(rt; rights_of(&copy, rt.alloc(), "user9")? == rights("lr"));
+    assert!(rt; rights_of(&acl, rt.alloc(), "user11")? == rights("lr"));
     Ok(())
 }

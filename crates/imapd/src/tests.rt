@@ -32,14 +32,28 @@ fn without_greetings(alloc: Global, transcript: &[u8]) -> Result<Vec<u8>, AllocE
     Ok(others)
 }
 
+/// What running the script writes beside the greetings.
+fn answers<R: AllocGlobal>(rt: &R, text: &[u8]) -> Result<Vec<u8>, ScriptError> {
+    let written = transcript(rt, text)?;
+    Ok(without_greetings(rt.alloc(), &written)?)
+}
+
+/// The line at which the script is refused as bad.
+fn bad_line<R: AllocGlobal>(rt: &R, text: &[u8]) -> Option<u64> {
+    match transcript(rt, text) {
+        Err(ScriptError::Bad { line }) => Some(line),
+        _ => None,
+    }
+}
+
 #[test]
 fn writes_transcripts(rt: HostRuntime) -> Result<(), Fail> {
     for Row { script, told } in [STORED, rows::BEGUN_ANEW] {
         let written = transcript(&rt, script.as_bytes())?;
         assert_eq!(rt; written.as_slice(), told.as_bytes(), "of {script}");
     }
-    for Row { script, told } in SCRIPTS {
-        let written = without_greetings(rt.alloc(), &transcript(&rt, script.as_bytes())?)?;
+    for &Row { script, told } in &SCRIPTS {
+        let written = answers(&rt, script.as_bytes())?;
         assert_eq!(rt; written.as_slice(), told.as_bytes(), "of {script}");
     }
     Ok(())
@@ -47,12 +61,12 @@ fn writes_transcripts(rt: HostRuntime) -> Result<(), Fail> {
 
 #[test]
 fn hidden_absent_and_unknown_are_alike(rt: HostRuntime) -> Result<(), Fail> {
-    for (head, owner) in UNSEEN {
+    for &(head, owner) in &UNSEEN {
         let text = format!(in rt.alloc();
             "admin root\nuser ann\nuser bob\n{head}bob.1 open\n\
             bob.1 < b1 MYRIGHTS \"Other Users/{owner}/Work\"\n"
         )?;
-        let written = without_greetings(rt.alloc(), &transcript(&rt, text.as_bytes())?)?;
+        let written = answers(&rt, text.as_bytes())?;
         let wanted: &[u8] = b"bob.1 > b1 NO [NONEXISTENT] no such mailbox\n";
         assert_eq!(rt; written.as_slice(), wanted, "of {owner}");
     }
@@ -71,16 +85,16 @@ fn with_a_line_of(alloc: Global, count: usize) -> Result<Vec<u8>, AllocError> {
 
 #[test]
 fn a_line_may_be_too_long(rt: HostRuntime) -> Result<(), Fail> {
-    let cases: [(usize, &[u8]); 2] = [
+    const CASES: [(usize, &[u8]); 2] = [
         (
             8192,
             b"ann.1 > * BAD malformed command\nann.1 > a1 OK done\nann.1 > a2 OK done\n",
         ),
         (8193, b"ann.1 > * BYE limit reached\nann.1 > a2 OK done\n"),
     ];
-    for (count, wanted) in cases {
+    for &(count, wanted) in &CASES {
         let text = with_a_line_of(rt.alloc(), count)?;
-        let written = without_greetings(rt.alloc(), &transcript(&rt, &text)?)?;
+        let written = answers(&rt, &text)?;
         assert_eq!(rt; written.as_slice(), wanted, "at {count}");
     }
     Ok(())
@@ -105,10 +119,10 @@ const ENDINGS: [(&str, &[u8]); 3] = [
 #[test]
 fn a_long_line_may_come_too_late(rt: HostRuntime) -> Result<(), Fail> {
     let alloc = rt.alloc();
-    for (ending, wanted) in ENDINGS {
+    for &(ending, wanted) in &ENDINGS {
         let line = long_line(alloc, 1)?;
         let text = format!(in alloc; "admin root\nuser ann\n{ending}{line}")?;
-        let written = without_greetings(alloc, &transcript(&rt, text.as_bytes())?)?;
+        let written = answers(&rt, text.as_bytes())?;
         assert_eq!(rt; written.as_slice(), wanted, "behind {ending}");
     }
     Ok(())
@@ -132,7 +146,7 @@ fn seventeen_sessions(rt: HostRuntime) -> Result<(), Fail> {
     text.push_str("ann.17 < a3 NOOP\n")?;
     text.push_str(&long_line(alloc, 2)?)?;
     text.push_str("ann.18 open\nann.18 < a4 NOOP\n")?;
-    let written = without_greetings(alloc, &transcript(&rt, text.as_bytes())?)?;
+    let written = answers(&rt, text.as_bytes())?;
     let wanted: &[u8] = b"ann.17 > * BYE limit reached\nann.16 > a2 OK done\nann.17 > a3 OK done\n\
         ann.2 > * BYE limit reached\nann.18 > a4 OK done\n";
     assert_eq!(rt; written.as_slice(), wanted);
@@ -153,18 +167,14 @@ fn a_head_fills_an_access_control_list(rt: HostRuntime) -> Result<(), Fail> {
     let full = setting_entries(rt.alloc(), 64)?;
     assert!(rt; transcript(&rt, full.as_bytes())?.is_empty());
     let over = setting_entries(rt.alloc(), 65)?;
-    let ran = transcript(&rt, over.as_bytes());
-    assert!(rt; matches!(&ran, Err(ScriptError::Bad { line: 67 })));
+    assert_eq!(rt; bad_line(&rt, over.as_bytes()), Some(67));
     Ok(())
 }
 
 #[test]
 fn finds_the_first_bad_line(rt: HostRuntime) -> Result<(), Fail> {
-    for (text, wanted) in rows::BAD {
-        match transcript(&rt, text) {
-            Err(ScriptError::Bad { line }) => assert_eq!(rt; line, wanted, "of {text:?}"),
-            _ => assert_eq!(rt; 0, wanted, "of {text:?}"),
-        }
+    for &(text, wanted) in &rows::BAD {
+        assert_eq!(rt; bad_line(&rt, text), Some(wanted), "of {text:?}");
     }
     Ok(())
 }
@@ -176,33 +186,40 @@ fn words(alloc: Global, texts: &[&str]) -> Result<Vec<String>, AllocError> {
         .try_collect(alloc)
 }
 
+/// What is told of words that ask for nothing.
+fn refused(alloc: Global, texts: &[&str]) -> Result<CommandLineError, Fail> {
+    Ok(task_of(alloc, &words(alloc, texts)?).err().ok_or("a task")?)
+}
+
 #[test]
 fn reads_command_lines(rt: HostRuntime) -> Result<(), Fail> {
-    let alloc = rt.alloc();
-    let task = task_of(alloc, &words(alloc, &["imapd", "script"])?)?;
+    let task = task_of(rt.alloc(), &words(rt.alloc(), &["imapd", "script"])?)?;
     assert_eq!(rt; task, Task::Script);
-    let cases: [&[&str]; 4] = [
+    Ok(())
+}
+
+#[test]
+fn refuses_command_lines(rt: HostRuntime) -> Result<(), Fail> {
+    const CASES: [&[&str]; 4] = [
         &["imapd", "frob"],
         &["imapd", "script", "x"],
         &["imapd", "--help"],
         &["imapd", "help"],
     ];
-    for texts in cases {
-        match task_of(alloc, &words(alloc, texts)?) {
-            Err(error @ CommandLineError::Usage(_)) => {
-                assert!(rt; misused(&rt, &error) == ExitCode::from(2))
-            }
-            _ => assert!(rt; false, "{texts:?}"),
-        }
+    for &texts in &CASES {
+        let error = refused(rt.alloc(), texts)?;
+        assert!(rt; matches!(error, CommandLineError::Usage(_)), "{texts:?}");
+        assert!(rt; misused(&rt, &error) == ExitCode::from(2));
     }
-    match task_of(alloc, &words(alloc, &["imapd"])?) {
-        Err(error) => {
-            let text = error.to_string(alloc)?;
-            assert_eq!(rt; text.as_str(), "imapd: bad command line\n");
-            assert!(rt; misused(&rt, &error) == ExitCode::from(2));
-        }
-        Ok(_) => assert!(rt; false, "no task"),
-    }
+    Ok(())
+}
+
+#[test]
+fn refuses_no_words(rt: HostRuntime) -> Result<(), Fail> {
+    let error = refused(rt.alloc(), &["imapd"])?;
+    let text = error.to_string(rt.alloc())?;
+    assert_eq!(rt; text.as_str(), "imapd: bad command line\n");
+    assert!(rt; misused(&rt, &error) == ExitCode::from(2));
     Ok(())
 }
 

@@ -228,19 +228,42 @@ fn plain_key(random: &mut Random, alloc: Global) -> Result<SearchKey, AllocError
     })
 }
 
+/// A value and the one that was made. It is generic, as are the next two, as the proof that a key is let go is long.
+fn joined<T: Drop>(value: T, made: Result<T, AllocError>) -> Result<(T, T), AllocError> {
+    Ok((value, made?))
+}
+
+fn listed<T: Drop>(alloc: Global, both: (T, T)) -> Result<Vec<T>, AllocError> {
+    let mut list = Vec::new(alloc);
+    list.push(both.0)?;
+    list.push(both.1)?;
+    Ok(list)
+}
+
+fn boxed<T: Drop>(alloc: Global, both: (T, T)) -> Result<(Box<T>, Box<T>), AllocError> {
+    Ok((Box::new(alloc, both.0)?, Box::new(alloc, both.1)?))
+}
+
 /// The key within another.
 fn around(random: &mut Random, alloc: Global, key: SearchKey) -> Result<SearchKey, AllocError> {
-    let other = plain_key(random, alloc)?;
-    Ok(match random.below(3) {
-        0 => SearchKey::Not(Box::new(alloc, key)?),
-        1 => SearchKey::Or(Box::new(alloc, other)?, Box::new(alloc, key)?),
-        _ => {
-            let mut keys = Vec::new(alloc);
-            keys.push(key)?;
-            keys.push(other)?;
-            SearchKey::Group(keys)
-        }
-    })
+    let shape = random.below(3);
+    let both = joined(key, plain_key(random, alloc))?;
+    match shape {
+        0 => negated(alloc, both),
+        1 => either(alloc, both),
+        _ => Ok(SearchKey::Group(listed(alloc, both)?)),
+    }
+}
+
+fn negated(alloc: Global, both: (SearchKey, SearchKey)) -> Result<SearchKey, AllocError> {
+    let (key, other) = both;
+    drop(other);
+    Ok(SearchKey::Not(Box::new(alloc, key)?))
+}
+
+fn either(alloc: Global, both: (SearchKey, SearchKey)) -> Result<SearchKey, AllocError> {
+    let (left, right) = boxed(alloc, both)?;
+    Ok(SearchKey::Or(left, right))
 }
 
 fn keys(random: &mut Random, alloc: Global) -> Result<SearchKeys, AllocError> {
@@ -392,8 +415,6 @@ fn request(random: &mut Random, alloc: Global) -> Result<Request, AllocError> {
     let body = body(random, alloc)?;
     Ok(Request::Command { tag, body })
 }
-
-// ---- the round
 
 fn random_text(random: &mut Random, alloc: Global) -> Result<Option<Vec<u8>>, AllocError> {
     text_of(alloc, request(random, alloc)?)

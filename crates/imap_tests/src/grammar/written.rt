@@ -32,7 +32,7 @@ fn check(rt: &impl Abort, alloc: Global, rows: &[(&[u8], &[u8])]) -> Result<(), 
 
 #[test]
 fn words_alone(rt: HostRuntime) -> Result<(), Fail> {
-    let rows: [(&[u8], &[u8]); 12] = [
+    const ROWS: [(&[u8], &[u8]); 12] = [
         (b"abcd CAPABILITY\r\n", b"abcd CAPABILITY\r\n"),
         (b"a002 noop\r\n", b"a002 NOOP\r\n"),
         (b"A023 LOGOUT\r\n", b"A023 LOGOUT\r\n"),
@@ -46,13 +46,13 @@ fn words_alone(rt: HostRuntime) -> Result<(), Fail> {
         (b"tag\r\n", b"tag\r\n"),
         (b"\r\n", b"\r\n"),
     ];
-    check(&rt, rt.alloc(), &rows)?;
+    check(&rt, rt.alloc(), &ROWS)?;
     Ok(())
 }
 
 #[test]
 fn names(rt: HostRuntime) -> Result<(), Fail> {
-    let rows: [(&[u8], &[u8]); 13] = [
+    const ROWS: [(&[u8], &[u8]); 13] = [
         (
             b"A003 CREATE owatagusiam/\r\n",
             b"A003 CREATE \"owatagusiam/\"\r\n",
@@ -100,13 +100,13 @@ fn names(rt: HostRuntime) -> Result<(), Fail> {
             b"t2 ENABLE CONDSTORE X-GOOD-IDEA\r\n",
         ),
     ];
-    check(&rt, rt.alloc(), &rows)?;
+    check(&rt, rt.alloc(), &ROWS)?;
     Ok(())
 }
 
 #[test]
 fn selecting(rt: HostRuntime) -> Result<(), Fail> {
-    let rows: [(&[u8], &[u8]); 6] = [
+    const ROWS: [(&[u8], &[u8]); 6] = [
         (b"A142 SELECT INBOX\r\n", b"A142 SELECT \"INBOX\"\r\n"),
         (
             b"A932 EXAMINE blurdybloop\r\n",
@@ -129,13 +129,13 @@ fn selecting(rt: HostRuntime) -> Result<(), Fail> {
             b"A04 SELECT \"x\" (QRESYNC (1 2 3:4))\r\n",
         ),
     ];
-    check(&rt, rt.alloc(), &rows)?;
+    check(&rt, rt.alloc(), &ROWS)?;
     Ok(())
 }
 
 #[test]
 fn listing(rt: HostRuntime) -> Result<(), Fail> {
-    let rows: [(&[u8], &[u8]); 6] = [
+    const ROWS: [(&[u8], &[u8]); 6] = [
         (b"A101 LIST \"\" \"\"\r\n", b"A101 LIST \"\" \"\"\r\n"),
         (
             b"A202 LIST ~/Mail/ %\r\n",
@@ -158,13 +158,13 @@ fn listing(rt: HostRuntime) -> Result<(), Fail> {
             b"A1 LIST (SUBSCRIBED RECURSIVEMATCH REMOTE) \"\" \"%\" RETURN (SUBSCRIBED STATUS (MESSAGES UNSEEN))\r\n",
         ),
     ];
-    check(&rt, rt.alloc(), &rows)?;
+    check(&rt, rt.alloc(), &ROWS)?;
     Ok(())
 }
 
 #[test]
 fn appending(rt: HostRuntime) -> Result<(), Fail> {
-    let rows: [(&[u8], &[u8]); 4] = [
+    const ROWS: [(&[u8], &[u8]); 4] = [
         (
             b"A003 APPEND saved-messages (\\Seen) {5+}\r\nhello\r\n",
             b"A003 APPEND \"saved-messages\" (\\SEEN) {5}\r\nhello\r\n",
@@ -182,13 +182,13 @@ fn appending(rt: HostRuntime) -> Result<(), Fail> {
             b"A003 APPEND \"x\" (\\DRAFT \\x y) \"07-FEB-0994 21:52:25 +0000\" {2}\r\n\r\n\r\n",
         ),
     ];
-    check(&rt, rt.alloc(), &rows)?;
+    check(&rt, rt.alloc(), &ROWS)?;
     Ok(())
 }
 
 #[test]
 fn searching(rt: HostRuntime) -> Result<(), Fail> {
-    let rows: [(&[u8], &[u8]); 9] = [
+    const ROWS: [(&[u8], &[u8]); 9] = [
         (
             b"A282 SEARCH RETURN (MIN COUNT) FLAGGED SINCE 1-Feb-1994 NOT FROM \"Smith\"\r\n",
             b"A282 SEARCH RETURN (MIN COUNT) FLAGGED SINCE 01-FEB-1994 NOT FROM \"Smith\"\r\n",
@@ -223,13 +223,13 @@ fn searching(rt: HostRuntime) -> Result<(), Fail> {
             b"a SEARCH SENTON 01-JAN-2000 $ BEFORE 31-DEC-9999\r\n",
         ),
     ];
-    check(&rt, rt.alloc(), &rows)?;
+    check(&rt, rt.alloc(), &ROWS)?;
     Ok(())
 }
 
 #[test]
 fn fetching(rt: HostRuntime) -> Result<(), Fail> {
-    let rows: [(&[u8], &[u8]); 8] = [
+    const ROWS: [(&[u8], &[u8]); 8] = [
         (
             b"A654 FETCH 2:4 (FLAGS BODY[HEADER.FIELDS (DATE FROM)])\r\n",
             b"A654 FETCH 2:4 (FLAGS BODY[HEADER.FIELDS (\"DATE\" \"FROM\")])\r\n",
@@ -263,13 +263,13 @@ fn fetching(rt: HostRuntime) -> Result<(), Fail> {
             b"a FETCH 1:1 (ENVELOPE)\r\n",
         ),
     ];
-    check(&rt, rt.alloc(), &rows)?;
+    check(&rt, rt.alloc(), &ROWS)?;
     Ok(())
 }
 
 #[test]
 fn storing(rt: HostRuntime) -> Result<(), Fail> {
-    let rows: [(&[u8], &[u8]); 8] = [
+    const ROWS: [(&[u8], &[u8]); 8] = [
         (
             b"A003 STORE 2:4 +FLAGS (\\Deleted)\r\n",
             b"A003 STORE 2:4 +FLAGS (\\DELETED)\r\n",
@@ -294,6 +294,6 @@ fn storing(rt: HostRuntime) -> Result<(), Fail> {
             b"A003 UID EXPUNGE 3000:3002\r\n",
         ),
     ];
-    check(&rt, rt.alloc(), &rows)?;
+    check(&rt, rt.alloc(), &ROWS)?;
     Ok(())
 }

@@ -1,9 +1,10 @@
-use super::{octets, shown};
+use super::{check, octets, shown};
 use imap_print::*;
 use imap_query::StatusItem;
 use imap_rights::{Rights, RightsChange, read_rights};
 use imap_syntax::Items;
 use std::alloc::{AllocError, Global};
+use std::process::Abort;
 use std::test::Fail;
 
 // The rights of letters, which the tests take from RFC 4314, section 2.1.
@@ -45,8 +46,7 @@ fn listed(
 
 #[test]
 fn attributes(rt: HostRuntime) -> Result<(), Fail> {
-    let alloc = rt.alloc();
-    let rows = [
+    const ROWS: [(&str, bool, Children, bool, &str); 4] = [
         (
             "INBOX",
             false,
@@ -70,9 +70,9 @@ fn attributes(rt: HostRuntime) -> Result<(), Fail> {
         ),
         ("a", false, Children::Untold, true, "(\\Subscribed) \"/\" a"),
     ];
-    for (name, non_existent, children, subscribed, printed) in rows {
-        let line = listed(alloc, name, non_existent, children, subscribed)?;
-        let wanted = format!(in alloc; "* LIST {printed}\r\n")?;
+    for &(name, non_existent, children, subscribed, printed) in &ROWS {
+        let line = listed(rt.alloc(), name, non_existent, children, subscribed)?;
+        let wanted = format!(in rt.alloc(); "* LIST {printed}\r\n")?;
         assert_eq!(rt; line.as_str(), wanted.as_str());
     }
     Ok(())
@@ -80,8 +80,7 @@ fn attributes(rt: HostRuntime) -> Result<(), Fail> {
 
 #[test]
 fn names(rt: HostRuntime) -> Result<(), Fail> {
-    let alloc = rt.alloc();
-    let rows = [
+    const ROWS: [(&str, &str); 8] = [
         ("", "\"\""),
         ("nil", "\"nil\""),
         ("NIL", "\"NIL\""),
@@ -91,70 +90,62 @@ fn names(rt: HostRuntime) -> Result<(), Fail> {
         ("a%*(){", "\"a%*(){\""),
         ("\u{e9}t\u{e9}", "\"\u{e9}t\u{e9}\""),
     ];
-    for (name, printed) in rows {
-        let response = list(alloc, name, false, Children::Untold, false)?;
-        let wanted = format!(in alloc; "* LIST () \"/\" {printed}\r\n")?;
-        assert_eq!(rt; shown(alloc, response)?.as_str(), wanted.as_str());
+    for &(name, printed) in &ROWS {
+        let line = listed(rt.alloc(), name, false, Children::Untold, false)?;
+        let wanted = format!(in rt.alloc(); "* LIST () \"/\" {printed}\r\n")?;
+        assert_eq!(rt; line.as_str(), wanted.as_str());
     }
     Ok(())
 }
 
+/// That these values of the mailbox are told by this line.
+fn check_status(
+    rt: &impl Abort,
+    alloc: Global,
+    name: &str,
+    values: &[(StatusItem, u64)],
+    line: &str,
+) -> Result<(), AllocError> {
+    let mut items = Vec::new(alloc);
+    for (item, value) in values {
+        items.push(StatusValue {
+            item: *item,
+            value: *value,
+        })?;
+    }
+    let mailbox = octets(alloc, name)?;
+    let items = Items::from_vec(items);
+    check(rt, alloc, Response::Status { mailbox, items }, line)
+}
+
 #[test]
 fn statuses(rt: HostRuntime) -> Result<(), Fail> {
-    let alloc = rt.alloc();
-    let values = vec![in alloc;
-        StatusValue {
-            item: StatusItem::Messages,
-            value: 231
-        },
-        StatusValue {
-            item: StatusItem::UidNext,
-            value: 44292
-        },
-    ]?;
-    let blurdybloop = Response::Status {
-        mailbox: octets(alloc, "blurdybloop")?,
-        items: Items::from_vec(values),
-    };
-    assert_eq!(rt;
-        shown(alloc, blurdybloop)?.as_str(),
-        "* STATUS blurdybloop (MESSAGES 231 UIDNEXT 44292)\r\n"
-    );
-    let values = vec![in alloc;
-        StatusValue {
-            item: StatusItem::UidValidity,
-            value: 1
-        },
-        StatusValue {
-            item: StatusItem::Unseen,
-            value: 0
-        },
-        StatusValue {
-            item: StatusItem::Deleted,
-            value: 2
-        },
-        StatusValue {
-            item: StatusItem::Size,
-            value: 9_223_372_036_854_775_807
-        },
-        StatusValue {
-            item: StatusItem::HighestModSeq,
-            value: 11
-        },
-    ]?;
-    let others = Response::Status {
-        mailbox: octets(alloc, "Shared/Old News")?,
-        items: Items::from_vec(values),
-    };
-    assert_eq!(rt;
-        shown(alloc, others)?.as_str(),
-        "* STATUS \"Shared/Old News\" (UIDVALIDITY 1 UNSEEN 0 DELETED 2 SIZE 9223372036854775807 HIGHESTMODSEQ 11)\r\n"
-    );
-    let none = Response::Status {
-        mailbox: octets(alloc, "A")?,
-        items: Items::from_vec(Vec::new(alloc)),
-    };
-    assert_eq!(rt; shown(alloc, none)?.as_str(), "* STATUS A ()\r\n");
+    const BLURDYBLOOP: [(StatusItem, u64); 2] = [
+        (StatusItem::Messages, 231),
+        (StatusItem::UidNext, 44292),
+    ];
+    const NEWS: [(StatusItem, u64); 5] = [
+        (StatusItem::UidValidity, 1),
+        (StatusItem::Unseen, 0),
+        (StatusItem::Deleted, 2),
+        (StatusItem::Size, 9_223_372_036_854_775_807),
+        (StatusItem::HighestModSeq, 11),
+    ];
+    check_status(
+        &rt,
+        rt.alloc(),
+        "blurdybloop",
+        &BLURDYBLOOP,
+        "* STATUS blurdybloop (MESSAGES 231 UIDNEXT 44292)\r\n",
+    )?;
+    check_status(
+        &rt,
+        rt.alloc(),
+        "Shared/Old News",
+        &NEWS,
+        "* STATUS \"Shared/Old News\" (UIDVALIDITY 1 UNSEEN 0 DELETED 2 SIZE 9223372036854775807 HIGHESTMODSEQ 11)\r\n",
+    )?;
+    check_status(&rt, rt.alloc(), "A", &[], "* STATUS A ()\r\n")?;
     Ok(())
 }
 
@@ -165,35 +156,37 @@ fn entry(alloc: Global, identifier: &str, letters: &str) -> Result<AclEntry, All
     })
 }
 
-#[test]
-fn access_control_lists(rt: HostRuntime) -> Result<(), Fail> {
-    let alloc = rt.alloc();
-    let entries = vec![in alloc;
-        entry(alloc, "-bob", "r")?,
-        entry(alloc, "anyone", "lr")?,
-        entry(alloc, "root", "lrswipkxtea")?,
-    ]?;
-    let acl = Response::Acl {
+fn acl(alloc: Global, rows: &[(&str, &str)]) -> Result<Response, AllocError> {
+    let mut entries = Vec::new(alloc);
+    for (identifier, letters) in rows {
+        entries.push(entry(alloc, identifier, letters)?)?;
+    }
+    Ok(Response::Acl {
         mailbox: octets(alloc, "Shared/N")?,
         entries: Items::from_vec(entries),
-    };
-    assert_eq!(rt;
-        shown(alloc, acl)?.as_str(),
-        "* ACL Shared/N -bob r anyone lr root lrswipkxtea\r\n"
-    );
-    let none = Response::Acl {
-        mailbox: octets(alloc, "Shared/N")?,
-        entries: Items::from_vec(Vec::new(alloc)),
-    };
-    assert_eq!(rt; shown(alloc, none)?.as_str(), "* ACL Shared/N\r\n");
+    })
+}
+
+#[test]
+fn access_control_lists(rt: HostRuntime) -> Result<(), Fail> {
+    const ROWS: [(&str, &str); 3] = [("-bob", "r"), ("anyone", "lr"), ("root", "lrswipkxtea")];
+    check(
+        &rt,
+        rt.alloc(),
+        acl(rt.alloc(), &ROWS)?,
+        "* ACL Shared/N -bob r anyone lr root lrswipkxtea\r\n",
+    )?;
+    check(&rt, rt.alloc(), acl(rt.alloc(), &[])?, "* ACL Shared/N\r\n")?;
+    Ok(())
+}
+
+#[test]
+fn own_rights(rt: HostRuntime) -> Result<(), Fail> {
     let my_rights = Response::MyRights {
-        mailbox: octets(alloc, "INBOX")?,
+        mailbox: octets(rt.alloc(), "INBOX")?,
         rights: rights("la"),
     };
-    assert_eq!(rt;
-        shown(alloc, my_rights)?.as_str(),
-        "* MYRIGHTS INBOX la\r\n"
-    );
+    check(&rt, rt.alloc(), my_rights, "* MYRIGHTS INBOX la\r\n")?;
     Ok(())
 }
 
@@ -207,16 +200,17 @@ fn list_rights(alloc: Global, identifier: &str, owner: bool) -> Result<Response,
 
 #[test]
 fn rights_to_be_given(rt: HostRuntime) -> Result<(), Fail> {
-    let alloc = rt.alloc();
-    let owner = shown(alloc, list_rights(alloc, "smith", true)?)?;
-    assert_eq!(rt;
-        owner.as_str(),
-        "* LISTRIGHTS ~/Mail/saved smith la r s w i p k x t e\r\n"
-    );
-    let other = shown(alloc, list_rights(alloc, "a b", false)?)?;
-    assert_eq!(rt;
-        other.as_str(),
-        "* LISTRIGHTS ~/Mail/saved \"a b\" \"\" l r s w i p k x t e a\r\n"
-    );
+    check(
+        &rt,
+        rt.alloc(),
+        list_rights(rt.alloc(), "smith", true)?,
+        "* LISTRIGHTS ~/Mail/saved smith la r s w i p k x t e\r\n",
+    )?;
+    check(
+        &rt,
+        rt.alloc(),
+        list_rights(rt.alloc(), "a b", false)?,
+        "* LISTRIGHTS ~/Mail/saved \"a b\" \"\" l r s w i p k x t e a\r\n",
+    )?;
     Ok(())
 }

@@ -1,8 +1,9 @@
-use super::{numbers, octets, shown, words};
+use super::{check, numbers, octets, shown, words};
 use imap_print::*;
 use imap_query::Section;
 use imap_syntax::{Date, DateTime, Items, Zone};
 use std::alloc::{AllocError, Global};
+use std::process::Abort;
 use std::test::Fail;
 
 fn no_flags(alloc: Global) -> FlagSet {
@@ -41,54 +42,85 @@ fn body(
 #[test]
 fn numbers_of_the_selected_mailbox(rt: HostRuntime) -> Result<(), Fail> {
     let alloc = rt.alloc();
-    let moved = Response::Moved(CopiedUids {
+    check(&rt, alloc, Response::Exists(0), "* 0 EXISTS\r\n")?;
+    let expunged = Response::Expunge(4_294_967_295);
+    check(&rt, alloc, expunged, "* 4294967295 EXPUNGE\r\n")?;
+    let validity = Response::UidValidity(3_857_529_045);
+    check(
+        &rt,
+        alloc,
+        validity,
+        "* OK [UIDVALIDITY 3857529045] validity\r\n",
+    )?;
+    let next = Response::UidNext(4392);
+    check(&rt, alloc, next, "* OK [UIDNEXT 4392] next\r\n")?;
+    let highest = Response::HighestModSeq(715_194_045_007);
+    check(
+        &rt,
+        alloc,
+        highest,
+        "* OK [HIGHESTMODSEQ 715194045007] highest\r\n",
+    )?;
+    Ok(())
+}
+
+fn moved(alloc: Global) -> Result<Response, AllocError> {
+    Ok(Response::Moved(CopiedUids {
         validity: 1,
         source: numbers(alloc, &[1, 2])?,
         target: numbers(alloc, &[1, 2])?,
-    });
-    let rows = [
-        (Response::Exists(0), "* 0 EXISTS\r\n"),
-        (Response::Expunge(4_294_967_295), "* 4294967295 EXPUNGE\r\n"),
-        (
-            Response::UidValidity(3_857_529_045),
-            "* OK [UIDVALIDITY 3857529045] validity\r\n",
-        ),
-        (Response::UidNext(4392), "* OK [UIDNEXT 4392] next\r\n"),
-        (
-            Response::HighestModSeq(715_194_045_007),
-            "* OK [HIGHESTMODSEQ 715194045007] highest\r\n",
-        ),
-        (moved, "* OK [COPYUID 1 1:2 1:2] moved\r\n"),
-    ];
-    for (response, wanted) in rows {
-        let line = shown(alloc, response)?;
-        assert_eq!(rt; line.as_str(), wanted);
-    }
+    }))
+}
+
+#[test]
+fn messages_that_were_moved(rt: HostRuntime) -> Result<(), Fail> {
+    let moved = moved(rt.alloc())?;
+    check(&rt, rt.alloc(), moved, "* OK [COPYUID 1 1:2 1:2] moved\r\n")?;
     Ok(())
 }
 
 #[test]
 fn flags_of_a_mailbox(rt: HostRuntime) -> Result<(), Fail> {
-    let alloc = rt.alloc();
-    let none = Response::Flags {
-        keywords: words(alloc, &[])?,
-    };
-    assert_eq!(rt;
-        shown(alloc, none)?.as_str(),
-        "* FLAGS (\\Answered \\Deleted \\Draft \\Flagged \\Seen)\r\n"
-    );
-    let two = Response::Flags {
-        keywords: words(alloc, &["$Junk", "work"])?,
-    };
-    assert_eq!(rt;
-        shown(alloc, two)?.as_str(),
-        "* FLAGS (\\Answered \\Deleted \\Draft \\Flagged \\Seen $Junk work)\r\n"
-    );
+    const ROWS: [(&[&str], &str); 2] = [
+        (
+            &[],
+            "* FLAGS (\\Answered \\Deleted \\Draft \\Flagged \\Seen)\r\n",
+        ),
+        (
+            &["$Junk", "work"],
+            "* FLAGS (\\Answered \\Deleted \\Draft \\Flagged \\Seen $Junk work)\r\n",
+        ),
+    ];
+    for &(keywords, line) in &ROWS {
+        let keywords = words(rt.alloc(), keywords)?;
+        check(&rt, rt.alloc(), Response::Flags { keywords }, line)?;
+    }
     Ok(())
 }
 
-fn permanent(flags: FlagSet, any: bool) -> Response {
-    Response::PermanentFlags { flags, any }
+/// That these flags are told so as those that may be changed.
+fn check_permanent(
+    rt: &impl Abort,
+    alloc: Global,
+    flags: FlagSet,
+    any: bool,
+    printed: &str,
+) -> Result<(), AllocError> {
+    let line = shown(alloc, Response::PermanentFlags { flags, any })?;
+    let wanted = format!(in alloc; "* OK [PERMANENTFLAGS {printed}] flags kept\r\n")?;
+    assert_eq!(rt; line.as_str(), wanted.as_str());
+    Ok(())
+}
+
+fn every_flag(alloc: Global, keywords: &[&str]) -> Result<FlagSet, AllocError> {
+    Ok(FlagSet {
+        answered: true,
+        deleted: true,
+        draft: true,
+        flagged: true,
+        seen: true,
+        keywords: words(alloc, keywords)?,
+    })
 }
 
 #[test]
@@ -97,26 +129,12 @@ fn flags_that_may_be_changed(rt: HostRuntime) -> Result<(), Fail> {
     let mut some = no_flags(alloc);
     some.deleted = true;
     some.seen = true;
-    let mut all = no_flags(alloc);
-    all.answered = true;
-    all.deleted = true;
-    all.draft = true;
-    all.flagged = true;
-    all.seen = true;
-    all.keywords = words(alloc, &["$Junk", "work"])?;
-    let rows = [
-        (permanent(no_flags(alloc), false), "()"),
-        (permanent(no_flags(alloc), true), "(\\*)"),
-        (permanent(some, false), "(\\Deleted \\Seen)"),
-        (
-            permanent(all, true),
-            "(\\Answered \\Deleted \\Draft \\Flagged \\Seen $Junk work \\*)",
-        ),
-    ];
-    for (response, flags) in rows {
-        let wanted = format!(in alloc; "* OK [PERMANENTFLAGS {flags}] flags kept\r\n")?;
-        assert_eq!(rt; shown(alloc, response)?.as_str(), wanted.as_str());
-    }
+    check_permanent(&rt, alloc, some, false, "(\\Deleted \\Seen)")?;
+    check_permanent(&rt, alloc, no_flags(alloc), false, "()")?;
+    check_permanent(&rt, alloc, no_flags(alloc), true, "(\\*)")?;
+    let all = every_flag(alloc, &["$Junk", "work"])?;
+    let printed = "(\\Answered \\Deleted \\Draft \\Flagged \\Seen $Junk work \\*)";
+    check_permanent(&rt, alloc, all, true, printed)?;
     Ok(())
 }
 
@@ -124,66 +142,104 @@ fn fetch(number: u32, items: FetchedItems) -> Response {
     Response::Fetch { number, items }
 }
 
+fn flagged(alloc: Global, uid: u32, flags: FlagSet, mod_seq: Option<u64>) -> FetchedItems {
+    let mut items = nothing(alloc);
+    items.uid = Some(uid);
+    items.flags = Some(flags);
+    items.mod_seq = mod_seq;
+    items
+}
+
 #[test]
 fn messages(rt: HostRuntime) -> Result<(), Fail> {
     let alloc = rt.alloc();
-    let mut stored = nothing(alloc);
-    stored.uid = Some(1);
     let mut set = no_flags(alloc);
     set.answered = true;
     set.flagged = true;
-    stored.flags = Some(set);
-    stored.mod_seq = Some(7);
-    let mut unflagged = nothing(alloc);
-    unflagged.uid = Some(2);
-    unflagged.flags = Some(no_flags(alloc));
-    let mut silent = nothing(alloc);
-    silent.mod_seq = Some(12_121_231_000);
-    let rows = [
-        (
-            fetch(1, stored),
-            "* 1 FETCH (UID 1 FLAGS (\\Answered \\Flagged) MODSEQ (7))\r\n",
-        ),
-        (fetch(2, unflagged), "* 2 FETCH (UID 2 FLAGS ())\r\n"),
-        (fetch(3, silent), "* 3 FETCH (MODSEQ (12121231000))\r\n"),
-        (fetch(4, nothing(alloc)), "* 4 FETCH ()\r\n"),
-    ];
-    for (response, wanted) in rows {
-        let line = shown(alloc, response)?;
-        assert_eq!(rt; line.as_str(), wanted);
-    }
+    let stored = flagged(alloc, 1, set, Some(7));
+    check(
+        &rt,
+        alloc,
+        fetch(1, stored),
+        "* 1 FETCH (UID 1 FLAGS (\\Answered \\Flagged) MODSEQ (7))\r\n",
+    )?;
+    let unflagged = flagged(alloc, 2, no_flags(alloc), None);
+    check(
+        &rt,
+        alloc,
+        fetch(2, unflagged),
+        "* 2 FETCH (UID 2 FLAGS ())\r\n",
+    )?;
+    check(&rt, alloc, fetch(4, nothing(alloc)), "* 4 FETCH ()\r\n")?;
     Ok(())
 }
 
 #[test]
+fn a_mod_sequence_alone(rt: HostRuntime) -> Result<(), Fail> {
+    let mut silent = nothing(rt.alloc());
+    silent.mod_seq = Some(12_121_231_000);
+    check(
+        &rt,
+        rt.alloc(),
+        fetch(3, silent),
+        "* 3 FETCH (MODSEQ (12121231000))\r\n",
+    )?;
+    Ok(())
+}
+
+/// That these octets of the section are told by this line.
+fn check_section(
+    rt: &impl Abort,
+    alloc: Global,
+    section: Section,
+    origin: Option<u64>,
+    text: &str,
+    line: &str,
+) -> Result<(), AllocError> {
+    let mut items = nothing(alloc);
+    items.sections = body(alloc, section, origin, text)?;
+    check(rt, alloc, fetch(1, items), line)
+}
+
+#[test]
 fn sections(rt: HostRuntime) -> Result<(), Fail> {
-    let alloc = rt.alloc();
-    let subject = Section::Fields(words(alloc, &["subject"])?);
-    let others = Section::FieldsNot(words(alloc, &["subject", "X Odd", "nil"])?);
-    let rows = [
-        (
-            body(alloc, subject, None, "Subject: x\r\n\r\n")?,
-            "BODY[HEADER.FIELDS (subject)] {14}\r\nSubject: x\r\n\r\n",
-        ),
-        (
-            body(alloc, others, Some(4), "")?,
-            "BODY[HEADER.FIELDS.NOT (subject \"X Odd\" \"nil\")]<4> {0}\r\n",
-        ),
-        (
-            body(alloc, Section::Header, Some(0), "a{3}\r\n")?,
-            "BODY[HEADER]<0> {6}\r\na{3}\r\n",
-        ),
-        (
-            body(alloc, Section::Whole, None, ")\r\n\0")?,
-            "BODY[] {4}\r\n)\r\n\0",
-        ),
-    ];
-    for (sections, printed) in rows {
-        let mut items = nothing(alloc);
-        items.sections = sections;
-        let wanted = format!(in alloc; "* 1 FETCH ({printed})\r\n")?;
-        assert_eq!(rt; shown(alloc, fetch(1, items))?.as_str(), wanted.as_str());
-    }
+    check_section(
+        &rt,
+        rt.alloc(),
+        Section::Header,
+        Some(0),
+        "a{3}\r\n",
+        "* 1 FETCH (BODY[HEADER]<0> {6}\r\na{3}\r\n)\r\n",
+    )?;
+    check_section(
+        &rt,
+        rt.alloc(),
+        Section::Whole,
+        None,
+        ")\r\n\0",
+        "* 1 FETCH (BODY[] {4}\r\n)\r\n\0)\r\n",
+    )?;
+    Ok(())
+}
+
+#[test]
+fn fields(rt: HostRuntime) -> Result<(), Fail> {
+    check_section(
+        &rt,
+        rt.alloc(),
+        Section::Fields(words(rt.alloc(), &["subject"])?),
+        None,
+        "Subject: x\r\n\r\n",
+        "* 1 FETCH (BODY[HEADER.FIELDS (subject)] {14}\r\nSubject: x\r\n\r\n)\r\n",
+    )?;
+    check_section(
+        &rt,
+        rt.alloc(),
+        Section::FieldsNot(words(rt.alloc(), &["subject", "X Odd", "nil"])?),
+        Some(4),
+        "",
+        "* 1 FETCH (BODY[HEADER.FIELDS.NOT (subject \"X Odd\" \"nil\")]<4> {0}\r\n)\r\n",
+    )?;
     Ok(())
 }
 
@@ -202,10 +258,12 @@ fn every_item(rt: HostRuntime) -> Result<(), Fail> {
         part(alloc, Section::Header, "")?,
     ]?;
     items.sections = Items::from_vec(two);
-    assert_eq!(rt;
-        shown(alloc, fetch(12, items))?.as_str(),
-        "* 12 FETCH (UID 9 FLAGS (\\Seen) INTERNALDATE \"17-Jul-1996 02:44:25 -0700\" RFC822.SIZE 16 MODSEQ (65402) BODY[TEXT] {2}\r\nhi BODY[HEADER] {0}\r\n)\r\n"
-    );
+    check(
+        &rt,
+        alloc,
+        fetch(12, items),
+        "* 12 FETCH (UID 9 FLAGS (\\Seen) INTERNALDATE \"17-Jul-1996 02:44:25 -0700\" RFC822.SIZE 16 MODSEQ (65402) BODY[TEXT] {2}\r\nhi BODY[HEADER] {0}\r\n)\r\n",
+    )?;
     Ok(())
 }
 
@@ -235,8 +293,7 @@ fn dated(alloc: Global, year: u16, month: u8, day: u8) -> FetchedItems {
 
 #[test]
 fn dates(rt: HostRuntime) -> Result<(), Fail> {
-    let alloc = rt.alloc();
-    let rows = [
+    const ROWS: [(u16, u8, u8, &str); 12] = [
         (1996, 7, 17, "17-Jul-1996"),
         (2024, 2, 9, " 9-Feb-2024"),
         (1, 1, 10, "10-Jan-0001"),
@@ -250,44 +307,51 @@ fn dates(rt: HostRuntime) -> Result<(), Fail> {
         (2000, 10, 1, " 1-Oct-2000"),
         (2000, 11, 1, " 1-Nov-2000"),
     ];
-    for (year, month, day, date) in rows {
-        let line = shown(alloc, fetch(1, dated(alloc, year, month, day)))?;
-        let wanted = format!(in alloc; "* 1 FETCH (INTERNALDATE \"{date} 02:44:25 -0700\")\r\n")?;
+    for &(year, month, day, date) in &ROWS {
+        let line = shown(rt.alloc(), fetch(1, dated(rt.alloc(), year, month, day)))?;
+        let wanted = format!(in rt.alloc();
+            "* 1 FETCH (INTERNALDATE \"{date} 02:44:25 -0700\")\r\n"
+        )?;
         assert_eq!(rt; line.as_str(), wanted.as_str());
     }
     Ok(())
 }
 
+fn dated_in(alloc: Global, zone: Zone) -> FetchedItems {
+    let mut items = nothing(alloc);
+    items.internal_date = Some(DateTime {
+        date: Date {
+            year: 1994,
+            month: 2,
+            day: 1,
+        },
+        hour: 21,
+        minute: 5,
+        second: 9,
+        zone,
+    });
+    items
+}
+
 #[test]
 fn zones(rt: HostRuntime) -> Result<(), Fail> {
-    let alloc = rt.alloc();
-    let rows = [
+    const ROWS: [(bool, u8, u8, &str); 4] = [
         (false, 0, 0, "+0000"),
         (true, 0, 0, "-0000"),
         (false, 23, 59, "+2359"),
         (true, 3, 30, "-0330"),
     ];
-    for (west, hours, minutes, zone) in rows {
-        let mut items = nothing(alloc);
-        items.internal_date = Some(DateTime {
-            date: Date {
-                year: 1994,
-                month: 2,
-                day: 1,
-            },
-            hour: 21,
-            minute: 5,
-            second: 9,
-            zone: Zone {
-                west,
-                hours,
-                minutes,
-            },
-        });
-        let wanted = format!(in alloc;
-            "* 1 FETCH (INTERNALDATE \" 1-Feb-1994 21:05:09 {zone}\")\r\n"
+    for &(west, hours, minutes, printed) in &ROWS {
+        let zone = Zone {
+            west,
+            hours,
+            minutes,
+        };
+        let line = shown(rt.alloc(), fetch(1, dated_in(rt.alloc(), zone)))?;
+        let wanted = format!(in rt.alloc();
+            "* 1 FETCH (INTERNALDATE \" 1-Feb-1994 21:05:09 {printed}\")\r\n"
         )?;
-        assert_eq!(rt; shown(alloc, fetch(1, items))?.as_str(), wanted.as_str());
+        assert_eq!(rt; line.as_str(), wanted.as_str());
     }
     Ok(())
 }

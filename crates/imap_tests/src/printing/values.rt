@@ -1,19 +1,18 @@
-use super::{numbers, shown, words};
+use super::{check, numbers, words};
 use imap_print::*;
 use std::alloc::{AllocError, Global};
 use std::test::Fail;
 
-fn vanished(alloc: Global, uids: &[u32]) -> Result<Response, AllocError> {
+fn vanished(alloc: Global, earlier: bool, uids: &[u32]) -> Result<Response, AllocError> {
     Ok(Response::Vanished {
-        earlier: false,
+        earlier,
         uids: numbers(alloc, uids)?,
     })
 }
 
 #[test]
 fn sets(rt: HostRuntime) -> Result<(), Fail> {
-    let alloc = rt.alloc();
-    let rows: [(&[u32], &str); 9] = [
+    const ROWS: [(&[u32], &str); 9] = [
         (&[], "* VANISHED \r\n"),
         (&[7], "* VANISHED 7\r\n"),
         (&[1, 3], "* VANISHED 1,3\r\n"),
@@ -32,18 +31,16 @@ fn sets(rt: HostRuntime) -> Result<(), Fail> {
             "* VANISHED 4294967294:4294967295,0\r\n",
         ),
     ];
-    for (uids, wanted) in rows {
-        let line = shown(alloc, vanished(alloc, uids)?)?;
-        assert_eq!(rt; line.as_str(), wanted);
+    for &(uids, line) in &ROWS {
+        check(&rt, rt.alloc(), vanished(rt.alloc(), false, uids)?, line)?;
     }
-    let earlier = Response::Vanished {
-        earlier: true,
-        uids: numbers(alloc, &[2, 3])?,
-    };
-    assert_eq!(rt;
-        shown(alloc, earlier)?.as_str(),
-        "* VANISHED (EARLIER) 2:3\r\n"
-    );
+    Ok(())
+}
+
+#[test]
+fn messages_that_vanished_earlier(rt: HostRuntime) -> Result<(), Fail> {
+    let earlier = vanished(rt.alloc(), true, &[2, 3])?;
+    check(&rt, rt.alloc(), earlier, "* VANISHED (EARLIER) 2:3\r\n")?;
     Ok(())
 }
 

@@ -1,6 +1,6 @@
 //! Commands with literals (RFC 9051, section 4.3), whole and in pieces.
 
-use super::{transcript, without_greetings};
+use super::answers;
 use std::alloc::{AllocError, Global};
 use std::test::Fail;
 
@@ -64,17 +64,12 @@ const SENT: [(&[u8], &[u8]); 6] = [
     ),
 ];
 
-/// What is told of a script without its greetings.
-fn told(rt: &HostRuntime, text: &str) -> Result<Vec<u8>, Fail> {
-    Ok(without_greetings(rt.alloc(), &transcript(rt, text.as_bytes())?)?)
-}
-
 #[test]
 fn literals_in_any_pieces(rt: HostRuntime) -> Result<(), Fail> {
-    for (octets, wanted) in SENT {
+    for &(octets, wanted) in &SENT {
         for size in [1, 2, 5, 1000] {
             let text = in_pieces(rt.alloc(), octets, size)?;
-            let told = told(&rt, &text)?;
+            let told = answers(&rt, text.as_bytes())?;
             assert_eq!(rt; told.as_slice(), wanted, "in pieces of {size}");
         }
     }
@@ -83,11 +78,11 @@ fn literals_in_any_pieces(rt: HostRuntime) -> Result<(), Fail> {
 
 #[test]
 fn literals_cut_after_each_octet(rt: HostRuntime) -> Result<(), Fail> {
-    for (octets, wanted) in SENT {
+    for &(octets, wanted) in &SENT {
         for at in 1..octets.len() {
             let (front, back) = octets.split_at(at);
             let text = in_two(rt.alloc(), front, back)?;
-            let told = told(&rt, &text)?;
+            let told = answers(&rt, text.as_bytes())?;
             assert_eq!(rt; told.as_slice(), wanted, "cut at {at}");
         }
     }

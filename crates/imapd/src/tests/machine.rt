@@ -43,20 +43,27 @@ fn command(alloc: Global, octets: &[u8]) -> Result<Act, Fail> {
     Ok(Act::Do(parse(alloc, &Octets::from_slice(alloc, octets)?)?))
 }
 
+fn place(alloc: Global, world: &mut World, text: &[u8]) -> Result<Result<(), WorldError>, Fail> {
+    Ok(world.place(name(alloc, text)?, Acl::new(alloc)))
+}
+
+fn validity(alloc: Global, world: &World, text: &[u8]) -> Result<Option<u32>, Fail> {
+    let name = name(alloc, text)?;
+    Ok(world.mailbox(&name).map(|mailbox| mailbox.validity))
+}
+
 fn place_mailboxes(rt: &impl Abort, alloc: Global, world: &mut World) -> Result<(), Fail> {
-    let news = name(alloc, b"Shared/News")?;
-    assert!(rt; world.mailbox(&news).is_none());
-    assert_eq!(rt; world.place(news.try_copy(alloc)?, Acl::new(alloc)), Ok(()));
-    assert_eq!(rt;
-        world.place(news.try_copy(alloc)?, Acl::new(alloc)),
-        Err(WorldError::Taken)
-    );
-    let below = name(alloc, b"Shared/News/Local")?;
-    assert_eq!(rt; world.place(below, Acl::new(alloc)), Ok(()));
-    let lost = name(alloc, b"Shared/Gone/Local")?;
-    assert_eq!(rt; world.place(lost, Acl::new(alloc)), Err(WorldError::NoSuch));
-    let validity = world.mailbox(&news).map(|mailbox| mailbox.validity);
-    assert_eq!(rt; validity, Some(1));
+    const ROWS: [(&[u8], Result<(), WorldError>); 4] = [
+        (b"Shared/News", Ok(())),
+        (b"Shared/News", Err(WorldError::Taken)),
+        (b"Shared/News/Local", Ok(())),
+        (b"Shared/Gone/Local", Err(WorldError::NoSuch)),
+    ];
+    assert_eq!(rt; validity(alloc, world, b"Shared/News")?, None);
+    for &(text, wanted) in &ROWS {
+        assert_eq!(rt; place(alloc, world, text)?, wanted, "{text:?}");
+    }
+    assert_eq!(rt; validity(alloc, world, b"Shared/News")?, Some(1));
     Ok(())
 }
 
@@ -66,33 +73,33 @@ fn mailboxes_are_placed(rt: HostRuntime) -> Result<(), Fail> {
     place_mailboxes(&rt, rt.alloc(), &mut world)
 }
 
-/// Sets 63 entries of the mailbox's list.
-fn fill_list(rt: &impl Abort, alloc: Global, world: &mut World, name: &Name) -> Result<(), Fail> {
+/// Sets the rights of the identifier on Shared/News.
+fn give(
+    alloc: Global,
+    world: &mut World,
+    identifier: &[u8],
+    letters: &[u8],
+) -> Result<Result<(), WorldError>, Fail> {
+    let identifier = Identifier::read(alloc, identifier)?;
+    let news = name(alloc, b"Shared/News")?;
+    Ok(world.set_acl(&news, identifier, rights(letters)?))
+}
+
+/// Sets 63 entries of the list.
+fn fill_list(rt: &impl Abort, alloc: Global, world: &mut World) -> Result<(), Fail> {
     for number in 2..=64u8 {
-        let other = Identifier::read(alloc, &[b'u', b'0' + number / 10, b'0' + number % 10])?;
-        assert_eq!(rt; world.set_acl(name, other, rights(b"+l")?), Ok(()));
+        let other = [b'u', b'0' + number / 10, b'0' + number % 10];
+        assert_eq!(rt; give(alloc, world, &other, b"+l")?, Ok(()));
     }
     Ok(())
 }
 
 fn change_lists(rt: &impl Abort, alloc: Global, world: &mut World) -> Result<(), Fail> {
-    let news = name(alloc, b"Shared/News")?;
-    let bob = Identifier::read(alloc, b"bob")?;
-    assert_eq!(rt;
-        world.set_acl(&news, bob.try_copy(alloc)?, rights(b"lr")?),
-        Err(WorldError::NoSuch)
-    );
-    world
-        .place(news.try_copy(alloc)?, Acl::new(alloc))
-        .ok()
-        .ok_or("not placed")?;
-    assert_eq!(rt; world.set_acl(&news, bob, rights(b"lr")?), Ok(()));
-    fill_list(rt, alloc, world, &news)?;
-    let late = Identifier::read(alloc, b"late")?;
-    assert_eq!(rt;
-        world.set_acl(&news, late, rights(b"l")?),
-        Err(WorldError::Limit)
-    );
+    assert_eq!(rt; give(alloc, world, b"bob", b"lr")?, Err(WorldError::NoSuch));
+    assert_eq!(rt; place(alloc, world, b"Shared/News")?, Ok(()));
+    assert_eq!(rt; give(alloc, world, b"bob", b"lr")?, Ok(()));
+    fill_list(rt, alloc, world)?;
+    assert_eq!(rt; give(alloc, world, b"late", b"l")?, Err(WorldError::Limit));
     Ok(())
 }
 
