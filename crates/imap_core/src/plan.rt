@@ -142,7 +142,9 @@ fn done(alloc: Global, tag: &Tag) -> Result<Response, AllocError>
 fn with_done(alloc: Global, response: Response, tag: &Tag) -> Result<Vec<Response>, AllocError>
     ensures { IfOk result (λ replies. replies.items ≡ response ∷ done tag.now ∷ []) }
 {
-    Ok(vec![in alloc; response, done(alloc, tag)?]?)
+    let mut replies = vec![in alloc; response]?;
+    replies.push(done(alloc, tag)?)?;
+    Ok(replies)
 }
 
 fn command_plan(

@@ -8,6 +8,8 @@ mod framing;
 #[cfg(test)]
 mod grammar;
 #[cfg(test)]
+mod machine;
+#[cfg(test)]
 mod names;
 #[cfg(test)]
 mod printing;

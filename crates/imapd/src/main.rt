@@ -5,19 +5,11 @@
 #![tactic(auto)]
 
 mod command_line;
-mod head;
-mod input;
-mod line;
-mod run;
-mod scenario;
-pub mod script;
-mod step;
 #[cfg(test)]
 mod tests;
-mod transcript;
 
 use crate::command_line::{CommandLineError, Task};
-use crate::script::ScriptError;
+use imap_script::{ScriptError, script};
 use std::process::ExitCode;
 
 /// Exit statuses other than success.
@@ -29,7 +21,7 @@ const OUT_OF_MEMORY: u8 = 4;
 
 fn main(rt: HostRuntime) -> ExitCode {
     match command_line::read(&rt) {
-        Ok(Task::Script) => match script::script(&rt, rt.stdin(), rt.stdout()) {
+        Ok(Task::Script) => match script(&rt, rt.stdin(), rt.stdout()) {
             Ok(()) => ExitCode::SUCCESS,
             Err(error) => script_failed(&rt, &error),
         },

@@ -1,12 +1,11 @@
 mod faults;
 mod isolation;
 mod literals;
-mod machine;
 mod rows;
 
 use crate::command_line::{CommandLineError, Task, task_of};
-use crate::script::{ScriptError, script};
 use crate::{misused, script_failed};
+use imap_script::{ScriptError, script};
 use rows::{Row, SCRIPTS, STORED, UNSEEN};
 use std::alloc::{AllocError, Global};
 use std::process::ExitCode;

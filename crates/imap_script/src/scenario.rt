@@ -1,8 +1,8 @@
 //! A whole script, read.
 
+use crate::error::ScriptError;
 use crate::head::{Head, HeadWord};
 use crate::line::{LineError, read_number};
-use crate::script::ScriptError;
 use crate::step::ScriptStep;
 use std::alloc::Global;
 use std::str;

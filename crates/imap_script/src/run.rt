@@ -1,7 +1,7 @@
 //! Running a script that was read.
 
+use crate::error::ScriptError;
 use crate::scenario::Scenario;
-use crate::script::ScriptError;
 use crate::step::{Event, ScriptStep};
 use crate::transcript::Transcript;
 use imap_core::{Act, Core, SessionId, Step};

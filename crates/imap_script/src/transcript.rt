@@ -1,6 +1,6 @@
 //! What the sessions were told.
 
-use crate::script::ScriptError;
+use crate::error::ScriptError;
 use imap_print::{Response, print};
 use std::alloc::Global;
 use std::io::{self, BufWriter, Write};
@@ -13,11 +13,8 @@ pub(crate) struct Transcript<O: Write + Drop> {
 
 impl<O: Write + Drop> Transcript<O> {
     pub(crate) fn new(alloc: Global, output: O) -> Result<Transcript<O>, ScriptError> {
-        // Only memory can be refused here.
-        match BufWriter::new(alloc, output) {
-            Ok(output) => Ok(Transcript { output }),
-            Err(_) => Err(ScriptError::Memory),
-        }
+        let output = BufWriter::new(alloc, output)?;
+        Ok(Transcript { output })
     }
 
     /// Writes what one session is told.
@@ -29,9 +26,7 @@ impl<O: Write + Drop> Transcript<O> {
     ) -> Result<(), ScriptError> {
         let octets = print(alloc, replies)?;
         for line in octets.split_inclusive(|octet| *octet == b'\n') {
-            if self.write_line(label, without_end(line)).is_err() {
-                return Err(ScriptError::Io);
-            }
+            self.write_line(label, without_end(line))?;
         }
         Ok(())
     }
@@ -45,7 +40,8 @@ impl<O: Write + Drop> Transcript<O> {
 
     /// Hands the output all that was written.
     pub(crate) fn finish(&mut self) -> Result<(), ScriptError> {
-        self.output.flush().map_err(|_| ScriptError::Io)
+        self.output.flush()?;
+        Ok(())
     }
 }
 

@@ -1,14 +1,8 @@
-//! Running a script.
+//! Why a script isn't run to its end.
 
-use crate::input::read_all;
-use crate::run::run_scenario;
-use crate::scenario::Scenario;
 use std::alloc::{AllocError, AllocFailed};
-use std::io::{Read, Write};
+use std::io::{self, ErrorKind};
 use thiserror::Error;
-
-/// How often a script's input is read before it is held to have no end.
-const MOST_READS: u32 = 16_777_216;
 
 /// Why a script didn't run to its end.
 #[derive(Debug, Drop, Error)]
@@ -36,17 +30,11 @@ impl<T: Drop> From<AllocFailed<T>> for ScriptError {
     }
 }
 
-/// Reads a script from `input`, runs it, and writes to `output` what each session was told: a line for each line to a
-/// client, with the session before it, as `ann.1 > a1 OK done`.
-///
-/// The whole script is read and found good before any of it runs. No clause speaks of this: tests show it.
-pub fn script<R: AllocGlobal, I: Read + Drop, O: Write + Drop>(
-    rt: &R,
-    input: I,
-    output: O,
-) -> Result<(), ScriptError> {
-    let alloc = rt.alloc();
-    let text = read_all(alloc, input, MOST_READS)?;
-    let scenario = Scenario::read(alloc, text.as_slice())?;
-    run_scenario(alloc, scenario, output)
+impl From<io::Error> for ScriptError {
+    fn from(error: io::Error) -> ScriptError {
+        match error.kind() {
+            ErrorKind::OutOfMemory => ScriptError::Memory,
+            _ => ScriptError::Io,
+        }
+    }
 }
