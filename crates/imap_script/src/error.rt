@@ -1,7 +1,6 @@
 //! Why a script isn't run to its end.
 
 use std::alloc::{AllocError, AllocFailed};
-use std::io::{self, ErrorKind};
 use thiserror::Error;
 
 /// Why a script didn't run to its end.
@@ -27,14 +26,5 @@ impl From<AllocError> for ScriptError {
 impl<T: Drop> From<AllocFailed<T>> for ScriptError {
     fn from(_error: AllocFailed<T>) -> ScriptError {
         ScriptError::Memory
-    }
-}
-
-impl From<io::Error> for ScriptError {
-    fn from(error: io::Error) -> ScriptError {
-        match error.kind() {
-            ErrorKind::OutOfMemory => ScriptError::Memory,
-            _ => ScriptError::Io,
-        }
     }
 }

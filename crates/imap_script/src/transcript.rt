@@ -13,8 +13,11 @@ pub(crate) struct Transcript<O: Write + Drop> {
 
 impl<O: Write + Drop> Transcript<O> {
     pub(crate) fn new(alloc: Global, output: O) -> Result<Transcript<O>, ScriptError> {
-        let output = BufWriter::new(alloc, output)?;
-        Ok(Transcript { output })
+        // Only memory can be refused here.
+        match BufWriter::new(alloc, output) {
+            Ok(output) => Ok(Transcript { output }),
+            Err(_) => Err(ScriptError::Memory),
+        }
     }
 
     /// Writes what one session is told.
@@ -26,7 +29,9 @@ impl<O: Write + Drop> Transcript<O> {
     ) -> Result<(), ScriptError> {
         let octets = print(alloc, replies)?;
         for line in octets.split_inclusive(|octet| *octet == b'\n') {
-            self.write_line(label, without_end(line))?;
+            if self.write_line(label, without_end(line)).is_err() {
+                return Err(ScriptError::Io);
+            }
         }
         Ok(())
     }
@@ -40,8 +45,7 @@ impl<O: Write + Drop> Transcript<O> {
 
     /// Hands the output all that was written.
     pub(crate) fn finish(&mut self) -> Result<(), ScriptError> {
-        self.output.flush()?;
-        Ok(())
+        self.output.flush().map_err(|_| ScriptError::Io)
     }
 }
 

@@ -1,7 +1,7 @@
 //! Streams that fail.
 
 use super::rows::STORED;
-use imap_script::{ScriptError, script};
+use imap_script::{ScriptError, read_all, script};
 use std::alloc::Global;
 use std::io::{self, ErrorKind, Read, Write};
 use std::test::Fail;
@@ -109,6 +109,24 @@ fn a_read_fails(rt: HostRuntime) -> Result<(), Fail> {
     let mut written = Vec::new(rt.alloc());
     script(&rt, stored(6, ErrorKind::BrokenPipe, true), &mut written)?;
     assert_eq!(rt; written.as_slice(), STORED.told.as_bytes());
+    Ok(())
+}
+
+#[test]
+fn reads_are_counted(rt: HostRuntime) -> Result<(), Fail> {
+    let alloc = rt.alloc();
+    let cases = [
+        (6, ErrorKind::BrokenPipe, true, 5, 6),
+        (2, ErrorKind::Interrupted, false, 6, 7),
+    ];
+    for (reads, error, is_lasting, too_few, enough) in cases {
+        let cut = read_all(alloc, stored(reads, error, is_lasting), too_few);
+        assert!(rt; matches!(&cut, Err(ScriptError::Io)));
+        let whole = read_all(alloc, stored(reads, error, is_lasting), enough)?;
+        assert_eq!(rt; whole.as_slice(), STORED.script.as_bytes());
+    }
+    let endless = read_all(alloc, stored(2, ErrorKind::Interrupted, true), 1000);
+    assert!(rt; matches!(&endless, Err(ScriptError::Io)));
     Ok(())
 }
 
