@@ -3,13 +3,15 @@
 use crate::list::{ListReturn, Patterns, Selection};
 use crate::select::SelectParameters;
 use crate::store::StoreChange;
+use crate::write::verb_of;
 use imap_lex::{Octets, Tag};
 use imap_query::{FetchItem, SearchKeys, SearchReturn, StatusItem};
 use imap_syntax::{DateTime, Flags, Items, MessageSet, Numbering};
+use std::fmt;
 
 /// What a command asks for, apart from its tag. Names of mailboxes, identifiers and rights stand as the client sent
 /// them, without their quotes and escapes.
-#[derive(Debug, Drop)]
+#[derive(Drop)]
 pub enum Body {
     /// RFC 9051, section 6.1.1.
     Capability,
@@ -149,6 +151,15 @@ pub enum Body {
         messages: MessageSet,
         mailbox: Octets,
     },
+}
+
+/// Shows which command it is: what it carries may be a message of many megabytes.
+impl fmt::Debug for Body {
+    fn fmt<W: fmt::Write>(&self, f: &mut fmt::Formatter<W>) -> fmt::Result {
+        f.debug_struct("Body")
+            .field("verb", &verb_of(self))
+            .finish_non_exhaustive()
+    }
 }
 
 /// What a frame of the stream asks for.

@@ -3,7 +3,7 @@
 use imap_syntax::{Keyword, is_astring_char};
 
 /// The word that says which command it is.
-#[derive(Clone, Copy)]
+#[derive(Clone, Copy, Debug)]
 pub(crate) enum Verb {
     Append,
     Authenticate,

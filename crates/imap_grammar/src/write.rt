@@ -169,7 +169,7 @@ fn push_command(out: &mut Vec<u8>, tag: &Tag, body: &Body) -> Result<(), AllocEr
     out.extend_from_slice(b"\r\n")
 }
 
-fn verb_of(body: &Body) -> Verb
+pub(crate) fn verb_of(body: &Body) -> Verb
     ensures { result ≡ verb_of body.now }
 {
     match body {
