@@ -30,6 +30,21 @@ fn check(rt: &impl Abort, alloc: Global, rows: &[(&[u8], &[u8])]) -> Result<(), 
     Ok(())
 }
 
+/// What `Debug` says of the frame's request.
+fn debug_of(alloc: Global, frame: &[u8]) -> Result<String, AllocError> {
+    let request = parse(alloc, &Octets::from_slice(alloc, frame)?)?;
+    let text = format!(in alloc; "{request:?}");
+    drop(request);
+    text
+}
+
+#[test]
+fn debug_says_which_command_it_is(rt: HostRuntime) -> Result<(), Fail> {
+    let text = debug_of(rt.alloc(), b"a1 GETACL INBOX\r\n")?;
+    assert!(rt; text.as_str().ends_with("body: Body { verb: GetAcl, .. } }"));
+    Ok(())
+}
+
 #[test]
 fn words_alone(rt: HostRuntime) -> Result<(), Fail> {
     const ROWS: [(&[u8], &[u8]); 12] = [
