@@ -2,7 +2,7 @@
 use Rattle.std.proofs.Common.{◌≡◌, ℕ, Bool, true, eqb, ◌||◌, List, refl, arith}
 use Rattle.std.proofs.lemmas.Bool.Decides.{nat_tests}
 use Rattle.imap_syntax.specs.Lexical.{is_atom_char}
-use Rattle.imap_grammar.specs.Appending.{flags_behind, append_flags, date_behind, append_date, message, append}
+use Rattle.imap_grammar.specs.commands.Append.{flags_after, append_flags, date_after, append_date, message, append}
 use Rattle.imap_syntax.proofs.RuleLaws.{Anything, StopsAt, Lawful, MayFollow, ended_lawful, then_lawful, then_follows, after_anything, give_lawful, give_follows, octet_lawful, octet_then_follows}
 use Rattle.imap_syntax.proofs.Opens.{opens_weaker, Opens, then_opens, opens_follows}
 use Rattle.imap_syntax.proofs.Lists.{flag_lawful, flag_then_lawful, flag_then_follows, flag_then_opens, counted_lawful}
@@ -14,14 +14,14 @@ use Rattle.imap_grammar.proofs.Stores.{argument_lawful}
 
 append_flags_lawful : Lawful (StopsAt (λ b. eqb b 40)) append_flags
 append_flags_lawful =
-    flag_then_lawful 40 flags_behind
+    flag_then_lawful 40 flags_after
     (ended_lawful (listed_end_lawful begins_flag (no_flag 41 refl) message_flag_opens (before (end_stops is_atom_char refl refl refl) message_flag_lawful)) (λ flags. ended_lawful (octet_lawful 32) (λ u. give_lawful _)))
     (give_lawful _)
     (give_follows _)
 
 append_date_lawful : Lawful (StopsAt (λ b. eqb b 34)) append_date
 append_date_lawful =
-    flag_then_lawful 34 date_behind
+    flag_then_lawful 34 date_after
     (ended_lawful date_time_end_lawful (λ moment. ended_lawful (octet_lawful 32) (λ u. give_lawful _)))
     (give_lawful _)
     (give_follows _)
@@ -49,7 +49,7 @@ no_flags : MayFollow (StopsAt (λ b. eqb b 40)) Anything message
 no_flags = opens_follows message_opens (λ b rest h. differs begins_message 40 refl b h)
 
 date_follows : MayFollow (StopsAt (λ b. eqb b 40)) (StopsAt (λ b. eqb b 40)) append_date
-date_follows = flag_then_follows 34 date_behind (λ rest. refl) (give_follows _)
+date_follows = flag_then_follows 34 date_after (λ rest. refl) (give_follows _)
 
 pub append_lawful : {After : List ℕ → Type 0} → Lawful After append
 append_lawful =

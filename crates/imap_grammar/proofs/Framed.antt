@@ -1,5 +1,5 @@
 -- What is written comes through a framer as one frame.
-use Rattle.std.proofs.Common.{◌≡◌, ℕ, ◌+◌, ◌-◌, ◌<◌, ◌≤◌, ◌^◌, true, not, eqb, List, [], ◌∷◌, ◌++◌, length, map, Some, None, refl, sym, ap, subst, ◌∙◌, append_assoc, length-append, arith}
+use Rattle.std.proofs.Common.{◌≡◌, ℕ, ◌+◌, ◌-◌, ◌<◌, ◌≤◌, ◌^◌, true, not, eqb, List, [], ◌∷◌, ◌++◌, length, map, Some, None, refl, sym, ap, subst, ◌∙◌, append_assoc, arith}
 use Rattle.std.specs.Fmt.{decimal as decimal_text}
 use Rattle.std.specs.Char.{is_ascii_digit}
 use Rattle.std.specs.List.{list_all, AllByRecursion}
@@ -11,44 +11,32 @@ use Rattle.imap_lex.specs.declared.frame.Frame.{Frame}
 use Rattle.imap_lex.specs.declared.frame.Frame.TheVariants.{Whole, Continue}
 use Rattle.imap_lex.specs.Mark as mark
 use Rattle.imap_lex.specs.Mark.{Announced, IsMarked, IsDigit, with_octets, line_mark}
+use Rattle.imap_lex.specs.CommandTag.{is_tag}
+use Rattle.imap_lex.specs.Limits.{max_command_octets}
 use Rattle.imap_lex.specs.Framing as framing
 use Rattle.imap_lex.specs.Framing.{crlf, Framing, awaiting, Outcome, start, run}
 use Rattle.imap_lex.specs.Stream as stream
-use Rattle.imap_lex.specs.Stream.{HasNoCrlf, IsLine, IsLastLine, Section, IsSection, sections_octets, sections_told, outside, inside, IsReading, Reading, octets_of}
+use Rattle.imap_lex.specs.Stream.{HasNoCrlf, IsLine, IsLastLine, Section, IsSection, sections_octets, sections_frames, outside, inside, IsReading, Reading, octets_of}
 use Rattle.imap_lex.proofs.Tails.{with_octets-append}
 use Rattle.imap_lex.proofs.Marks.{marks_are_found}
-use Rattle.imap_lex.proofs.Told.{told_as_read}
-use Rattle.imap_grammar.specs.declared.request.Body.{Body}
+use Rattle.imap_lex.proofs.FramesRead.{frames_as_read}
+use Rattle.imap_grammar.specs.declared.command.Command.{Command}
 use Rattle.imap_grammar.specs.declared.request.Request.{Request}
-use Rattle.imap_grammar.specs.declared.request.Request.TheVariants.{Command, Malformed, TooBig}
+use Rattle.imap_grammar.specs.declared.request.Request.TheVariants as request
+use Rattle.imap_grammar.specs.declared.request.Request.TheVariants.{Malformed, TooBig}
 use Rattle.imap_syntax.specs.Lexical.{is_astring_char, is_tag_char, decimal_from}
-use Rattle.imap_grammar.specs.Words.{verb_name}
-use Rattle.imap_grammar.specs.WrittenCommands.{tag as tag_writing, verb_of, body_fits, arguments_text, request_fits, request_text}
+use Rattle.imap_grammar.specs.Verb.{verb_name}
+use Rattle.imap_grammar.specs.Writing.{arguments_fit, arguments_text, request_fits, request_text}
+use Rattle.imap_grammar.specs.Verb.{verb_of}
 use Rattle.imap_grammar.specs.WrittenFrames.{Framed, IsToldWhole, EachIsTold}
 use Rattle.imap_grammar.proofs.Tables.{verb_table}
 use Rattle.imap_syntax.proofs.Writing.{both_true, both, consists_all, digits_made, number_value}
+use Rattle.imap_grammar.proofs.Lines.{is_line}
 use Rattle.imap_grammar.proofs.WrittenRequests.{written_is}
 use Rattle.imap_syntax.proofs.Lined.{Piece, part, literal, is_line_octet, IsPart, IsPiece, pieces_text, IsLined, none_lined, append_lined, octet_lined, consists_lined, is_safe, astring_safe, word_lined, each_weaker}
 use Rattle.imap_grammar.proofs.LinedCommands.{arguments_lined}
 
 -- ---- lines
-
-only_end : (front back : List ℕ) → crlf ≡ front ++ (crlf ++ back) → back ≡ []
-only_end front [] e = refl
-only_end front (b ∷ back) e = absurd (omega (arith, ap length e, length-append front (crlf ++ b ∷ back)))
-
-no_earlier : (octets : List ℕ) → list_all is_line_octet octets ≡ true → (front back : List ℕ) → octets ++ crlf ≡ front ++ (crlf ++ back) → back ≡ []
-no_earlier [] h front back e = only_end front back e
-no_earlier (b ∷ octets) h [] back e =
-    let return : b ≡ 13 = cc in
-    let passes : is_line_octet 13 ≡ true = subst (λ (x : ℕ). is_line_octet x ≡ true) return (both_true (is_line_octet b) (list_all is_line_octet octets) h).0 in
-    absurd cc
-no_earlier (b ∷ octets) h (x ∷ front) back e =
-    let behind : octets ++ crlf ≡ front ++ (crlf ++ back) = cc in
-    no_earlier octets (both_true (is_line_octet b) (list_all is_line_octet octets) h).1 front back behind
-
-is_line : (octets : List ℕ) → list_all is_line_octet octets ≡ true → IsLine (octets ++ crlf)
-is_line octets h = record { ends = (octets, refl); no_earlier = no_earlier octets h }
 
 no_mark : (octets : List ℕ) → IsPart octets → line_mark (octets ++ crlf) ≡ None
 no_mark octets h = ap mark.mark_at (with_octets-append mark.text octets crlf ∙ ap (λ (t : mark.LineTail). with_octets t crlf) h.unmarked)
@@ -136,7 +124,7 @@ framed_lined octets h = subst (λ (t : List ℕ). Framed (t ++ crlf)) (sym h.who
 
 -- ---- what a framer tells of it
 
-all_go_on : (ss : List Section) → AllByRecursion (λ s. s.mark.waits ≡ true) ss → sections_told ss ≡ map (λ s. Continue) ss
+all_go_on : (ss : List Section) → AllByRecursion (λ s. s.mark.waits ≡ true) ss → sections_frames ss ≡ map (λ s. Continue) ss
 all_go_on [] h = refl
 all_go_on (s ∷ ss) h = rw (h.0) (ap (λ (frames : List Frame). Continue ∷ frames) (all_go_on ss h.1))
 
@@ -145,7 +133,7 @@ nothing [] back e = cc
 nothing (x ∷ front) back e = cc
 
 abbrev outcome : List Frame → Framing → Outcome
-outcome frames next = record { told = frames; next = next }
+outcome frames next = record { frames = frames; next = next }
 
 at_start : (limit : ℕ) → stream.ending_left limit (stream.in_line [] []) ≡ awaiting limit (start limit)
 at_start limit =
@@ -153,7 +141,7 @@ at_start limit =
     let room : limit - 0 ≡ limit = omega arith in
     ap with_room room
 
-told_by : (limit : ℕ) (ss : List Section) (last : List ℕ) → AllByRecursion IsSection ss → AllByRecursion (λ s. s.mark.waits ≡ true) ss → IsLastLine last → outside ss + length last ≤ 8192 → inside ss ≤ limit
+told_by : (limit : ℕ) (ss : List Section) (last : List ℕ) → AllByRecursion IsSection ss → AllByRecursion (λ s. s.mark.waits ≡ true) ss → IsLastLine last → outside ss + length last ≤ max_command_octets → inside ss ≤ limit
     → run (awaiting limit (start limit)) (sections_octets ss ++ last) ≡ outcome (map (λ s. Continue) ss ++ Whole (sections_octets ss ++ last) ∷ []) (awaiting limit (start limit))
 told_by limit ss last each waits ends few small =
     let octets = sections_octets ss ++ last in
@@ -162,9 +150,9 @@ told_by limit ss last each waits ends few small =
     let none : stream.IsBegun limit [] 0 0 = record { each = tt; outside = omega arith; inside = omega arith } in
     let is : IsReading limit reading = (((begun, ends), tt), (none, nothing)) in
     let bare : (octets ++ []) ++ [] ≡ octets = append-nil (octets ++ []) ∙ append-nil octets in
-    let frames = sections_told ss ++ Whole octets ∷ [] in
+    let frames = sections_frames ss ++ Whole octets ∷ [] in
     let told : (frames ++ []) ++ [] ≡ map (λ s. Continue) ss ++ Whole octets ∷ [] = append-nil (frames ++ []) ∙ append-nil frames ∙ ap (λ (f : List Frame). f ++ Whole octets ∷ []) (all_go_on ss waits) in
-    ap (run (awaiting limit (start limit))) (sym bare) ∙ told_as_read limit reading is ∙ ap (λ (f : List Frame). outcome f (stream.ending_left limit (stream.in_line [] []))) told ∙ ap (outcome (map (λ s. Continue) ss ++ Whole octets ∷ [])) (at_start limit)
+    ap (run (awaiting limit (start limit))) (sym bare) ∙ frames_as_read limit reading is ∙ ap (λ (f : List Frame). outcome f (stream.ending_left limit (stream.in_line [] []))) told ∙ ap (outcome (map (λ s. Continue) ss ++ Whole octets ∷ [])) (at_start limit)
 
 told_whole : (octets : List ℕ) (f : Framed octets) → IsToldWhole octets f
 told_whole octets f limit few small =
@@ -175,15 +163,15 @@ told_whole octets f limit few small =
 tag_safe : (b : ℕ) → is_tag_char b ≡ true → is_safe b ≡ true
 tag_safe b h = astring_safe b (both_true (is_astring_char b) (not (eqb b 43)) h).0
 
-tag_lined : (tag : List ℕ) → tag_writing.fits tag ≡ true → IsLined tag
+tag_lined : (tag : List ℕ) → is_tag tag ≡ true → IsLined tag
 tag_lined tag h = consists_lined is_tag_char tag_safe tag (both_true _ _ h).1
 
-command_lined : (tag : List ℕ) (b : Body) → tag_writing.fits tag ≡ true → body_fits b ≡ true → IsLined (tag ++ (32 ∷ (verb_name (verb_of b) ++ arguments_text b)))
+command_lined : (tag : List ℕ) (b : Command) → is_tag tag ≡ true → arguments_fit b ≡ true → IsLined (tag ++ (32 ∷ (verb_name (verb_of b) ++ arguments_text b)))
 command_lined tag b h k =
     let name = verb_name (verb_of b) in
     append_lined tag (32 ∷ (name ++ arguments_text b)) (tag_lined tag h) (octet_lined 32 (name ++ arguments_text b) refl (append_lined name (arguments_text b) (word_lined verb_table astring_safe (verb_of b)) (arguments_lined b k)))
 
-command_framed : (tag : List ℕ) (b : Body) → tag_writing.fits tag ≡ true → body_fits b ≡ true → Framed (request_text (Command tag b))
+command_framed : (tag : List ℕ) (b : Command) → is_tag tag ≡ true → arguments_fit b ≡ true → Framed (request_text (request.Command tag b))
 command_framed tag b h k =
     let name = verb_name (verb_of b) in
     let args = arguments_text b in
@@ -191,7 +179,7 @@ command_framed tag b h k =
     subst Framed regrouped (framed_lined (tag ++ (32 ∷ (name ++ args))) (command_lined tag b h k))
 
 request_framed : (r : Request) → request_fits r ≡ true → Framed (request_text r)
-request_framed (Command tag b) h = let q = both_true (tag_writing.fits tag) (body_fits b) h in command_framed tag b q.0 q.1
+request_framed (request.Command tag b) h = let q = both_true (is_tag tag) (arguments_fit b) h in command_framed tag b q.0 q.1
 request_framed (Malformed (Some tag)) h = framed_lined tag (tag_lined tag h)
 request_framed (Malformed None) h = framed_lined [] none_lined
 request_framed (TooBig tag) h = absurd cc

@@ -1,28 +1,29 @@
 -- The laws of commands.
-use Rattle.std.proofs.Common.{◌≡◌, ℕ, Bool, true, false, not, eqb, List, refl, arith}
-use Rattle.std.proofs.lemmas.Bool.Decides.{nat_tests}
+use Rattle.std.proofs.Common.{ℕ, eqb, List, refl}
 use Rattle.imap_syntax.specs.declared.set.Numbering.TheVariants.{Sequence, Uid}
-use Rattle.imap_grammar.specs.declared.request.Body.{Body}
-use Rattle.imap_grammar.specs.declared.select.SelectParameters.{SelectParameters}
-use Rattle.imap_grammar.specs.Selecting.{parameters}
+use Rattle.imap_grammar.specs.declared.command.Command.{Command}
+use Rattle.imap_grammar.specs.declared.commands.select.SelectParameters.{SelectParameters}
+use Rattle.imap_grammar.specs.commands.Select.{parameters}
 use Rattle.imap_grammar.specs.declared.verb.Verb.{Verb}
 use Rattle.imap_grammar.specs.declared.verb.Verb.TheVariants as verb
 use Rattle.imap_grammar.specs.declared.verb.UidVerb.{UidVerb}
 use Rattle.imap_grammar.specs.declared.verb.UidVerb.TheVariants as uid
 use Rattle.imap_syntax.specs.Rule.{Rule, give, ◌>>=◌, octet}
-use Rattle.imap_grammar.specs.Stores.{argument}
+use Rattle.imap_grammar.specs.commands.Argument.{argument}
 use Rattle.imap_syntax.specs.Lexical.{is_astring_char, is_atom_char, is_tag_char}
-use Rattle.imap_grammar.specs.Grammar.{status, enable, uid_arguments, uid_command, arguments, command, tag_front}
+use Rattle.imap_grammar.specs.commands.Mailboxes.{status}
+use Rattle.imap_grammar.specs.commands.Enable.{enable}
+use Rattle.imap_grammar.specs.commands.Messages.{uid_arguments, uid_command}
+use Rattle.imap_grammar.specs.Reading.{arguments, after_tag, command}
 use Rattle.imap_syntax.proofs.RuleLaws.{Anything, StopsAt, Lawful, MayFollow, then_lawful, ended_lawful, give_lawful, give_follows, octet_lawful, octet_then_follows, then_follows, after_anything, some_of_lawful}
 use Rattle.imap_syntax.proofs.Words.{keyword_lawful}
 use Rattle.imap_grammar.proofs.Tables.{verb_table, uid_verb_table}
-use Rattle.imap_syntax.proofs.Opens.{octet_opens, then_opens, or_opens, opens_follows, or_apart}
 use Rattle.imap_syntax.proofs.Strings.{crlf_lawful}
 use Rattle.imap_syntax.proofs.Ends.{AtCr, cr_ends, cr_stops, end_stops, before, give_before, items_lawful, listed_lawful}
 use Rattle.imap_grammar.proofs.QueryLaws.{fetch_lawful, search_lawful}
 use Rattle.imap_grammar.proofs.Listing.{status_item_lawful, list_lawful}
 use Rattle.imap_grammar.proofs.Appending.{append_lawful}
-use Rattle.imap_grammar.proofs.AnythingLaws.{anything_lawful, anything_follows}
+use Rattle.imap_grammar.proofs.LoginLaws.{any_arguments_lawful, any_arguments_follow}
 use Rattle.imap_grammar.proofs.Selecting.{parameters_lawful, parameters_follow}
 use Rattle.imap_grammar.proofs.Stores.{argument_lawful, argument_follows, last_argument, copy_lawful, move_lawful, uid_expunge_lawful, store_lawful}
 
@@ -46,7 +47,7 @@ status_lawful : Lawful AtCr status
 status_lawful = one_more (λ mailbox. ended_lawful (octet_lawful 32) (λ u. ended_lawful (listed_lawful status_item_lawful) (λ items. give_lawful _))) (λ mailbox. spaced _)
 
 -- a mailbox and its parameters
-parameters_behind_argument : (make : List ℕ → SelectParameters → Body) → Lawful AtCr (do mailbox ← argument; given ← parameters; give (make mailbox given))
+parameters_behind_argument : (make : List ℕ → SelectParameters → Command) → Lawful AtCr (do mailbox ← argument; given ← parameters; give (make mailbox given))
 parameters_behind_argument make =
     one_more (λ mailbox. then_lawful parameters_lawful (λ given. give_lawful _) (λ given. give_follows _))
     (λ mailbox. then_follows parameters_follow (λ given. give_follows _))
@@ -78,7 +79,7 @@ uid_command_lawful = ended_lawful (octet_lawful 32) (λ u. then_lawful (keyword_
 
 arguments_lawful : (v : Verb) → Lawful AtCr (arguments v)
 arguments_lawful verb.Append = append_lawful
-arguments_lawful verb.Authenticate = anything_lawful
+arguments_lawful verb.Authenticate = any_arguments_lawful
 arguments_lawful verb.Capability = give_lawful _
 arguments_lawful verb.Close = give_lawful _
 arguments_lawful verb.Copy = copy_lawful Sequence
@@ -93,7 +94,7 @@ arguments_lawful verb.GetAcl = last_argument _
 arguments_lawful verb.Idle = give_lawful _
 arguments_lawful verb.List = list_lawful
 arguments_lawful verb.ListRights = one_more (λ a. last_argument _) (λ a. spaced_argument _)
-arguments_lawful verb.Login = anything_lawful
+arguments_lawful verb.Login = any_arguments_lawful
 arguments_lawful verb.Logout = give_lawful _
 arguments_lawful verb.Move = move_lawful Sequence
 arguments_lawful verb.MyRights = last_argument _
@@ -103,7 +104,7 @@ arguments_lawful verb.Rename = one_more (λ a. last_argument _) (λ a. spaced_ar
 arguments_lawful verb.Search = search_lawful Sequence
 arguments_lawful verb.Select = parameters_behind_argument _
 arguments_lawful verb.SetAcl = one_more (λ a. one_more (λ b. last_argument _) (λ b. spaced_argument _)) (λ a. spaced_argument _)
-arguments_lawful verb.StartTls = anything_lawful
+arguments_lawful verb.StartTls = any_arguments_lawful
 arguments_lawful verb.Status = status_lawful
 arguments_lawful verb.Store = store_lawful Sequence
 arguments_lawful verb.Subscribe = last_argument _
@@ -113,7 +114,7 @@ arguments_lawful verb.Unsubscribe = last_argument _
 
 arguments_follow : (v : Verb) → Spaced (arguments v)
 arguments_follow verb.Append = spaced_argument _
-arguments_follow verb.Authenticate = anything_follows
+arguments_follow verb.Authenticate = any_arguments_follow
 arguments_follow verb.Capability = give_before _ (cr_stops is_astring_char refl)
 arguments_follow verb.Close = give_before _ (cr_stops is_astring_char refl)
 arguments_follow verb.Copy = spaced _
@@ -128,7 +129,7 @@ arguments_follow verb.GetAcl = spaced_argument _
 arguments_follow verb.Idle = give_before _ (cr_stops is_astring_char refl)
 arguments_follow verb.List = spaced _
 arguments_follow verb.ListRights = spaced_argument _
-arguments_follow verb.Login = anything_follows
+arguments_follow verb.Login = any_arguments_follow
 arguments_follow verb.Logout = give_before _ (cr_stops is_astring_char refl)
 arguments_follow verb.Move = spaced _
 arguments_follow verb.MyRights = spaced_argument _
@@ -138,7 +139,7 @@ arguments_follow verb.Rename = spaced_argument _
 arguments_follow verb.Search = spaced _
 arguments_follow verb.Select = spaced_argument _
 arguments_follow verb.SetAcl = spaced_argument _
-arguments_follow verb.StartTls = anything_follows
+arguments_follow verb.StartTls = any_arguments_follow
 arguments_follow verb.Status = spaced_argument _
 arguments_follow verb.Store = spaced _
 arguments_follow verb.Subscribe = spaced_argument _
@@ -146,30 +147,17 @@ arguments_follow verb.Uid = spaced _
 arguments_follow verb.Unselect = give_before _ (cr_stops is_astring_char refl)
 arguments_follow verb.Unsubscribe = spaced_argument _
 
+after_tag_lawful : {After : List ℕ → Type 0} → Lawful After after_tag
+after_tag_lawful =
+    ended_lawful (octet_lawful 32) (λ u.
+    then_lawful (keyword_lawful verb_table)
+    (λ name. then_lawful (arguments_lawful name)
+    (λ given. ended_lawful crlf_lawful (λ v. give_lawful _))
+    (λ given. then_follows (octet_then_follows _ 13 (λ rest. refl)) (λ v. after_anything _)))
+    (λ name. then_follows (arguments_follow name) (λ given. then_follows (octet_then_follows _ 13 (λ rest. refl)) (λ v. after_anything _))))
+
 pub command_lawful : {After : List ℕ → Type 0} → Lawful After command
 command_lawful =
     then_lawful (some_of_lawful is_tag_char)
-    (λ tag. ended_lawful (octet_lawful 32) (λ u.
-    then_lawful (keyword_lawful verb_table)
-    (λ name. then_lawful (arguments_lawful name)
-    (λ asked. ended_lawful crlf_lawful (λ v. give_lawful _))
-    (λ asked. then_follows (octet_then_follows _ 13 (λ rest. refl)) (λ v. after_anything _)))
-    (λ name. then_follows (arguments_follow name) (λ asked. then_follows (octet_then_follows _ 13 (λ rest. refl)) (λ v. after_anything _)))))
-    (λ tag. octet_then_follows _ 32 (λ rest. refl))
-
--- ---- the tag of a frame
-
-not_true : (b : Bool) → not b ≡ true → b ≡ false
-not_true true h = absurd cc
-not_true false h = refl
-
-abbrev ends_tag : ℕ → Bool
-ends_tag b = not (is_tag_char b)
-
-pub tag_front_lawful : {After : List ℕ → Type 0} → Lawful After tag_front
-tag_front_lawful =
-    then_lawful (some_of_lawful is_tag_char)
-    (λ tag. ended_lawful
-    (or_apart (octet_lawful 32) crlf_lawful (then_opens _ (octet_opens (λ b. eqb b 13) 13 refl)) (λ b rest h. let k : eqb b 32 ≡ false = grind (arith, nat_tests) in rw k refl))
-    (λ u. give_lawful _))
-    (λ tag. opens_follows (then_opens _ (or_opens (octet_opens ends_tag 32 refl) (then_opens _ (octet_opens ends_tag 13 refl)))) (λ b rest h. not_true _ h))
+    (λ tag. ended_lawful after_tag_lawful (λ given. give_lawful _))
+    (λ tag. then_follows (octet_then_follows {After = Anything} _ 32 (λ rest. refl)) (λ given. after_anything _))

@@ -1,11 +1,13 @@
-pub mod Lengths
+pub mod Filled
 pub mod Tables
 pub mod Stores
 pub mod Appending
 pub mod Selecting
 pub mod Listing
 pub mod QueryLaws
-pub mod AnythingLaws
+pub mod Lines
+pub mod LoginLaws
+pub mod Tags
 pub mod Grammar
 pub mod Requests
 pub mod WrittenAppend
@@ -15,3 +17,5 @@ pub mod WrittenRequests
 pub mod WrittenSelect
 pub mod LinedCommands
 pub mod Framed
+pub mod CommandTexts
+pub mod OneCommands

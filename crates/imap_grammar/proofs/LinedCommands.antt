@@ -2,55 +2,61 @@
 use Rattle.std.proofs.Common.{◌≡◌, ℕ, Bool, true, false, cond, not, ◌&&◌, ltb, List, [], ◌∷◌, ◌++◌, length, codes, Option, Some, None, refl, arith}
 use Rattle.std.specs.Fmt.{decimal as decimal_text}
 use Rattle.std.specs.List.{list_all, list_any}
-use Rattle.imap_grammar.specs.declared.request.Body.{Body}
-use Rattle.imap_grammar.specs.declared.request.Body.TheVariants as body
+use Rattle.imap_grammar.specs.declared.command.Command.{Command}
+use Rattle.imap_grammar.specs.declared.command.Command.TheVariants as command
 use Rattle.imap_syntax.specs.declared.set.MessageSet.{MessageSet}
 use Rattle.imap_syntax.specs.declared.set.Numbering.{Numbering}
 use Rattle.imap_syntax.specs.declared.set.Numbering.TheVariants.{Sequence, Uid}
 use Rattle.imap_syntax.specs.declared.set.SeqRange.{SeqRange}
 use Rattle.imap_syntax.specs.declared.flag.Flag.{Flag}
-use Rattle.imap_syntax.specs.declared.date.DateTime.{DateTime}
+use Rattle.imap_syntax.specs.Moments.{Moment}
 use Rattle.imap_query.specs.declared.fetch.FetchItem.{FetchItem}
 use Rattle.imap_query.specs.declared.search.SearchReturn.{SearchReturn}
-use Rattle.imap_grammar.specs.declared.select.QresyncArg.{QresyncArg}
-use Rattle.imap_grammar.specs.declared.select.SelectParameters.{SelectParameters}
-use Rattle.imap_grammar.specs.declared.list.Selection.{Selection}
-use Rattle.imap_grammar.specs.declared.list.ListReturn.{ListReturn}
-use Rattle.imap_grammar.specs.declared.list.ListReturn.TheVariants as told
-use Rattle.imap_grammar.specs.declared.list.Patterns.{Patterns}
-use Rattle.imap_grammar.specs.declared.list.Patterns.TheVariants.{One, Many}
+use Rattle.imap_grammar.specs.declared.commands.select.QresyncArg.{QresyncArg}
+use Rattle.imap_grammar.specs.declared.commands.select.SelectParameters.{SelectParameters}
+use Rattle.imap_grammar.specs.declared.commands.list.Selection.{Selection}
+use Rattle.imap_grammar.specs.declared.commands.list.ListReturn.{ListReturn}
+use Rattle.imap_grammar.specs.declared.commands.list.ListReturn.TheVariants as told
+use Rattle.imap_grammar.specs.declared.commands.list.Patterns.{Patterns}
+use Rattle.imap_grammar.specs.declared.commands.list.Patterns.TheVariants.{One, Many}
 use Rattle.imap_query.specs.declared.status.StatusItem.{StatusItem}
-use Rattle.imap_grammar.specs.declared.store.StoreChange.{StoreChange}
+use Rattle.imap_grammar.specs.declared.commands.store.StoreSpec.{StoreSpec}
 use Rattle.imap_grammar.specs.declared.verb.UidVerb.{UidVerb}
 use Rattle.imap_grammar.specs.declared.verb.UidVerb.TheVariants as uid
 use Rattle.imap_syntax.specs.Lexical.{has_nul}
 use Rattle.imap_query.specs.StatusWords.{status_name}
-use Rattle.imap_grammar.specs.Words.{uid_verb_name, store_name}
-use Rattle.imap_grammar.specs.ListWords.{selection_name}
-use Rattle.imap_grammar.specs.Selecting.{has_last}
+use Rattle.imap_grammar.specs.Verb.{uid_verb_name}
+use Rattle.imap_grammar.proofs.Filled.{is_filled}
+use Rattle.imap_grammar.specs.commands.List.{selection_name}
+use Rattle.imap_grammar.specs.commands.Select.{has_last}
 use Rattle.imap_query.specs.Keys.{Token}
+use Rattle.std.proofs.lemmas.Bool.Decides.{nat_tests}
 use Rattle.imap_syntax.specs.Writing as writing
 use Rattle.imap_syntax.specs.Writing.{number, separated, listed, listed_or_none}
-use Rattle.imap_syntax.specs.Written.{string, literal_text, atom, mod_sequence, seq_set, message_set, message_flag}
+use Rattle.imap_syntax.specs.Written.{string, astring, literal_text, atom, mod_sequence, seq_set, message_set, message_flag}
 use Rattle.imap_syntax.specs.WrittenDates.{date_time_end}
 use Rattle.imap_query.specs.WrittenFetch.{fetch_items, changed_fits, modifiers_text}
 use Rattle.imap_query.specs.WrittenSearch.{search_keys, returns_text, charset_fits, charset_text}
-use Rattle.imap_grammar.specs.WrittenSelect.{known_fits, known_text, qresync, qresync_fits, parameters_by, parameters}
-use Rattle.imap_grammar.specs.WrittenList.{selection_fits, selection_text, patterns_fit, patterns_text, list_return, returns_fit, returns_text as options_text, list_fits, list_text}
-use Rattle.imap_grammar.specs.WrittenAppend.{moment_fits, moment_text, message_text, append_fits, append_text}
-use Rattle.imap_grammar.specs.WrittenCommands.{argument_text, store_word, since_fits, since_text, change_text, store_front, store_text, fetch_fits, fetch_text, search_text, copy_text, uid_text, body_fits, arguments_text}
+use Rattle.imap_grammar.specs.commands.Select.{known_fits, known_text, qresync_writing, qresync_fits, parameters_by, parameters_writing}
+use Rattle.imap_grammar.specs.commands.List.{is_list_char, pattern_writing, selection_fits, selection_text, patterns_fit, patterns_text, list_return_writing, returns_fit, returns_text as options_text, list_fits, list_text}
+use Rattle.imap_grammar.specs.commands.Append.{date_fits, date_text, message_text, flags_text, append_fits, append_text}
+use Rattle.imap_grammar.specs.commands.Argument.{argument_text}
+use Rattle.imap_grammar.specs.commands.Store.{store_name, store_word, since_fits, since_text, store_flags_text, change_text, store_spec_writing}
+use Rattle.imap_grammar.specs.commands.Messages.{store_text, fetch_fits, fetch_text, search_text, copy_text}
+use Rattle.imap_grammar.specs.Verb.{uid_text}
+use Rattle.imap_grammar.specs.Writing.{arguments_fit, arguments_text}
 use Rattle.imap_grammar.proofs.Tables.{uid_verb_table, store_table, selection_table}
 use Rattle.imap_query.proofs.Tables.{status_table}
-use Rattle.imap_syntax.proofs.Writing.{both_true}
+use Rattle.imap_syntax.proofs.Writing.{both_true, both}
 use Rattle.imap_grammar.proofs.WrittenList.{each_word}
-use Rattle.imap_syntax.proofs.Lined.{IsLined, Lines, none_lined, append_lined, safe_lined, octet_lined, astring_safe, atom_lined, word_lined, number_lined, number64_lined, mod_sequence_lined, separated_lined, listed_lined, literal_lined, string_lined, seq_set_lined, set_lined, flag_lined, date_time_lined}
+use Rattle.imap_syntax.proofs.Lined.{IsLined, Lines, none_lined, append_lined, safe_lined, octet_lined, astring_safe, atom_lined, word_lined, number_lined, number64_lined, mod_sequence_lined, separated_lined, listed_lined, literal_lined, astring_lined, bare_or_string_lined, is_safe, seq_set_lined, set_lined, flag_lined, date_time_lined}
 use Rattle.imap_query.proofs.LinedQuery.{items_lined, between_lined, modifiers_lined, tokens_lined, returns_lined, charset_lined}
 
 space_lined : (octets : List ℕ) → IsLined octets → IsLined (32 ∷ octets)
 space_lined octets h = octet_lined 32 octets refl h
 
 argument_lined : (octets : List ℕ) → string.fits octets ≡ true → IsLined (argument_text octets)
-argument_lined octets h = space_lined (string.text octets) (string_lined octets h)
+argument_lined octets h = space_lined (astring.text octets) (astring_lined octets h)
 
 -- ---- SELECT
 
@@ -58,7 +64,7 @@ known_lined : (known : Option (List SeqRange)) → known_fits known ≡ true →
 known_lined None h = none_lined
 known_lined (Some uids) h = space_lined (seq_set.text uids) (seq_set_lined uids (both_true (seq_set.fits uids) (not (list_any has_last uids)) h).0)
 
-qresync_lined : Lines qresync
+qresync_lined : Lines qresync_writing
 qresync_lined q h =
     let p = both_true ((number 1 4294967295).fits q.validity) (mod_sequence.fits q.mod_seq && known_fits q.known_uids) h in
     let r = both_true (mod_sequence.fits q.mod_seq) (known_fits q.known_uids) p.1 in
@@ -70,10 +76,10 @@ qresync_lined q h =
 by_parts : (condstore : Bool) (known : Option QresyncArg) → qresync_fits known ≡ true → IsLined (parameters_by condstore known)
 by_parts false None h = none_lined
 by_parts true None h = safe_lined (codes " (CONDSTORE)") refl
-by_parts false (Some q) h = append_lined (codes " (QRESYNC") (qresync.text q ++ codes ")") (safe_lined (codes " (QRESYNC") refl) (append_lined (qresync.text q) (codes ")") (qresync_lined q h) (safe_lined (codes ")") refl))
-by_parts true (Some q) h = append_lined (codes " (CONDSTORE QRESYNC") (qresync.text q ++ codes ")") (safe_lined (codes " (CONDSTORE QRESYNC") refl) (append_lined (qresync.text q) (codes ")") (qresync_lined q h) (safe_lined (codes ")") refl))
+by_parts false (Some q) h = append_lined (codes " (QRESYNC") (qresync_writing.text q ++ codes ")") (safe_lined (codes " (QRESYNC") refl) (append_lined (qresync_writing.text q) (codes ")") (qresync_lined q h) (safe_lined (codes ")") refl))
+by_parts true (Some q) h = append_lined (codes " (CONDSTORE QRESYNC") (qresync_writing.text q ++ codes ")") (safe_lined (codes " (CONDSTORE QRESYNC") refl) (append_lined (qresync_writing.text q) (codes ")") (qresync_lined q h) (safe_lined (codes ")") refl))
 
-parameters_lined : Lines parameters
+parameters_lined : Lines parameters_writing
 parameters_lined p h = by_parts p.condstore p.qresync h
 
 -- ---- LIST
@@ -84,21 +90,27 @@ selection_lined (Some all) =
     let names = writing.word selection_name in
     append_lined ((listed_or_none names).text all) (32 ∷ []) (listed_lined names (λ w h. word_lined selection_table astring_safe w) all (each_word all)) (safe_lined (32 ∷ []) refl)
 
+list_char_safe : (b : ℕ) → is_list_char b ≡ true → is_safe b ≡ true
+list_char_safe b h = grind (arith, nat_tests)
+
+pattern_lined : Lines pattern_writing
+pattern_lined = bare_or_string_lined is_list_char list_char_safe
+
 patterns_lined : (wanted : Patterns) → patterns_fit wanted ≡ true → IsLined (patterns_text wanted)
-patterns_lined (One pattern) h = string_lined pattern h
-patterns_lined (Many all) h = listed_lined string string_lined all (both_true _ _ h).1
+patterns_lined (One pattern) h = pattern_lined pattern h
+patterns_lined (Many all) h = listed_lined pattern_writing pattern_lined all (both_true _ _ h).1
 
 statuses_lined : (items : List StatusItem) → (listed (writing.word status_name)).fits items ≡ true → IsLined ((listed (writing.word status_name)).text items)
 statuses_lined items h = listed_lined (writing.word status_name) (λ w h. word_lined status_table astring_safe w) items (both_true _ _ h).1
 
-return_lined : Lines list_return
+return_lined : Lines list_return_writing
 return_lined told.Subscribed h = safe_lined (codes "SUBSCRIBED") refl
 return_lined told.Children h = safe_lined (codes "CHILDREN") refl
 return_lined (told.Status items) h = append_lined (codes "STATUS ") _ (safe_lined (codes "STATUS ") refl) (statuses_lined items h)
 
 options_lined : (returns : Option (List ListReturn)) → returns_fit returns ≡ true → IsLined (options_text returns)
 options_lined None h = none_lined
-options_lined (Some all) h = append_lined (codes " RETURN ") _ (safe_lined (codes " RETURN ") refl) (listed_lined list_return return_lined all h)
+options_lined (Some all) h = append_lined (codes " RETURN ") _ (safe_lined (codes " RETURN ") refl) (listed_lined list_return_writing return_lined all h)
 
 list_lined : (selection : Option (List Selection)) (reference : List ℕ) (wanted : Patterns) (returns : Option (List ListReturn)) → list_fits selection reference wanted returns ≡ true → IsLined (list_text selection reference wanted returns)
 list_lined selection reference wanted returns h =
@@ -106,10 +118,10 @@ list_lined selection reference wanted returns h =
     let q = both_true (string.fits reference) (patterns_fit wanted && returns_fit returns) p.1 in
     let r = both_true (patterns_fit wanted) (returns_fit returns) q.1 in
     let names = patterns_text wanted ++ options_text returns in
-    let place = string.text reference ++ (32 ∷ names) in
+    let place = astring.text reference ++ (32 ∷ names) in
     space_lined (selection_text selection ++ place)
     (append_lined (selection_text selection) place (selection_lined selection)
-    (append_lined (string.text reference) (32 ∷ names) (string_lined reference q.0)
+    (append_lined (astring.text reference) (32 ∷ names) (astring_lined reference q.0)
     (space_lined names (append_lined (patterns_text wanted) (options_text returns) (patterns_lined wanted r.0) (options_lined returns r.1)))))
 
 -- ---- APPEND
@@ -117,24 +129,29 @@ list_lined selection reference wanted returns h =
 flags_lined : (fs : List Flag) → list_all message_flag.fits fs ≡ true → IsLined ((listed_or_none message_flag).text fs)
 flags_lined fs h = listed_lined message_flag flag_lined fs h
 
-moment_lined : (moment : Option DateTime) → IsLined (moment_text moment)
+moment_lined : (moment : Option Moment) → IsLined (date_text moment)
 moment_lined None = none_lined
-moment_lined (Some moment) = octet_lined 34 (date_time_end.text moment ++ 32 ∷ []) refl (append_lined (date_time_end.text moment) (32 ∷ []) (date_time_lined moment) (safe_lined (32 ∷ []) refl))
+moment_lined (Some moment) = append_lined (34 ∷ date_time_end.text moment) (32 ∷ []) (octet_lined 34 (date_time_end.text moment) refl (date_time_lined moment)) (safe_lined (32 ∷ []) refl)
 
 message_by : (octets : List ℕ) (nul : Bool) → ltb (length octets) 18446744073709551616 ≡ true → IsLined (cond nul (126 ∷ literal_text octets) (literal_text octets))
 message_by octets true h = octet_lined 126 (literal_text octets) refl (literal_lined octets h)
 message_by octets false h = literal_lined octets h
 
-append_command_lined : (mailbox : List ℕ) (fs : List Flag) (moment : Option DateTime) (message : List ℕ) → append_fits mailbox fs moment message ≡ true → IsLined (append_text mailbox fs moment message)
+append_flags_lined : (fs : List Flag) → list_all message_flag.fits fs ≡ true → IsLined (flags_text fs)
+append_flags_lined [] h = none_lined
+append_flags_lined (f ∷ fs) h =
+    append_lined ((listed_or_none message_flag).text (f ∷ fs)) (32 ∷ []) (flags_lined (f ∷ fs) h) (safe_lined (32 ∷ []) refl)
+
+append_command_lined : (mailbox : List ℕ) (fs : List Flag) (moment : Option Moment) (message : List ℕ) → append_fits mailbox fs moment message ≡ true → IsLined (append_text mailbox fs moment message)
 append_command_lined mailbox fs moment message h =
-    let p = both_true (string.fits mailbox) (list_all message_flag.fits fs && (moment_fits moment && ltb (length message) 18446744073709551616)) h in
-    let q = both_true (list_all message_flag.fits fs) (moment_fits moment && ltb (length message) 18446744073709551616) p.1 in
-    let r = both_true (moment_fits moment) (ltb (length message) 18446744073709551616) q.1 in
-    let shown = (listed_or_none message_flag).text fs in
-    let last = moment_text moment ++ message_text message in
-    append_lined (32 ∷ string.text mailbox) (32 ∷ (shown ++ (32 ∷ last))) (argument_lined mailbox p.0)
-    (space_lined (shown ++ (32 ∷ last)) (append_lined shown (32 ∷ last) (flags_lined fs q.0)
-    (space_lined last (append_lined (moment_text moment) (message_text message) (moment_lined moment) (message_by message (has_nul message) r.1)))))
+    let p = both_true (string.fits mailbox) (list_all message_flag.fits fs && (date_fits moment && ltb (length message) 18446744073709551616)) h in
+    let q = both_true (list_all message_flag.fits fs) (date_fits moment && ltb (length message) 18446744073709551616) p.1 in
+    let r = both_true (date_fits moment) (ltb (length message) 18446744073709551616) q.1 in
+    let shown = flags_text fs in
+    let last = date_text moment ++ message_text message in
+    append_lined (argument_text mailbox) (32 ∷ (shown ++ last)) (argument_lined mailbox p.0)
+    (space_lined (shown ++ last) (append_lined shown last (append_flags_lined fs q.0)
+    (append_lined (date_text moment) (message_text message) (moment_lined moment) (message_by message (has_nul message) r.1))))
 
 -- ---- STORE, COPY, FETCH and SEARCH
 
@@ -142,15 +159,23 @@ since_lined : (n : Option ℕ) → since_fits n ≡ true → IsLined (since_text
 since_lined None h = none_lined
 since_lined (Some n) h = between_lined (codes "(UNCHANGEDSINCE ") n (codes ") ") (safe_lined (codes "(UNCHANGEDSINCE ") refl) (number64_lined n h) (safe_lined (codes ") ") refl)
 
-store_lined : (m : MessageSet) (n : Option ℕ) (c : StoreChange) (silent : Bool) (fs : List Flag) → (message_set.fits m && (since_fits n && list_all message_flag.fits fs)) ≡ true → IsLined (store_text m n c silent fs)
-store_lined m n c silent fs h =
-    let p = both_true (message_set.fits m) (since_fits n && list_all message_flag.fits fs) h in
-    let q = both_true (since_fits n) (list_all message_flag.fits fs) p.1 in
-    let name = store_name (store_word c silent) in
-    let shown = (listed_or_none message_flag).text fs in
-    append_lined (store_front m n) (change_text c silent fs)
-    (space_lined (message_set.text m ++ (32 ∷ since_text n)) (append_lined (message_set.text m) (32 ∷ since_text n) (set_lined m p.0) (space_lined (since_text n) (since_lined n q.0))))
-    (append_lined name (32 ∷ shown) (word_lined store_table astring_safe (store_word c silent)) (space_lined shown (flags_lined fs q.1)))
+store_flags_lined : (fs : List Flag) → list_all message_flag.fits fs ≡ true → IsLined (store_flags_text fs)
+store_flags_lined [] h = flags_lined [] h
+store_flags_lined (f ∷ fs) h = separated_lined 32 message_flag refl flag_lined (f ∷ fs) (both _ _ (is_filled f fs) h)
+
+spec_lined : Lines store_spec_writing
+spec_lined s h =
+    let q = both_true (since_fits s.unchanged_since) (list_all message_flag.fits s.flags) h in
+    let w = store_word s.change s.silent in
+    let shown = store_flags_text s.flags in
+    append_lined (since_text s.unchanged_since) (change_text s.change s.silent s.flags) (since_lined s.unchanged_since q.0)
+    (append_lined (store_name w) (32 ∷ shown) (word_lined store_table astring_safe w) (space_lined shown (store_flags_lined s.flags q.1)))
+
+store_lined : (m : MessageSet) (s : StoreSpec) → (message_set.fits m && store_spec_writing.fits s) ≡ true → IsLined (store_text m s)
+store_lined m s h =
+    let q = both_true (message_set.fits m) (store_spec_writing.fits s) h in
+    let text = store_spec_writing.text s in
+    space_lined (message_set.text m ++ (32 ∷ text)) (append_lined (message_set.text m) (32 ∷ text) (set_lined m q.0) (space_lined text (spec_lined s q.1)))
 
 copy_lined : (m : MessageSet) (mailbox : List ℕ) → (message_set.fits m && string.fits mailbox) ≡ true → IsLined (copy_text m mailbox)
 copy_lined m mailbox h =
@@ -181,43 +206,43 @@ uid_lined Uid v octets h = append_lined (32 ∷ uid_verb_name v) octets (space_l
 two_lined : (a b : List ℕ) → (string.fits a && string.fits b) ≡ true → IsLined (argument_text a ++ argument_text b)
 two_lined a b h = let q = both_true (string.fits a) (string.fits b) h in append_lined (argument_text a) (argument_text b) (argument_lined a q.0) (argument_lined b q.1)
 
-selecting_lined : (mailbox : List ℕ) (given : SelectParameters) → (string.fits mailbox && parameters.fits given) ≡ true → IsLined (argument_text mailbox ++ parameters.text given)
-selecting_lined mailbox given h = let q = both_true (string.fits mailbox) (parameters.fits given) h in append_lined (argument_text mailbox) (parameters.text given) (argument_lined mailbox q.0) (parameters_lined given q.1)
+selecting_lined : (mailbox : List ℕ) (given : SelectParameters) → (string.fits mailbox && parameters_writing.fits given) ≡ true → IsLined (argument_text mailbox ++ parameters_writing.text given)
+selecting_lined mailbox given h = let q = both_true (string.fits mailbox) (parameters_writing.fits given) h in append_lined (argument_text mailbox) (parameters_writing.text given) (argument_lined mailbox q.0) (parameters_lined given q.1)
 
-pub arguments_lined : (b : Body) → body_fits b ≡ true → IsLined (arguments_text b)
-arguments_lined body.Capability h = none_lined
-arguments_lined body.Noop h = none_lined
-arguments_lined body.Logout h = none_lined
-arguments_lined body.Namespace h = none_lined
-arguments_lined body.Idle h = none_lined
-arguments_lined body.Close h = none_lined
-arguments_lined body.Unselect h = none_lined
-arguments_lined body.Authenticate h = none_lined
-arguments_lined body.Expunge h = none_lined
-arguments_lined (body.Enable words) h = space_lined ((separated 32 atom).text words) (separated_lined 32 atom refl atom_lined words h)
-arguments_lined (body.Select mailbox given) h = selecting_lined mailbox given h
-arguments_lined (body.Examine mailbox given) h = selecting_lined mailbox given h
-arguments_lined (body.List selection reference wanted returns) h = list_lined selection reference wanted returns h
-arguments_lined (body.Append mailbox fs moment message) h = append_command_lined mailbox fs moment message h
-arguments_lined (body.Create mailbox) h = argument_lined mailbox h
-arguments_lined (body.Delete mailbox) h = argument_lined mailbox h
-arguments_lined (body.Rename from to) h = two_lined from to h
-arguments_lined (body.Subscribe mailbox) h = argument_lined mailbox h
-arguments_lined (body.Unsubscribe mailbox) h = argument_lined mailbox h
-arguments_lined (body.Status mailbox items) h =
+pub arguments_lined : (b : Command) → arguments_fit b ≡ true → IsLined (arguments_text b)
+arguments_lined command.Capability h = none_lined
+arguments_lined command.Noop h = none_lined
+arguments_lined command.Logout h = none_lined
+arguments_lined command.Namespace h = none_lined
+arguments_lined command.Idle h = none_lined
+arguments_lined command.Close h = none_lined
+arguments_lined command.Unselect h = none_lined
+arguments_lined command.Authenticate h = none_lined
+arguments_lined command.Expunge h = none_lined
+arguments_lined (command.Enable words) h = space_lined ((separated 32 atom).text words) (separated_lined 32 atom refl atom_lined words h)
+arguments_lined (command.Select mailbox given) h = selecting_lined mailbox given h
+arguments_lined (command.Examine mailbox given) h = selecting_lined mailbox given h
+arguments_lined (command.List selection reference wanted returns) h = list_lined selection reference wanted returns h
+arguments_lined (command.Append mailbox fs moment message) h = append_command_lined mailbox fs moment message h
+arguments_lined (command.Create mailbox) h = argument_lined mailbox h
+arguments_lined (command.Delete mailbox) h = argument_lined mailbox h
+arguments_lined (command.Rename from to) h = two_lined from to h
+arguments_lined (command.Subscribe mailbox) h = argument_lined mailbox h
+arguments_lined (command.Unsubscribe mailbox) h = argument_lined mailbox h
+arguments_lined (command.Status mailbox items) h =
     let q = both_true (string.fits mailbox) ((listed (writing.word status_name)).fits items) h in
     let shown = (listed (writing.word status_name)).text items in
     append_lined (argument_text mailbox) (32 ∷ shown) (argument_lined mailbox q.0) (space_lined shown (statuses_lined items q.1))
-arguments_lined (body.SetAcl mailbox identifier rights) h =
+arguments_lined (command.SetAcl mailbox identifier rights) h =
     let q = both_true (string.fits mailbox) (string.fits identifier && string.fits rights) h in
     append_lined (argument_text mailbox) (argument_text identifier ++ argument_text rights) (argument_lined mailbox q.0) (two_lined identifier rights q.1)
-arguments_lined (body.DeleteAcl mailbox identifier) h = two_lined mailbox identifier h
-arguments_lined (body.GetAcl mailbox) h = argument_lined mailbox h
-arguments_lined (body.ListRights mailbox identifier) h = two_lined mailbox identifier h
-arguments_lined (body.MyRights mailbox) h = argument_lined mailbox h
-arguments_lined (body.UidExpunge m) h = uid_lined Uid uid.Expunge (32 ∷ message_set.text m) (space_lined (message_set.text m) (set_lined m h))
-arguments_lined (body.Fetch numbering m items changed vanished) h = uid_lined numbering uid.Fetch (fetch_text m items changed vanished) (fetch_lined m items changed vanished h)
-arguments_lined (body.Search numbering returns charset tokens) h = uid_lined numbering uid.Search (search_text returns charset tokens) (search_lined returns charset tokens h)
-arguments_lined (body.Store numbering m n c silent fs) h = uid_lined numbering uid.Store (store_text m n c silent fs) (store_lined m n c silent fs h)
-arguments_lined (body.Copy numbering m mailbox) h = uid_lined numbering uid.Copy (copy_text m mailbox) (copy_lined m mailbox h)
-arguments_lined (body.Move numbering m mailbox) h = uid_lined numbering uid.Move (copy_text m mailbox) (copy_lined m mailbox h)
+arguments_lined (command.DeleteAcl mailbox identifier) h = two_lined mailbox identifier h
+arguments_lined (command.GetAcl mailbox) h = argument_lined mailbox h
+arguments_lined (command.ListRights mailbox identifier) h = two_lined mailbox identifier h
+arguments_lined (command.MyRights mailbox) h = argument_lined mailbox h
+arguments_lined (command.UidExpunge m) h = uid_lined Uid uid.Expunge (32 ∷ message_set.text m) (space_lined (message_set.text m) (set_lined m h))
+arguments_lined (command.Fetch numbering m items changed vanished) h = uid_lined numbering uid.Fetch (fetch_text m items changed vanished) (fetch_lined m items changed vanished h)
+arguments_lined (command.Search numbering returns charset tokens) h = uid_lined numbering uid.Search (search_text returns charset tokens) (search_lined returns charset tokens h)
+arguments_lined (command.Store numbering m spec) h = uid_lined numbering uid.Store (store_text m spec) (store_lined m spec h)
+arguments_lined (command.Copy numbering m mailbox) h = uid_lined numbering uid.Copy (copy_text m mailbox) (copy_lined m mailbox h)
+arguments_lined (command.Move numbering m mailbox) h = uid_lined numbering uid.Move (copy_text m mailbox) (copy_lined m mailbox h)

@@ -1,10 +1,10 @@
 -- The laws of LIST.
 use Rattle.std.proofs.Common.{◌≡◌, ℕ, Bool, true, false, not, eqb, ◌==◌, refl, arith}
 use Rattle.std.proofs.lemmas.Bool.Decides.{nat_tests}
-use Rattle.imap_grammar.specs.declared.list.ListReturnWord.{ListReturnWord}
-use Rattle.imap_grammar.specs.declared.list.ListReturnWord.TheVariants as word
+use Rattle.imap_grammar.specs.declared.commands.list.ListReturnWord.{ListReturnWord}
+use Rattle.imap_grammar.specs.declared.commands.list.ListReturnWord.TheVariants as word
 use Rattle.imap_syntax.specs.Lexical.{is_astring_char}
-use Rattle.imap_grammar.specs.Listing.{selections_behind, selections, is_list_char, pattern, patterns_behind, patterns, list_return_behind, list_return, list_returns_behind, list_returns, list}
+use Rattle.imap_grammar.specs.commands.List.{selections_after, selections, is_list_char, pattern, patterns_after, patterns, list_return_after, list_return, list_returns_after, list_returns, list}
 use Rattle.imap_syntax.proofs.RuleLaws.{StopsAt, Lawful, MayFollow, ended_lawful, then_lawful, then_follows, give_lawful, give_follows, octet_lawful, octet_then_follows, some_of_lawful}
 use Rattle.imap_syntax.proofs.Opens.{opens_weaker, Opens, then_opens, or_opens, or_apart, some_of_opens, opens_follows}
 use Rattle.imap_syntax.proofs.Lists.{when_lawful, flag_then_lawful, flag_then_follows}
@@ -22,7 +22,7 @@ status_item_lawful = before (end_stops is_astring_char refl refl refl) (keyword_
 
 selections_lawful : Lawful (StopsAt (λ b. eqb b 40)) selections
 selections_lawful =
-    flag_then_lawful 40 selections_behind
+    flag_then_lawful 40 selections_after
     (ended_lawful (listed_end_lawful is_astring_char refl (keyword_opens selection_table) (before (end_stops is_astring_char refl refl refl) (keyword_lawful selection_table)))
     (λ all. ended_lawful (octet_lawful 32) (λ u. when_lawful _ _)))
     (give_lawful _)
@@ -58,19 +58,19 @@ not_true false h = refl
 
 patterns_lawful : Lawful AtEnd patterns
 patterns_lawful =
-    flag_then_lawful 40 patterns_behind
+    flag_then_lawful 40 patterns_after
     (then_lawful (items_lawful pattern_lawful) (λ all. ended_lawful (octet_lawful 41) (λ u. give_lawful _)) (λ all. octet_then_follows _ 41 (λ rest. (refl, refl))))
     (then_lawful pattern_lawful (λ one. give_lawful _) (λ one. give_follows _))
     (opens_follows (then_opens _ pattern_opens) (λ b rest h. not_true _ h))
 
 -- ---- return options
 
-list_return_behind_lawful : (name : ListReturnWord) → Lawful AtEnd (list_return_behind name)
+list_return_behind_lawful : (name : ListReturnWord) → Lawful AtEnd (list_return_after name)
 list_return_behind_lawful word.Children = give_lawful _
 list_return_behind_lawful word.Subscribed = give_lawful _
 list_return_behind_lawful word.Status = ended_lawful (octet_lawful 32) (λ u. ended_lawful (listed_lawful status_item_lawful) (λ items. give_lawful _))
 
-list_return_behind_follows : (name : ListReturnWord) → MayFollow (StopsAt is_astring_char) AtEnd (list_return_behind name)
+list_return_behind_follows : (name : ListReturnWord) → MayFollow (StopsAt is_astring_char) AtEnd (list_return_after name)
 list_return_behind_follows word.Children = give_before _ (end_stops is_astring_char refl refl refl)
 list_return_behind_follows word.Subscribed = give_before _ (end_stops is_astring_char refl refl refl)
 list_return_behind_follows word.Status = octet_then_follows _ 32 (λ rest. refl)
@@ -80,7 +80,7 @@ list_return_lawful = then_lawful (keyword_lawful list_return_table) list_return_
 
 list_returns_lawful : Lawful AtCr list_returns
 list_returns_lawful =
-    flag_then_lawful 32 list_returns_behind
+    flag_then_lawful 32 list_returns_after
     (then_lawful (keyword_lawful return_table)
     (λ name. ended_lawful (octet_lawful 32) (λ u. ended_lawful (listed_or_none_lawful is_astring_char refl (then_opens _ (keyword_opens list_return_table)) list_return_lawful) (λ all. give_lawful _)))
     (λ name. octet_then_follows _ 32 (λ rest. refl)))
@@ -88,7 +88,7 @@ list_returns_lawful =
     (give_before _ (cr_stops (λ b. eqb b 32) refl))
 
 list_returns_follow : MayFollow AtEnd AtCr list_returns
-list_returns_follow = flag_then_follows 32 list_returns_behind (λ rest. refl) (give_before _ cr_ends)
+list_returns_follow = flag_then_follows 32 list_returns_after (λ rest. refl) (give_before _ cr_ends)
 
 pub list_lawful : Lawful AtCr list
 list_lawful =

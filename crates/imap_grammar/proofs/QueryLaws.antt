@@ -6,8 +6,8 @@ use Rattle.imap_syntax.proofs.Ends.{AtCr}
 use Rattle.imap_syntax.proofs.Sets.{message_set_lawful}
 use Rattle.imap_query.proofs.Fetching.{fetch_items_lawful, modifiers_lawful, modifiers_follow}
 use Rattle.imap_query.proofs.Searching as query
-use Rattle.imap_grammar.specs.declared.request.Body.TheVariants as body
-use Rattle.imap_grammar.specs.Queries.{fetch, search}
+use Rattle.imap_grammar.specs.declared.command.Command.TheVariants as command
+use Rattle.imap_grammar.specs.commands.Messages.{fetch, search}
 
 pub fetch_lawful : (numbering : Numbering) → Lawful AtCr (fetch numbering)
 fetch_lawful numbering =
@@ -20,4 +20,4 @@ fetch_lawful numbering =
     (λ messages. octet_then_follows _ 32 (λ rest. refl)))
 
 pub search_lawful : (numbering : Numbering) → Lawful AtCr (search numbering)
-search_lawful numbering = query.search_lawful (body.Search numbering)
+search_lawful numbering = query.search_lawful (command.Search numbering)

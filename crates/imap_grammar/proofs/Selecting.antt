@@ -1,11 +1,11 @@
 -- The laws of the parameters of SELECT and EXAMINE.
 use Rattle.std.proofs.Common.{ℕ, eqb, List, refl}
 use Rattle.std.specs.Char.{is_ascii_digit}
-use Rattle.imap_grammar.specs.declared.select.ParameterWord.{ParameterWord}
-use Rattle.imap_grammar.specs.declared.select.ParameterWord.TheVariants as word
-use Rattle.imap_grammar.specs.declared.select.Parameter.{Parameter}
+use Rattle.imap_grammar.specs.declared.commands.select.ParameterWord.{ParameterWord}
+use Rattle.imap_grammar.specs.declared.commands.select.ParameterWord.TheVariants as word
+use Rattle.imap_grammar.specs.declared.commands.select.Parameter.{Parameter}
 use Rattle.imap_syntax.specs.Lexical.{is_astring_char}
-use Rattle.imap_grammar.specs.Selecting.{known_set, match_end, match_behind, match_data, known_or_match, known_behind, known_uids, qresync, parameter_behind, parameter, another_behind, another_parameter, parameters_behind, parameters}
+use Rattle.imap_grammar.specs.commands.Select.{known_set, match_end, match_after, match_data, known_or_match, known_after, known_uids, qresync, parameter_after, parameter, another_after, another_parameter, parameters_after, parameters}
 use Rattle.imap_syntax.proofs.RuleLaws.{Anything, StopsAt, Lawful, MayFollow, ended_lawful, then_lawful, then_follows, after_anything, give_lawful, give_follows, octet_lawful, octet_follows, octet_then_follows}
 use Rattle.imap_syntax.proofs.Opens.{then_opens, opens_follows}
 use Rattle.imap_syntax.proofs.Lists.{EndsList, when_lawful, when_follows, flag_then_lawful, flag_then_follows, judged_lawful, judged_follows}
@@ -29,14 +29,14 @@ abbrev AtLast : List ℕ → Type 0
 AtLast = EndsList 32 AtEnd
 
 match_lawful : Lawful AtLast match_data
-match_lawful = flag_then_lawful 32 match_behind (ended_lawful (octet_lawful 40) (λ u. match_end_lawful)) (give_lawful _) (give_before _ (λ rest n. n.1))
+match_lawful = flag_then_lawful 32 match_after (ended_lawful (octet_lawful 40) (λ u. match_end_lawful)) (give_lawful _) (give_before _ (λ rest n. n.1))
 
 match_follows : MayFollow AtEnd AtLast match_data
-match_follows = flag_then_follows 32 match_behind (λ rest. refl) (give_before _ (λ rest n. n.0))
+match_follows = flag_then_follows 32 match_after (λ rest. refl) (give_before _ (λ rest n. n.0))
 
 known_uids_lawful : Lawful AtLast known_uids
 known_uids_lawful =
-    flag_then_lawful 32 known_behind
+    flag_then_lawful 32 known_after
     (flag_then_lawful 40 known_or_match
     (ended_lawful match_end_lawful (λ u. give_lawful _))
     (then_lawful known_set_lawful (λ uids. then_lawful match_lawful (λ u. give_lawful _) (λ u. give_follows _)) (λ uids. then_follows match_follows (λ u. give_follows _)))
@@ -45,7 +45,7 @@ known_uids_lawful =
     (give_before _ (λ rest n. n.1))
 
 known_uids_follow : MayFollow (StopsAt is_ascii_digit) AtLast known_uids
-known_uids_follow = flag_then_follows 32 known_behind (λ rest. refl) (give_before _ (λ rest n. end_stops is_ascii_digit refl refl refl rest n.0))
+known_uids_follow = flag_then_follows 32 known_after (λ rest. refl) (give_before _ (λ rest n. end_stops is_ascii_digit refl refl refl rest n.0))
 
 qresync_lawful : {After : List ℕ → Type 0} → Lawful After qresync
 qresync_lawful =
@@ -60,11 +60,11 @@ qresync_lawful =
 
 -- ---- parameters
 
-parameter_behind_lawful : (name : ParameterWord) → Lawful AtEnd (parameter_behind name)
+parameter_behind_lawful : (name : ParameterWord) → Lawful AtEnd (parameter_after name)
 parameter_behind_lawful word.Condstore = give_lawful _
 parameter_behind_lawful word.Qresync = ended_lawful qresync_lawful (λ known. give_lawful _)
 
-parameter_behind_follows : (name : ParameterWord) → MayFollow (StopsAt is_astring_char) AtEnd (parameter_behind name)
+parameter_behind_follows : (name : ParameterWord) → MayFollow (StopsAt is_astring_char) AtEnd (parameter_after name)
 parameter_behind_follows word.Condstore = give_before _ (end_stops is_astring_char refl refl refl)
 parameter_behind_follows word.Qresync = then_follows (octet_then_follows {After = Anything} _ 32 (λ rest. refl)) (λ known. after_anything _)
 
@@ -73,17 +73,17 @@ parameter_lawful = then_lawful (keyword_lawful parameter_table) parameter_behind
 
 another_lawful : (first : Parameter) → Lawful AtLast (another_parameter first)
 another_lawful first =
-    flag_then_lawful 32 (another_behind first)
+    flag_then_lawful 32 (another_after first)
     (before (λ rest n. n.0) (then_lawful parameter_lawful (λ second. judged_lawful _) (λ second. judged_follows _)))
     (give_lawful _)
     (give_before _ (λ rest n. n.1))
 
 another_follows : (first : Parameter) → MayFollow AtEnd AtLast (another_parameter first)
-another_follows first = flag_then_follows 32 (another_behind first) (λ rest. refl) (give_before _ (λ rest n. n.0))
+another_follows first = flag_then_follows 32 (another_after first) (λ rest. refl) (give_before _ (λ rest n. n.0))
 
 pub parameters_lawful : Lawful AtCr parameters
 parameters_lawful =
-    flag_then_lawful 32 parameters_behind
+    flag_then_lawful 32 parameters_after
     (ended_lawful (octet_lawful 40) (λ u.
     then_lawful parameter_lawful
     (λ first. then_lawful (another_lawful first) (λ all. ended_lawful (octet_lawful 41) (λ v. give_lawful _)) (λ all. octet_then_follows _ 41 (λ rest. (refl, refl))))
@@ -92,4 +92,4 @@ parameters_lawful =
     (give_before _ (cr_stops (λ b. eqb b 32) refl))
 
 pub parameters_follow : MayFollow (StopsAt is_astring_char) AtCr parameters
-parameters_follow = flag_then_follows 32 parameters_behind (λ rest. refl) (give_before _ (cr_stops is_astring_char refl))
+parameters_follow = flag_then_follows 32 parameters_after (λ rest. refl) (give_before _ (cr_stops is_astring_char refl))

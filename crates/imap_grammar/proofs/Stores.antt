@@ -4,7 +4,9 @@ use Rattle.imap_syntax.specs.declared.set.Numbering.{Numbering}
 use Rattle.imap_syntax.specs.Rule.{give, ◌>>=◌}
 use Rattle.imap_syntax.specs.Lexical.{is_astring_char, is_atom_char}
 use Rattle.imap_syntax.specs.Flags.{message_flag}
-use Rattle.imap_grammar.specs.Stores.{argument, copy, move, uid_expunge, condition_behind, condition, store_flags_behind, store_flags, store}
+use Rattle.imap_grammar.specs.commands.Argument.{argument}
+use Rattle.imap_grammar.specs.commands.Messages.{copy, move, uid_expunge, store}
+use Rattle.imap_grammar.specs.commands.Store.{condition_after, condition, store_flags_after, store_flags, store_spec}
 use Rattle.imap_syntax.proofs.RuleLaws.{Anything, StopsAt, Lawful, MayFollow, ended_lawful, then_lawful, then_follows, after_anything, give_lawful, give_follows, octet_lawful, octet_then_follows}
 use Rattle.imap_syntax.proofs.Opens.{then_opens, opens_follows}
 use Rattle.imap_syntax.proofs.Lists.{flag_then_lawful, separated_opens}
@@ -44,11 +46,11 @@ flag_before_end = before (end_stops is_atom_char refl refl refl) message_flag_la
 
 store_flags_lawful : Lawful AtCr store_flags
 store_flags_lawful =
-    flag_then_lawful 40 store_flags_behind (listed_end_lawful begins_flag (no_flag 41 refl) message_flag_opens flag_before_end)
+    flag_then_lawful 40 store_flags_after (listed_end_lawful begins_flag (no_flag 41 refl) message_flag_opens flag_before_end)
     (before (λ rest n. (cr_ends rest n, cr_stops (λ b. eqb b 32) refl rest n)) (items_lawful flag_before_end))
     (opens_follows (separated_opens 32 message_flag_opens) (λ b rest h. differs begins_flag 40 (no_flag 40 refl) b h))
 
-condition_held : {After : List ℕ → Type 0} → Lawful After (condition_behind true)
+condition_held : {After : List ℕ → Type 0} → Lawful After (condition_after true)
 condition_held =
     then_lawful (keyword_lawful condition_table)
     (λ name. ended_lawful (octet_lawful 32) (λ u.
@@ -58,16 +60,19 @@ condition_held =
     (λ name. octet_then_follows _ 32 (λ rest. refl))
 
 condition_lawful : Lawful (StopsAt (λ b. eqb b 40)) condition
-condition_lawful = flag_then_lawful 40 condition_behind condition_held (give_lawful _) (give_follows _)
+condition_lawful = flag_then_lawful 40 condition_after condition_held (give_lawful _) (give_follows _)
+
+store_spec_lawful : Lawful AtCr store_spec
+store_spec_lawful =
+    then_lawful condition_lawful
+    (λ since. then_lawful (keyword_lawful store_table)
+    (λ word. ended_lawful (octet_lawful 32) (λ w. then_lawful store_flags_lawful (λ flags. give_lawful _) (λ flags. give_follows _)))
+    (λ word. octet_then_follows _ 32 (λ rest. refl)))
+    (λ since. opens_follows (then_opens _ (keyword_opens store_table)) (λ b rest h. differs is_astring_char 40 refl b h))
 
 pub store_lawful : (numbering : Numbering) → Lawful AtCr (store numbering)
 store_lawful numbering =
     ended_lawful (octet_lawful 32) (λ u.
     then_lawful message_set_lawful
-    (λ messages. ended_lawful (octet_lawful 32) (λ v.
-    then_lawful condition_lawful
-    (λ since. then_lawful (keyword_lawful store_table)
-    (λ word. ended_lawful (octet_lawful 32) (λ w. then_lawful store_flags_lawful (λ flags. give_lawful _) (λ flags. give_follows _)))
-    (λ word. octet_then_follows _ 32 (λ rest. refl)))
-    (λ since. opens_follows (then_opens _ (keyword_opens store_table)) (λ b rest h. differs is_astring_char 40 refl b h))))
+    (λ messages. ended_lawful (octet_lawful 32) (λ v. then_lawful store_spec_lawful (λ spec. give_lawful _) (λ spec. give_follows _)))
     (λ messages. octet_then_follows _ 32 (λ rest. refl)))

@@ -3,28 +3,30 @@ use Rattle.std.proofs.Common.{refl}
 use Rattle.imap_syntax.specs.Lexical.{is_astring_char}
 use Rattle.imap_syntax.proofs.Words.{IsTable}
 use Rattle.imap_syntax.proofs.Tables.{either_case_astring, IsRow, table_from}
-use Rattle.imap_grammar.specs.Words.{verb_name, uid_verb_name, store_name, condition_name}
+use Rattle.imap_grammar.specs.Verb.{verb_name, uid_verb_name}
+use Rattle.imap_grammar.specs.commands.Store.{store_name, condition_name}
 use Rattle.imap_grammar.specs.declared.verb.Verb.{Verb}
 use Rattle.imap_grammar.specs.declared.verb.Verb.TheVariants as verb
 use Rattle.imap_grammar.specs.declared.verb.TheConstants.{VERBS, UID_VERBS}
 use Rattle.imap_grammar.specs.declared.verb.UidVerb.{UidVerb}
 use Rattle.imap_grammar.specs.declared.verb.UidVerb.TheVariants as uid
-use Rattle.imap_grammar.specs.declared.store.StoreWord.{StoreWord}
-use Rattle.imap_grammar.specs.declared.store.StoreWord.TheVariants as store
-use Rattle.imap_grammar.specs.declared.store.TheConstants.{STORE_WORDS, CONDITIONS}
-use Rattle.imap_grammar.specs.declared.store.Condition.{Condition}
-use Rattle.imap_grammar.specs.declared.store.Condition.TheVariants as condition
-use Rattle.imap_grammar.specs.ListWords.{parameter_name, selection_name, list_return_name, return_name}
-use Rattle.imap_grammar.specs.declared.select.TheConstants.{PARAMETER_WORDS}
-use Rattle.imap_grammar.specs.declared.list.TheConstants.{SELECTIONS, LIST_RETURN_WORDS, RETURN_WORDS}
-use Rattle.imap_grammar.specs.declared.select.ParameterWord.{ParameterWord}
-use Rattle.imap_grammar.specs.declared.select.ParameterWord.TheVariants as parameter_word_word
-use Rattle.imap_grammar.specs.declared.list.Selection.{Selection}
-use Rattle.imap_grammar.specs.declared.list.Selection.TheVariants as selection_word
-use Rattle.imap_grammar.specs.declared.list.ListReturnWord.{ListReturnWord}
-use Rattle.imap_grammar.specs.declared.list.ListReturnWord.TheVariants as list_return_word_word
-use Rattle.imap_grammar.specs.declared.list.ReturnWord.{ReturnWord}
-use Rattle.imap_grammar.specs.declared.list.ReturnWord.TheVariants as return_word_word
+use Rattle.imap_grammar.specs.declared.commands.store.StoreWord.{StoreWord}
+use Rattle.imap_grammar.specs.declared.commands.store.StoreWord.TheVariants as store
+use Rattle.imap_grammar.specs.declared.commands.store.TheConstants.{STORE_WORDS, CONDITIONS}
+use Rattle.imap_grammar.specs.declared.commands.store.Condition.{Condition}
+use Rattle.imap_grammar.specs.declared.commands.store.Condition.TheVariants as condition
+use Rattle.imap_grammar.specs.commands.Select.{parameter_name}
+use Rattle.imap_grammar.specs.commands.List.{selection_name, list_return_name, return_name}
+use Rattle.imap_grammar.specs.declared.commands.select.TheConstants.{PARAMETER_WORDS}
+use Rattle.imap_grammar.specs.declared.commands.list.TheConstants.{SELECTIONS, LIST_RETURN_WORDS, RETURN_WORDS}
+use Rattle.imap_grammar.specs.declared.commands.select.ParameterWord.{ParameterWord}
+use Rattle.imap_grammar.specs.declared.commands.select.ParameterWord.TheVariants as parameter_word_word
+use Rattle.imap_grammar.specs.declared.commands.list.Selection.{Selection}
+use Rattle.imap_grammar.specs.declared.commands.list.Selection.TheVariants as selection_word
+use Rattle.imap_grammar.specs.declared.commands.list.ListReturnWord.{ListReturnWord}
+use Rattle.imap_grammar.specs.declared.commands.list.ListReturnWord.TheVariants as list_return_word_word
+use Rattle.imap_grammar.specs.declared.commands.list.ReturnWord.{ReturnWord}
+use Rattle.imap_grammar.specs.declared.commands.list.ReturnWord.TheVariants as return_word_word
 
 verb_row : (v : Verb) → IsRow is_astring_char verb_name VERBS v
 verb_row verb.Append = (refl, refl, refl)

@@ -1,98 +1,87 @@
 -- What is written spells the request, and what isn't written is spelt by no frame.
-use Rattle.std.proofs.Common.{◌≡◌, ℕ, Bool, true, false, cond, ◌&&◌, List, [], ◌∷◌, ◌++◌, Option, Some, None, refl, sym, subst, ◌∙◌, inr}
+use Rattle.std.proofs.Common.{◌≡◌, ℕ, Bool, true, false, cond, ◌&&◌, List, [], ◌∷◌, ◌++◌, Option, Some, None, refl, sym, subst, ◌∙◌}
 use Rattle.std.specs.Prelude.{option_map}
 use Rattle.std.specs.Option.{IfSome, IfNone}
 use Rattle.std.specs.Global.{Vec}
 use Rattle.std.proofs.lemmas.List.{append-nil}
 use Rattle.std.proofs.lemmas.Option.{none-some, same_Some}
+use Rattle.imap_lex.specs.CommandTag.{is_tag}
 use Rattle.imap_lex.specs.Framing as framing
-use Rattle.imap_grammar.specs.declared.request.Body.{Body}
+use Rattle.imap_grammar.specs.declared.command.Command.{Command}
 use Rattle.imap_grammar.specs.declared.request.Request.{Request}
-use Rattle.imap_grammar.specs.declared.request.Request.TheVariants.{Command, Malformed, TooBig}
+use Rattle.imap_grammar.specs.declared.request.Request.TheVariants as request
+use Rattle.imap_grammar.specs.declared.request.Request.TheVariants.{Malformed, TooBig}
 use Rattle.imap_grammar.specs.declared.verb.TheConstants.{VERBS}
 use Rattle.imap_syntax.specs.Rule as rule
 use Rattle.imap_syntax.specs.Rule.{give, ◌>>=◌}
 use Rattle.imap_syntax.specs.Lexical.{is_astring_char, is_tag_char, crlf}
-use Rattle.imap_grammar.specs.Words.{verb_name}
-use Rattle.imap_grammar.specs.Grammar.{command, tag_front}
+use Rattle.imap_grammar.specs.Verb.{verb_name}
+use Rattle.imap_grammar.specs.Reading.{after_tag, command}
 use Rattle.imap_grammar.specs.Spells.{Spells, request_read}
-use Rattle.imap_grammar.specs.WrittenCommands.{tag as tag_writing, verb_of, body_fits, arguments_text, command_text, request_fits, request_text, written}
+use Rattle.imap_grammar.specs.Writing.{arguments_fit, arguments_text, command_text, request_fits, request_text, written}
+use Rattle.imap_grammar.specs.Verb.{verb_of}
 use Rattle.imap_syntax.proofs.RuleLaws.{some_of_lawful}
-use Rattle.imap_grammar.proofs.Requests.{no_command, tag_is_read, spelt_is_read}
+use Rattle.imap_grammar.proofs.Requests.{no_command, spelt_is_read}
+use Rattle.imap_grammar.proofs.Tags.{tag_of_word, tag_of_is_tag}
 use Rattle.imap_syntax.proofs.Writing.{both_true, some_of_writes, word_writes}
-use Rattle.imap_grammar.proofs.WrittenCommands.{arguments_made, arguments_fit}
+use Rattle.imap_grammar.proofs.WrittenCommands.{arguments_made, spelt_arguments_fit}
 
 crlf_made : crlf.spells tt framing.crlf
 crlf_made = (tt, 13 ∷ [], 10 ∷ [], refl, refl, refl)
 
-tag_made : (tag : List ℕ) → tag_writing.fits tag ≡ true → (rule.some_of is_tag_char).spells tag tag
+tag_made : (tag : List ℕ) → is_tag tag ≡ true → (rule.some_of is_tag_char).spells tag tag
 tag_made tag h = (some_of_writes is_tag_char).made tag h
 
 -- ---- commands
 
-command_made : (tag : List ℕ) (b : Body) → tag_writing.fits tag ≡ true → body_fits b ≡ true → command.spells (tag, b) (command_text tag b)
-command_made tag b h k =
-    let args = arguments_text b in
-    let name = verb_name (verb_of b) in
-    let end : (crlf >>= λ u. give (tag, b)).spells (tag, b) framing.crlf = (tt, framing.crlf, [], crlf_made, (refl, refl), refl) in (
-      tag,
-      tag,
-      32 ∷ (name ++ (args ++ framing.crlf)),
-      tag_made tag h,
-      (
-        tt,
-        32 ∷ [],
-        name ++ (args ++ framing.crlf),
-        refl,
-        (
-          verb_of b,
-          name,
-          args ++ framing.crlf,
-          (word_writes is_astring_char verb_name VERBS).made (verb_of b) refl,
-          (b, args, framing.crlf, arguments_made b k, end, refl),
-          refl,
-        ),
-        refl,
-      ),
-      refl,
-    )
+command_made : (tag : List ℕ) (c : Command) → is_tag tag ≡ true → arguments_fit c ≡ true → command.spells (tag, c) (command_text tag c)
+command_made tag c h k =
+    let args = arguments_text c in
+    let name = verb_name (verb_of c) in
+    let rest = 32 ∷ (name ++ (args ++ framing.crlf)) in
+    let end : (crlf >>= λ u. give c).spells c framing.crlf = (tt, framing.crlf, [], crlf_made, (refl, refl), refl) in
+    let named : after_tag.spells c rest =
+    (tt, 32 ∷ [], name ++ (args ++ framing.crlf), refl, (verb_of c, name, args ++ framing.crlf, (word_writes is_astring_char verb_name VERBS).made (verb_of c) refl, (c, args, framing.crlf, arguments_made c k, end, refl), refl), refl) in
+    (tag, tag, rest, tag_made tag h, (c, rest, [], named, (refl, refl), sym (append-nil rest)), refl)
 
-command_fits : (tag : List ℕ) (b : Body) (frame : List ℕ) → command.spells (tag, b) frame → (tag_writing.fits tag && body_fits b) ≡ true
-command_fits tag b frame h =
-    let named = h.4.4 in
-    let asked = named.4 in
-    let same : (tag, b) ≡ (h.0, asked.0) = asked.4.4.0 in
-    let tag_fits : tag_writing.fits h.0 ≡ true = (some_of_writes is_tag_char).fits h.0 h.1 h.3 in
-    let fits : body_fits asked.0 ≡ true = arguments_fit named.0 asked.0 asked.1 asked.3 in
-    subst (λ (c : List ℕ × Body). (tag_writing.fits c.0 && body_fits c.1) ≡ true) (sym same) (rw (tag_fits, fits) refl)
+after_tag_fits : (c : Command) (text : List ℕ) → after_tag.spells c text → arguments_fit c ≡ true
+after_tag_fits c text h =
+    let named = h.4 in
+    let given = named.4 in
+    rw (given.4.4.0) (spelt_arguments_fit named.0 given.0 given.1 given.3)
+
+command_fits : (tag : List ℕ) (c : Command) (frame : List ℕ) → command.spells (tag, c) frame → (is_tag tag && arguments_fit c) ≡ true
+command_fits tag c frame h =
+    let given = h.4 in
+    let same : (tag, c) ≡ (h.0, given.0) = given.4.0 in
+    let tag_fits : is_tag h.0 ≡ true = (some_of_writes is_tag_char).fits h.0 h.1 h.3 in
+    let fits : arguments_fit given.0 ≡ true = after_tag_fits given.0 given.1 given.3 in
+    subst (λ (x : List ℕ × Command). (is_tag x.0 && arguments_fit x.1) ≡ true) (sym same) (rw (tag_fits, fits) refl)
 
 -- ---- lines that are no command
 
-no_command_behind : (tag : List ℕ) → tag_writing.fits tag ≡ true → command.read (tag ++ framing.crlf) ≡ None
-no_command_behind tag h = rw ((some_of_lawful is_tag_char).complete tag tag framing.crlf (tag_made tag h) refl) refl
+no_command_after : (tag : List ℕ) → is_tag tag ≡ true → command.read (tag ++ framing.crlf) ≡ None
+no_command_after tag h = rw ((some_of_lawful is_tag_char).complete tag tag framing.crlf (tag_made tag h) refl) refl
 
-tag_alone : (tag : List ℕ) → tag_writing.fits tag ≡ true → Spells (tag ++ framing.crlf) (Malformed (Some tag))
+tag_alone : (tag : List ℕ) → is_tag tag ≡ true → Spells (tag ++ framing.crlf) (Malformed (Some tag))
 tag_alone tag h =
-    let front : tag_front.spells tag (tag ++ framing.crlf) = (tag, tag, framing.crlf, tag_made tag h, (tt, framing.crlf, [], inr crlf_made, (refl, refl), refl), refl) in
-    (no_command _ (λ c e. none-some (c, []) (sym (no_command_behind tag h) ∙ e)), (tag ++ framing.crlf, [], front, sym (append-nil (tag ++ framing.crlf))))
+    let spelt = tag_made tag h in
+    (no_command _ (λ c e. none-some (c, []) (sym (no_command_after tag h) ∙ e)), tag_of_word tag framing.crlf spelt.1 spelt.2 refl refl)
 
 no_tag_alone : Spells framing.crlf (Malformed None)
-no_tag_alone = (no_command framing.crlf (λ c e. none-some (c, []) e), λ tag h. none-some tag (tag_is_read framing.crlf tag h))
+no_tag_alone = (no_command framing.crlf (λ c e. none-some (c, []) e), refl)
 
 -- ---- requests
 
 request_made : (r : Request) → request_fits r ≡ true → Spells (request_text r) r
-request_made (Command tag b) h = let q = both_true (tag_writing.fits tag) (body_fits b) h in command_made tag b q.0 q.1
+request_made (request.Command tag b) h = let q = both_true (is_tag tag) (arguments_fit b) h in command_made tag b q.0 q.1
 request_made (Malformed (Some tag)) h = tag_alone tag h
 request_made (Malformed None) h = no_tag_alone
 request_made (TooBig tag) h = absurd cc
 
-front_fits : (tag front : List ℕ) → tag_front.spells tag front → tag_writing.fits tag ≡ true
-front_fits tag front h = subst (λ (t : List ℕ). tag_writing.fits t ≡ true) (sym h.4.4.0) ((some_of_writes is_tag_char).fits h.0 h.1 h.3)
-
 request_fits_all : (r : Request) (frame : List ℕ) → Spells frame r → request_fits r ≡ true
-request_fits_all (Command tag b) frame h = command_fits tag b frame h
-request_fits_all (Malformed (Some tag)) frame h = front_fits tag h.1.0 h.1.2
+request_fits_all (request.Command tag b) frame h = command_fits tag b frame h
+request_fits_all (Malformed (Some tag)) frame h = (some_of_writes is_tag_char).fits tag tag (tag_of_is_tag frame tag h.1)
 request_fits_all (Malformed None) frame h = refl
 request_fits_all (TooBig tag) frame h = absurd h
 

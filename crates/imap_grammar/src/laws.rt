@@ -1,6 +1,7 @@
 //! Laws of every frame and every request.
 
 ghost use Rattle.imap_grammar.specs.Spells.{EachSpells, SpellsOnce};
+ghost use Rattle.imap_grammar.specs.OneCommand.{EachCommandIsOne};
 ghost use Rattle.imap_grammar.specs.WrittenFrames.{EachIsTold};
 
 /// Each frame spells a request, and only one.
@@ -9,8 +10,14 @@ pub fn one_request()
     ensures once { SpellsOnce }
 {}
 
-/// What is written of a request is lines and literals. Within the limits of a framer it is told as one frame, and before it
-/// only that the client is to go on.
+/// The octets that `write_command` writes are lines and literals. Within its limits a framer returns them as one frame,
+/// and before it a `Continue` for each literal.
 pub fn written_is_told()
     ensures { EachIsTold }
+{}
+
+/// The octets of each command are lines that announce literals, each with its literal, and a last line. Within its
+/// limits a framer returns them as one frame.
+pub fn one_command()
+    ensures { EachCommandIsOne }
 {}

@@ -1,8 +1,14 @@
 //! The names of commands.
 
-use imap_syntax::{Keyword, is_astring_char};
+ghost use Rattle.std.specs.Prelude.{◌≡◌, ◌++◌, OnOk};
+ghost use Rattle.imap_grammar.specs.Verb.{verb_of, by_numbering, uid_text};
 
-/// The word that says which command it is.
+use crate::command::Command;
+use imap_lex::AstringChar;
+use imap_syntax::{Keyword, Numbering};
+use std::alloc::AllocError;
+
+/// The first word of a command.
 #[derive(Clone, Copy, Debug)]
 pub(crate) enum Verb {
     Append,
@@ -77,19 +83,14 @@ pub(crate) const VERBS: [Verb; 33] = [
 ];
 
 impl Keyword for Verb {
-    ghost use Rattle.imap_syntax.specs.Lexical.{is_astring_char};
-    ghost use Rattle.imap_grammar.specs.Words.{verb_name};
+    ghost use Rattle.imap_grammar.specs.Verb.{verb_name};
     ghost use Rattle.imap_grammar.specs.declared.verb.TheConstants.{VERBS};
 
-    ghost test = { is_astring_char };
+    type Class = AstringChar;
 
     ghost name_of = { verb_name };
 
     ghost table = { VERBS };
-
-    fn takes(octet: u8) -> bool {
-        is_astring_char(octet)
-    }
 
     fn name(self) -> &'static [u8] {
         match self {
@@ -134,7 +135,7 @@ impl Keyword for Verb {
     }
 }
 
-/// The word behind UID.
+/// The word after UID.
 #[derive(Clone, Copy)]
 pub(crate) enum UidVerb {
     Copy,
@@ -155,19 +156,14 @@ pub(crate) const UID_VERBS: [UidVerb; 6] = [
 ];
 
 impl Keyword for UidVerb {
-    ghost use Rattle.imap_syntax.specs.Lexical.{is_astring_char};
-    ghost use Rattle.imap_grammar.specs.Words.{uid_verb_name};
+    ghost use Rattle.imap_grammar.specs.Verb.{uid_verb_name};
     ghost use Rattle.imap_grammar.specs.declared.verb.TheConstants.{UID_VERBS};
 
-    ghost test = { is_astring_char };
+    type Class = AstringChar;
 
     ghost name_of = { uid_verb_name };
 
     ghost table = { UID_VERBS };
-
-    fn takes(octet: u8) -> bool {
-        is_astring_char(octet)
-    }
 
     fn name(self) -> &'static [u8] {
         match self {
@@ -182,5 +178,71 @@ impl Keyword for UidVerb {
 
     fn all() -> &'static [UidVerb] {
         &UID_VERBS
+    }
+}
+
+/// The first word of `command`. LOGIN stands for each of the commands with any arguments.
+pub(crate) fn verb_of(command: &Command) -> Verb
+    ensures { result ≡ verb_of command.now }
+{
+    match command {
+        Command::Capability => Verb::Capability,
+        Command::Authenticate => Verb::Login,
+        Command::Select { .. } => Verb::Select,
+        Command::Examine { .. } => Verb::Examine,
+        Command::List { .. } => Verb::List,
+        Command::Append { .. } => Verb::Append,
+        Command::Fetch { numbering, .. } => by_numbering(*numbering, Verb::Fetch),
+        Command::Search { numbering, .. } => by_numbering(*numbering, Verb::Search),
+        Command::Noop => Verb::Noop,
+        Command::Logout => Verb::Logout,
+        Command::Namespace => Verb::Namespace,
+        Command::Idle => Verb::Idle,
+        Command::Close => Verb::Close,
+        Command::Unselect => Verb::Unselect,
+        Command::Enable { .. } => Verb::Enable,
+        Command::Create { .. } => Verb::Create,
+        Command::Delete { .. } => Verb::Delete,
+        Command::Rename { .. } => Verb::Rename,
+        Command::Subscribe { .. } => Verb::Subscribe,
+        Command::Unsubscribe { .. } => Verb::Unsubscribe,
+        Command::Status { .. } => Verb::Status,
+        Command::SetAcl { .. } => Verb::SetAcl,
+        Command::DeleteAcl { .. } => Verb::DeleteAcl,
+        Command::GetAcl { .. } => Verb::GetAcl,
+        Command::ListRights { .. } => Verb::ListRights,
+        Command::MyRights { .. } => Verb::MyRights,
+        Command::Expunge => Verb::Expunge,
+        Command::UidExpunge { .. } => Verb::Uid,
+        Command::Store { numbering, .. } => by_numbering(*numbering, Verb::Store),
+        Command::Copy { numbering, .. } => by_numbering(*numbering, Verb::Copy),
+        Command::Move { numbering, .. } => by_numbering(*numbering, Verb::Move),
+    }
+}
+
+/// `verb`, or UID for a command by UIDs.
+fn by_numbering(numbering: Numbering, verb: Verb) -> Verb
+    ensures { result ≡ by_numbering numbering verb }
+{
+    match numbering {
+        Numbering::Sequence => verb,
+        Numbering::Uid => Verb::Uid,
+    }
+}
+
+/// Appends a space and `verb` for a command by UIDs, else nothing.
+pub(crate) fn push_uid_verb(
+    out: &mut Vec<u8>,
+    numbering: Numbering,
+    verb: UidVerb,
+) -> Result<(), AllocError>
+    ensures { OnOk result (out.new.items ≡ out.old.items ++ uid_text numbering verb) }
+{
+    match numbering {
+        Numbering::Sequence => Ok(()),
+        Numbering::Uid => {
+            out.push(b' ')?;
+            out.extend_from_slice(verb.name())
+        }
     }
 }

@@ -32,9 +32,9 @@ next-unended limit line count held so_far piece state place next before frames e
     ∙ ap (λ (l : List ℕ). awaiting limit (begun (held ++ piece) l next)) (last_octets-more count line held piece short')))
 
 -- a command that ends, and those behind it
-pub told-ended : (state anew : Framing) (piece behind : List ℕ) (frame : Frame) (before frames later : List Frame) → before ≡ [] →
-    after before (run state piece) ≡ after frames (after (frame ∷ []) (run anew behind)) → later ≡ (run anew behind).told →
-    (frames ++ frame ∷ []) ++ later ≡ (run state piece).told
-told-ended state anew piece behind frame before frames later none outcome e =
+pub frames-ended : (state anew : Framing) (piece behind : List ℕ) (frame : Frame) (before frames later : List Frame) → before ≡ [] →
+    after before (run state piece) ≡ after frames (after (frame ∷ []) (run anew behind)) → later ≡ (run anew behind).frames →
+    (frames ++ frame ∷ []) ++ later ≡ (run state piece).frames
+frames-ended state anew piece behind frame before frames later none outcome e =
     let outcome' : after [] (run state piece) ≡ after frames (after (frame ∷ []) (run anew behind)) = rw none at outcome in
-    sym (ap (λ (o : Outcome). o.told) outcome' ∙ sym (rw e (append_assoc frames (frame ∷ []) (run anew behind).told)))
+    sym (ap (λ (o : Outcome). o.frames) outcome' ∙ sym (rw e (append_assoc frames (frame ∷ []) (run anew behind).frames)))

@@ -1,3 +1,4 @@
+pub mod Classes
 pub mod Crlf
 pub mod Runs
 pub mod Lines
@@ -7,6 +8,7 @@ pub mod Turns
 pub mod Feeds
 pub mod Marks
 pub mod Ends
-pub mod Told
+pub mod FirstLine
+pub mod FramesRead
 pub mod Readings
 pub mod Only

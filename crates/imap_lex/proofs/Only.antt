@@ -2,6 +2,7 @@
 use Rattle.std.proofs.Common.{◌≡◌, ◌∙◌, ap, sym, refl, subst, ℕ, ◌+◌, ◌<◌, ◌≤◌, ◌⊎◌, inl, inr, List, [], ◌∷◌, ◌++◌, append_assoc, append-nil, length, length-append, take, drop, arith, false}
 use Rattle.std.specs.List.{flat_map, AllByRecursion}
 use Rattle.std.proofs.lemmas.List.{append_cancel_left, take_at, drop_at}
+use Rattle.imap_lex.specs.Limits.{max_command_octets, max_unasked_octets}
 use Rattle.imap_lex.specs.Mark.{Announced, IsMarked}
 use Rattle.imap_lex.specs.Framing.{crlf}
 use Rattle.imap_lex.specs.Stream.{HasNoCrlf, IsLine, IsMarkedLine, IsLastLine, IsShort, Section, IsSection, sections_octets, outside, inside, IsBegun, Item, command, dropped, IsItem, item_octets, Ending, in_line, in_literal, too_long, too_large, IsEnding, ending_octets, HasOneReading}
@@ -51,12 +52,12 @@ same_mark a b m n e is_m is_n = let first = marks_are_found a m is_m in let seco
 
 -- With these octets no section begins that is within the limits, so many octets having come outside literals and inside.
 record NoSection (limit o n : ℕ) (octets : List ℕ) : Type 0 where
-  no : (s : Section) (more : List ℕ) → IsSection s → o + length s.line ≤ 8192 → n + s.mark.size ≤ limit → octets ≡ s.line ++ (s.literal ++ more) → ⊥
+  no : (s : Section) (more : List ℕ) → IsSection s → o + length s.line ≤ max_command_octets → n + s.mark.size ≤ limit → octets ≡ s.line ++ (s.literal ++ more) → ⊥
 
 NoSection-in_line : (limit o n : ℕ) (text : List ℕ) → HasNoCrlf text → NoSection limit o n text
 NoSection-in_line limit o n text none = record { no = λ s more is fits room e. no_line_within s.line text (s.literal ++ more) is.marked.is_line e none }
 
-NoSection-too_long : (limit o n : ℕ) (text more : List ℕ) → HasNoCrlf text → o + length text ≡ 8192 → NoSection limit o n (text ++ more)
+NoSection-too_long : (limit o n : ℕ) (text more : List ℕ) → HasNoCrlf text → o + length text ≡ max_command_octets → NoSection limit o n (text ++ more)
 NoSection-too_long limit o n text more none full = record {
   no = λ s rest is fits room e. no_line_before s.line (s.literal ++ rest) text more is.marked.is_line none (omega arith) (sym e);
 }
@@ -99,7 +100,7 @@ section_first : (s : Section) (rest tail : List ℕ) → ((s.line ++ s.literal) 
 section_first s rest tail = simp append_assoc refl
 
 same_sections : (limit o n a b c d : ℕ) (ss ts : List Section) (x y : List ℕ) → AllByRecursion IsSection ss → AllByRecursion IsSection ts →
-    a ≡ o + outside ss → b ≡ n + inside ss → c ≡ o + outside ts → d ≡ n + inside ts → a ≤ 8192 → b ≤ limit → c ≤ 8192 → d ≤ limit →
+    a ≡ o + outside ss → b ≡ n + inside ss → c ≡ o + outside ts → d ≡ n + inside ts → a ≤ max_command_octets → b ≤ limit → c ≤ max_command_octets → d ≤ limit →
     NoSection limit a b x → NoSection limit c d y → sections_octets ss ++ x ≡ sections_octets ts ++ y → (ss ≡ ts) × (x ≡ y)
 same_sections limit o n a b c d [] [] x y all_s all_t ea eb ec ed ha hb hc hd none_x none_y e = (refl, e)
 same_sections limit o n a b c d [] (t ∷ ts) x y all_s all_t ea eb ec ed ha hb hc hd none_x none_y e =
@@ -116,7 +117,7 @@ same_sections limit o n a b c d (s ∷ ss) (t ∷ ts) x y all_s all_t ea eb ec e
 -- sections within the limits
 record AreWithin (limit : ℕ) (ss : List Section) : Type 0 where
   each : AllByRecursion IsSection ss
-  outside : outside ss ≤ 8192
+  outside : outside ss ≤ max_command_octets
   inside : inside ss ≤ limit
 
 AreWithin-begun : (limit : ℕ) (ss : List Section) (n k : ℕ) → IsBegun limit ss n k → AreWithin limit ss
@@ -199,7 +200,7 @@ AreWithin-ending limit (too_long ss text octet unread) is = AreWithin-begun limi
 AreWithin-ending limit (too_large ss last mark unread) is = AreWithin-begun limit ss _ _ is.0
 
 -- a literal that the client doesn't wait for isn't over its limit and within it
-not_both : (limit n : ℕ) (mark : Announced) → mark.waits ≡ false → (limit < n + mark.size) ⊎ (4096 < mark.size) → IsShort mark → n + mark.size ≤ limit → ⊥
+not_both : (limit n : ℕ) (mark : Announced) → mark.waits ≡ false → (limit < n + mark.size) ⊎ (max_unasked_octets < mark.size) → IsShort mark → n + mark.size ≤ limit → ⊥
 not_both limit n mark e (inl over) short room = omega arith
 not_both limit n mark e (inr long) short room = let most = short e in omega arith
 

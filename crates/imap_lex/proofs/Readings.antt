@@ -4,6 +4,7 @@ use Rattle.std.specs.Prelude.{eqb}
 use Rattle.std.specs.List.{flat_map, ends_with, AllByRecursion}
 use Rattle.std.proofs.lemmas.Bool.{cases_Bool, cases_lt}
 use Rattle.std.proofs.Math.Nat.{eq-or-lt_of_le}
+use Rattle.imap_lex.specs.Limits.{max_command_octets, max_unasked_octets}
 use Rattle.imap_lex.specs.Mark.{Announced, line_mark}
 use Rattle.imap_lex.specs.Framing.{crlf}
 use Rattle.imap_lex.specs.Stream.{HasNoCrlf, IsLine, IsMarkedLine, IsShort, Section, IsSection, sections_octets, outside, inside, IsBegun, Item, command, dropped, IsItem, item_octets, Ending, in_line, in_literal, too_long, too_large, IsEnding, ending_octets, Reading, IsReading, octets_of, EachHasReading}
@@ -74,19 +75,19 @@ module _ (limit : ℕ) (is : List Item) (all : AllByRecursion (IsItem limit) is)
       ends (in_literal ss (record { line = line; literal = []; mark = m })) (begun, marked, short, some) _ (ap (λ (l : List ℕ). sections_octets ss ++ l) (append-nil line))
 
   -- a marked line
-  marks : (ss : List Section) (line : List ℕ) (m : Announced) → IsBegun limit ss (length line) 0 → IsMarkedLine line m → (waits : Bool) → m.waits ≡ waits → (limit < inside ss + m.size) ⊎ (inside ss + m.size ≤ limit) → (4096 < m.size) ⊎ (m.size ≤ 4096) → HasReading limit (flat_map item_octets is ++ (sections_octets ss ++ line))
+  marks : (ss : List Section) (line : List ℕ) (m : Announced) → IsBegun limit ss (length line) 0 → IsMarkedLine line m → (waits : Bool) → m.waits ≡ waits → (limit < inside ss + m.size) ⊎ (inside ss + m.size ≤ limit) → (max_unasked_octets < m.size) ⊎ (m.size ≤ max_unasked_octets) → HasReading limit (flat_map item_octets is ++ (sections_octets ss ++ line))
   marks ss line m begun marked true e (inl over) long = begins (dropped ss line m) (begun, marked, e, over) _ refl
   marks ss line m begun marked false e (inl over) long = ends (too_large ss line m []) (begun, marked, e, inl over) _ (ap (λ (l : List ℕ). sections_octets ss ++ l) (append-nil line))
   marks ss line m begun marked true e (inr fits) long =
-      announces ss line m (record { each = begun.each; outside = begun.outside; inside = fits }) marked (λ asked. cc) (eq-or-lt_of_le (omega arith))
+      announces ss line m (record { each = begun.each; outside = begun.outside; inside = fits }) marked (λ continue_frames. cc) (eq-or-lt_of_le (omega arith))
   marks ss line m begun marked false e (inr fits) (inl long) = ends (too_large ss line m []) (begun, marked, e, inr long) _ (ap (λ (l : List ℕ). sections_octets ss ++ l) (append-nil line))
   marks ss line m begun marked false e (inr fits) (inr short) =
-      announces ss line m (record { each = begun.each; outside = begun.outside; inside = fits }) marked (λ asked. short) (eq-or-lt_of_le (omega arith))
+      announces ss line m (record { each = begun.each; outside = begun.outside; inside = fits }) marked (λ continue_frames. short) (eq-or-lt_of_le (omega arith))
 
   -- a line
   lines : (ss : List Section) (line : List ℕ) → IsBegun limit ss (length line) 0 → IsLine line → (mark : Option Announced) → line_mark line ≡ mark → HasReading limit (flat_map item_octets is ++ (sections_octets ss ++ line))
   lines ss line begun is_line None e = begins (command ss line) (begun, record { is_line = is_line; unmarked = λ mark is. let found = marks_are_found line mark is in cc }) _ refl
-  lines ss line begun is_line (Some m) e = marks ss line m begun (record { is_line = is_line; marked = marks_are_read line m e }) m.waits refl (cases_lt limit (inside ss + m.size)) (cases_lt 4096 m.size)
+  lines ss line begun is_line (Some m) e = marks ss line m begun (record { is_line = is_line; marked = marks_are_read line m e }) m.waits refl (cases_lt limit (inside ss + m.size)) (cases_lt max_unasked_octets m.size)
 
   -- an octet of a literal
   fills : (ss : List Section) (s : Section) (b : ℕ) → IsEnding limit (in_literal ss s) → (length (s.literal ++ b ∷ []) ≡ s.mark.size) ⊎ (length (s.literal ++ b ∷ []) < s.mark.size) → HasReading limit (flat_map item_octets is ++ ((sections_octets ss ++ (s.line ++ s.literal)) ++ b ∷ []))
@@ -101,7 +102,7 @@ module _ (limit : ℕ) (is : List Item) (all : AllByRecursion (IsItem limit) is)
   goes_on ss line b begun none (inl ended) = lines ss (line ++ b ∷ []) begun (IsLine-push line b none ended) _ refl
   goes_on ss line b begun none (inr still) = ends (in_line ss (line ++ b ∷ [])) (begun, HasNoCrlf-push line b none still) _ refl
 
-  lengthens : (ss : List Section) (line : List ℕ) (b : ℕ) → IsEnding limit (in_line ss line) → (outside ss + length line ≡ 8192) ⊎ (outside ss + length line < 8192) → HasReading limit (flat_map item_octets is ++ (sections_octets ss ++ (line ++ b ∷ [])))
+  lengthens : (ss : List Section) (line : List ℕ) (b : ℕ) → IsEnding limit (in_line ss line) → (outside ss + length line ≡ max_command_octets) ⊎ (outside ss + length line < max_command_octets) → HasReading limit (flat_map item_octets is ++ (sections_octets ss ++ (line ++ b ∷ [])))
   lengthens ss line b ending (inl full) = ends (too_long ss line b []) (ending.0, ending.1, full) _ refl
   lengthens ss line b ending (inr room) =
       goes_on ss line b (record { each = ending.0.each; outside = omega (arith, length-append line (b ∷ [])); inside = ending.0.inside }) ending.1 (cases_Bool _)

@@ -73,17 +73,17 @@ module _ (limit : ℕ) (octets so_far piece line : List ℕ) (at : ℕ) (place :
       so_read ∙ ap (after frames) step' ∙ rw (rest_at-is piece at, last, whole) refl
 
   pub turn_here : (len : ℕ) (turn : Turn) →
-      run (awaiting limit (begun (octets ++ take at piece) line place)) (rest_at piece at) ≡ (let o : Outcome = turn_outcome limit ((octets ++ take at piece) ++ take len (rest_at piece at)) turn in after o.told (run o.next (drop len (rest_at piece at)))) →
-      x ≡ after frames (let o : Outcome = turn_outcome limit (octets ++ take (at + len) piece) turn in after o.told (run o.next (drop (at + len) piece)))
+      run (awaiting limit (begun (octets ++ take at piece) line place)) (rest_at piece at) ≡ (let o : Outcome = turn_outcome limit ((octets ++ take at piece) ++ take len (rest_at piece at)) turn in after o.frames (run o.next (drop len (rest_at piece at)))) →
+      x ≡ after frames (let o : Outcome = turn_outcome limit (octets ++ take (at + len) piece) turn in after o.frames (run o.next (drop (at + len) piece)))
   turn_here len turn step =
       let octets_here : (octets ++ take at piece) ++ take len (drop at piece) ≡ octets ++ take (at + len) piece = append_assoc octets (take at piece) (take len (drop at piece)) ∙ ap (λ (l : List ℕ). octets ++ l) (sym (take-add at len piece)) in
       let step' = rw (rest_at-is piece at) at step in
       so_read ∙ ap (after frames) (step' ∙ rw (drop-drop len at piece, octets_here) refl)
 
   -- a frame is told, and the command goes on
-  pub told_here : (frame : Frame) (state : Framing) (rest : List ℕ) (frames' : List Frame) → frames' ≡ frames ++ frame ∷ [] → x ≡ after frames (after (frame ∷ []) (run state rest)) → x ≡ after frames' (run state rest)
-  told_here frame state rest frames' e so = so ∙ after-after frames (frame ∷ []) (run state rest) ∙ ap (λ (fs : List Frame). after fs (run state rest)) (sym e)
+  pub frame_here : (frame : Frame) (state : Framing) (rest : List ℕ) (frames' : List Frame) → frames' ≡ frames ++ frame ∷ [] → x ≡ after frames (after (frame ∷ []) (run state rest)) → x ≡ after frames' (run state rest)
+  frame_here frame state rest frames' e so = so ∙ after-after frames (frame ∷ []) (run state rest) ∙ ap (λ (fs : List Frame). after fs (run state rest)) (sym e)
 
   -- the last frame is told
-  pub hung_up_here : (rest : List ℕ) (frames' : List Frame) → frames' ≡ frames ++ Hangup ∷ [] → x ≡ after frames (after (Hangup ∷ []) (run hung_up rest)) → x ≡ after frames' (record { told = []; next = hung_up })
-  hung_up_here rest frames' e so = told_here Hangup hung_up rest frames' e so ∙ ap (after frames') (run-hung_up rest)
+  pub hung_up_here : (rest : List ℕ) (frames' : List Frame) → frames' ≡ frames ++ Hangup ∷ [] → x ≡ after frames (after (Hangup ∷ []) (run hung_up rest)) → x ≡ after frames' (record { frames = []; next = hung_up })
+  hung_up_here rest frames' e so = frame_here Hangup hung_up rest frames' e so ∙ ap (after frames') (run-hung_up rest)

@@ -1,4 +1,4 @@
--- What is said of a piece that wasn't taken.
+-- The texts of errors.
 use Rattle.std.specs.Prelude.{ℕ, List, codes}
 use Rattle.imap_lex.specs.declared.error.LexError.{LexError}
 use Rattle.imap_lex.specs.declared.error.LexError.TheVariants.{Memory, Closed}

@@ -1,5 +1,6 @@
 pub mod Chars
 pub mod CommandTag
+pub mod Limits
 pub mod ErrorText
 pub mod Mark
 pub mod Held

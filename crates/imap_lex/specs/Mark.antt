@@ -2,7 +2,7 @@
 use Rattle.std.specs.Prelude.{◌≡◌, ◌≤◌, ◌<◌, ℕ, ◌+◌, ◌-◌, ◌*◌, Bool, true, false, not, ◌&&◌, List, [], ◌∷◌, ◌++◌, nat_lt, eqb, if◌then◌else◌, Option, Some, None}
 use Rattle.std.specs.List.{AllByRecursion}
 
--- how many octets are to follow, and whether the client waits until it is told to go on
+-- the number of octets that are to follow, and whether the client waits for a continuation request
 pub record Announced : Type 0 where
   pub size : ℕ
   pub waits : Bool

@@ -1,14 +1,15 @@
-//! Why a piece of the stream wasn't taken.
+//! Why a framer refused a piece of the stream.
 
 use std::alloc::AllocError;
 use std::error::Error;
 use std::fmt;
 
+// The texts are written by hand: an `impl` that `thiserror` derives has no clause on what it writes.
 #[derive(Clone, Copy, Debug, PartialEq, Eq)]
 pub enum LexError {
     /// Memory ran out. The piece may be fed again.
     Memory,
-    /// A [`Frame::Hangup`](crate::Frame::Hangup) was told before, so that nothing more is taken.
+    /// The framer returned [`Frame::Hangup`](crate::Frame::Hangup) before, and takes nothing more.
     Closed,
 }
 

@@ -1,4 +1,4 @@
-//! What a framer tells.
+//! The frames that a framer returns.
 
 ghost use Rattle.std.specs.Prelude.{◌≡◌, [], ◌∷◌, ◌++◌, IfOk, OnOk, OnErr};
 ghost use Rattle.imap_lex.specs.Places.{frame_of};
@@ -8,18 +8,18 @@ use crate::tag::Tag;
 use std::alloc::{AllocError, Global};
 use std::mem;
 
-/// What a framer tells of the stream, in its order.
+/// A part of the stream, or what it asks for. A framer returns them in the order of the stream.
 #[derive(Debug, Drop)]
 pub enum Frame {
-    /// A command with its literals and the CRLF that ends it.
+    /// A command, with its literals and the CRLF that ends it.
     Whole(Octets),
-    /// The client waits to send a literal, and is to be told to go on (RFC 9051, section 7).
+    /// The client waits to send a literal: the server is to send a continuation request (RFC 9051, section 7).
     Continue,
-    /// The client waits to send a literal that is over the limit: the command is dropped, and the next one begins
-    /// behind the CRLF. The tag of the command, where it begins with one and a space.
+    /// The client waits to send a literal that is over the limit. The command is dropped, and the next one begins after
+    /// the CRLF. The value is the command's tag, if it has one.
     Reject(Option<Tag>),
-    /// A command has too many octets outside its literals, or a literal that the client doesn't wait for is over the
-    /// limit: nothing behind this is read, and the connection is to be closed.
+    /// A command has too many octets outside its literals, or a literal for which the client doesn't wait is over the
+    /// limit. Nothing after this is read, and the connection is to be closed.
     Hangup,
 }
 
@@ -31,7 +31,7 @@ pub(crate) enum End {
 }
 
 impl End {
-    /// What is told of a command that ends so.
+    /// Returns the frame of the command `octets`.
     pub(crate) fn frame(self, alloc: Global, octets: &[u8]) -> Result<Frame, AllocError>
         ensures { IfOk result (λ frame. frame ≡ frame_of self octets.now) }
     {
@@ -41,8 +41,8 @@ impl End {
         }
     }
 
-    /// Puts what is told of a command that ends so behind `frames`, and what is told later behind that. The octets of
-    /// the command are those that were held and then those of `front`. It takes over what was held.
+    /// Appends to `frames` the frame of the command `held` + `front`, then `later`. Takes the octets out of `held`. On
+    /// an error they stay there.
     pub(crate) fn put_frame(
         self,
         alloc: Global,
@@ -58,11 +58,12 @@ impl End {
         let mut later = later;
         frames.reserve(1 + later.len())?;
         frames.push_reserved(self.frame_of_held(alloc, held, front)?);
-        // There is room for these.
+        // Room for these was reserved.
         frames.append(&mut later)?;
         Ok(())
     }
 
+    /// Returns the frame of the command `held` + `front`. On an error `held` is as before.
     fn frame_of_held(
         self,
         alloc: Global,
@@ -73,19 +74,21 @@ impl End {
         ensures err { OnErr result (held.new.items ≡ held.old.items) }
     {
         let before = held.len();
+        // No octet follows, so there is no need of spare room.
+        held.reserve_exact(front.len())?;
         held.extend_from_slice(front)?;
-        let told = match self {
+        let frame = match self {
             End::Whole => whole_frame(alloc, held),
             End::Rejected => Tag::of_command(alloc, held).map(Frame::Reject),
         };
-        if told.is_err() {
+        if frame.is_err() {
             held.truncate(before);
         }
-        told
+        frame
     }
 }
 
-/// A whole command of the octets that were held, which are taken.
+/// Returns the octets of `held` as a whole command, and leaves `held` empty. On an error they stay there.
 fn whole_frame(alloc: Global, held: &mut Vec<u8>) -> Result<Frame, AllocError>
     ensures ok { IfOk result (λ frame. frame ≡ Frame.Whole held.old.items) }
     ensures err { OnErr result (held.new.items ≡ held.old.items) }

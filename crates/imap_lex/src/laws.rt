@@ -1,23 +1,29 @@
 //! Laws of every stream.
 
 ghost use Rattle.imap_lex.specs.Mark.{MarksAreRead, MarksAreFound};
-ghost use Rattle.imap_lex.specs.Stream.{EachHasReading, HasOneReading, ToldAsRead, AnyCut};
+ghost use Rattle.imap_lex.specs.Stream.{LinesAreRead, LinesAreFound, EachHasReading, HasOneReading, FramesAsRead, AnyCut};
 
-/// Each stream is commands and beginnings of commands that are dropped, and behind them octets that make none yet or that
-/// can't be read on. It is so in one way, and a framer tells these and holds those octets.
+/// Each stream consists, in exactly one way, of commands and dropped beginnings of commands, and then of octets that
+/// are no command yet or after which nothing is read. A framer returns the frames of the former and holds the latter.
 pub fn one_reading()
     ensures each { EachHasReading }
     ensures once { HasOneReading }
-    ensures told { ToldAsRead }
+    ensures frames { FramesAsRead }
 {}
 
-/// Wherever a stream is cut in two pieces, it is told as in one.
+/// Two pieces have the frames of the stream that they make together, wherever it was cut.
 pub fn any_cut()
     ensures { AnyCut }
 {}
 
-/// A line announces a literal where it ends with digits in braces, and announces what these say.
+/// A line announces a literal exactly if it ends with digits in braces, and its size is the number of these digits.
 pub fn one_mark()
     ensures read { MarksAreRead }
     ensures found { MarksAreFound }
+{}
+
+/// The length of a first line is found exactly if the octets begin with a line.
+pub fn one_line()
+    ensures read { LinesAreRead }
+    ensures found { LinesAreFound }
 {}

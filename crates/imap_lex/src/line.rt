@@ -1,22 +1,22 @@
-//! Where a line ends.
+//! The end of a line.
 
-ghost use Rattle.std.specs.Prelude.{◌≤◌};
-ghost use Rattle.imap_lex.specs.LineEnd.{Finds};
+ghost use Rattle.std.specs.Prelude.{◌≡◌, ◌≤◌};
+ghost use Rattle.imap_lex.specs.LineEnd.{IsLineEnd, line_length};
 
-/// What a piece does to the line that it goes on with.
+/// How a piece goes on with a line.
 #[derive(Clone, Copy)]
 pub(crate) enum LineEnd {
     /// The line ends with this many octets of the piece.
     After(usize),
-    /// The line takes the whole piece, and does not end with it.
+    /// The whole piece is of the line, which does not end with it.
     Missing,
     /// The line has more octets than it may have.
     TooLong,
 }
 
-/// What `piece` does to the line of which `front` has come, and that may have `room` octets more.
+/// Returns how `piece` goes on with the line whose first octets are `front` and which may have `room` octets more.
 pub(crate) fn line_end(front: &[u8], room: usize, piece: &[u8]) -> LineEnd
-    ensures { Finds front.now room piece.now result }
+    ensures { IsLineEnd front.now room piece.now result }
 {
     let mut after_cr = front.ends_with(b"\r");
     for (at, octet) in piece.iter().enumerate() {
@@ -29,4 +29,16 @@ pub(crate) fn line_end(front: &[u8], room: usize, piece: &[u8]) -> LineEnd
         after_cr = *octet == b'\r';
     }
     LineEnd::Missing
+}
+
+/// Returns the length of the line with which `octets` begins, its CRLF counted, or `None` if no CRLF stands in them.
+pub fn line_length(octets: &[u8]) -> Option<usize>
+    ensures { result ≡ line_length octets.now }
+{
+    match line_end(&[], octets.len(), octets) {
+        LineEnd::After(len) => Some(len),
+        LineEnd::Missing => None,
+        // The line may have all the octets.
+        LineEnd::TooLong => None,
+    }
 }

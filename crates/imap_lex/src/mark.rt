@@ -5,15 +5,15 @@ ghost use Rattle.imap_lex.specs.Mark.{LineTail, with_octet, with_octets, line_ma
 ghost use Rattle.imap_lex.specs.Held.{held_tail, held_mark};
 
 /// A literal that is to follow (RFC 9051, section 4.3; RFC 7888).
-#[derive(Clone, Copy)]
-pub(crate) struct Mark {
-    /// How many octets it announces; `u128::MAX` for more, which is over any limit too.
-    pub(crate) size: u128,
-    /// Whether the client waits until it is told to go on.
-    pub(crate) waits: bool,
+#[derive(Clone, Copy, Debug)]
+pub struct Mark {
+    /// The number of octets that it announces. For a larger number it is `u128::MAX`, which is over any limit too.
+    pub size: u128,
+    /// Whether the client waits for a continuation request.
+    pub waits: bool,
 }
 
-/// What the octets of a line end with, as far as they were read.
+/// The end of a line, as far as it has been read.
 #[derive(Clone, Copy)]
 enum Tail {
     Text,
@@ -45,7 +45,7 @@ impl Tail {
         }
     }
 
-    /// What a line ends with that ended so before these octets.
+    /// Returns the end of the line after these octets.
     fn with_octets(self, octets: &[u8]) -> Tail
         ensures { (t : LineTail) → self ≡ held_tail t → result ≡ held_tail (with_octets t octets.now) }
     {
@@ -57,8 +57,8 @@ impl Tail {
     }
 }
 
-/// The mark with which the line ends whose octets are those of `front` and then of `back`.
-pub(crate) fn line_mark(front: &[u8], back: &[u8]) -> Option<Mark>
+/// Returns the mark with which the line `front` + `back` ends.
+pub fn line_mark(front: &[u8], back: &[u8]) -> Option<Mark>
     ensures { result ≡ option_map held_mark (line_mark (front.now ++ back.now)) }
 {
     match Tail::Text.with_octets(front).with_octets(back) {

@@ -1,4 +1,4 @@
-//! Octets that are shared.
+//! Shared octets.
 
 ghost use Rattle.std.specs.Prelude.{◌≡◌, ◌≤◌, length, slice_range, IfOk, IfErr};
 
@@ -6,9 +6,9 @@ use bytes::Bytes;
 use std::alloc::{AllocError, AllocFailed, Global};
 use std::marker::Model;
 
-/// Octets of any number and any value, as a string of RFC 9051, section 4.3 has them.
+/// Octets of any number and any value, as in a string (RFC 9051, section 4.3).
 ///
-/// A copy or a part of them shares them.
+/// A copy or a part shares them.
 #[derive(Debug, Drop)]
 pub struct Octets(Bytes);
 
@@ -21,13 +21,14 @@ impl Model for Octets {
 }
 
 impl Octets {
+    /// Returns the octets of a list, without copying them.
     pub fn from_vec(octets: Vec<u8>) -> Result<Octets, AllocError>
         ensures { IfOk result (λ made. made ≡ octets.items) }
     {
         Ok(Octets::try_from_vec(octets)?)
     }
 
-    /// The same, and the octets come back where memory runs out.
+    /// As `from_vec`, but the error returns the octets.
     pub(crate) fn try_from_vec(octets: Vec<u8>) -> Result<Octets, AllocFailed<Vec<u8>>>
         ensures ok { IfOk result (λ made. made ≡ octets.items) }
         ensures err { IfErr result (λ failed. failed.value.items ≡ octets.items) }
@@ -35,6 +36,7 @@ impl Octets {
         Ok(Octets(Bytes::from_vec(octets)?))
     }
 
+    /// Returns a copy of a slice.
     pub fn from_slice(alloc: Global, octets: &[u8]) -> Result<Octets, AllocError>
         ensures { IfOk result (λ copy. copy ≡ octets.now) }
     {
@@ -47,7 +49,7 @@ impl Octets {
         self.0.as_slice()
     }
 
-    /// The octets from `start` up to `end`, which aren't copied.
+    /// Returns the octets from `start` up to `end`, without copying them.
     pub fn slice(&self, start: usize, end: usize) -> Result<Octets, AllocError>
         requires order { start ≤ end }
         requires within { end ≤ length self.now }
@@ -56,7 +58,7 @@ impl Octets {
         Ok(Octets(self.0.slice(start..end)?))
     }
 
-    /// The same octets once more, which aren't copied.
+    /// Returns the same octets, without copying them.
     pub fn try_copy(&self) -> Result<Octets, AllocError>
         ensures { IfOk result (λ copy. copy ≡ self.now) }
     {

@@ -1,31 +1,31 @@
-//! How far a command has come.
+//! The place in a command up to which it has come.
 
 ghost use Rattle.std.specs.Prelude.{◌≡◌, ℕ, ◌<◌, ◌≤◌, List, [], length, option_map, Option, Some};
 ghost use Rattle.imap_lex.specs.Framing.{Part as BegunPart, awaiting, run, start, line_outcome, before_literal, part_of_size};
 ghost use Rattle.imap_lex.specs.Mark.{Announced};
 ghost use Rattle.imap_lex.specs.Held.{held_mark};
-ghost use Rattle.imap_lex.specs.Places.{begun, part_of, Stands, IsComing, StepStands, TurnStands, IsWithin, turn_outcome, step_outcome};
+ghost use Rattle.imap_lex.specs.Places.{begun, begun_with, part_of, IsPlace, IsComing, IsStep, IsTurn, IsWithin, turn_outcome, step_outcome};
 
 use crate::frame::End;
 use crate::line::{LineEnd, line_end};
 use crate::mark::{Mark, line_mark};
 
 /// The most octets that a command may have outside its literals, line ends counted.
-const COMMAND_LIMIT: usize = 8192;
+pub const MAX_COMMAND_OCTETS: usize = 8192;
 
-/// The most octets of a literal that the client doesn't wait for (RFC 9051, section 4.3).
-const UNASKED_LIMIT: u64 = 4096;
+/// The most octets of a literal for which the client doesn't wait (RFC 9051, section 4.3; RFC 7888, section 4).
+pub const MAX_UNASKED_OCTETS: u64 = 4096;
 
-/// What a command goes on with.
+/// The part of a command that comes next.
 #[derive(Clone, Copy, Debug)]
 pub(crate) enum Part {
     Line,
-    /// A literal, of which so many octets are still to come: at least one.
+    /// A literal, with the number of its octets that are still to come: at least one.
     Literal(u64),
 }
 
 impl Part {
-    /// What a command goes on with where so many octets of a literal are to come.
+    /// Returns the part that comes next if `left` octets of a literal are still to come.
     fn of_literal(left: u64) -> Part
         ensures coming { IsComing result }
         ensures part { part_of [] result ≡ part_of_size left }
@@ -38,26 +38,26 @@ impl Part {
     }
 }
 
-/// How far a command has come.
+/// The place in a command up to which it has come.
 #[derive(Clone, Copy, Debug)]
 pub(crate) struct Place {
     part: Part,
-    /// How many octets have come outside literals.
+    /// The number of octets that have come outside literals.
     outside: usize,
-    /// How many octets more the literals may have.
+    /// The number of octets that the literals may still have.
     room: u64,
 }
 
-/// What a piece does to a command, up to the end of a line or of a literal.
+/// How a piece goes on with a command, up to the end of a line or of a literal.
 #[derive(Clone, Copy)]
 pub(crate) enum Step {
-    /// All of the piece belongs to the line, which doesn't end with it.
+    /// The whole piece is of the line, which does not end with it.
     Unended(Place),
-    /// So many octets of it bring the command to a turn.
+    /// After this many octets of the piece a line ends, or what has come of a literal.
     Turn(usize, Turn),
 }
 
-/// What comes of a command where a line or what has come of a literal ends.
+/// How a command goes on after a line or a literal.
 #[derive(Clone, Copy)]
 pub(crate) enum Turn {
     On(Place),
@@ -68,9 +68,9 @@ pub(crate) enum Turn {
 }
 
 impl Place {
-    /// Where a command begins whose literals may have so many octets.
+    /// Returns the beginning of a command whose literals may have `max_octets` octets.
     pub(crate) fn start(max_octets: u64) -> Place
-        ensures stands { Stands result }
+        ensures stands { IsPlace result }
         ensures begun { begun [] [] result ≡ start max_octets }
     {
         Place {
@@ -80,14 +80,23 @@ impl Place {
         }
     }
 
-    /// What `piece` does to a command that has come so far, and of whose line `line` has come.
+    /// Returns the number of octets of a literal that are to come.
+    pub(crate) fn literal_left(self) -> usize {
+        match self.part {
+            Part::Line => 0,
+            Part::Literal(left) => left as usize,
+        }
+    }
+
+    /// Returns how `piece` goes on with a command at this place, if `line` has come of its last line.
     pub(crate) fn step(self, line: &[u8], piece: &[u8]) -> Step
-        requires stands { Stands self }
+        requires stands { IsPlace self }
         requires some { 0 < length piece.now }
-        ensures stands { StepStands result }
+        ensures stands { IsStep result }
         ensures within { IsWithin (length piece.now) result }
         ensures outcome { (limit : ℕ) (octets : List ℕ) →
-            run (awaiting limit (begun octets line.now self)) piece.now ≡ step_outcome limit octets line.now piece.now result }
+            run (awaiting limit (begun octets line.now self)) piece.now
+            ≡ step_outcome limit octets line.now piece.now result }
     {
         match self.part {
             Part::Line => self.step_in_line(line, piece),
@@ -96,13 +105,14 @@ impl Place {
     }
 
     fn step_in_literal(self, left: u64, piece: &[u8]) -> Step
-        requires stands { Stands self }
+        requires stands { IsPlace self }
         requires part { self.part ≡ Part.Literal left }
         requires some { 0 < length piece.now }
-        ensures stands { StepStands result }
+        ensures stands { IsStep result }
         ensures within { IsWithin (length piece.now) result }
         ensures outcome { (limit : ℕ) (octets so_far : List ℕ) →
-            run (awaiting limit (begun octets so_far self)) piece.now ≡ step_outcome limit octets so_far piece.now result }
+            run (awaiting limit (begun octets so_far self)) piece.now
+            ≡ step_outcome limit octets so_far piece.now result }
     {
         let len = left.min(piece.len() as u64);
         let next = Place {
@@ -113,21 +123,22 @@ impl Place {
     }
 
     fn step_in_line(self, line: &[u8], piece: &[u8]) -> Step
-        requires stands { Stands self }
+        requires stands { IsPlace self }
         requires part { self.part ≡ Part.Line }
         requires some { 0 < length piece.now }
-        ensures stands { StepStands result }
+        ensures stands { IsStep result }
         ensures within { IsWithin (length piece.now) result }
         ensures outcome { (limit : ℕ) (octets : List ℕ) →
-            run (awaiting limit (begun octets line.now self)) piece.now ≡ step_outcome limit octets line.now piece.now result }
+            run (awaiting limit (begun octets line.now self)) piece.now
+            ≡ step_outcome limit octets line.now piece.now result }
     {
-        match line_end(line, COMMAND_LIMIT - self.outside, piece) {
+        match line_end(line, MAX_COMMAND_OCTETS - self.outside, piece) {
             LineEnd::After(len) => {
                 let ended = Place {
                     outside: self.outside + len,
                     ..self
                 };
-                Step::Turn(len, ended.behind_line(line_mark(line, &piece[..len])))
+                Step::Turn(len, ended.after_line(line_mark(line, &piece[..len])))
             }
             LineEnd::Missing => Step::Unended(Place {
                 outside: self.outside + piece.len(),
@@ -137,26 +148,26 @@ impl Place {
         }
     }
 
-    /// What follows a line that has ended, with a mark or without.
-    fn behind_line(self, mark: Option<Mark>) -> Turn
-        requires { Stands self }
-        ensures stands { TurnStands result }
+    /// Returns how the command goes on after a line that ends with `mark`.
+    fn after_line(self, mark: Option<Mark>) -> Turn
+        requires { IsPlace self }
+        ensures stands { IsTurn result }
         ensures outcome { (limit : ℕ) (octets : List ℕ) (part : BegunPart) (announced : Option Announced) →
             mark ≡ option_map held_mark announced →
-            turn_outcome limit octets result ≡ line_outcome limit (record { octets = octets; part = part; outside = self.outside; room = self.room }) announced }
+            turn_outcome limit octets result ≡ line_outcome limit (begun_with self octets part) announced }
     {
         match mark {
             None => Turn::Ended(End::Whole),
-            Some(mark) => self.behind_mark(mark),
+            Some(mark) => self.after_mark(mark),
         }
     }
 
-    fn behind_mark(self, mark: Mark) -> Turn
-        requires { Stands self }
-        ensures stands { TurnStands result }
+    fn after_mark(self, mark: Mark) -> Turn
+        requires { IsPlace self }
+        ensures stands { IsTurn result }
         ensures outcome { (limit : ℕ) (octets : List ℕ) (part : BegunPart) (announced : Announced) →
             mark ≡ held_mark announced →
-            turn_outcome limit octets result ≡ line_outcome limit (record { octets = octets; part = part; outside = self.outside; room = self.room }) (Some announced) }
+            turn_outcome limit octets result ≡ line_outcome limit (begun_with self octets part) (Some announced) }
     {
         if mark.waits {
             if mark.size > u128::from(self.room) {
@@ -164,20 +175,20 @@ impl Place {
             }
             Turn::Continue(self.before_literal(mark.size))
         } else {
-            if mark.size > u128::from(self.room.min(UNASKED_LIMIT)) {
+            if mark.size > u128::from(self.room.min(MAX_UNASKED_OCTETS)) {
                 return Turn::Hangup;
             }
             Turn::On(self.before_literal(mark.size))
         }
     }
 
-    /// Where a literal of this size begins.
+    /// Returns the place before a literal of `size` octets.
     fn before_literal(self, size: u128) -> Place
-        requires stands { Stands self }
+        requires stands { IsPlace self }
         requires room { size ≤ self.room }
-        ensures stands { Stands result }
+        ensures stands { IsPlace result }
         ensures begun { (octets : List ℕ) (part : BegunPart) →
-            begun octets [] result ≡ before_literal (record { octets = octets; part = part; outside = self.outside; room = self.room }) size }
+            begun octets [] result ≡ before_literal (begun_with self octets part) size }
     {
         let size = size as u64;
         Place {

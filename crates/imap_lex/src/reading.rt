@@ -1,9 +1,9 @@
-//! A piece read up to the end of a command.
+//! Reading a piece up to the end of a command.
 
 ghost use Rattle.std.specs.Prelude.{◌≡◌, ℕ, ◌≤◌, List, length, IfOk};
 ghost use Rattle.imap_lex.specs.Framing.{awaiting, after, run};
-ghost use Rattle.imap_lex.specs.Places.{begun, Stands};
-ghost use Rattle.imap_lex.specs.Found.{FoundStands, found_outcome};
+ghost use Rattle.imap_lex.specs.Places.{begun, IsPlace};
+ghost use Rattle.imap_lex.specs.Found.{IsFound, found_outcome};
 
 use crate::frame::{End, Frame};
 use crate::place::{Place, Step, Turn};
@@ -12,23 +12,25 @@ use std::alloc::AllocError;
 /// How a piece goes on with a command.
 #[derive(Clone, Copy)]
 pub(crate) enum Found {
-    /// All of it belongs to the command, which doesn't end with it. So many octets have come of the line.
+    /// The whole piece is of the command, which does not end with it. The number is that of the octets of the last line
+    /// that have come.
     Unended(Place, usize),
-    /// The command ends with so many octets.
+    /// The command ends after this many octets of the piece.
     Ended(usize, End),
     HungUp,
 }
 
-/// How `piece` goes on with a command of whose line `line` has come. What it tells before the command ends is put
-/// behind `frames`.
+/// Returns how `piece` goes on with the command at `place`, if `line` has come of its last line.
+///
+/// Appends to `frames` the frames before the end of the command.
 pub(crate) fn read_on(
     frames: &mut Vec<Frame>,
     place: Place,
     line: &[u8],
     piece: &[u8],
 ) -> Result<Found, AllocError>
-    requires stands { Stands place }
-    ensures stands { IfOk result (FoundStands (length line.now) (length piece.now)) }
+    requires stands { IsPlace place }
+    ensures stands { IfOk result (IsFound (length line.now) (length piece.now)) }
     ensures outcome { IfOk result (λ found. (limit : ℕ) (octets : List ℕ) →
         after frames.old.items (run (awaiting limit (begun octets line.now place)) piece.now)
         ≡ after frames.new.items (found_outcome limit octets line.now piece.now found)) }

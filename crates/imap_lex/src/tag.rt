@@ -1,62 +1,88 @@
 //! The tag of a command.
 
-ghost use Rattle.std.specs.Prelude.{◌≡◌, ◌≤◌, length, IfOk};
-ghost use Rattle.imap_lex.specs.CommandTag.{tag_length, tag_of};
+ghost use Rattle.std.specs.Prelude.{◌≡◌, IfOk, OnErr, IsSome};
+ghost use Rattle.std.specs.List.{list_all};
+ghost use Rattle.imap_lex.specs.Chars.{is_tag_char};
+ghost use Rattle.imap_lex.specs.CommandTag.{is_tag, IsTag, tag_read, tag_of, ends_word};
 
-use crate::chars::is_tag_char;
+use crate::chars::{TagChar, is_tag_char, leading};
 use std::alloc::{AllocError, Global};
 use std::marker::Model;
 
-/// The word with which a client begins a command, and the server its answer (RFC 9051, section 9, `tag`).
+/// The word with which a client begins a command and the server its answer (RFC 9051, section 9, `tag`): one tag
+/// character or more.
 #[derive(Debug, Drop)]
 pub struct Tag(Vec<u8>);
 
 impl Model for Tag {
     ghost use Rattle.std.specs.Prelude.{ℕ, List};
+    ghost use Rattle.std.specs.List.{list_all};
+    ghost use Rattle.imap_lex.specs.Chars.{is_tag_char};
+    ghost use Rattle.imap_lex.specs.CommandTag.{IsTag};
 
     ghost Value = { List ℕ };
 
     ghost view = { λ t. t.0.items };
+
+    ghost invariant = { λ t. IsTag t.0.items };
 }
 
 impl Tag {
-    pub fn from_slice(alloc: Global, octets: &[u8]) -> Result<Tag, AllocError>
-        ensures { IfOk result (λ tag. tag ≡ octets.now) }
+    /// Returns these octets as a tag, or `None` if they aren't one.
+    pub fn read(alloc: Global, octets: &[u8]) -> Result<Option<Tag>, AllocError>
+        ensures tag { IfOk result (λ tag. tag ≡ tag_read octets.now) }
+        ensures err { OnErr result (IsTag octets.now) }
     {
-        Ok(Tag(Vec::from_slice(alloc, octets)?))
-    }
-
-    /// The tag with which the octets of a command begin, a space behind it.
-    pub(crate) fn of_command(alloc: Global, command: &[u8]) -> Result<Option<Tag>, AllocError>
-        ensures { IfOk result (λ tag. tag ≡ tag_of command.now) }
-    {
-        let (tag, behind) = command.split_at(tag_length(command));
-        if tag.is_empty() || !behind.starts_with(b" ") {
+        if !is_tag(octets) {
             return Ok(None);
         }
-        Ok(Some(Tag::from_slice(alloc, tag)?))
+        Ok(Some(Tag(Vec::from_slice(alloc, octets)?)))
+    }
+
+    /// Returns the tag with which the octets of a command begin, a space or CRLF after it, or `None` if there is none.
+    pub fn of_command(alloc: Global, command: &[u8]) -> Result<Option<Tag>, AllocError>
+        ensures tag { IfOk result (λ tag. tag ≡ tag_of command.now) }
+        ensures err { OnErr result (IsSome (tag_of command.now)) }
+    {
+        let (tag, rest) = command.split_at(leading::<TagChar>(command));
+        if tag.is_empty() || !ends_word(rest) {
+            return Ok(None);
+        }
+        Ok(Some(Tag(Vec::from_slice(alloc, tag)?)))
     }
 
     pub fn as_slice(&self) -> &[u8]
-        ensures { result.now ≡ self.now }
+        ensures octets { result.now ≡ self.now }
+        ensures valid { IsTag result.now }
     {
         self.0.as_slice()
     }
 
+    /// Returns a copy.
     pub fn try_copy(&self, alloc: Global) -> Result<Tag, AllocError>
-        ensures { IfOk result (λ copy. copy ≡ self.now) }
+        ensures copy { IfOk result (λ copy. copy ≡ self.now) }
+        ensures valid { IsTag self.now }
     {
-        Tag::from_slice(alloc, self.as_slice())
+        Ok(Tag(Vec::from_slice(alloc, self.as_slice())?))
     }
 }
 
-/// How many octets in front may be of a tag.
-fn tag_length(octets: &[u8]) -> usize
-    ensures count { result ≡ tag_length octets.now }
-    ensures within { result ≤ length octets.now }
+/// Whether the octets are a tag.
+fn is_tag(octets: &[u8]) -> bool
+    ensures { result ≡ is_tag octets.now }
 {
-    octets
-        .iter()
-        .take_while(|octet| is_tag_char(**octet))
-        .count()
+    !octets.is_empty() && are_tag_chars(octets)
+}
+
+fn are_tag_chars(octets: &[u8]) -> bool
+    ensures { result ≡ list_all is_tag_char octets.now }
+{
+    octets.iter().all(|octet| is_tag_char(*octet))
+}
+
+/// Whether a space or CRLF stands at the front of the octets.
+fn ends_word(octets: &[u8]) -> bool
+    ensures { result ≡ ends_word octets.now }
+{
+    octets.starts_with(b" ") || octets.starts_with(b"\r\n")
 }

@@ -1,5 +1,5 @@
 -- The laws of search keys.
-use Rattle.std.proofs.Common.{ℕ, zero, suc, Bool, true, eqb, ◌==◌, List, refl}
+use Rattle.std.proofs.Common.{ℕ, zero, suc, Bool, true, false, cond, eqb, ◌==◌, List, refl}
 use Rattle.std.specs.Char.{is_ascii_digit, is_ascii_alphabetic}
 use Rattle.imap_query.specs.declared.search.SearchIn.{SearchIn}
 use Rattle.imap_query.specs.declared.search.SearchDate.{SearchDate}
@@ -10,7 +10,7 @@ use Rattle.imap_syntax.specs.Lexical.{is_astring_char, is_atom_char, astring}
 use Rattle.imap_syntax.specs.Sets.{begins_set}
 use Rattle.imap_query.specs.Keys.{Plain, Key}
 use Rattle.imap_query.specs.Search.{text_key, date_key, sent_key, header_key, keyword_key, size, entry_behind, entry, mod_seq_key, uid_key, plain_behind, as_plain}
-use Rattle.imap_query.specs.Searching.{key_behind, group_key, set_key, word_key, key_over, key}
+use Rattle.imap_query.specs.Searching.{is_not, is_or, not_key, or_key, key_behind, group_key, set_key, word_key, key_over, key}
 use Rattle.imap_syntax.proofs.RuleLaws.{StopsAt, Lawful, MayFollow, ended_lawful, then_lawful, then_follows, give_lawful, give_follows, octet_lawful, octet_follows, octet_then_follows, some_of_lawful}
 use Rattle.imap_syntax.proofs.Opens.{Opens, opens_weaker, octet_opens, then_opens, opens_follows}
 use Rattle.imap_syntax.proofs.Lists.{fail_lawful, fail_follows, when_lawful, flag_then_lawful}
@@ -76,15 +76,10 @@ uid_key_lawful : Lawful AtEnd uid_key
 uid_key_lawful = ended_lawful (octet_lawful 32) (λ u. then_lawful message_set_lawful (λ messages. give_lawful _) (λ messages. give_follows _))
 
 plain_lawful : (name : SearchWord) → Lawful AtEnd (plain_behind name)
-plain_lawful word.All = give_lawful _
-plain_lawful word.Answered = give_lawful _
 plain_lawful word.Bcc = text_key_lawful _
 plain_lawful word.Before = date_key_lawful _
 plain_lawful word.Body = text_key_lawful _
 plain_lawful word.Cc = text_key_lawful _
-plain_lawful word.Deleted = give_lawful _
-plain_lawful word.Draft = give_lawful _
-plain_lawful word.Flagged = give_lawful _
 plain_lawful word.From = text_key_lawful _
 plain_lawful word.Header = header_key_lawful
 plain_lawful word.Keyword = keyword_key_lawful _
@@ -93,7 +88,6 @@ plain_lawful word.ModSeq = mod_seq_key_lawful
 plain_lawful word.Not = fail_lawful
 plain_lawful word.On = date_key_lawful _
 plain_lawful word.Or = fail_lawful
-plain_lawful word.Seen = give_lawful _
 plain_lawful word.SentBefore = sent_key_lawful
 plain_lawful word.SentOn = sent_key_lawful
 plain_lawful word.SentSince = sent_key_lawful
@@ -103,12 +97,8 @@ plain_lawful word.Subject = text_key_lawful _
 plain_lawful word.Text = text_key_lawful _
 plain_lawful word.To = text_key_lawful _
 plain_lawful word.Uid = uid_key_lawful
-plain_lawful word.Unanswered = give_lawful _
-plain_lawful word.Undeleted = give_lawful _
-plain_lawful word.Undraft = give_lawful _
-plain_lawful word.Unflagged = give_lawful _
 plain_lawful word.Unkeyword = keyword_key_lawful _
-plain_lawful word.Unseen = give_lawful _
+plain_lawful _ = give_lawful _
 
 letters_end : (rest : List ℕ) → AtEnd rest → StopsAt is_ascii_alphabetic rest
 letters_end = end_stops is_ascii_alphabetic refl refl refl
@@ -123,37 +113,20 @@ spaced next = octet_then_follows next 32 (λ rest. refl)
 plain_follows : (name : SearchWord) → Ended (plain_behind name)
 plain_follows word.All = give_before _ letters_end
 plain_follows word.Answered = give_before _ letters_end
-plain_follows word.Bcc = spaced _
-plain_follows word.Before = spaced _
-plain_follows word.Body = spaced _
-plain_follows word.Cc = spaced _
 plain_follows word.Deleted = give_before _ letters_end
 plain_follows word.Draft = give_before _ letters_end
 plain_follows word.Flagged = give_before _ letters_end
-plain_follows word.From = spaced _
-plain_follows word.Header = spaced _
-plain_follows word.Keyword = spaced _
 plain_follows word.Larger = then_follows (spaced _) (λ n. give_follows {After = AtEnd} _)
-plain_follows word.ModSeq = spaced _
 plain_follows word.Not = fail_follows
-plain_follows word.On = spaced _
 plain_follows word.Or = fail_follows
 plain_follows word.Seen = give_before _ letters_end
-plain_follows word.SentBefore = spaced _
-plain_follows word.SentOn = spaced _
-plain_follows word.SentSince = spaced _
-plain_follows word.Since = spaced _
 plain_follows word.Smaller = then_follows (spaced _) (λ n. give_follows {After = AtEnd} _)
-plain_follows word.Subject = spaced _
-plain_follows word.Text = spaced _
-plain_follows word.To = spaced _
-plain_follows word.Uid = spaced _
 plain_follows word.Unanswered = give_before _ letters_end
 plain_follows word.Undeleted = give_before _ letters_end
 plain_follows word.Undraft = give_before _ letters_end
 plain_follows word.Unflagged = give_before _ letters_end
-plain_follows word.Unkeyword = spaced _
 plain_follows word.Unseen = give_before _ letters_end
+plain_follows _ = spaced _
 
 as_plain_lawful : (name : SearchWord) → Lawful AtEnd (as_plain (plain_behind name))
 as_plain_lawful name = then_lawful (plain_lawful name) (λ k. give_lawful _) (λ k. give_follows _)
@@ -164,77 +137,23 @@ as_plain_follows name = then_follows (plain_follows name) (λ k. give_follows _)
 -- ---- keys within keys
 
 behind_lawful : (inner : Rule Key) → Lawful AtEnd inner → (name : SearchWord) → Lawful AtEnd (key_behind inner name)
-behind_lawful inner law word.All = as_plain_lawful word.All
-behind_lawful inner law word.Answered = as_plain_lawful word.Answered
-behind_lawful inner law word.Bcc = as_plain_lawful word.Bcc
-behind_lawful inner law word.Before = as_plain_lawful word.Before
-behind_lawful inner law word.Body = as_plain_lawful word.Body
-behind_lawful inner law word.Cc = as_plain_lawful word.Cc
-behind_lawful inner law word.Deleted = as_plain_lawful word.Deleted
-behind_lawful inner law word.Draft = as_plain_lawful word.Draft
-behind_lawful inner law word.Flagged = as_plain_lawful word.Flagged
-behind_lawful inner law word.From = as_plain_lawful word.From
-behind_lawful inner law word.Header = as_plain_lawful word.Header
-behind_lawful inner law word.Keyword = as_plain_lawful word.Keyword
-behind_lawful inner law word.Larger = as_plain_lawful word.Larger
-behind_lawful inner law word.ModSeq = as_plain_lawful word.ModSeq
-behind_lawful inner law word.Not = ended_lawful (octet_lawful 32) (λ u. then_lawful law (λ k. give_lawful _) (λ k. give_follows _))
-behind_lawful inner law word.On = as_plain_lawful word.On
-behind_lawful inner law word.Or =
-    ended_lawful (octet_lawful 32) (λ u. then_lawful law
-    (λ l. ended_lawful (octet_lawful 32) (λ v. then_lawful law (λ r. give_lawful _) (λ r. give_follows _)))
-    (λ l. octet_then_follows _ 32 (λ rest. refl)))
-behind_lawful inner law word.Seen = as_plain_lawful word.Seen
-behind_lawful inner law word.SentBefore = as_plain_lawful word.SentBefore
-behind_lawful inner law word.SentOn = as_plain_lawful word.SentOn
-behind_lawful inner law word.SentSince = as_plain_lawful word.SentSince
-behind_lawful inner law word.Since = as_plain_lawful word.Since
-behind_lawful inner law word.Smaller = as_plain_lawful word.Smaller
-behind_lawful inner law word.Subject = as_plain_lawful word.Subject
-behind_lawful inner law word.Text = as_plain_lawful word.Text
-behind_lawful inner law word.To = as_plain_lawful word.To
-behind_lawful inner law word.Uid = as_plain_lawful word.Uid
-behind_lawful inner law word.Unanswered = as_plain_lawful word.Unanswered
-behind_lawful inner law word.Undeleted = as_plain_lawful word.Undeleted
-behind_lawful inner law word.Undraft = as_plain_lawful word.Undraft
-behind_lawful inner law word.Unflagged = as_plain_lawful word.Unflagged
-behind_lawful inner law word.Unkeyword = as_plain_lawful word.Unkeyword
-behind_lawful inner law word.Unseen = as_plain_lawful word.Unseen
+behind_lawful inner law name = by (is_not name) (is_or name)
+  where
+    by : (no either : Bool) → Lawful AtEnd (cond no (not_key inner) (cond either (or_key inner) (as_plain (plain_behind name))))
+    by true either = ended_lawful (octet_lawful 32) (λ u. then_lawful law (λ k. give_lawful _) (λ k. give_follows _))
+    by false true =
+        ended_lawful (octet_lawful 32) (λ u. then_lawful law
+        (λ l. ended_lawful (octet_lawful 32) (λ v. then_lawful law (λ r. give_lawful _) (λ r. give_follows _)))
+        (λ l. octet_then_follows _ 32 (λ rest. refl)))
+    by false false = as_plain_lawful name
 
 pub behind_follows : (inner : Rule Key) (name : SearchWord) → Ended (key_behind inner name)
-behind_follows inner word.All = as_plain_follows word.All
-behind_follows inner word.Answered = as_plain_follows word.Answered
-behind_follows inner word.Bcc = as_plain_follows word.Bcc
-behind_follows inner word.Before = as_plain_follows word.Before
-behind_follows inner word.Body = as_plain_follows word.Body
-behind_follows inner word.Cc = as_plain_follows word.Cc
-behind_follows inner word.Deleted = as_plain_follows word.Deleted
-behind_follows inner word.Draft = as_plain_follows word.Draft
-behind_follows inner word.Flagged = as_plain_follows word.Flagged
-behind_follows inner word.From = as_plain_follows word.From
-behind_follows inner word.Header = as_plain_follows word.Header
-behind_follows inner word.Keyword = as_plain_follows word.Keyword
-behind_follows inner word.Larger = as_plain_follows word.Larger
-behind_follows inner word.ModSeq = as_plain_follows word.ModSeq
-behind_follows inner word.Not = spaced _
-behind_follows inner word.On = as_plain_follows word.On
-behind_follows inner word.Or = spaced _
-behind_follows inner word.Seen = as_plain_follows word.Seen
-behind_follows inner word.SentBefore = as_plain_follows word.SentBefore
-behind_follows inner word.SentOn = as_plain_follows word.SentOn
-behind_follows inner word.SentSince = as_plain_follows word.SentSince
-behind_follows inner word.Since = as_plain_follows word.Since
-behind_follows inner word.Smaller = as_plain_follows word.Smaller
-behind_follows inner word.Subject = as_plain_follows word.Subject
-behind_follows inner word.Text = as_plain_follows word.Text
-behind_follows inner word.To = as_plain_follows word.To
-behind_follows inner word.Uid = as_plain_follows word.Uid
-behind_follows inner word.Unanswered = as_plain_follows word.Unanswered
-behind_follows inner word.Undeleted = as_plain_follows word.Undeleted
-behind_follows inner word.Undraft = as_plain_follows word.Undraft
-behind_follows inner word.Unflagged = as_plain_follows word.Unflagged
-behind_follows inner word.Unkeyword = as_plain_follows word.Unkeyword
-behind_follows inner word.Unseen = as_plain_follows word.Unseen
+behind_follows inner name = by (is_not name) (is_or name)
+  where
+    by : (no either : Bool) → Ended (cond no (not_key inner) (cond either (or_key inner) (as_plain (plain_behind name))))
+    by true either = spaced _
+    by false true = spaced _
+    by false false = as_plain_follows name
 
 pub word_key_lawful : (inner : Rule Key) → Lawful AtEnd inner → Lawful AtEnd (word_key inner)
 word_key_lawful inner law = then_lawful (keyword_lawful search_table) (behind_lawful inner law) (behind_follows inner)

@@ -1,4 +1,3 @@
-pub mod Lengths
 pub mod Tables
 pub mod Sections
 pub mod Fetching
@@ -10,3 +9,4 @@ pub mod WrittenFetch
 pub mod WrittenSearch
 pub mod LinedQuery
 pub mod WrittenStatus
+pub mod QueryTexts

@@ -1,14 +1,16 @@
 -- What FETCH and SEARCH ask for is written as lines and literals.
-use Rattle.std.proofs.Common.{◌≡◌, ℕ, zero, suc, Bool, true, false, not, List, [], ◌∷◌, ◌++◌, codes, Option, Some, None, refl, arith}
+use Rattle.std.proofs.Common.{◌≡◌, ℕ, zero, suc, Bool, true, false, cond, not, List, [], ◌∷◌, ◌++◌, codes, Option, Some, None, refl, arith}
 use Rattle.std.specs.Fmt.{decimal as decimal_text}
 use Rattle.std.specs.Char.{is_ascii_alphabetic}
 use Rattle.std.proofs.lemmas.Bool.Decides.{nat_tests}
+use Rattle.imap_query.specs.Searching.{max_key_levels}
 use Rattle.imap_syntax.specs.declared.flag.Flag.{Flag}
 use Rattle.imap_syntax.specs.declared.flag.Flag.TheVariants as flag
 use Rattle.imap_query.specs.declared.fetch.Partial.{Partial}
 use Rattle.imap_query.specs.declared.fetch.Section.{Section}
 use Rattle.imap_query.specs.declared.fetch.Section.TheVariants as section
 use Rattle.imap_query.specs.declared.fetch.BodySection.{BodySection}
+use Rattle.imap_query.specs.declared.fetch.FetchItem.{FetchItem}
 use Rattle.imap_query.specs.declared.fetch.FetchItem.TheVariants as item
 use Rattle.imap_query.specs.declared.search.SearchReturn.{SearchReturn}
 use Rattle.imap_query.specs.declared.search_word.SearchWord.{SearchWord}
@@ -18,19 +20,19 @@ use Rattle.imap_query.specs.SearchWords.{search_return_name, search_name}
 use Rattle.imap_query.specs.Keys.{Plain, all, flagged, contains, header, dated, larger, smaller, mod_seq, numbers, uids, unserved, Key, plain, negated, either, group, Keys, end, more, Token}
 use Rattle.imap_syntax.specs.Writing as writing
 use Rattle.imap_syntax.specs.Writing.{joined, listed, listed_or_none}
-use Rattle.imap_syntax.specs.Written.{quoted_text, string, mod_sequence, number64, message_set}
+use Rattle.imap_syntax.specs.Written.{is_quotable, quoted_text, atom, astring, mod_sequence, number64, message_set}
 use Rattle.imap_syntax.specs.WrittenDates.{date}
-use Rattle.imap_query.specs.WrittenFetch.{field_name, section_fits, section_text, partial_fits, partial_text, peek_text, body_text, fetch_item, fetch_items, changed_fits, modifiers_text}
-use Rattle.imap_query.specs.WrittenSearch.{keys_from, search_flag_fits, flag_word, keyword_text, place_word, relation_word, plain_fits, plain_text, row_fits, fits_over, key_fits, key_text, row_text, further_text, search_key, keys_fit, keys_text, search_keys, returns_text, charset_fits, charset_text}
+use Rattle.imap_query.specs.WrittenFetch.{field_name, section_fits, section_text, partial_fits, partial_text, peek_text, body_text, item_fits, single_text, is_fast, fetch_item, fetch_items, changed_fits, modifiers_text}
+use Rattle.imap_query.specs.WrittenSearch.{keys_from, search_flag_fits, flag_word, keyword_text, place_word, relation_word, plain_fits, plain_text, row_fits, fits_over, key_fits, key_text, row_text, further_text, search_key, keys_fit, keys_text, search_keys, returns_text, charset_fits, charset_name_text, charset_text}
 use Rattle.imap_query.proofs.Tables.{search_table, search_return_table}
 use Rattle.imap_syntax.proofs.Writing.{both_true}
 use Rattle.imap_query.proofs.WrittenSearch.{each_word}
-use Rattle.imap_syntax.proofs.Lined.{IsLined, Lines, is_safe, none_lined, append_lined, safe_lined, octet_lined, astring_safe, atom_lined, word_lined, number64_lined, mod_sequence_lined, enclosed_lined, separated_lined, listed_lined, quoted_lined, string_lined, set_lined, date_lined}
+use Rattle.imap_syntax.proofs.Lined.{IsLined, Lines, is_safe, none_lined, append_lined, safe_lined, octet_lined, astring_safe, atom_lined, word_lined, number64_lined, mod_sequence_lined, enclosed_lined, separated_lined, listed_lined, quoted_lined, astring_lined, set_lined, date_lined}
 
 -- ---- FETCH
 
 name_lined : Lines field_name
-name_lined octets h = string_lined octets (both_true (string.fits octets) (not (has_line_end octets)) h).0
+name_lined octets h = astring_lined octets (both_true (astring.fits octets) (not (has_line_end octets)) h).0
 
 names_lined : (names : List (List ℕ)) → (listed field_name).fits names ≡ true → IsLined ((listed field_name).text names)
 names_lined names h = listed_lined field_name name_lined names (both_true _ _ h).1
@@ -67,10 +69,20 @@ item_lined item.InternalDate h = safe_lined (codes "INTERNALDATE") refl
 item_lined item.Rfc822Size h = safe_lined (codes "RFC822.SIZE") refl
 item_lined item.ModSeq h = safe_lined (codes "MODSEQ") refl
 item_lined (item.Section body) h = let q = both_true (section_fits body.section) (partial_fits body.partial) h in body_lined body q.0 q.1
-item_lined item.Unserved h = safe_lined (codes "ENVELOPE") refl
+item_lined item.Unserved h = safe_lined (codes "BODY") refl
+
+single_lined : (i : FetchItem) → item_fits i ≡ true → IsLined (single_text i)
+single_lined item.Unserved h = safe_lined (codes "ALL") refl
+single_lined i h = item_lined i h
+
+several_lined : (items : List FetchItem) → fetch_items.fits items ≡ true → (fast : Bool) → IsLined (cond fast (codes "FAST") ((listed fetch_item).text items))
+several_lined items h true = safe_lined (codes "FAST") refl
+several_lined items h false = listed_lined fetch_item item_lined items (both_true _ _ h).1
 
 pub items_lined : Lines fetch_items
-items_lined items h = listed_lined fetch_item item_lined items (both_true _ _ h).1
+items_lined [] h = several_lined [] h (is_fast [])
+items_lined (i ∷ []) h = single_lined i (both_true (item_fits i) true h).0
+items_lined (i ∷ j ∷ items) h = several_lined (i ∷ j ∷ items) h (is_fast (i ∷ j ∷ items))
 
 -- a number between two words
 pub between_lined : (front : List ℕ) (n : ℕ) (back : List ℕ) → IsLined front → IsLined (decimal_text n) → IsLined back → IsLined (front ++ (decimal_text n ++ back))
@@ -106,17 +118,17 @@ keyword_lined (flag.Keyword name) h = octet_lined 32 name refl (atom_lined name 
 plain_lined : (p : Plain) → plain_fits p ≡ true → IsLined (plain_text p)
 plain_lined all h = key_word_lined word.All
 plain_lined (flagged f set) h = append_lined (search_name (flag_word f set)) (keyword_text f) (key_word_lined (flag_word f set)) (keyword_lined f h)
-plain_lined (contains where_it_is text) h = about_lined (place_word where_it_is) (string.text text) (string_lined text h)
+plain_lined (contains where_it_is text) h = about_lined (place_word where_it_is) (astring.text text) (astring_lined text h)
 plain_lined (header field text) h =
-    let q = both_true (field_name.fits field) (string.fits text) h in
-    about_lined word.Header (string.text field ++ (32 ∷ string.text text)) (append_lined (string.text field) (32 ∷ string.text text) (name_lined field q.0) (octet_lined 32 (string.text text) refl (string_lined text q.1)))
+    let q = both_true (field_name.fits field) (astring.fits text) h in
+    about_lined word.Header (astring.text field ++ (32 ∷ astring.text text)) (append_lined (astring.text field) (32 ∷ astring.text text) (name_lined field q.0) (octet_lined 32 (astring.text text) refl (astring_lined text q.1)))
 plain_lined (dated how day) h = about_lined (relation_word how) (date.text day) (date_lined day)
 plain_lined (larger n) h = about_lined word.Larger (decimal_text n) (number64_lined n h)
 plain_lined (smaller n) h = about_lined word.Smaller (decimal_text n) (number64_lined n h)
 plain_lined (mod_seq n) h = about_lined word.ModSeq (decimal_text n) (number64_lined n h)
 plain_lined (numbers m) h = set_lined m h
 plain_lined (uids m) h = about_lined word.Uid (message_set.text m) (set_lined m h)
-plain_lined unserved h = safe_lined (codes "SENTON 01-JAN-2000") refl
+plain_lined unserved h = safe_lined (codes "SENTON 1-Jan-2000") refl
 
 abbrev LinesOver : (Key → Bool) → Type 0
 LinesOver f = (k : Key) → f k ≡ true → IsLined (key_text k)
@@ -148,7 +160,7 @@ key_lined (suc levels) k h = over_lined (key_fits levels) (key_lined levels) k h
 
 keys_lined : (o : Option (List Key)) → keys_fit o ≡ true → IsLined (keys_text o)
 keys_lined None h = none_lined
-keys_lined (Some ks) h = separated_lined 32 (search_key 65) refl (key_lined 65) ks h
+keys_lined (Some ks) h = separated_lined 32 (search_key max_key_levels) refl (key_lined max_key_levels) ks h
 
 pub tokens_lined : (tokens : List Token) → search_keys.fits tokens ≡ true → IsLined (search_keys.text tokens)
 tokens_lined tokens h = keys_lined (keys_from tokens) h
@@ -161,7 +173,12 @@ returns_lined (first ∷ others) =
     append_lined (codes "RETURN ") (shown ++ 32 ∷ []) (safe_lined (codes "RETURN ") refl)
     (append_lined shown (32 ∷ []) (listed_lined (writing.word search_return_name) (λ w h. word_lined search_return_table astring_safe w) returns (each_word returns)) (safe_lined (32 ∷ []) refl))
 
+charset_name_lined : (name : List ℕ) → is_quotable name ≡ true → (v : Bool) → atom.fits name ≡ v → IsLined (cond v name (quoted_text name))
+charset_name_lined name h true e = atom_lined name e
+charset_name_lined name h false e = quoted_lined name h
+
 pub charset_lined : (charset : Option (List ℕ)) → charset_fits charset ≡ true → IsLined (charset_text charset)
 charset_lined None h = none_lined
 charset_lined (Some name) h =
-    append_lined (codes "CHARSET ") (quoted_text name ++ 32 ∷ []) (safe_lined (codes "CHARSET ") refl) (append_lined (quoted_text name) (32 ∷ []) (quoted_lined name h) (safe_lined (32 ∷ []) refl))
+    append_lined (codes "CHARSET ") (charset_name_text name ++ 32 ∷ []) (safe_lined (codes "CHARSET ") refl)
+    (append_lined (charset_name_text name) (32 ∷ []) (charset_name_lined name h (atom.fits name) refl) (safe_lined (32 ∷ []) refl))

@@ -5,6 +5,7 @@ use Rattle.std.specs.Char.{is_ascii_alphabetic}
 use Rattle.std.specs.Str.{str_eq_ignore_ascii_case, str_to_ascii_lowercase, bytes_eq}
 use Rattle.std.proofs.lemmas.Bool.Decides.{nat_tests}
 use Rattle.std.proofs.lemmas.Option.{some_pair_parts}
+use Rattle.imap_query.specs.Searching.{max_key_levels}
 use Rattle.imap_query.specs.declared.search.SearchReturn.{SearchReturn}
 use Rattle.imap_query.specs.declared.search_word.SearchWord.{SearchWord}
 use Rattle.imap_query.specs.declared.search_word.SearchWord.TheVariants as word
@@ -113,8 +114,8 @@ key_follows text other (suc levels) =
     (by_first_follows begins_set (no_letter text set_opens set_no_letter)
     (then_follows (other_word text search_table other) (behind_follows (key levels))))
 
-keys_follow : (text : List ℕ) → IsNoKey text → MayFollow (NotWord text) AtEnd (separated 32 (key 65))
-keys_follow text other = separated_follows 32 (key_follows text other 65) (λ rest. refl)
+keys_follow : (text : List ℕ) → IsNoKey text → MayFollow (NotWord text) AtEnd (separated 32 (key max_key_levels))
+keys_follow text other = separated_follows 32 (key_follows text other max_key_levels) (λ rest. refl)
 
 -- ---- the command
 
@@ -179,7 +180,7 @@ charset_follows = record {
 }
 
 search_keys_lawful : Lawful AtCr search_keys
-search_keys_lawful = then_lawful (items_lawful (key_lawful 65)) (λ keys. give_lawful _) (λ keys. give_before _ (λ rest n. (cr_ends rest n, cr_stops (λ b. eqb b 32) refl rest n)))
+search_keys_lawful = then_lawful (items_lawful (key_lawful max_key_levels)) (λ keys. give_lawful _) (λ keys. give_before _ (λ rest n. (cr_ends rest n, cr_stops (λ b. eqb b 32) refl rest n)))
 
 search_keys_follow : (text : List ℕ) → IsNoKey text → MayFollow (NotWord text) AtCr search_keys
 search_keys_follow text other = then_follows (keys_follow text other) (λ keys. give_before _ cr_ends)

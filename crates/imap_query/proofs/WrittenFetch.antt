@@ -1,5 +1,5 @@
 -- What FETCH asks for is written as it is spelt.
-use Rattle.std.proofs.Common.{◌≡◌, ℕ, Bool, true, false, cond, not, List, [], ◌∷◌, ◌++◌, codes, Option, Some, None, refl, sym, arith, inl, inr}
+use Rattle.std.proofs.Common.{◌≡◌, ℕ, Bool, true, false, cond, not, ◌&&◌, List, [], ◌∷◌, ◌++◌, codes, Option, Some, None, refl, sym, arith, inl, inr}
 use Rattle.std.specs.Fmt.{decimal as decimal_text}
 use Rattle.std.specs.Char.{is_ascii_digit}
 use Rattle.std.proofs.lemmas.List.{append-nil}
@@ -24,8 +24,8 @@ use Rattle.imap_query.specs.Sections as sections
 use Rattle.imap_query.specs.Sections.{has_line_end}
 use Rattle.imap_query.specs.Fetch as fetch
 use Rattle.imap_syntax.specs.Writing.{separated, listed}
-use Rattle.imap_syntax.specs.Written.{string, mod_sequence, number64}
-use Rattle.imap_query.specs.WrittenFetch.{field_name, section_fits, section_text, partial_fits, partial_text, body_text, item_fits, item_text, fetch_item, fetch_items, changed_fits, modifiers_text}
+use Rattle.imap_syntax.specs.Written.{astring, mod_sequence, number64}
+use Rattle.imap_query.specs.WrittenFetch.{field_name, section_fits, section_text, partial_fits, partial_text, body_text, item_fits, item_text, single_text, is_flags, is_internal_date, is_size, is_fast, fetch_item, fetch_items, changed_fits, modifiers_text}
 use Rattle.imap_syntax.proofs.Writing.{Writes, both_true, both, separated_writes, listed_writes}
 use Rattle.imap_syntax.proofs.Written.{astring_writes, nz_number_writes, mod_sequence_writes, number64_writes}
 
@@ -33,8 +33,8 @@ use Rattle.imap_syntax.proofs.Written.{astring_writes, nz_number_writes, mod_seq
 
 field_name_made : (name : List ℕ) → field_name.fits name ≡ true → sections.field_name.spells name (field_name.text name)
 field_name_made name h =
-    let q = both_true (string.fits name) (not (has_line_end name)) h in
-    (name, string.text name, [], astring_writes.made name q.0, (q.1, refl, refl), sym (append-nil (string.text name)))
+    let q = both_true (astring.fits name) (not (has_line_end name)) h in
+    (name, astring.text name, [], astring_writes.made name q.0, (q.1, refl, refl), sym (append-nil (astring.text name)))
 
 pub field_name_writes : Writes sections.field_name field_name
 field_name_writes = record {
@@ -140,7 +140,7 @@ item_made item.InternalDate h = (word.InternalDate, codes "INTERNALDATE", [], re
 item_made item.Rfc822Size h = (word.Rfc822Size, codes "RFC822.SIZE", [], refl, (refl, refl), refl)
 item_made item.ModSeq h = (word.ModSeq, codes "MODSEQ", [], refl, (refl, refl), refl)
 item_made (item.Section body) h = let q = both_true (section_fits body.section) (partial_fits body.partial) h in section_item_made body.peek body.section body.partial q.0 q.1
-item_made item.Unserved h = (word.Envelope, codes "ENVELOPE", [], refl, (refl, refl), refl)
+item_made item.Unserved h = (word.Body, codes "BODY", [], refl, (false, [], [], refl, (refl, refl), refl), refl)
 
 end_fits : (peek : Bool) (s : Section) (i : FetchItem) (text : List ℕ) → section_fits s ≡ true → (sections.section_end peek s).spells i text → item_fits i ≡ true
 end_fits peek s i text k h = rw (h.4.0) (both _ _ k (partial_fits_all h.0 h.1 h.3))
@@ -182,11 +182,66 @@ fetch_item_writes = record { made = item_made; fits = λ i text h. item_behind_f
 items_separated : Writes (rule.separated 32 fetch.fetch_item) (separated 32 fetch_item)
 items_separated = separated_writes 32 fetch.fetch_item fetch_item fetch_item_writes
 
-items_made : (items : List FetchItem) → fetch_items.fits items ≡ true → fetch.fetch_items.spells items (fetch_items.text items)
-items_made items h =
+-- in parentheses
+listed_made : (items : List FetchItem) → fetch_items.fits items ≡ true → fetch.fetch_items.spells items ((listed fetch_item).text items)
+listed_made items h =
     let text = (separated 32 fetch_item).text items in
     let close : (rule.octet 41 >>= λ u. give items).spells items (41 ∷ []) = (tt, 41 ∷ [], [], refl, (refl, refl), refl) in
     (true, 40 ∷ [], text ++ 41 ∷ [], refl, (items, text, 41 ∷ [], items_separated.made items h, close, refl), refl)
+
+-- one item, by its word
+single_item : (i : FetchItem) (w : FetchWord) (text back : List ℕ) → fetch.is_fast w ≡ false → fetch.is_unserved w ≡ false → fetch.fetch_word.spells w text → (fetch.item_behind w).spells i back → fetch.fetch_items.spells (i ∷ []) (text ++ back)
+single_item i w text back f u h k =
+    let one : (fetch.single w).spells (i ∷ []) back = rw (f, u) (i, back, [], k, (refl, refl), sym (append-nil back)) in
+    (false, [], text ++ back, refl, (w, text, back, h, one, refl), refl)
+
+single_made : (i : FetchItem) → item_fits i ≡ true → fetch.fetch_items.spells (i ∷ []) (single_text i)
+single_made item.Uid h = single_item item.Uid word.Uid (codes "UID") [] refl refl refl (refl, refl)
+single_made item.Flags h = single_item item.Flags word.Flags (codes "FLAGS") [] refl refl refl (refl, refl)
+single_made item.InternalDate h = single_item item.InternalDate word.InternalDate (codes "INTERNALDATE") [] refl refl refl (refl, refl)
+single_made item.Rfc822Size h = single_item item.Rfc822Size word.Rfc822Size (codes "RFC822.SIZE") [] refl refl refl (refl, refl)
+single_made item.ModSeq h = single_item item.ModSeq word.ModSeq (codes "MODSEQ") [] refl refl refl (refl, refl)
+single_made (item.Section body) h = section_made body.peek body.section body.partial (both_true (section_fits body.section) (partial_fits body.partial) h)
+  where
+    section_made : (peek : Bool) (s : Section) (p : Option Partial) → (section_fits s ≡ true) × (partial_fits p ≡ true) → fetch.fetch_items.spells (item.Section (record { peek = peek; section = s; partial = p }) ∷ []) (body_text (record { peek = peek; section = s; partial = p }))
+    section_made true s p q =
+        let text = section_text s ++ 93 ∷ partial_text p in
+        single_item (item.Section (record { peek = true; section = s; partial = p })) word.BodyPeek (codes "BODY.PEEK") (91 ∷ text) refl refl refl (tt, 91 ∷ [], text, refl, body_made true s p q.0 q.1, refl)
+    section_made false s p q =
+        let text = section_text s ++ 93 ∷ partial_text p in
+        single_item (item.Section (record { peek = false; section = s; partial = p })) word.Body (codes "BODY") (91 ∷ text) refl refl refl (true, 91 ∷ [], text, refl, body_made false s p q.0 q.1, refl)
+single_made item.Unserved h = (false, [], codes "ALL", refl, (word.All, codes "ALL", [], refl, (refl, refl), refl), refl)
+
+flags_only : (i : FetchItem) → is_flags i ≡ true → i ≡ item.Flags
+flags_only item.Flags h = refl
+flags_only _ h = absurd cc
+
+date_only : (i : FetchItem) → is_internal_date i ≡ true → i ≡ item.InternalDate
+date_only item.InternalDate h = refl
+date_only _ h = absurd cc
+
+size_only : (i : FetchItem) → is_size i ≡ true → i ≡ item.Rfc822Size
+size_only item.Rfc822Size h = refl
+size_only _ h = absurd cc
+
+fast_only : (items : List FetchItem) → is_fast items ≡ true → items ≡ fetch.fast_items
+fast_only [] h = absurd cc
+fast_only (i ∷ []) h = absurd cc
+fast_only (i ∷ j ∷ []) h = absurd cc
+fast_only (i ∷ j ∷ k ∷ []) h =
+    let q = both_true (is_flags i && is_internal_date j) (is_size k) h in
+    let r = both_true (is_flags i) (is_internal_date j) q.0 in
+    rw (flags_only i r.0, date_only j r.1, size_only k q.1) refl
+fast_only (i ∷ j ∷ k ∷ l ∷ items) h = absurd cc
+
+several_made : (items : List FetchItem) → fetch_items.fits items ≡ true → (fast : Bool) → is_fast items ≡ fast → fetch.fetch_items.spells items (cond fast (codes "FAST") ((listed fetch_item).text items))
+several_made items h true e = (false, [], codes "FAST", refl, (word.Fast, codes "FAST", [], refl, (fast_only items e, refl), refl), refl)
+several_made items h false e = listed_made items h
+
+items_made : (items : List FetchItem) → fetch_items.fits items ≡ true → fetch.fetch_items.spells items (fetch_items.text items)
+items_made [] h = absurd cc
+items_made (i ∷ []) h = single_made i (both_true (item_fits i) true h).0
+items_made (i ∷ j ∷ items) h = several_made (i ∷ j ∷ items) h (is_fast (i ∷ j ∷ items)) refl
 
 one_fits : (w : FetchWord) (items : List FetchItem) (text : List ℕ) → (fetch.one_item w).spells items text → fetch_items.fits items ≡ true
 one_fits w items text h = rw (h.4.0) (rw (item_behind_fits w h.0 h.1 h.3) refl)

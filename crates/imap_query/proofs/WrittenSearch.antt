@@ -5,10 +5,12 @@ use Rattle.std.specs.List.{list_all}
 use Rattle.std.specs.Char.{is_ascii_alphabetic}
 use Rattle.std.proofs.lemmas.Bool.Decides.{nat_tests}
 use Rattle.std.proofs.lemmas.List.{append-nil}
+use Rattle.imap_query.specs.Searching.{max_key_levels}
 use Rattle.imap_syntax.specs.declared.flag.Flag.{Flag}
 use Rattle.imap_syntax.specs.declared.flag.Flag.TheVariants as flag
 use Rattle.imap_syntax.specs.declared.set.MessageSet.{MessageSet}
-use Rattle.imap_syntax.specs.declared.date.Date.{Date}
+use Rattle.imap_syntax.specs.Moments.{Day}
+use Rattle.imap_syntax.specs.declared.month.Month.TheVariants as month
 use Rattle.imap_query.specs.declared.search.SearchReturn.{SearchReturn}
 use Rattle.imap_query.specs.declared.search.SearchIn.{SearchIn}
 use Rattle.imap_query.specs.declared.search.SearchIn.TheVariants as place
@@ -24,7 +26,7 @@ use Rattle.imap_syntax.specs.First.{begins}
 use Rattle.imap_syntax.specs.Lexical as lexical
 use Rattle.imap_syntax.specs.Lexical.{is_astring_char, is_atom_char}
 use Rattle.imap_query.specs.SearchWords.{search_return_name, search_name}
-use Rattle.imap_syntax.specs.Dates.{day_exists}
+use Rattle.imap_syntax.specs.Calendar.{day_exists}
 use Rattle.imap_query.specs.Keys.{Plain, all, flagged, contains, header, dated, larger, smaller, mod_seq, numbers, uids, unserved, Key, plain, negated, either, group, Keys, end, more, keys_of, Token, all_tokens}
 use Rattle.imap_query.specs.Search as search
 use Rattle.imap_query.specs.Searching as searching
@@ -32,10 +34,10 @@ use Rattle.imap_syntax.specs.Sets.{begins_set}
 use Rattle.imap_query.specs.Searching.{is_not, is_or, key_over, word_key, key}
 use Rattle.imap_syntax.specs.Writing as writing
 use Rattle.imap_syntax.specs.Writing.{Writing, joined, separated, listed_or_none}
-use Rattle.imap_syntax.specs.Written.{is_quotable, quoted_text, quoted, string, atom, number64, message_set}
-use Rattle.imap_syntax.specs.WrittenDates.{month_of, date}
+use Rattle.imap_syntax.specs.Written.{is_quotable, quoted_text, quoted, astring, atom, number64, message_set}
+use Rattle.imap_syntax.specs.WrittenDates.{date}
 use Rattle.imap_query.specs.WrittenFetch.{field_name}
-use Rattle.imap_query.specs.WrittenSearch.{keys_from, search_flag_fits, plain_fits, plain_text, fits_over, key_fits, key_text, search_key, keys, keys_fit, keys_text, search_keys, returns_text, charset_fits, charset_text}
+use Rattle.imap_query.specs.WrittenSearch.{keys_from, search_flag_fits, plain_fits, plain_text, fits_over, key_fits, key_text, search_key, keys, keys_fit, keys_text, search_keys, returns_text, charset_fits, charset_name_text, charset_text}
 use Rattle.imap_syntax.proofs.Opens.{Opens, then_opens}
 use Rattle.imap_syntax.proofs.Ends.{differs, keyword_opens}
 use Rattle.imap_query.proofs.Tables.{search_table}
@@ -74,22 +76,22 @@ plain_made inner name p back n o h = named_made inner name (plain p) back (behin
 
 -- ---- keys without others within them
 
-text_made : (where_it_is : SearchIn) (text : List ℕ) → string.fits text ≡ true → (search.text_key where_it_is).spells (contains where_it_is text) (32 ∷ string.text text)
-text_made where_it_is text h = (tt, 32 ∷ [], string.text text, refl, (text, string.text text, [], astring_writes.made text h, (refl, refl), sym (append-nil (string.text text))), refl)
+text_made : (where_it_is : SearchIn) (text : List ℕ) → astring.fits text ≡ true → (search.text_key where_it_is).spells (contains where_it_is text) (32 ∷ astring.text text)
+text_made where_it_is text h = (tt, 32 ∷ [], astring.text text, refl, (text, astring.text text, [], astring_writes.made text h, (refl, refl), sym (append-nil (astring.text text))), refl)
 
-contains_made : (inner : Rule Key) (where_it_is : SearchIn) (text : List ℕ) → string.fits text ≡ true → (key_over inner).spells (plain (contains where_it_is text)) (plain_text (contains where_it_is text))
-contains_made inner place.Bcc text h = plain_made inner word.Bcc _ (32 ∷ string.text text) refl refl (text_made place.Bcc text h)
-contains_made inner place.Body text h = plain_made inner word.Body _ (32 ∷ string.text text) refl refl (text_made place.Body text h)
-contains_made inner place.Cc text h = plain_made inner word.Cc _ (32 ∷ string.text text) refl refl (text_made place.Cc text h)
-contains_made inner place.From text h = plain_made inner word.From _ (32 ∷ string.text text) refl refl (text_made place.From text h)
-contains_made inner place.Subject text h = plain_made inner word.Subject _ (32 ∷ string.text text) refl refl (text_made place.Subject text h)
-contains_made inner place.Text text h = plain_made inner word.Text _ (32 ∷ string.text text) refl refl (text_made place.Text text h)
-contains_made inner place.To text h = plain_made inner word.To _ (32 ∷ string.text text) refl refl (text_made place.To text h)
+contains_made : (inner : Rule Key) (where_it_is : SearchIn) (text : List ℕ) → astring.fits text ≡ true → (key_over inner).spells (plain (contains where_it_is text)) (plain_text (contains where_it_is text))
+contains_made inner place.Bcc text h = plain_made inner word.Bcc _ (32 ∷ astring.text text) refl refl (text_made place.Bcc text h)
+contains_made inner place.Body text h = plain_made inner word.Body _ (32 ∷ astring.text text) refl refl (text_made place.Body text h)
+contains_made inner place.Cc text h = plain_made inner word.Cc _ (32 ∷ astring.text text) refl refl (text_made place.Cc text h)
+contains_made inner place.From text h = plain_made inner word.From _ (32 ∷ astring.text text) refl refl (text_made place.From text h)
+contains_made inner place.Subject text h = plain_made inner word.Subject _ (32 ∷ astring.text text) refl refl (text_made place.Subject text h)
+contains_made inner place.Text text h = plain_made inner word.Text _ (32 ∷ astring.text text) refl refl (text_made place.Text text h)
+contains_made inner place.To text h = plain_made inner word.To _ (32 ∷ astring.text text) refl refl (text_made place.To text h)
 
-day_made : (how : SearchDate) (day : Date) → date.fits day ≡ true → (search.date_key how).spells (dated how day) (32 ∷ date.text day)
+day_made : (how : SearchDate) (day : Day) → date.fits day ≡ true → (search.date_key how).spells (dated how day) (32 ∷ date.text day)
 day_made how day h = (tt, 32 ∷ [], date.text day, refl, (day, date.text day, [], date_writes.made day h, (refl, refl), sym (append-nil (date.text day))), refl)
 
-dated_made : (inner : Rule Key) (how : SearchDate) (day : Date) → date.fits day ≡ true → (key_over inner).spells (plain (dated how day)) (plain_text (dated how day))
+dated_made : (inner : Rule Key) (how : SearchDate) (day : Day) → date.fits day ≡ true → (key_over inner).spells (plain (dated how day)) (plain_text (dated how day))
 dated_made inner relation.Before day h = plain_made inner word.Before _ (32 ∷ date.text day) refl refl (day_made relation.Before day h)
 dated_made inner relation.On day h = plain_made inner word.On _ (32 ∷ date.text day) refl refl (day_made relation.On day h)
 dated_made inner relation.Since day h = plain_made inner word.Since _ (32 ∷ date.text day) refl refl (day_made relation.Since day h)
@@ -123,10 +125,10 @@ mod_seq_made n h =
     let digits = decimal_text n in
     (tt, 32 ∷ [], digits, refl, (tt, [], digits, (false, [], [], refl, (refl, refl), refl), (n, digits, [], number64_writes.made n h, (refl, refl), sym (append-nil digits)), refl), refl)
 
-header_made : (field text : List ℕ) → field_name.fits field ≡ true → string.fits text ≡ true → search.header_key.spells (header field text) (32 ∷ (string.text field ++ 32 ∷ string.text text))
+header_made : (field text : List ℕ) → field_name.fits field ≡ true → astring.fits text ≡ true → search.header_key.spells (header field text) (32 ∷ (astring.text field ++ 32 ∷ astring.text text))
 header_made field text h k =
-    let wanted = string.text text in
-    (tt, 32 ∷ [], string.text field ++ 32 ∷ wanted, refl, (field, string.text field, 32 ∷ wanted, field_name_writes.made field h, (tt, 32 ∷ [], wanted, refl, (text, wanted, [], astring_writes.made text k, (refl, refl), sym (append-nil wanted)), refl), refl), refl)
+    let wanted = astring.text text in
+    (tt, 32 ∷ [], astring.text field ++ 32 ∷ wanted, refl, (field, astring.text field, 32 ∷ wanted, field_name_writes.made field h, (tt, 32 ∷ [], wanted, refl, (text, wanted, [], astring_writes.made text k, (refl, refl), sym (append-nil wanted)), refl), refl), refl)
 
 uids_made : (m : MessageSet) → message_set.fits m ≡ true → search.uid_key.spells (uids m) (32 ∷ message_set.text m)
 uids_made m h = (tt, 32 ∷ [], message_set.text m, refl, (m, message_set.text m, [], message_set_writes.made m h, (refl, refl), sym (append-nil (message_set.text m))), refl)
@@ -138,25 +140,25 @@ numbers_made inner m h =
     let x = message_set_opens.first m text spelt in
     inr (ap (begins (λ b. b == 40)) x.2 ∙ differs begins_set 40 refl x.0 x.3, inl (ap (begins begins_set) x.2 ∙ x.3, (m, text, [], spelt, (refl, refl), sym (append-nil text))))
 
-abbrev some_day : Date
-some_day = record { year = 2000; month = 1; day = 1 }
+abbrev some_day : Day
+some_day = record { year = 2000; month = month.Jan; day = 1 }
 
-unserved_made : search.sent_key.spells unserved (codes " 01-JAN-2000")
-unfolding month_of day_exists
-unserved_made = (tt, 32 ∷ [], codes "01-JAN-2000", refl, (some_day, codes "01-JAN-2000", [], date_writes.made some_day refl, (refl, refl), refl), refl)
+unserved_made : search.sent_key.spells unserved (codes " 1-Jan-2000")
+unfolding day_exists
+unserved_made = (tt, 32 ∷ [], codes "1-Jan-2000", refl, (some_day, codes "1-Jan-2000", [], date_writes.made some_day refl, (refl, refl), refl), refl)
 
 plain_key_made : (inner : Rule Key) (p : Plain) → plain_fits p ≡ true → (key_over inner).spells (plain p) (plain_text p)
 plain_key_made inner all h = plain_made inner word.All _ [] refl refl (refl, refl)
 plain_key_made inner (flagged f set) h = flagged_made inner f set h
 plain_key_made inner (contains where_it_is text) h = contains_made inner where_it_is text h
-plain_key_made inner (header field text) h = let q = both_true (field_name.fits field) (string.fits text) h in plain_made inner word.Header _ (32 ∷ (string.text field ++ 32 ∷ string.text text)) refl refl (header_made field text q.0 q.1)
+plain_key_made inner (header field text) h = let q = both_true (field_name.fits field) (astring.fits text) h in plain_made inner word.Header _ (32 ∷ (astring.text field ++ 32 ∷ astring.text text)) refl refl (header_made field text q.0 q.1)
 plain_key_made inner (dated how day) h = dated_made inner how day h
 plain_key_made inner (larger n) h = plain_made inner word.Larger _ (32 ∷ decimal_text n) refl refl (sized_made larger n h)
 plain_key_made inner (smaller n) h = plain_made inner word.Smaller _ (32 ∷ decimal_text n) refl refl (sized_made smaller n h)
 plain_key_made inner (mod_seq n) h = plain_made inner word.ModSeq _ (32 ∷ decimal_text n) refl refl (mod_seq_made n h)
 plain_key_made inner (numbers m) h = numbers_made inner m h
 plain_key_made inner (uids m) h = plain_made inner word.Uid _ (32 ∷ message_set.text m) refl refl (uids_made m h)
-plain_key_made inner unserved h = plain_made inner word.SentOn _ (codes " 01-JAN-2000") refl refl unserved_made
+plain_key_made inner unserved h = plain_made inner word.SentOn _ (codes " 1-Jan-2000") refl refl unserved_made
 
 text_fits : (where_it_is : SearchIn) (p : Plain) (text : List ℕ) → (search.text_key where_it_is).spells p text → plain_fits p ≡ true
 text_fits where_it_is p text h = rw (h.4.4.0) (astring_writes.fits h.4.0 h.4.1 h.4.3)
@@ -274,18 +276,18 @@ unfolding key key_fits
 key_writes zero = record { made = λ k h. absurd cc; fits = λ k text h. absurd h }
 key_writes (suc levels) = over_writes (key levels) (key_fits levels) (key_writes levels)
 
-keys_writes : Writes (rule.separated 32 (key 65)) keys
-keys_writes = separated_writes 32 (key 65) (search_key 65) (key_writes 65)
+keys_writes : Writes (rule.separated 32 (key max_key_levels)) keys
+keys_writes = separated_writes 32 (key max_key_levels) (search_key max_key_levels) (key_writes max_key_levels)
 
 -- tokens that fit are those of keys
-tokens_read : (o : Option (List Key)) (tokens : List Token) → keys_from tokens ≡ o → keys_fit o ≡ true → (ks : List Key) × (rule.separated 32 (key 65)).spells ks (keys_text o) × (tokens ≡ all_tokens ks)
+tokens_read : (o : Option (List Key)) (tokens : List Token) → keys_from tokens ≡ o → keys_fit o ≡ true → (ks : List Key) × (rule.separated 32 (key max_key_levels)).spells ks (keys_text o) × (tokens ≡ all_tokens ks)
 tokens_read None tokens e h = absurd cc
 tokens_read (Some ks) tokens e h = (ks, keys_writes.made ks h, keys_from-some tokens ks e)
 
-pub tokens_made : (tokens : List Token) → search_keys.fits tokens ≡ true → (ks : List Key) × (rule.separated 32 (key 65)).spells ks (search_keys.text tokens) × (tokens ≡ all_tokens ks)
+pub tokens_made : (tokens : List Token) → search_keys.fits tokens ≡ true → (ks : List Key) × (rule.separated 32 (key max_key_levels)).spells ks (search_keys.text tokens) × (tokens ≡ all_tokens ks)
 tokens_made tokens h = tokens_read (keys_from tokens) tokens refl h
 
-pub tokens_fit : (ks : List Key) (text : List ℕ) → (rule.separated 32 (key 65)).spells ks text → search_keys.fits (all_tokens ks) ≡ true
+pub tokens_fit : (ks : List Key) (text : List ℕ) → (rule.separated 32 (key max_key_levels)).spells ks text → search_keys.fits (all_tokens ks) ≡ true
 tokens_fit ks text h = rw (keys_from-all ks) (keys_writes.fits ks text h)
 
 -- ---- what stands before the keys
@@ -303,12 +305,16 @@ returns_made (first ∷ others) =
     let close : (lexical.space >>= λ u. give returns).spells returns (32 ∷ []) = (tt, 32 ∷ [], [], refl, (refl, refl), refl) in
     (true, codes "RETURN", 32 ∷ (shown ++ 32 ∷ []), refl, (tt, 32 ∷ [], shown ++ 32 ∷ [], refl, (returns, shown, 32 ∷ [], words, close, refl), refl), refl)
 
+charset_name_made : (name : List ℕ) → is_quotable name ≡ true → (v : Bool) → atom.fits name ≡ v → searching.charset_name.spells name (cond v name (quoted_text name))
+charset_name_made name h true e = inl (atom_writes.made name e)
+charset_name_made name h false e = inr (quoted_writes.made name h)
+
 pub charset_made : (charset : Option (List ℕ)) → charset_fits charset ≡ true → searching.search_charset.spells charset (charset_text charset)
 charset_made None h = (false, [], [], refl, (refl, refl), refl)
 charset_made (Some name) h =
-    let shown = quoted_text name in
+    let shown = charset_name_text name in
     let close : (lexical.space >>= λ u. give (Some name)).spells (Some name) (32 ∷ []) = (tt, 32 ∷ [], [], refl, (refl, refl), refl) in
-    (true, codes "CHARSET", 32 ∷ (shown ++ 32 ∷ []), refl, (tt, 32 ∷ [], shown ++ 32 ∷ [], refl, (name, shown, 32 ∷ [], inr (quoted_writes.made name h), close, refl), refl), refl)
+    (true, codes "CHARSET", 32 ∷ (shown ++ 32 ∷ []), refl, (tt, 32 ∷ [], shown ++ 32 ∷ [], refl, (name, shown, 32 ∷ [], charset_name_made name h (atom.fits name) refl, close, refl), refl), refl)
 
 name_fits : (name text : List ℕ) → searching.charset_name.spells name text → is_quotable name ≡ true
 name_fits name text (inl atom) = plain_quotable is_atom_char atom_char_plain name (subst (rule.ConsistsOf is_atom_char) atom.0 atom.1)

@@ -19,7 +19,7 @@ abbrev pub body_behind : Bool → Rule FetchItem
 body_behind false = give item.Unserved
 body_behind true = body_section false
 
--- what stands behind the word of an item
+-- the part of an item after its word
 abbrev pub item_behind : FetchWord → Rule FetchItem
 item_behind word.All = fail
 item_behind word.Binary = do section_binary; partial; give item.Unserved
@@ -67,7 +67,8 @@ one_item name = do
 
 -- one item, or a macro
 abbrev pub single : FetchWord → Rule (List FetchItem)
-single name = cond (is_fast name) (give fast_items) (cond (is_unserved name) (give (item.Unserved ∷ [])) (one_item name))
+single name =
+    cond (is_fast name) (give fast_items) (cond (is_unserved name) (give (item.Unserved ∷ [])) (one_item name))
 
 abbrev pub items_behind : Bool → Rule (List FetchItem)
 items_behind true = do

@@ -1,6 +1,6 @@
 -- What SEARCH looks for, without where it lies in memory.
 use Rattle.std.specs.Prelude.{ℕ, Bool, List, [], ◌∷◌}
-use Rattle.imap_syntax.specs.declared.date.Date.{Date}
+use Rattle.imap_syntax.specs.Moments.{Day}
 use Rattle.imap_syntax.specs.declared.flag.Flag.{Flag}
 use Rattle.imap_syntax.specs.declared.set.MessageSet.{MessageSet}
 use Rattle.imap_query.specs.declared.search.SearchIn.{SearchIn}
@@ -14,7 +14,7 @@ pub data Plain : Type 0 where
   flagged : (flag : Flag) (set : Bool) → Plain
   contains : (place : SearchIn) (text : List ℕ) → Plain
   header : (field text : List ℕ) → Plain
-  dated : (relation : SearchDate) (date : Date) → Plain
+  dated : (relation : SearchDate) (date : Day) → Plain
   larger : (size : ℕ) → Plain
   smaller : (size : ℕ) → Plain
   mod_seq : (least : ℕ) → Plain

@@ -102,7 +102,7 @@ mod_seq_key = do
   least ← number 0 9223372036854775807
   give (mod_seq least)
 
--- what stands behind the word of a key
+-- the part of a key after its word
 abbrev pub plain_behind : SearchWord → Rule Plain
 plain_behind word.All = give all
 plain_behind word.Answered = give (flagged flag.Answered true)

@@ -39,9 +39,10 @@ abbrev pub is_or : SearchWord → Bool
 is_or word.Or = true
 is_or _ = false
 
--- what stands behind the word of a key
+-- the part of a key after its word
 abbrev pub key_behind : Rule Key → SearchWord → Rule Key
-key_behind inner name = cond (is_not name) (not_key inner) (cond (is_or name) (or_key inner) (as_plain (plain_behind name)))
+key_behind inner name =
+    cond (is_not name) (not_key inner) (cond (is_or name) (or_key inner) (as_plain (plain_behind name)))
 
 abbrev pub group_key : Rule Key → Rule Key
 group_key inner = do
@@ -67,7 +68,11 @@ word_key inner = do
 abbrev pub key_over : Rule Key → Rule Key
 key_over inner = by_first (λ b. b == 40) (group_key inner) (by_first begins_set set_key (word_key inner))
 
--- a key with fewer than so many levels
+-- the most levels of keys: a depth of 64, and the keys within which there are none
+abbrev pub max_key_levels : ℕ
+max_key_levels = 65
+
+-- a key with fewer levels than the number
 unfoldable pub key : (levels : ℕ) → Rule Key
 key zero = fail
 key (suc levels) = key_over (key levels)
@@ -80,7 +85,8 @@ IsWordFlag word false text = text ≡ []
 
 abbrev pub word_flag_by : List ℕ → List ℕ → Option (List ℕ × List ℕ) → Option (Bool × List ℕ)
 word_flag_by word input None = Some (false, input)
-word_flag_by word input (Some found) = cond (str_eq_ignore_ascii_case found.0 word) (Some (true, found.1)) (Some (false, input))
+word_flag_by word input (Some found) =
+    cond (str_eq_ignore_ascii_case found.0 word) (Some (true, found.1)) (Some (false, input))
 
 abbrev pub word_flag_read : List ℕ → List ℕ → Option (Bool × List ℕ)
 word_flag_read word input = word_flag_by word input (some_read is_ascii_alphabetic input)
@@ -127,10 +133,10 @@ search_charset = do
 -- one key or more, which nest up to a depth of 64, as their tokens
 abbrev pub search_keys : Rule (List Token)
 search_keys = do
-  keys ← separated 32 (key 65)
+  keys ← separated 32 (key max_key_levels)
   give (all_tokens keys)
 
--- what stands behind SEARCH, made into a value
+-- the part of the command after SEARCH, made into a value
 abbrev pub search : {A : Type 0} → (List SearchReturn → Option (List ℕ) → List Token → A) → Rule A
 search make = do
   space

@@ -58,7 +58,10 @@ part_ends None [] = Some true
 part_ends (Some n) [] = Some false
 part_ends None (b ∷ rest) = cond (nat_lt 48 b && nat_lt b 58) (part_ends (Some (b - 48)) rest) None
 part_ends (Some n) (b ∷ rest) =
-    cond (b == 46) (part_ends None rest) (cond (is_ascii_digit b && nat_lt (10 * n + (b - 48)) 4294967296) (part_ends (Some (10 * n + (b - 48))) rest) None)
+    cond (b == 46) (part_ends None rest)
+    (cond (is_ascii_digit b && nat_lt (10 * n + (b - 48)) 4294967296)
+    (part_ends (Some (10 * n + (b - 48))) rest)
+    None)
 
 abbrev pub is_part_char : ℕ → Bool
 is_part_char b = is_ascii_digit b || b == 46
@@ -79,7 +82,7 @@ part_numbers = do
   numbers ← some_of is_part_char
   judged (part_ends None numbers)
 
--- `section-part`, and perhaps . and section-text behind it
+-- `section-part`, and perhaps . and section-text after it
 abbrev pub section_part : Rule (Unit {0})
 section_part = do
   dot ← part_numbers
@@ -109,7 +112,7 @@ abbrev pub body_section_behind : (peek empty : Bool) → Rule FetchItem
 body_section_behind peek true = section_end peek section.Whole
 body_section_behind peek false = by_first is_ascii_digit part_item (message_item peek)
 
--- `section`, behind [
+-- `section`, after [
 abbrev pub body_section : (peek : Bool) → Rule FetchItem
 body_section peek = do
   empty ← flag 93

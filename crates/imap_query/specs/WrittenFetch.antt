@@ -1,5 +1,5 @@
--- The one spelling of what FETCH asks for (RFC 9051, section 9; RFC 7162, section 7).
-use Rattle.std.specs.Prelude.{ℕ, Bool, true, false, not, ◌&&◌, List, [], ◌∷◌, ◌++◌, codes, decimal, Option, Some, None}
+-- How the items of FETCH are written (RFC 9051, section 9; RFC 7162, section 7).
+use Rattle.std.specs.Prelude.{ℕ, Bool, true, false, not, ◌&&◌, List, [], ◌∷◌, ◌++◌, codes, decimal, if◌then◌else◌, Option, Some, None}
 use Rattle.imap_query.specs.declared.fetch.Partial.{Partial}
 use Rattle.imap_query.specs.declared.fetch.Section.{Section}
 use Rattle.imap_query.specs.declared.fetch.Section.TheVariants as section
@@ -8,11 +8,11 @@ use Rattle.imap_query.specs.declared.fetch.FetchItem.{FetchItem}
 use Rattle.imap_query.specs.declared.fetch.FetchItem.TheVariants as item
 use Rattle.imap_query.specs.Sections.{has_line_end}
 use Rattle.imap_syntax.specs.Writing.{Writing, listed}
-use Rattle.imap_syntax.specs.Written.{string, mod_sequence, number64}
+use Rattle.imap_syntax.specs.Written.{astring, mod_sequence, number64}
 
 -- `header-fld-name`: neither CR nor LF stands in it
 abbrev pub field_name : Writing (List ℕ)
-field_name = record { fits = λ name. string.fits name && not (has_line_end name); text = string.text }
+field_name = record { fits = λ name. astring.fits name && not (has_line_end name); text = astring.text }
 
 abbrev pub section_fits : Section → Bool
 section_fits (section.Fields names) = (listed field_name).fits names
@@ -54,14 +54,52 @@ item_text item.InternalDate = codes "INTERNALDATE"
 item_text item.Rfc822Size = codes "RFC822.SIZE"
 item_text item.ModSeq = codes "MODSEQ"
 item_text (item.Section body) = body_text body
-item_text item.Unserved = codes "ENVELOPE"
+item_text item.Unserved = codes "BODY"
 
 abbrev pub fetch_item : Writing FetchItem
 fetch_item = record { fits = item_fits; text = item_text }
 
--- in parentheses
+-- An item alone is written without parentheses, and one that isn't served as the macro that is one.
+abbrev pub single_text : FetchItem → List ℕ
+single_text item.Uid = codes "UID"
+single_text item.Flags = codes "FLAGS"
+single_text item.InternalDate = codes "INTERNALDATE"
+single_text item.Rfc822Size = codes "RFC822.SIZE"
+single_text item.ModSeq = codes "MODSEQ"
+single_text (item.Section body) = body_text body
+single_text item.Unserved = codes "ALL"
+
+abbrev pub is_flags : FetchItem → Bool
+is_flags item.Flags = true
+is_flags _ = false
+
+abbrev pub is_internal_date : FetchItem → Bool
+is_internal_date item.InternalDate = true
+is_internal_date _ = false
+
+abbrev pub is_size : FetchItem → Bool
+is_size item.Rfc822Size = true
+is_size _ = false
+
+-- the items of the macro FAST
+abbrev pub is_fast : List FetchItem → Bool
+is_fast [] = false
+is_fast (i ∷ []) = false
+is_fast (i ∷ j ∷ []) = false
+is_fast (i ∷ j ∷ k ∷ []) = is_flags i && is_internal_date j && is_size k
+is_fast (i ∷ j ∷ k ∷ l ∷ items) = false
+
+abbrev pub several_text : List FetchItem → List ℕ
+several_text items = if is_fast items then codes "FAST" else (listed fetch_item).text items
+
+abbrev pub items_text : List FetchItem → List ℕ
+items_text [] = several_text []
+items_text (i ∷ []) = single_text i
+items_text (i ∷ j ∷ items) = several_text (i ∷ j ∷ items)
+
+-- one item, a macro, or items in parentheses
 abbrev pub fetch_items : Writing (List FetchItem)
-fetch_items = listed fetch_item
+fetch_items = record { fits = (listed fetch_item).fits; text = items_text }
 
 abbrev pub changed_fits : Option ℕ → Bool
 changed_fits None = true

@@ -1,7 +1,7 @@
--- The one spelling of what SEARCH asks for (RFC 9051, section 9; RFC 7162, section 7).
-use Rattle.std.specs.Prelude.{ℕ, zero, suc, Bool, true, false, ◌&&◌, List, [], ◌∷◌, ◌++◌, codes, decimal, Option, Some, None}
+-- How the keys and options of SEARCH are written (RFC 9051, section 9; RFC 7162, section 7).
+use Rattle.std.specs.Prelude.{ℕ, zero, suc, Bool, true, false, ◌&&◌, List, [], ◌∷◌, ◌++◌, codes, decimal, if◌then◌else◌, Option, Some, None}
 use Rattle.std.specs.Option.{option_and_then}
-use Rattle.imap_syntax.specs.declared.date.Date.{Date}
+use Rattle.imap_syntax.specs.Moments.{Day}
 use Rattle.imap_syntax.specs.declared.set.MessageSet.{MessageSet}
 use Rattle.imap_syntax.specs.declared.flag.Flag.{Flag}
 use Rattle.imap_syntax.specs.declared.flag.Flag.TheVariants as flag
@@ -16,8 +16,9 @@ use Rattle.imap_query.specs.SearchWords.{search_return_name, search_name}
 use Rattle.imap_query.specs.Keys.{Plain, all, flagged, contains, header, dated, larger, smaller, mod_seq, numbers, uids, unserved, Key, plain, negated, either, group, Keys, end, more, Token, one, not_next, or_next, group_end, group_more}
 use Rattle.imap_syntax.specs.Writing as writing
 use Rattle.imap_syntax.specs.Writing.{Writing, separated, listed_or_none, in_parentheses}
-use Rattle.imap_syntax.specs.Written.{is_quotable, quoted_text, string, atom, number64, message_set}
+use Rattle.imap_syntax.specs.Written.{is_quotable, quoted_text, astring, atom, number64, message_set}
 use Rattle.imap_syntax.specs.WrittenDates.{date}
+use Rattle.imap_query.specs.Searching.{max_key_levels}
 use Rattle.imap_query.specs.WrittenFetch.{field_name}
 
 -- ---- tokens, read as the keys that they are
@@ -38,7 +39,7 @@ keys_from (t ∷ ts) = option_and_then (onto t) (keys_from ts)
 
 -- ---- keys without others within them
 
--- SEARCH asks for no flag of another name behind a backslash.
+-- SEARCH has no key for another flag with a backslash.
 abbrev pub search_flag_fits : Flag → Bool
 search_flag_fits (flag.Other name) = false
 search_flag_fits (flag.Keyword name) = atom.fits name
@@ -81,8 +82,8 @@ relation_word relation.Since = word.Since
 abbrev pub plain_fits : Plain → Bool
 plain_fits all = true
 plain_fits (flagged f set) = search_flag_fits f
-plain_fits (contains where_it_is text) = string.fits text
-plain_fits (header field text) = field_name.fits field && string.fits text
+plain_fits (contains where_it_is text) = astring.fits text
+plain_fits (header field text) = field_name.fits field && astring.fits text
 plain_fits (dated how day) = date.fits day
 plain_fits (larger size) = number64.fits size
 plain_fits (smaller size) = number64.fits size
@@ -95,12 +96,12 @@ abbrev pub flagged_text : Flag → (set : Bool) → List ℕ
 flagged_text f set = search_name (flag_word f set) ++ keyword_text f
 
 abbrev pub text_key_text : SearchWord → List ℕ → List ℕ
-text_key_text name text = search_name name ++ (32 ∷ string.text text)
+text_key_text name text = search_name name ++ (32 ∷ astring.text text)
 
 abbrev pub header_key_text : (field text : List ℕ) → List ℕ
-header_key_text field text = search_name word.Header ++ (32 ∷ (string.text field ++ (32 ∷ string.text text)))
+header_key_text field text = search_name word.Header ++ (32 ∷ (astring.text field ++ (32 ∷ astring.text text)))
 
-abbrev pub date_key_text : SearchWord → Date → List ℕ
+abbrev pub date_key_text : SearchWord → Day → List ℕ
 date_key_text name day = search_name name ++ (32 ∷ date.text day)
 
 abbrev pub number_key_text : SearchWord → ℕ → List ℕ
@@ -111,7 +112,7 @@ uid_key_text messages = search_name word.Uid ++ (32 ∷ message_set.text message
 
 -- A key that isn't served is written so.
 abbrev pub unserved_text : List ℕ
-unserved_text = codes "SENTON 01-JAN-2000"
+unserved_text = codes "SENTON 1-Jan-2000"
 
 abbrev pub plain_text : Plain → List ℕ
 plain_text all = search_name word.All
@@ -140,7 +141,7 @@ fits_over inner (either left right) = inner left && inner right
 fits_over inner (group end) = false
 fits_over inner (group (more key others)) = inner key && row_fits inner others
 
--- with fewer than so many levels
+-- with fewer levels than the number
 unfoldable pub key_fits : (levels : ℕ) → Key → Bool
 key_fits zero key = false
 key_fits (suc levels) key = fits_over (key_fits levels) key
@@ -164,7 +165,7 @@ abbrev pub search_key : (levels : ℕ) → Writing Key
 search_key levels = record { fits = key_fits levels; text = key_text }
 
 abbrev pub keys : Writing (List Key)
-keys = separated 32 (search_key 65)
+keys = separated 32 (search_key max_key_levels)
 
 abbrev pub keys_fit : Option (List Key) → Bool
 keys_fit None = false
@@ -181,7 +182,8 @@ search_keys = record { fits = λ tokens. keys_fit (keys_from tokens); text = λ 
 
 -- `search-return-opts` and a space, or nothing
 abbrev pub some_returns_text : List SearchReturn → List ℕ
-some_returns_text returns = codes "RETURN " ++ ((listed_or_none (writing.word search_return_name)).text returns ++ 32 ∷ [])
+some_returns_text returns =
+    codes "RETURN " ++ ((listed_or_none (writing.word search_return_name)).text returns ++ 32 ∷ [])
 
 abbrev pub returns_text : List SearchReturn → List ℕ
 returns_text [] = []
@@ -191,7 +193,11 @@ abbrev pub charset_fits : Option (List ℕ) → Bool
 charset_fits None = true
 charset_fits (Some name) = is_quotable name
 
--- CHARSET, its name in quotes and a space, or nothing
+-- an atom as it is, all else in quotes
+abbrev pub charset_name_text : List ℕ → List ℕ
+charset_name_text name = if atom.fits name then name else quoted_text name
+
+-- CHARSET, its name and a space, or nothing
 abbrev pub charset_text : Option (List ℕ) → List ℕ
 charset_text None = []
-charset_text (Some name) = codes "CHARSET " ++ (quoted_text name ++ 32 ∷ [])
+charset_text (Some name) = codes "CHARSET " ++ (charset_name_text name ++ 32 ∷ [])

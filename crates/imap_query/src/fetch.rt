@@ -1,13 +1,13 @@
-//! What FETCH asks for (RFC 9051, section 6.4.5).
+//! The items of FETCH (RFC 9051, section 6.4.5).
 
 use imap_lex::Octets;
 use imap_syntax::Items;
 
-/// Which part of the octets: from `offset` on, `count` at most.
+/// A range of octets: at most `count` octets from `offset`.
 #[derive(Clone, Copy, Debug, PartialEq, Eq)]
 pub struct Partial {
     pub offset: u64,
-    /// From 1 on.
+    /// At least 1.
     pub count: u64,
 }
 
@@ -23,10 +23,10 @@ pub enum Section {
     FieldsNot(Items<Octets>),
 }
 
-/// A section of the message, and which part of it (RFC 9051, section 6.4.5.1).
+/// A section of the message, or a range of its octets (RFC 9051, section 6.4.5.1).
 #[derive(Debug, Drop)]
 pub struct BodySection {
-    /// Whether `\Seen` stays as it is.
+    /// Whether `\Seen` is left as it is.
     pub peek: bool,
     pub section: Section,
     pub partial: Option<Partial>,

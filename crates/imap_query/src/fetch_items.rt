@@ -1,13 +1,13 @@
-//! How FETCH is spelt (RFC 9051, section 9, `fetch`).
+//! Reading the items and modifiers of FETCH (RFC 9051, section 9, `fetch`).
 
 ghost use Rattle.std.specs.Prelude.{◌≡◌, [], ◌∷◌, IfOk};
-ghost use Rattle.imap_syntax.specs.Reading.{Gives, Finds};
+ghost use Rattle.imap_syntax.specs.Reading.{ReadsIfMemory, Reads};
 ghost use Rattle.imap_query.specs.Fetch.{item_behind, fetch_item, is_fast, is_unserved, single, fast_items, fetch_items, modifier, one_modifier, another_modifier, both_modifiers, modifiers};
 
 use crate::fetch::FetchItem;
 use crate::fetch_word::{FetchWord, Modifier, ModifierWord, Modifiers};
 use crate::section::{read_body_section, read_partial, read_section_binary};
-use imap_syntax::{Cursor, Fault, Item, Items};
+use imap_syntax::{Cursor, Item, Items, ReadError};
 use std::alloc::{AllocError, Global};
 
 impl Item for FetchItem {
@@ -17,7 +17,7 @@ impl Item for FetchItem {
 
     ghost item_read = { fetch_item.read };
 
-    fn item(cursor: &mut Cursor<'_>, alloc: Global) -> Result<FetchItem, Fault> {
+    fn item(cursor: &mut Cursor<'_>, alloc: Global) -> Result<FetchItem, ReadError> {
         read_fetch_item(cursor, alloc)
     }
 }
@@ -38,7 +38,7 @@ impl Modifier {
         }
     }
 
-    /// Both, where they aren't alike.
+    /// Returns both modifiers, or `None` if they are of one kind.
     fn and(self, other: Modifier) -> Option<Modifiers>
         ensures { result ≡ both_modifiers self other }
     {
@@ -60,7 +60,7 @@ impl FetchWord {
         matches!(self, FetchWord::Fast)
     }
 
-    /// Whether it is a macro with an item that isn't served.
+    /// Whether the word is a macro with an item that isn't served.
     fn is_unserved(self) -> bool
         ensures { result ≡ is_unserved self }
     {
@@ -87,16 +87,16 @@ fn one(alloc: Global, item: FetchItem) -> Result<Items<FetchItem>, AllocError>
     Ok(Items::from_vec(items))
 }
 
-/// What stands behind the word of an item.
+/// Reads the part of an item after its word.
 fn read_item_behind(
     cursor: &mut Cursor<'_>,
     alloc: Global,
     word: FetchWord,
-) -> Result<FetchItem, Fault>
-    ensures { Gives (λ i. i) result cursor.new ((item_behind word).read cursor.old) }
+) -> Result<FetchItem, ReadError>
+    ensures { ReadsIfMemory (λ i. i) result cursor.new ((item_behind word).read cursor.old) }
 {
     match word {
-        FetchWord::All | FetchWord::Fast | FetchWord::Full => Err(Fault::Unread),
+        FetchWord::All | FetchWord::Fast | FetchWord::Full => Err(ReadError::Syntax),
         FetchWord::Binary | FetchWord::BinaryPeek => {
             read_section_binary(cursor)?;
             read_partial(cursor)?;
@@ -126,20 +126,20 @@ fn read_item_behind(
     }
 }
 
-fn read_fetch_item(cursor: &mut Cursor<'_>, alloc: Global) -> Result<FetchItem, Fault>
-    ensures { Gives (λ i. i) result cursor.new (fetch_item.read cursor.old) }
+fn read_fetch_item(cursor: &mut Cursor<'_>, alloc: Global) -> Result<FetchItem, ReadError>
+    ensures { ReadsIfMemory (λ i. i) result cursor.new (fetch_item.read cursor.old) }
 {
     let word = cursor.keyword::<FetchWord>()?;
     read_item_behind(cursor, alloc, word)
 }
 
-/// One item without parentheses, or a macro.
+/// Reads one item without parentheses, or a macro, after its word.
 fn read_single(
     cursor: &mut Cursor<'_>,
     alloc: Global,
     word: FetchWord,
-) -> Result<Items<FetchItem>, Fault>
-    ensures { Gives (λ i. i) result cursor.new ((single word).read cursor.old) }
+) -> Result<Items<FetchItem>, ReadError>
+    ensures { ReadsIfMemory (λ i. i) result cursor.new ((single word).read cursor.old) }
 {
     if word.is_fast() {
         return Ok(fast(alloc)?);
@@ -151,9 +151,12 @@ fn read_single(
     Ok(one(alloc, item)?)
 }
 
-/// One item, items in parentheses or a macro.
-pub fn read_fetch_items(cursor: &mut Cursor<'_>, alloc: Global) -> Result<Items<FetchItem>, Fault>
-    ensures { Gives (λ i. i) result cursor.new (fetch_items.read cursor.old) }
+/// Reads one item, items in parentheses or a macro.
+pub fn read_fetch_items(
+    cursor: &mut Cursor<'_>,
+    alloc: Global,
+) -> Result<Items<FetchItem>, ReadError>
+    ensures { ReadsIfMemory (λ i. i) result cursor.new (fetch_items.read cursor.old) }
 {
     if cursor.has(b'(') {
         let items = cursor.separated::<FetchItem>(alloc, b' ')?;
@@ -164,8 +167,8 @@ pub fn read_fetch_items(cursor: &mut Cursor<'_>, alloc: Global) -> Result<Items<
     read_single(cursor, alloc, word)
 }
 
-fn read_modifier(cursor: &mut Cursor<'_>) -> Result<Modifier, Fault>
-    ensures { Finds (λ m. m) result cursor.new (modifier.read cursor.old) }
+fn read_modifier(cursor: &mut Cursor<'_>) -> Result<Modifier, ReadError>
+    ensures { Reads (λ m. m) result cursor.new (modifier.read cursor.old) }
 {
     match cursor.keyword::<ModifierWord>()? {
         ModifierWord::ChangedSince => {
@@ -177,19 +180,19 @@ fn read_modifier(cursor: &mut Cursor<'_>) -> Result<Modifier, Fault>
     }
 }
 
-fn read_another_modifier(cursor: &mut Cursor<'_>, first: Modifier) -> Result<Modifiers, Fault>
-    ensures { Finds (λ m. m) result cursor.new ((another_modifier first).read cursor.old) }
+fn read_another_modifier(cursor: &mut Cursor<'_>, first: Modifier) -> Result<Modifiers, ReadError>
+    ensures { Reads (λ m. m) result cursor.new ((another_modifier first).read cursor.old) }
 {
     if !cursor.has(b' ') {
         return Ok(first.alone());
     }
     let second = read_modifier(cursor)?;
-    first.and(second).ok_or(Fault::Unread)
+    first.and(second).ok_or(ReadError::Syntax)
 }
 
-/// The modifiers behind the items, where there are some.
-pub fn read_modifiers(cursor: &mut Cursor<'_>) -> Result<Modifiers, Fault>
-    ensures { Finds (λ m. m) result cursor.new (modifiers.read cursor.old) }
+/// Reads the modifiers after the items, or nothing.
+pub fn read_modifiers(cursor: &mut Cursor<'_>) -> Result<Modifiers, ReadError>
+    ensures { Reads (λ m. m) result cursor.new (modifiers.read cursor.old) }
 {
     if !cursor.has(b' ') {
         return Ok(Modifiers {

@@ -3,13 +3,25 @@
 ghost use Rattle.std.specs.Prelude.{◌≡◌};
 ghost use Rattle.imap_query.specs.FetchWords.{is_section_char};
 
-use imap_syntax::{Keyword, is_astring_char, is_word_char};
+use imap_lex::{AstringChar, OctetClass};
+use imap_syntax::{Keyword, WordChar};
 
-/// What the words of sections are made of.
+/// The characters of the words of sections: letters and `.`.
 pub(crate) fn is_section_char(octet: u8) -> bool
     ensures { result ≡ is_section_char octet }
 {
     octet.is_ascii_alphabetic() || octet == b'.'
+}
+
+/// The class of [`is_section_char`].
+pub(crate) struct SectionChar;
+
+impl OctetClass for SectionChar {
+    ghost test = { is_section_char };
+
+    fn has(octet: u8) -> bool {
+        is_section_char(octet)
+    }
 }
 
 /// RFC 7162, sections 3.1.4.1 and 3.2.6.
@@ -22,9 +34,9 @@ pub(crate) enum Modifier {
 /// The modifiers of a FETCH.
 #[derive(Clone, Copy, Debug, PartialEq, Eq)]
 pub struct Modifiers {
-    /// A mod-sequence, from 1 on: messages with a greater one are asked for (RFC 7162, section 3.1.4.1).
+    /// Only messages with a greater mod-sequence are wanted (RFC 7162, section 3.1.4.1). At least 1.
     pub changed_since: Option<u64>,
-    /// Whether the expunged messages are asked for too (RFC 7162, section 3.2.6).
+    /// Whether the expunged messages are wanted too (RFC 7162, section 3.2.6).
     pub vanished: bool,
 }
 
@@ -67,19 +79,14 @@ pub(crate) const FETCH_WORDS: [FetchWord; 15] = [
 ];
 
 impl Keyword for FetchWord {
-    ghost use Rattle.imap_syntax.specs.Lexical.{is_word_char};
     ghost use Rattle.imap_query.specs.FetchWords.{fetch_name};
     ghost use Rattle.imap_query.specs.declared.fetch_word.TheConstants.{FETCH_WORDS};
 
-    ghost test = { is_word_char };
+    type Class = WordChar;
 
     ghost name_of = { fetch_name };
 
     ghost table = { FETCH_WORDS };
-
-    fn takes(octet: u8) -> bool {
-        is_word_char(octet)
-    }
 
     fn name(self) -> &'static [u8] {
         match self {
@@ -125,19 +132,14 @@ pub(crate) const SECTION_WORDS: [SectionWord; 5] = [
 ];
 
 impl Keyword for SectionWord {
-    ghost use Rattle.imap_query.specs.FetchWords.{is_section_char};
     ghost use Rattle.imap_query.specs.FetchWords.{section_name};
     ghost use Rattle.imap_query.specs.declared.fetch_word.TheConstants.{SECTION_WORDS};
 
-    ghost test = { is_section_char };
+    type Class = SectionChar;
 
     ghost name_of = { section_name };
 
     ghost table = { SECTION_WORDS };
-
-    fn takes(octet: u8) -> bool {
-        is_section_char(octet)
-    }
 
     fn name(self) -> &'static [u8] {
         match self {
@@ -167,19 +169,14 @@ pub(crate) const MODIFIER_WORDS: [ModifierWord; 2] = [
 ];
 
 impl Keyword for ModifierWord {
-    ghost use Rattle.imap_syntax.specs.Lexical.{is_astring_char};
     ghost use Rattle.imap_query.specs.FetchWords.{modifier_name};
     ghost use Rattle.imap_query.specs.declared.fetch_word.TheConstants.{MODIFIER_WORDS};
 
-    ghost test = { is_astring_char };
+    type Class = AstringChar;
 
     ghost name_of = { modifier_name };
 
     ghost table = { MODIFIER_WORDS };
-
-    fn takes(octet: u8) -> bool {
-        is_astring_char(octet)
-    }
 
     fn name(self) -> &'static [u8] {
         match self {

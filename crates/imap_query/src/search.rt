@@ -1,13 +1,13 @@
-//! What SEARCH looks for (RFC 9051, section 6.4.4).
+//! The keys and options of SEARCH (RFC 9051, section 6.4.4).
 
 ghost use Rattle.std.specs.Prelude.{◌≡◌, map};
 ghost use Rattle.imap_query.specs.Keys.{key_of, all_tokens};
 
-use imap_lex::Octets;
-use imap_syntax::{Date, Flag, Keyword, MessageSet, is_astring_char};
+use imap_lex::{AstringChar, Octets};
+use imap_syntax::{Date, Flag, Keyword, MessageSet};
 use std::marker::Model;
 
-/// What is told of the messages found.
+/// A result option: what the response says of the messages found.
 #[derive(Clone, Copy, Debug, PartialEq, Eq)]
 pub enum SearchReturn {
     Min,
@@ -17,7 +17,7 @@ pub enum SearchReturn {
     Save,
 }
 
-/// Where a text is looked for.
+/// The part of a message that is searched for a text.
 #[derive(Clone, Copy, Debug, PartialEq, Eq)]
 pub enum SearchIn {
     Bcc,
@@ -29,7 +29,7 @@ pub enum SearchIn {
     To,
 }
 
-/// How the internal date is to stand to the date asked for.
+/// The relation of the internal date to the date of the key.
 #[derive(Clone, Copy, Debug, PartialEq, Eq)]
 pub enum SearchDate {
     Before,
@@ -41,10 +41,10 @@ pub enum SearchDate {
 #[derive(Debug, Drop)]
 pub enum SearchKey {
     All,
-    /// Whether the flag is set.
+    /// Whether the flag has to be set, or not set.
     Flag { flag: Flag, set: bool },
     Contains { place: SearchIn, text: Octets },
-    /// In the header fields of this name.
+    /// The text is searched in the header fields of this name.
     Header { field: Octets, text: Octets },
     Date { relation: SearchDate, date: Date },
     Larger(u64),
@@ -55,7 +55,7 @@ pub enum SearchKey {
     Uids(MessageSet),
     Not(Box<SearchKey>),
     Or(Box<SearchKey>, Box<SearchKey>),
-    /// Each of them, in parentheses.
+    /// Keys in parentheses, each of which has to match.
     Group(Vec<SearchKey>),
     /// A key of RFC 9051 that is read and not served: SENTBEFORE, SENTON or SENTSINCE.
     Unserved,
@@ -70,19 +70,14 @@ pub(crate) const SEARCH_RETURNS: [SearchReturn; 5] = [
 ];
 
 impl Keyword for SearchReturn {
-    ghost use Rattle.imap_syntax.specs.Lexical.{is_astring_char};
     ghost use Rattle.imap_query.specs.SearchWords.{search_return_name};
     ghost use Rattle.imap_query.specs.declared.search.TheConstants.{SEARCH_RETURNS};
 
-    ghost test = { is_astring_char };
+    type Class = AstringChar;
 
     ghost name_of = { search_return_name };
 
     ghost table = { SEARCH_RETURNS };
-
-    fn takes(octet: u8) -> bool {
-        is_astring_char(octet)
-    }
 
     fn name(self) -> &'static [u8] {
         match self {
@@ -99,9 +94,9 @@ impl Keyword for SearchReturn {
     }
 }
 
-/// One key or more: a message is found where it meets each.
+/// One key or more, each of which has to match.
 ///
-/// Contracts see the keys without where they lie in memory, each as its tokens, an operator before its operands.
+/// In contracts the keys are their tokens, each operator before its operands.
 #[derive(Debug, Drop)]
 pub struct SearchKeys(Vec<SearchKey>);
 

@@ -1,9 +1,7 @@
-//! How SEARCH is spelt (RFC 9051, section 9, `search`).
+//! Reading the keys and options of SEARCH (RFC 9051, section 9, `search`).
 
-ghost use Rattle.std.specs.Prelude.{◌≡◌, ◌≤◌, ◌==◌, Some, map, length, codes};
-ghost use Rattle.std.specs.Char.{is_ascii_alphabetic};
-ghost use Rattle.std.specs.List.{prefix_len};
-ghost use Rattle.imap_syntax.specs.Reading.{Gives};
+ghost use Rattle.std.specs.Prelude.{◌≡◌, ◌==◌, Some, map, codes};
+ghost use Rattle.imap_syntax.specs.Reading.{ReadsIfMemory};
 ghost use Rattle.imap_syntax.specs.Rule.{separated};
 ghost use Rattle.imap_query.specs.Keys.{key_of, keys_of, group};
 ghost use Rattle.imap_syntax.specs.First.{begins};
@@ -12,24 +10,13 @@ ghost use Rattle.imap_query.specs.Searching.{is_not, is_or, set_key, group_key, 
 
 use crate::search::{SearchKey, SearchKeys, SearchReturn};
 use crate::search_plain::read_plain_key;
-use crate::search_word::SearchWord;
-use imap_lex::Octets;
-use imap_syntax::{Cursor, Fault, Items, WordOf};
+use crate::search_word::{Letter, SearchWord};
+use imap_lex::{Octets, leading};
+use imap_syntax::{Cursor, Items, ReadError, WordOf};
 use std::alloc::Global;
 
-/// How many levels the keys of a command may have: a depth of 64, and the keys that have none.
-pub(crate) const LEVELS: u8 = 65;
-
-#[tactic(auto, using(crate::proofs::Lengths::lengths))]
-fn letters(octets: &[u8]) -> usize
-    ensures count { result ≡ prefix_len is_ascii_alphabetic octets.now }
-    ensures within { result ≤ length octets.now }
-{
-    octets
-        .iter()
-        .take_while(|octet| octet.is_ascii_alphabetic())
-        .count()
-}
+/// The most levels of keys: a depth of 64, and the keys within which there are none.
+pub(crate) const MAX_KEY_LEVELS: u8 = 65;
 
 fn group(keys: Vec<SearchKey>) -> SearchKey
     ensures { key_of result ≡ group (keys_of (map key_of keys.items)) }
@@ -66,21 +53,21 @@ fn begins_set(cursor: &Cursor<'_>) -> bool
     }
 }
 
-fn read_set_key(cursor: &mut Cursor<'_>, alloc: Global) -> Result<SearchKey, Fault>
-    ensures { Gives key_of result cursor.new (set_key.read cursor.old) }
+fn read_set_key(cursor: &mut Cursor<'_>, alloc: Global) -> Result<SearchKey, ReadError>
+    ensures { ReadsIfMemory key_of result cursor.new (set_key.read cursor.old) }
 {
     let messages = cursor.message_set(alloc)?;
     Ok(SearchKey::Numbers(messages))
 }
 
-/// A key with fewer than so many levels.
+/// Reads a key with fewer than `levels` levels.
 #[cycle(keys)]
 #[tactic(auto, unfolding(crate::specs::Searching::key))]
-fn read_key(cursor: &mut Cursor<'_>, alloc: Global, levels: u8) -> Result<SearchKey, Fault>
-    ensures { Gives key_of result cursor.new ((key levels).read cursor.old) }
+fn read_key(cursor: &mut Cursor<'_>, alloc: Global, levels: u8) -> Result<SearchKey, ReadError>
+    ensures { ReadsIfMemory key_of result cursor.new ((key levels).read cursor.old) }
 {
     if levels == 0 {
-        return Err(Fault::Unread);
+        return Err(ReadError::Syntax);
     }
     if begins_group(cursor) {
         read_group_key(cursor, alloc, levels - 1)
@@ -91,10 +78,10 @@ fn read_key(cursor: &mut Cursor<'_>, alloc: Global, levels: u8) -> Result<Search
     }
 }
 
-/// Keys in parentheses.
+/// Reads keys in parentheses.
 #[cycle(keys)]
-fn read_group_key(cursor: &mut Cursor<'_>, alloc: Global, inner: u8) -> Result<SearchKey, Fault>
-    ensures { Gives key_of result cursor.new ((group_key (key inner)).read cursor.old) }
+fn read_group_key(cursor: &mut Cursor<'_>, alloc: Global, inner: u8) -> Result<SearchKey, ReadError>
+    ensures { ReadsIfMemory key_of result cursor.new ((group_key (key inner)).read cursor.old) }
 {
     cursor.octet(b'(')?;
     let keys = read_keys(cursor, alloc, inner)?;
@@ -102,10 +89,10 @@ fn read_group_key(cursor: &mut Cursor<'_>, alloc: Global, inner: u8) -> Result<S
     Ok(group(keys))
 }
 
-/// A key that begins with a word.
+/// Reads a key that begins with a word.
 #[cycle(keys)]
-fn read_word_key(cursor: &mut Cursor<'_>, alloc: Global, inner: u8) -> Result<SearchKey, Fault>
-    ensures { Gives key_of result cursor.new ((word_key (key inner)).read cursor.old) }
+fn read_word_key(cursor: &mut Cursor<'_>, alloc: Global, inner: u8) -> Result<SearchKey, ReadError>
+    ensures { ReadsIfMemory key_of result cursor.new ((word_key (key inner)).read cursor.old) }
 {
     let word = cursor.keyword::<SearchWord>()?;
     if word.is_not() {
@@ -123,10 +110,15 @@ fn read_word_key(cursor: &mut Cursor<'_>, alloc: Global, inner: u8) -> Result<Se
     read_plain_key(cursor, alloc, word)
 }
 
-/// One key or more, with spaces between them.
+/// Reads one key or more, with spaces between them.
 #[cycle(keys)]
-fn read_keys(cursor: &mut Cursor<'_>, alloc: Global, levels: u8) -> Result<Vec<SearchKey>, Fault>
-    ensures { Gives (λ keys. map key_of keys.items) result cursor.new ((separated 32 (key levels)).read cursor.old) }
+fn read_keys(
+    cursor: &mut Cursor<'_>,
+    alloc: Global,
+    levels: u8,
+) -> Result<Vec<SearchKey>, ReadError>
+    ensures { let keys = separated 32 (key levels) in
+        ReadsIfMemory (λ read. map key_of read.items) result cursor.new (keys.read cursor.old) }
 {
     let mut keys = Vec::new(alloc);
     let mut left = cursor.rest().len();
@@ -137,17 +129,17 @@ fn read_keys(cursor: &mut Cursor<'_>, alloc: Global, levels: u8) -> Result<Vec<S
             return Ok(keys);
         }
         if left == 0 {
-            return Err(Fault::Unread);
+            return Err(ReadError::Syntax);
         }
         left -= 1;
     }
 }
 
-/// Takes this word where it comes next, and says whether it did.
+/// Reads the word `wanted` if it comes next, and returns whether it did.
 fn has_word(cursor: &mut Cursor<'_>, wanted: &[u8]) -> bool
     ensures { (word_flag wanted.now).read cursor.old ≡ Some (result, cursor.new) }
 {
-    let len = letters(cursor.rest());
+    let len = leading::<Letter>(cursor.rest());
     if len == 0 {
         return false;
     }
@@ -158,12 +150,12 @@ fn has_word(cursor: &mut Cursor<'_>, wanted: &[u8]) -> bool
     true
 }
 
-/// RETURN and its options, where it stands there (RFC 9051, section 6.4.4). `RETURN ()` is as none.
+/// Reads RETURN and its options, or nothing (RFC 9051, section 6.4.4). `RETURN ()` has no options.
 pub fn read_search_returns(
     cursor: &mut Cursor<'_>,
     alloc: Global,
-) -> Result<Items<SearchReturn>, Fault>
-    ensures { Gives (λ r. r) result cursor.new (search_returns.read cursor.old) }
+) -> Result<Items<SearchReturn>, ReadError>
+    ensures { ReadsIfMemory (λ r. r) result cursor.new (search_returns.read cursor.old) }
 {
     if !has_word(cursor, b"RETURN") {
         return Ok(Items::from_vec(Vec::new(alloc)));
@@ -174,9 +166,9 @@ pub fn read_search_returns(
     Ok(all)
 }
 
-/// An atom or a quoted string.
-fn read_charset_name(cursor: &mut Cursor<'_>, alloc: Global) -> Result<Octets, Fault>
-    ensures { Gives (λ o. o) result cursor.new (charset_name.read cursor.old) }
+/// Reads an atom or a quoted string.
+fn read_charset_name(cursor: &mut Cursor<'_>, alloc: Global) -> Result<Octets, ReadError>
+    ensures { ReadsIfMemory (λ o. o) result cursor.new (charset_name.read cursor.old) }
 {
     match cursor.rest() {
         [b'"', ..] => cursor.quoted(alloc),
@@ -184,9 +176,12 @@ fn read_charset_name(cursor: &mut Cursor<'_>, alloc: Global) -> Result<Octets, F
     }
 }
 
-/// CHARSET and its name, where it stands there.
-pub fn read_search_charset(cursor: &mut Cursor<'_>, alloc: Global) -> Result<Option<Octets>, Fault>
-    ensures { Gives (λ c. c) result cursor.new (search_charset.read cursor.old) }
+/// Reads CHARSET and its name, or nothing.
+pub fn read_search_charset(
+    cursor: &mut Cursor<'_>,
+    alloc: Global,
+) -> Result<Option<Octets>, ReadError>
+    ensures { ReadsIfMemory (λ c. c) result cursor.new (search_charset.read cursor.old) }
 {
     if !has_word(cursor, b"CHARSET") {
         return Ok(None);
@@ -197,9 +192,9 @@ pub fn read_search_charset(cursor: &mut Cursor<'_>, alloc: Global) -> Result<Opt
     Ok(Some(name))
 }
 
-/// One key or more, with spaces between them.
-pub fn read_search_keys(cursor: &mut Cursor<'_>, alloc: Global) -> Result<SearchKeys, Fault>
-    ensures { Gives (λ keys. keys) result cursor.new ((search_keys).read cursor.old) }
+/// Reads one key or more, with spaces between them.
+pub fn read_search_keys(cursor: &mut Cursor<'_>, alloc: Global) -> Result<SearchKeys, ReadError>
+    ensures { ReadsIfMemory (λ keys. keys) result cursor.new ((search_keys).read cursor.old) }
 {
-    Ok(SearchKeys::from_vec(read_keys(cursor, alloc, LEVELS)?))
+    Ok(SearchKeys::from_vec(read_keys(cursor, alloc, MAX_KEY_LEVELS)?))
 }

@@ -1,8 +1,8 @@
-//! How keys without others within them are spelt (RFC 9051, section 9, `search-key`).
+//! Reading keys without others within them (RFC 9051, section 9, `search-key`).
 
 ghost use Rattle.std.specs.Prelude.{◌≡◌};
 ghost use Rattle.std.specs.List.{list_all};
-ghost use Rattle.imap_syntax.specs.Reading.{Gives, Finds};
+ghost use Rattle.imap_syntax.specs.Reading.{ReadsIfMemory, Reads};
 ghost use Rattle.imap_syntax.specs.Lexical.{is_atom_char};
 ghost use Rattle.imap_query.specs.Keys.{key_of, as_flagged};
 ghost use Rattle.imap_query.specs.Search.{text_key, date_key, sent_key, header_key, keyword_key, size, is_atom, is_flag, is_entry, entry, mod_seq_key, uid_key, as_plain, plain_behind};
@@ -11,7 +11,7 @@ use crate::search::{SearchDate, SearchIn, SearchKey};
 use crate::search_word::{EntryType, SearchWord};
 use crate::section::read_field_name;
 use imap_lex::Octets;
-use imap_syntax::{Cursor, Fault, Flag, is_atom_char};
+use imap_syntax::{Cursor, Flag, ReadError, is_atom_char};
 use std::alloc::Global;
 
 fn flagged(flag: Flag, set: bool) -> SearchKey
@@ -59,32 +59,32 @@ fn read_text_key(
     cursor: &mut Cursor<'_>,
     alloc: Global,
     place: SearchIn,
-) -> Result<SearchKey, Fault>
-    ensures { Gives key_of result cursor.new ((as_plain (text_key place)).read cursor.old) }
+) -> Result<SearchKey, ReadError>
+    ensures { ReadsIfMemory key_of result cursor.new ((as_plain (text_key place)).read cursor.old) }
 {
     cursor.space()?;
     let text = cursor.astring(alloc)?;
     Ok(SearchKey::Contains { place, text })
 }
 
-fn read_date_key(cursor: &mut Cursor<'_>, relation: SearchDate) -> Result<SearchKey, Fault>
-    ensures { Finds key_of result cursor.new ((as_plain (date_key relation)).read cursor.old) }
+fn read_date_key(cursor: &mut Cursor<'_>, relation: SearchDate) -> Result<SearchKey, ReadError>
+    ensures { Reads key_of result cursor.new ((as_plain (date_key relation)).read cursor.old) }
 {
     cursor.space()?;
     let date = cursor.date()?;
     Ok(SearchKey::Date { relation, date })
 }
 
-fn read_sent_key(cursor: &mut Cursor<'_>) -> Result<SearchKey, Fault>
-    ensures { Finds key_of result cursor.new ((as_plain sent_key).read cursor.old) }
+fn read_sent_key(cursor: &mut Cursor<'_>) -> Result<SearchKey, ReadError>
+    ensures { Reads key_of result cursor.new ((as_plain sent_key).read cursor.old) }
 {
     cursor.space()?;
     cursor.date()?;
     Ok(SearchKey::Unserved)
 }
 
-fn read_header_key(cursor: &mut Cursor<'_>, alloc: Global) -> Result<SearchKey, Fault>
-    ensures { Gives key_of result cursor.new ((as_plain header_key).read cursor.old) }
+fn read_header_key(cursor: &mut Cursor<'_>, alloc: Global) -> Result<SearchKey, ReadError>
+    ensures { ReadsIfMemory key_of result cursor.new ((as_plain header_key).read cursor.old) }
 {
     cursor.space()?;
     let field = read_field_name(cursor, alloc)?;
@@ -93,40 +93,44 @@ fn read_header_key(cursor: &mut Cursor<'_>, alloc: Global) -> Result<SearchKey, 
     Ok(SearchKey::Header { field, text })
 }
 
-fn read_keyword_key(cursor: &mut Cursor<'_>, alloc: Global, set: bool) -> Result<SearchKey, Fault>
-    ensures { Gives key_of result cursor.new ((as_plain (keyword_key set)).read cursor.old) }
+fn read_keyword_key(
+    cursor: &mut Cursor<'_>,
+    alloc: Global,
+    set: bool,
+) -> Result<SearchKey, ReadError>
+    ensures { ReadsIfMemory key_of result cursor.new ((as_plain (keyword_key set)).read cursor.old) }
 {
     cursor.space()?;
     let name = Octets::from_slice(alloc, cursor.atom()?)?;
     Ok(flagged(Flag::Keyword(name), set))
 }
 
-/// SP and a number of octets.
-fn read_size(cursor: &mut Cursor<'_>) -> Result<u64, Fault>
-    ensures { Finds (λ n. n) result cursor.new (size.read cursor.old) }
+/// Reads SP and a number of octets.
+fn read_size(cursor: &mut Cursor<'_>) -> Result<u64, ReadError>
+    ensures { Reads (λ n. n) result cursor.new (size.read cursor.old) }
 {
     cursor.space()?;
     cursor.number(0, i64::MAX as u64)
 }
 
-/// An entry and its type, where they stand there.
-fn read_entry(cursor: &mut Cursor<'_>, alloc: Global) -> Result<(), Fault>
-    ensures { Gives (λ _. tt) result cursor.new (entry.read cursor.old) }
+/// Reads an entry and its type, or nothing.
+fn read_entry(cursor: &mut Cursor<'_>, alloc: Global) -> Result<(), ReadError>
+    ensures { ReadsIfMemory (λ _. tt) result cursor.new (entry.read cursor.old) }
 {
     if !cursor.has(b'"') {
         return Ok(());
     }
     let name = cursor.quoted_end(alloc)?;
     if !is_entry(name.as_slice()) {
-        return Err(Fault::Unread);
+        return Err(ReadError::Syntax);
     }
     cursor.space()?;
     cursor.keyword::<EntryType>()?;
     cursor.space()
 }
 
-fn read_mod_seq_key(cursor: &mut Cursor<'_>, alloc: Global) -> Result<SearchKey, Fault>
-    ensures { Gives key_of result cursor.new ((as_plain mod_seq_key).read cursor.old) }
+fn read_mod_seq_key(cursor: &mut Cursor<'_>, alloc: Global) -> Result<SearchKey, ReadError>
+    ensures { ReadsIfMemory key_of result cursor.new ((as_plain mod_seq_key).read cursor.old) }
 {
     cursor.space()?;
     read_entry(cursor, alloc)?;
@@ -134,21 +138,21 @@ fn read_mod_seq_key(cursor: &mut Cursor<'_>, alloc: Global) -> Result<SearchKey,
     Ok(SearchKey::ModSeq(least))
 }
 
-fn read_uid_key(cursor: &mut Cursor<'_>, alloc: Global) -> Result<SearchKey, Fault>
-    ensures { Gives key_of result cursor.new ((as_plain uid_key).read cursor.old) }
+fn read_uid_key(cursor: &mut Cursor<'_>, alloc: Global) -> Result<SearchKey, ReadError>
+    ensures { ReadsIfMemory key_of result cursor.new ((as_plain uid_key).read cursor.old) }
 {
     cursor.space()?;
     let messages = cursor.message_set(alloc)?;
     Ok(SearchKey::Uids(messages))
 }
 
-/// What stands behind the word of a key without others within it.
+/// Reads the part after its word of a key without others within it.
 pub(crate) fn read_plain_key(
     cursor: &mut Cursor<'_>,
     alloc: Global,
     word: SearchWord,
-) -> Result<SearchKey, Fault>
-    ensures { Gives key_of result cursor.new ((as_plain (plain_behind word)).read cursor.old) }
+) -> Result<SearchKey, ReadError>
+    ensures { ReadsIfMemory key_of result cursor.new ((as_plain (plain_behind word)).read cursor.old) }
 {
     match word {
         SearchWord::All => Ok(SearchKey::All),
@@ -182,6 +186,6 @@ pub(crate) fn read_plain_key(
         SearchWord::SentBefore | SearchWord::SentOn | SearchWord::SentSince => read_sent_key(
             cursor,
         ),
-        SearchWord::Not | SearchWord::Or => Err(Fault::Unread),
+        SearchWord::Not | SearchWord::Or => Err(ReadError::Syntax),
     }
 }

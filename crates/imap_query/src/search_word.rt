@@ -1,6 +1,20 @@
 //! The words of SEARCH.
 
+ghost use Rattle.std.specs.Char.{is_ascii_alphabetic};
+
+use imap_lex::OctetClass;
 use imap_syntax::Keyword;
+
+/// The class of the letters of ASCII.
+pub(crate) struct Letter;
+
+impl OctetClass for Letter {
+    ghost test = { is_ascii_alphabetic };
+
+    fn has(octet: u8) -> bool {
+        octet.is_ascii_alphabetic()
+    }
+}
 
 /// The word of a key.
 #[derive(Clone, Copy)]
@@ -77,19 +91,14 @@ pub(crate) const SEARCH_WORDS: [SearchWord; 33] = [
 ];
 
 impl Keyword for SearchWord {
-    ghost use Rattle.std.specs.Char.{is_ascii_alphabetic};
     ghost use Rattle.imap_query.specs.SearchWords.{search_name};
     ghost use Rattle.imap_query.specs.declared.search_word.TheConstants.{SEARCH_WORDS};
 
-    ghost test = { is_ascii_alphabetic };
+    type Class = Letter;
 
     ghost name_of = { search_name };
 
     ghost table = { SEARCH_WORDS };
-
-    fn takes(octet: u8) -> bool {
-        octet.is_ascii_alphabetic()
-    }
 
     fn name(self) -> &'static [u8] {
         match self {
@@ -134,7 +143,7 @@ impl Keyword for SearchWord {
     }
 }
 
-/// Whose metadata an entry of MODSEQ is about (RFC 7162, section 3.1.5).
+/// The type of an entry of MODSEQ (RFC 7162, section 3.1.5).
 #[derive(Clone, Copy)]
 pub(crate) enum EntryType {
     All,
@@ -149,19 +158,14 @@ pub(crate) const ENTRY_TYPES: [EntryType; 3] = [
 ];
 
 impl Keyword for EntryType {
-    ghost use Rattle.std.specs.Char.{is_ascii_alphabetic};
     ghost use Rattle.imap_query.specs.SearchWords.{entry_type_name};
     ghost use Rattle.imap_query.specs.declared.search_word.TheConstants.{ENTRY_TYPES};
 
-    ghost test = { is_ascii_alphabetic };
+    type Class = Letter;
 
     ghost name_of = { entry_type_name };
 
     ghost table = { ENTRY_TYPES };
-
-    fn takes(octet: u8) -> bool {
-        octet.is_ascii_alphabetic()
-    }
 
     fn name(self) -> &'static [u8] {
         match self {

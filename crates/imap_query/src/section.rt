@@ -1,14 +1,13 @@
-//! How sections of messages are spelt (RFC 9051, section 9, `section` and `section-binary`).
+//! Reading sections of messages (RFC 9051, section 9, `section` and `section-binary`).
 
-ghost use Rattle.std.specs.Prelude.{◌≡◌, ◌≤◌, None, length};
-ghost use Rattle.std.specs.List.{prefix_len};
-ghost use Rattle.imap_syntax.specs.Reading.{Gives, Finds};
+ghost use Rattle.std.specs.Prelude.{◌≡◌, None};
+ghost use Rattle.imap_syntax.specs.Reading.{ReadsIfMemory, Reads};
 ghost use Rattle.imap_query.specs.Sections.{partial, has_line_end, field_name, section_text, section_message, part_ends, is_part_char, part_numbers, part_text, section_part, section_end, body_section, section_binary};
 
 use crate::fetch::{BodySection, FetchItem, Partial, Section};
 use crate::fetch_word::SectionWord;
-use imap_lex::Octets;
-use imap_syntax::{Cursor, Fault, Item};
+use imap_lex::{OctetClass, Octets, leading};
+use imap_syntax::{Cursor, Item, ReadError};
 use std::alloc::Global;
 
 /// The name of a header field.
@@ -21,7 +20,7 @@ impl Item for FieldName {
 
     ghost item_read = { field_name.read };
 
-    fn item(cursor: &mut Cursor<'_>, alloc: Global) -> Result<Octets, Fault> {
+    fn item(cursor: &mut Cursor<'_>, alloc: Global) -> Result<Octets, ReadError> {
         read_field_name(cursor, alloc)
     }
 }
@@ -38,18 +37,18 @@ fn is_part_char(octet: u8) -> bool
     octet.is_ascii_digit() || octet == b'.'
 }
 
-#[tactic(auto, using(crate::proofs::Lengths::lengths))]
-fn part_chars(octets: &[u8]) -> usize
-    ensures count { result ≡ prefix_len is_part_char octets.now }
-    ensures within { result ≤ length octets.now }
-{
-    octets
-        .iter()
-        .take_while(|octet| is_part_char(**octet))
-        .count()
+/// The class of [`is_part_char`].
+struct PartChar;
+
+impl OctetClass for PartChar {
+    ghost test = { is_part_char };
+
+    fn has(octet: u8) -> bool {
+        is_part_char(octet)
+    }
 }
 
-/// Whether nz-numbers with dots between them have a dot behind the last; `None` where the octets are no such numbers.
+/// Whether a dot follows the last of nz-numbers with dots between them. `None` if the octets are no such numbers.
 fn part_ends(octets: &[u8]) -> Option<bool>
     ensures { result ≡ part_ends None octets.now }
 {
@@ -71,8 +70,8 @@ fn part_ends(octets: &[u8]) -> Option<bool>
     Some(number.is_none())
 }
 
-pub(crate) fn read_partial(cursor: &mut Cursor<'_>) -> Result<Option<Partial>, Fault>
-    ensures { Finds (λ p. p) result cursor.new (partial.read cursor.old) }
+pub(crate) fn read_partial(cursor: &mut Cursor<'_>) -> Result<Option<Partial>, ReadError>
+    ensures { Reads (λ p. p) result cursor.new (partial.read cursor.old) }
 {
     if !cursor.has(b'<') {
         return Ok(None);
@@ -84,23 +83,23 @@ pub(crate) fn read_partial(cursor: &mut Cursor<'_>) -> Result<Option<Partial>, F
     Ok(Some(Partial { offset, count }))
 }
 
-pub(crate) fn read_field_name(cursor: &mut Cursor<'_>, alloc: Global) -> Result<Octets, Fault>
-    ensures { Gives (λ o. o) result cursor.new (field_name.read cursor.old) }
+pub(crate) fn read_field_name(cursor: &mut Cursor<'_>, alloc: Global) -> Result<Octets, ReadError>
+    ensures { ReadsIfMemory (λ o. o) result cursor.new (field_name.read cursor.old) }
 {
     let name = cursor.astring(alloc)?;
     if has_line_end(name.as_slice()) {
-        return Err(Fault::Unread);
+        return Err(ReadError::Syntax);
     }
     Ok(name)
 }
 
-/// What stands behind the word of a section.
+/// Reads the part of a section after its word.
 fn read_section_text(
     cursor: &mut Cursor<'_>,
     alloc: Global,
     word: SectionWord,
-) -> Result<Section, Fault>
-    ensures { Gives (λ s. s) result cursor.new ((section_text word).read cursor.old) }
+) -> Result<Section, ReadError>
+    ensures { ReadsIfMemory (λ s. s) result cursor.new ((section_text word).read cursor.old) }
 {
     match word {
         SectionWord::Header => Ok(Section::Header),
@@ -115,27 +114,31 @@ fn read_section_text(
             let names = cursor.listed::<FieldName>(alloc)?;
             Ok(Section::FieldsNot(names))
         }
-        SectionWord::Mime => Err(Fault::Unread),
+        SectionWord::Mime => Err(ReadError::Syntax),
     }
 }
 
-fn read_section_message(cursor: &mut Cursor<'_>, alloc: Global) -> Result<Section, Fault>
-    ensures { Gives (λ s. s) result cursor.new (section_message.read cursor.old) }
+fn read_section_message(cursor: &mut Cursor<'_>, alloc: Global) -> Result<Section, ReadError>
+    ensures { ReadsIfMemory (λ s. s) result cursor.new (section_message.read cursor.old) }
 {
     let word = cursor.keyword::<SectionWord>()?;
     read_section_text(cursor, alloc, word)
 }
 
-/// Numbers of a part: whether a dot stands behind them.
-fn read_part_numbers(cursor: &mut Cursor<'_>) -> Result<bool, Fault>
-    ensures { Finds (λ d. d) result cursor.new (part_numbers.read cursor.old) }
+/// Reads the numbers of a part. Returns whether a dot follows them.
+fn read_part_numbers(cursor: &mut Cursor<'_>) -> Result<bool, ReadError>
+    ensures { Reads (λ d. d) result cursor.new (part_numbers.read cursor.old) }
 {
-    let numbers = cursor.front(part_chars(cursor.rest()))?;
-    part_ends(numbers).ok_or(Fault::Unread)
+    let numbers = cursor.front(leading::<PartChar>(cursor.rest()))?;
+    part_ends(numbers).ok_or(ReadError::Syntax)
 }
 
-fn read_part_text(cursor: &mut Cursor<'_>, alloc: Global, word: SectionWord) -> Result<(), Fault>
-    ensures { Gives (λ _. tt) result cursor.new ((part_text word).read cursor.old) }
+fn read_part_text(
+    cursor: &mut Cursor<'_>,
+    alloc: Global,
+    word: SectionWord,
+) -> Result<(), ReadError>
+    ensures { ReadsIfMemory (λ _. tt) result cursor.new ((part_text word).read cursor.old) }
 {
     match word {
         SectionWord::Mime => Ok(()),
@@ -146,8 +149,8 @@ fn read_part_text(cursor: &mut Cursor<'_>, alloc: Global, word: SectionWord) -> 
     }
 }
 
-fn read_section_part(cursor: &mut Cursor<'_>, alloc: Global) -> Result<(), Fault>
-    ensures { Gives (λ _. tt) result cursor.new (section_part.read cursor.old) }
+fn read_section_part(cursor: &mut Cursor<'_>, alloc: Global) -> Result<(), ReadError>
+    ensures { ReadsIfMemory (λ _. tt) result cursor.new (section_part.read cursor.old) }
 {
     if !read_part_numbers(cursor)? {
         return Ok(());
@@ -156,13 +159,13 @@ fn read_section_part(cursor: &mut Cursor<'_>, alloc: Global) -> Result<(), Fault
     read_part_text(cursor, alloc, word)
 }
 
-/// A section behind its bracket.
+/// Reads a section after its bracket.
 pub(crate) fn read_body_section(
     cursor: &mut Cursor<'_>,
     alloc: Global,
     peek: bool,
-) -> Result<FetchItem, Fault>
-    ensures { Gives (λ i. i) result cursor.new ((body_section peek).read cursor.old) }
+) -> Result<FetchItem, ReadError>
+    ensures { ReadsIfMemory (λ i. i) result cursor.new ((body_section peek).read cursor.old) }
 {
     if cursor.has(b']') {
         return read_section_end(cursor, peek, Section::Whole);
@@ -178,13 +181,13 @@ pub(crate) fn read_body_section(
     read_section_end(cursor, peek, section)
 }
 
-/// The part of the section that is asked for.
+/// Reads the range of octets, or nothing.
 fn read_section_end(
     cursor: &mut Cursor<'_>,
     peek: bool,
     section: Section,
-) -> Result<FetchItem, Fault>
-    ensures { Finds (λ i. i) result cursor.new ((section_end peek section).read cursor.old) }
+) -> Result<FetchItem, ReadError>
+    ensures { Reads (λ i. i) result cursor.new ((section_end peek section).read cursor.old) }
 {
     let partial = read_partial(cursor)?;
     Ok(FetchItem::Section(BodySection {
@@ -194,15 +197,15 @@ fn read_section_end(
     }))
 }
 
-pub(crate) fn read_section_binary(cursor: &mut Cursor<'_>) -> Result<(), Fault>
-    ensures { Finds (λ _. tt) result cursor.new (section_binary.read cursor.old) }
+pub(crate) fn read_section_binary(cursor: &mut Cursor<'_>) -> Result<(), ReadError>
+    ensures { Reads (λ _. tt) result cursor.new (section_binary.read cursor.old) }
 {
     cursor.octet(b'[')?;
     if cursor.has(b']') {
         return Ok(());
     }
     if read_part_numbers(cursor)? {
-        return Err(Fault::Unread);
+        return Err(ReadError::Syntax);
     }
     cursor.octet(b']')
 }

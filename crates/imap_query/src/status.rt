@@ -1,6 +1,7 @@
-//! What STATUS asks for (RFC 9051, section 6.3.11; RFC 7162, section 3.1.2.3).
+//! The items of STATUS (RFC 9051, section 6.3.11; RFC 7162, section 3.1.2.3).
 
-use imap_syntax::{Keyword, is_astring_char};
+use imap_lex::AstringChar;
+use imap_syntax::Keyword;
 
 /// An item of STATUS.
 #[derive(Clone, Copy, Debug, PartialEq, Eq)]
@@ -25,19 +26,14 @@ pub(crate) const STATUS_ITEMS: [StatusItem; 7] = [
 ];
 
 impl Keyword for StatusItem {
-    ghost use Rattle.imap_syntax.specs.Lexical.{is_astring_char};
     ghost use Rattle.imap_query.specs.StatusWords.{status_name};
     ghost use Rattle.imap_query.specs.declared.status.TheConstants.{STATUS_ITEMS};
 
-    ghost test = { is_astring_char };
+    type Class = AstringChar;
 
     ghost name_of = { status_name };
 
     ghost table = { STATUS_ITEMS };
-
-    fn takes(octet: u8) -> bool {
-        is_astring_char(octet)
-    }
 
     fn name(self) -> &'static [u8] {
         match self {

@@ -1,14 +1,14 @@
-//! What FETCH asks for, written.
+//! Writing the items and modifiers of FETCH.
 
 ghost use Rattle.std.specs.Prelude.{◌≡◌, ◌++◌, ◌∷◌, [], OnOk, codes, decimal};
-ghost use Rattle.imap_query.specs.WrittenFetch.{field_name, section_fits, section_text, partial_fits, partial_text, peek_text, body_text, fetch_items, changed_fits, modifiers_text};
+ghost use Rattle.imap_query.specs.WrittenFetch.{field_name, section_fits, section_text, partial_fits, partial_text, peek_text, body_text, single_text, is_flags, is_internal_date, is_size, is_fast, several_text, fetch_items, changed_fits, modifiers_text};
 
 use crate::fetch::{BodySection, FetchItem, Partial, Section};
 use crate::section::{FieldName, has_line_end};
 use imap_lex::Octets;
 use imap_syntax::{
-    Spelling, mod_sequence_fits, number64_fits, push_between, push_listed, push_number,
-    push_string, some_fit, string_fits,
+    Spelling, mod_sequence_fits, number64_fits, push_astring, push_between, push_listed,
+    push_number, some_fit, string_fits,
 };
 use std::alloc::AllocError;
 
@@ -24,7 +24,7 @@ impl Spelling for FieldName {
     }
 
     fn push(out: &mut Vec<u8>, name: &Octets) -> Result<(), AllocError> {
-        push_string(out, name)
+        push_astring(out, name)
     }
 }
 
@@ -111,7 +111,7 @@ impl Spelling for FetchItem {
         }
     }
 
-    /// An item that isn't served is written as ENVELOPE.
+    /// An item that isn't served is written as BODY, the shortest of them.
     fn push(out: &mut Vec<u8>, item: &FetchItem) -> Result<(), AllocError> {
         match item {
             FetchItem::Uid => out.extend_from_slice(b"UID"),
@@ -120,7 +120,7 @@ impl Spelling for FetchItem {
             FetchItem::Rfc822Size => out.extend_from_slice(b"RFC822.SIZE"),
             FetchItem::ModSeq => out.extend_from_slice(b"MODSEQ"),
             FetchItem::Section(body) => push_body_section(out, body),
-            FetchItem::Unserved => out.extend_from_slice(b"ENVELOPE"),
+            FetchItem::Unserved => out.extend_from_slice(b"BODY"),
         }
     }
 }
@@ -132,14 +132,70 @@ pub fn items_fit(items: &[FetchItem]) -> bool
     some_fit::<FetchItem>(items)
 }
 
-/// Writes the items in parentheses.
+impl FetchItem {
+    fn is_flags(&self) -> bool
+        ensures { result ≡ is_flags self.now }
+    {
+        matches!(self, FetchItem::Flags)
+    }
+
+    fn is_internal_date(&self) -> bool
+        ensures { result ≡ is_internal_date self.now }
+    {
+        matches!(self, FetchItem::InternalDate)
+    }
+
+    fn is_size(&self) -> bool
+        ensures { result ≡ is_size self.now }
+    {
+        matches!(self, FetchItem::Rfc822Size)
+    }
+}
+
+/// Whether the items are those of the macro FAST.
+fn is_fast(items: &[FetchItem]) -> bool
+    ensures { result ≡ is_fast items.now }
+{
+    match items {
+        [first, second, third] => {
+            first.is_flags() && second.is_internal_date() && third.is_size()
+        }
+        _ => false,
+    }
+}
+
+/// Appends an item alone. One that isn't served is written as ALL.
+fn push_single(out: &mut Vec<u8>, item: &FetchItem) -> Result<(), AllocError>
+    ensures { OnOk result (out.new.items ≡ out.old.items ++ single_text item.now) }
+{
+    match item {
+        FetchItem::Unserved => out.extend_from_slice(b"ALL"),
+        item => FetchItem::push(out, item),
+    }
+}
+
+/// Appends items as the macro FAST, or in parentheses.
+fn push_several(out: &mut Vec<u8>, items: &[FetchItem]) -> Result<(), AllocError>
+    ensures { OnOk result (out.new.items ≡ out.old.items ++ several_text items.now) }
+{
+    if is_fast(items) {
+        out.extend_from_slice(b"FAST")
+    } else {
+        push_listed::<FetchItem>(out, items)
+    }
+}
+
+/// Appends the items of FETCH: one item, a macro, or items in parentheses.
 pub fn push_items(out: &mut Vec<u8>, items: &[FetchItem]) -> Result<(), AllocError>
     ensures { OnOk result (out.new.items ≡ out.old.items ++ fetch_items.text items.now) }
 {
-    push_listed::<FetchItem>(out, items)
+    match items {
+        [item] => push_single(out, item),
+        items => push_several(out, items),
+    }
 }
 
-/// Whether CHANGEDSINCE's mod-sequence can be written, where there is one.
+/// Whether the mod-sequence of CHANGEDSINCE, if there is one, can be written.
 pub fn changed_fits(changed_since: Option<u64>) -> bool
     ensures { result ≡ changed_fits changed_since }
 {
@@ -149,7 +205,7 @@ pub fn changed_fits(changed_since: Option<u64>) -> bool
     }
 }
 
-/// The modifiers and the space before them (RFC 7162, sections 3.1.4.1 and 3.2.6).
+/// Appends a space and the modifiers, or nothing (RFC 7162, sections 3.1.4.1 and 3.2.6).
 pub fn push_modifiers(
     out: &mut Vec<u8>,
     changed_since: Option<u64>,

@@ -1,19 +1,19 @@
-//! What SEARCH asks for, written.
+//! Writing the keys and options of SEARCH.
 
 ghost use Rattle.std.specs.Prelude.{◌≡◌, ◌++◌, ◌∷◌, [], OnOk, map, codes, decimal};
 ghost use Rattle.imap_query.specs.SearchWords.{search_name};
 ghost use Rattle.imap_query.specs.Keys.{key_of, keys_of, group};
 ghost use Rattle.imap_syntax.specs.Writing.{joined, further};
-ghost use Rattle.imap_query.specs.WrittenSearch.{search_flag_fits, flag_word, keyword_text, place_word, relation_word, flagged_text, text_key_text, header_key_text, date_key_text, number_key_text, uid_key_text, unserved_text, key_fits, fits_over, row_fits, key_text, search_keys, some_returns_text, returns_text, charset_fits, charset_text};
+ghost use Rattle.imap_query.specs.WrittenSearch.{search_flag_fits, flag_word, keyword_text, place_word, relation_word, flagged_text, text_key_text, header_key_text, date_key_text, number_key_text, uid_key_text, unserved_text, key_fits, fits_over, row_fits, key_text, search_keys, some_returns_text, returns_text, charset_fits, charset_name_text, charset_text};
 
 use crate::search::{SearchDate, SearchIn, SearchKey, SearchKeys, SearchReturn};
-use crate::search_keys::LEVELS;
+use crate::search_keys::MAX_KEY_LEVELS;
 use crate::search_word::SearchWord;
 use crate::section::FieldName;
 use imap_lex::Octets;
 use imap_syntax::{
     Date, Flag, Keyword, MessageSet, Spelling, Word, atom_fits, date_fits, is_quotable,
-    number64_fits, push_date, push_listed, push_number, push_quoted, push_set, push_string,
+    number64_fits, push_astring, push_date, push_listed, push_number, push_quoted, push_set,
     set_fits, string_fits,
 };
 use std::alloc::AllocError;
@@ -30,7 +30,7 @@ fn search_flag_fits(flag: &Flag) -> bool
     }
 }
 
-/// Whether the key can be written with fewer than so many levels.
+/// Whether the key can be written with fewer than `levels` levels.
 #[cycle(fits)]
 #[tactic(auto, unfolding(crate::specs::WrittenSearch::key_fits))]
 fn key_fits(key: &SearchKey, levels: u8) -> bool
@@ -42,7 +42,7 @@ fn key_fits(key: &SearchKey, levels: u8) -> bool
     fits_over(key, levels - 1)
 }
 
-/// The same, with so many levels for the keys within it.
+/// Whether the key can be written if each key within it has fewer than `inner` levels.
 #[cycle(fits)]
 fn fits_over(key: &SearchKey, inner: u8) -> bool
     ensures { result ≡ fits_over (key_fits inner) (key_of key.now) }
@@ -65,7 +65,7 @@ fn fits_over(key: &SearchKey, inner: u8) -> bool
     }
 }
 
-/// Whether there are some, and each fits.
+/// Whether there are keys, and each can be written.
 #[cycle(fits)]
 fn keys_fit(keys: &[SearchKey], levels: u8) -> bool
     ensures { result ≡ fits_over (key_fits levels) (group (keys_of (map key_of keys.now))) }
@@ -88,14 +88,14 @@ fn each_fits(keys: &[SearchKey], levels: u8) -> bool
     true
 }
 
-/// Whether the keys can be written: there is one, each value is in its bounds, and none lies too deep.
+/// Whether the keys can be written: there is a key, each value is in its bounds, and none is nested too deep.
 pub fn search_keys_fit(keys: &SearchKeys) -> bool
     ensures { result ≡ search_keys.fits keys.now }
 {
-    keys_fit(keys.as_slice(), LEVELS)
+    keys_fit(keys.as_slice(), MAX_KEY_LEVELS)
 }
 
-/// Whether the name of the charset, where there is one, can be written.
+/// Whether the name of the charset, if there is one, can be written.
 pub fn charset_fits(charset: &Option<Octets>) -> bool
     ensures { result ≡ charset_fits charset.now }
 {
@@ -180,7 +180,7 @@ fn push_text_key(out: &mut Vec<u8>, word: SearchWord, text: &Octets) -> Result<(
 {
     push_word(out, word)?;
     out.push(b' ')?;
-    push_string(out, text)
+    push_astring(out, text)
 }
 
 fn push_header_key(out: &mut Vec<u8>, field: &Octets, text: &Octets) -> Result<(), AllocError>
@@ -188,7 +188,7 @@ fn push_header_key(out: &mut Vec<u8>, field: &Octets, text: &Octets) -> Result<(
 {
     push_text_key(out, SearchWord::Header, field)?;
     out.push(b' ')?;
-    push_string(out, text)
+    push_astring(out, text)
 }
 
 fn push_date_key(out: &mut Vec<u8>, word: SearchWord, date: &Date) -> Result<(), AllocError>
@@ -215,11 +215,11 @@ fn push_uid_key(out: &mut Vec<u8>, messages: &MessageSet) -> Result<(), AllocErr
     push_set(out, messages)
 }
 
-/// A key that isn't served is written as SENTON, with some day.
+/// Appends a key that isn't served: SENTON with some day.
 fn push_unserved(out: &mut Vec<u8>) -> Result<(), AllocError>
     ensures { OnOk result (out.new.items ≡ out.old.items ++ unserved_text) }
 {
-    out.extend_from_slice(b"SENTON 01-JAN-2000")
+    out.extend_from_slice(b"SENTON 1-Jan-2000")
 }
 
 // ---- keys
@@ -259,7 +259,7 @@ fn push_key(out: &mut Vec<u8>, key: &SearchKey) -> Result<(), AllocError>
     }
 }
 
-/// Keys with spaces between them.
+/// Appends the keys with spaces between them.
 #[cycle(pushes)]
 fn push_keys(out: &mut Vec<u8>, keys: &[SearchKey]) -> Result<(), AllocError>
     ensures { OnOk result (out.new.items ≡ out.old.items ++ joined 32 key_text (map key_of keys.now)) }
@@ -277,7 +277,7 @@ fn push_keys(out: &mut Vec<u8>, keys: &[SearchKey]) -> Result<(), AllocError>
     }
 }
 
-/// Writes the keys with spaces between them.
+/// Appends the keys of a SEARCH, with spaces between them.
 pub fn push_search_keys(out: &mut Vec<u8>, keys: &SearchKeys) -> Result<(), AllocError>
     ensures { OnOk result (out.new.items ≡ out.old.items ++ search_keys.text keys.now) }
 {
@@ -286,7 +286,7 @@ pub fn push_search_keys(out: &mut Vec<u8>, keys: &SearchKeys) -> Result<(), Allo
 
 // ---- what stands before the keys
 
-/// `search-return-opts` and a space, or nothing where nothing is asked for.
+/// Appends `search-return-opts` and a space, or nothing if there are no options.
 pub fn push_returns(out: &mut Vec<u8>, returns: &[SearchReturn]) -> Result<(), AllocError>
     ensures { OnOk result (out.new.items ≡ out.old.items ++ returns_text returns.now) }
 {
@@ -305,14 +305,25 @@ fn push_some_returns(out: &mut Vec<u8>, returns: &[SearchReturn]) -> Result<(), 
     Ok(())
 }
 
-/// CHARSET, its name and a space, or nothing.
+/// Appends the name of a charset: an atom as it is, all else in quotes.
+fn push_charset_name(out: &mut Vec<u8>, name: &[u8]) -> Result<(), AllocError>
+    ensures { OnOk result (out.new.items ≡ out.old.items ++ charset_name_text name.now) }
+{
+    if atom_fits(name) {
+        out.extend_from_slice(name)
+    } else {
+        push_quoted(out, name)
+    }
+}
+
+/// Appends CHARSET, its name and a space, or nothing.
 pub fn push_charset(out: &mut Vec<u8>, charset: &Option<Octets>) -> Result<(), AllocError>
     ensures { OnOk result (out.new.items ≡ out.old.items ++ charset_text charset.now) }
 {
     match charset {
         Some(name) => {
             out.extend_from_slice(b"CHARSET ")?;
-            push_quoted(out, name.as_slice())?;
+            push_charset_name(out, name.as_slice())?;
             out.push(b' ')?;
             Ok(())
         }

@@ -3,9 +3,9 @@ use Rattle.std.proofs.Common.{◌≡◌, ℕ, ◌<◌, ◌≤◌, ◌^◌, Bool,
 use Rattle.std.proofs.lemmas.Bool.Decides.{nat_tests}
 use Rattle.jiff.specs.Words.{IsDate, days_in_month}
 use Rattle.jiff.proofs.SpanFacts.{signed_arith}
-use Rattle.imap_syntax.specs.declared.date.Month.{Month}
-use Rattle.imap_syntax.specs.declared.date.Month.TheVariants as month
-use Rattle.imap_syntax.specs.Dates.{is_leap_year, month_number, days_in, day_exists}
+use Rattle.imap_syntax.specs.declared.month.Month.{Month}
+use Rattle.imap_syntax.specs.declared.month.Month.TheVariants as month
+use Rattle.imap_syntax.specs.Calendar.{is_leap_year, month_number, days_in, day_exists}
 
 same_days : (year : ℕ) (m : Month) → days_in_month (pos year) (month_number m) ≡ days_in year m
 same_days year month.Jan = refl
@@ -33,7 +33,7 @@ pub no_year : (year : ℕ) (m : Month) (day : ℕ) → 10000 ≤ year → false 
 unfolding day_exists
 no_year year m day h = grind (arith, nat_tests)
 
-is_date : (year : ℕ) (m : Month) (day : ℕ) → year < 10000 → day_exists year m day ≡ true → IsDate (pos year) (pos (month_number m)) (pos day)
+pub is_date : (year : ℕ) (m : Month) (day : ℕ) → year < 10000 → day_exists year m day ≡ true → IsDate (pos year) (pos (month_number m)) (pos day)
 unfolding day_exists
 is_date year m day lt h =
     let w = month_within m in
@@ -41,7 +41,7 @@ is_date year m day lt h =
     let bounds : (1 ≤ day) × (day ≤ days_in year m) = grind (arith, nat_tests) in
     ((omega (arith, signed_arith), omega (arith, signed_arith)), (omega (arith, signed_arith), omega (arith, signed_arith)), (omega (arith, signed_arith), rw same (omega (arith, signed_arith))))
 
-is_day : (year : ℕ) (m : Month) (day : ℕ) → year < 10000 → IsDate (pos year) (pos (month_number m)) (pos day) → day_exists year m day ≡ true
+pub is_day : (year : ℕ) (m : Month) (day : ℕ) → year < 10000 → IsDate (pos year) (pos (month_number m)) (pos day) → day_exists year m day ≡ true
 unfolding day_exists
 is_day year m day lt h =
     let least : 1 ≤ day = omega (arith, signed_arith, h.2.0) in
@@ -57,7 +57,7 @@ agrees year m day false lt to from = by (day_exists year m day) refl
     by true e = from (is_date year m day lt e) ∙ sym e
     by false e = sym e
 
-same_date : (y z d x w c : ℤ) → y ≡ x → z ≡ w → d ≡ c → IsDate y z d → IsDate x w c
+pub same_date : (y z d x w c : ℤ) → y ≡ x → z ≡ w → d ≡ c → IsDate y z d → IsDate x w c
 same_date y z d x w c e f g h = subst (λ (u : ℤ). IsDate x w u) g (subst (λ (u : ℤ). IsDate x u d) f (subst (λ (u : ℤ). IsDate u z d) e h))
 
 pub agrees_as : (year : ℕ) (m : Month) (day : ℕ) (ok : Bool) (y z d : ℤ) → year < 10000 → y ≡ pos year → z ≡ pos (month_number m) → d ≡ pos day → (ok ≡ true → IsDate y z d) → (IsDate y z d → ok ≡ true) → ok ≡ day_exists year m day

@@ -1,8 +1,8 @@
 -- The laws of dates and times.
 use Rattle.std.proofs.Common.{ℕ, true, false, eqb, List, refl}
 use Rattle.std.specs.Char.{is_ascii_digit}
-use Rattle.imap_syntax.specs.Dates.{digits_of, date_behind_day, date_text, date_behind, date, day_behind, day_fixed, below, zone, date_time_end}
-use Rattle.imap_syntax.proofs.RuleLaws.{StopsAt, Lawful, ended_lawful, then_lawful, then_follows, after_anything, give_lawful, octet_lawful, octet_then_follows, some_of_lawful}
+use Rattle.imap_syntax.specs.Dates.{digits_of, date_behind_day, date_text, date_behind, date, day_behind, day_fixed, below, zone, date_time_text, date_time_end}
+use Rattle.imap_syntax.proofs.RuleLaws.{StopsAt, Lawful, ended_lawful, then_lawful, then_follows, after_anything, give_lawful, give_follows, octet_lawful, octet_then_follows, some_of_lawful}
 use Rattle.imap_syntax.proofs.Opens.{Opens, octet_opens, then_opens, opens_follows, some_of_opens}
 use Rattle.imap_syntax.proofs.Lists.{when_lawful, when_follows, flag_then_lawful}
 use Rattle.imap_syntax.proofs.Words.{keyword_lawful}
@@ -53,8 +53,8 @@ zone_lawful =
     (ended_lawful (ended_lawful (octet_lawful 43) (λ u. give_lawful false)) (λ west. then_lawful (digits_of_lawful 4 4) (λ n. when_lawful _ _) (λ n. when_follows _ _)))
     (opens_follows (then_opens _ (then_opens _ (octet_opens (λ b. eqb b 43) 43 refl))) (λ b rest h. differs (λ b. eqb b 43) 45 refl b h))
 
-pub date_time_end_lawful : {After : List ℕ → Type 0} → Lawful After date_time_end
-date_time_end_lawful =
+pub date_time_text_lawful : Lawful (StopsAt is_ascii_digit) date_time_text
+date_time_text_lawful =
     then_lawful day_fixed_lawful (λ day.
     then_lawful (date_behind_day_lawful day) (λ d.
     ended_lawful (octet_lawful 32) (λ u.
@@ -64,10 +64,12 @@ date_time_end_lawful =
     ended_lawful (octet_lawful 58) (λ w.
     then_lawful (below_lawful 60) (λ second.
     ended_lawful (octet_lawful 32) (λ x.
-    then_lawful zone_lawful (λ z. ended_lawful (octet_lawful 34) (λ y. give_lawful _))
-    (λ z. octet_then_follows _ 34 (λ rest. refl))))
+    then_lawful zone_lawful (λ z. give_lawful _) (λ z. give_follows _)))
     (λ second. octet_then_follows _ 32 (λ rest. refl))))
     (λ minute. octet_then_follows _ 58 (λ rest. refl))))
     (λ hour. octet_then_follows _ 58 (λ rest. refl))))
     (λ d. octet_then_follows _ 32 (λ rest. refl)))
     (λ day. then_follows (octet_then_follows _ 45 (λ rest. refl)) (λ d. after_anything _))
+
+pub date_time_end_lawful : {After : List ℕ → Type 0} → Lawful After date_time_end
+date_time_end_lawful = then_lawful date_time_text_lawful (λ t. ended_lawful (octet_lawful 34) (λ y. give_lawful _)) (λ t. octet_then_follows _ 34 (λ rest. refl))

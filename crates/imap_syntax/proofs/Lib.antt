@@ -16,3 +16,7 @@ pub mod Writing
 pub mod Written
 pub mod WrittenDates
 pub mod Lined
+pub mod Texts
+pub mod SyntaxTexts
+pub mod DayNumbers
+pub mod ReadBack

@@ -1,5 +1,5 @@
 -- What is written is a text of lines and literals, of which a framer can tell one from the other.
-use Rattle.std.proofs.Common.{◌≡◌, ℕ, ◌/◌, ◌<◌, ◌^◌, Bool, true, false, cond, not, ◌&&◌, ◌||◌, eqb, ◌==◌, ltb, List, [], ◌∷◌, ◌++◌, length, flat_map, Option, Some, None, refl, sym, ap, ◌∙◌, append_assoc, arith}
+use Rattle.std.proofs.Common.{◌≡◌, ℕ, ◌/◌, ◌<◌, ◌^◌, Bool, true, false, cond, not, ◌||◌, eqb, ◌==◌, ltb, List, [], ◌∷◌, ◌++◌, length, flat_map, refl, sym, ap, ◌∙◌, append_assoc, arith}
 use Rattle.std.specs.Fmt.{decimal as decimal_text}
 use Rattle.std.specs.Char.{is_ascii_digit}
 use Rattle.std.specs.List.{list_all, list_any, AllByRecursion}
@@ -14,18 +14,19 @@ use Rattle.imap_syntax.specs.declared.set.SeqNumber.TheVariants as seq
 use Rattle.imap_syntax.specs.declared.set.MessageSet.TheVariants as messages
 use Rattle.imap_syntax.specs.declared.flag.Flag.TheVariants as flag
 use Rattle.imap_syntax.specs.declared.flag.SystemFlag.TheVariants as system
-use Rattle.imap_syntax.specs.declared.date.Month.{Month}
-use Rattle.imap_syntax.specs.declared.date.Zone.{Zone}
-use Rattle.imap_syntax.specs.declared.date.Date.{Date}
-use Rattle.imap_syntax.specs.declared.date.DateTime.{DateTime}
-use Rattle.imap_syntax.specs.Lexical.{is_astring_char, is_atom_char, is_word_char, is_quoted_special, has_nul}
+use Rattle.imap_syntax.specs.declared.month.Month.{Month}
+use Rattle.imap_syntax.specs.declared.set.SeqRange.{SeqRange}
+use Rattle.imap_syntax.specs.Calendar.{month_name}
+use Rattle.imap_syntax.specs.Moments.{Day, Offset, Moment}
+use Rattle.imap_syntax.specs.Lexical.{is_astring_char, is_atom_char, is_word_char, is_quoted_special}
 use Rattle.imap_syntax.specs.Flags.{flag_name}
-use Rattle.imap_syntax.specs.Writing.{Writing, number, further, joined, in_parentheses, separated}
-use Rattle.imap_syntax.specs.Written.{is_unquotable, is_quotable, escaped, quoted_text, literal_text, string, atom, mod_sequence, number64, number_fits, number_text, seq_range, seq_set, message_set, message_flag}
-use Rattle.imap_syntax.specs.WrittenDates.{two_digits, four_digits, month_of, name_of, date, sign, clock_text, zone_text, date_time_end}
+use Rattle.imap_syntax.specs.Writing.{Writing, some_of, number, further, joined, in_parentheses, separated}
+use Rattle.imap_syntax.specs.Written.{is_unquotable, is_quotable, is_written_quoted, escaped, quoted_text, literal_text, string, bare_or_string, astring, is_same, atom, mod_sequence, number64, number_fits, number_text, seq_range, seq_set, message_set, message_flag}
+use Rattle.imap_syntax.specs.WrittenDates.{digit, two_digits, four_digits, day_text, month_year_text, fixed_day_text, fixed_date_text, date, sign, clock_text, zone_text, date_time_text, date_time_end}
 use Rattle.imap_syntax.proofs.Words.{IsTable}
 use Rattle.imap_syntax.proofs.Tables.{month_table, flag_table}
 use Rattle.imap_syntax.proofs.Writing.{both_true, both, consists_all, digits_made}
+use Rattle.imap_syntax.proofs.Written.{literal_can}
 use Rattle.imap_syntax.proofs.WrittenDates.{is_digit}
 
 -- ---- pieces of a text
@@ -214,12 +215,23 @@ literal_lined octets h =
     let short : length octets < 2 ^ 64 = grind (arith, nat_tests) in
     record { pieces = literal octets ∷ []; each = (short, tt); whole = sym (append-nil (literal_text octets)) }
 
-string_by : (octets : List ℕ) (v : Bool) → is_quotable octets ≡ v → (v || (not (has_nul octets) && ltb (length octets) 18446744073709551616)) ≡ true → IsLined (cond v (quoted_text octets) (literal_text octets))
-string_by octets true e h = quoted_lined octets e
-string_by octets false e h = literal_lined octets (both_true (not (has_nul octets)) (ltb (length octets) 18446744073709551616) h).1
+string_by : (octets : List ℕ) (v : Bool) → is_written_quoted octets ≡ v → string.fits octets ≡ true → IsLined (cond v (quoted_text octets) (literal_text octets))
+string_by octets true e h = quoted_lined octets (both_true _ _ e).1
+string_by octets false e h = literal_lined octets (literal_can octets e h).1
 
 pub string_lined : Lines string
-string_lined octets h = string_by octets (is_quotable octets) refl h
+string_lined octets h = string_by octets (is_written_quoted octets) refl h
+
+-- octets of a class that is safe, or a string
+pub bare_or_string_lined : (test : ℕ → Bool) → ((b : ℕ) → test b ≡ true → is_safe b ≡ true) → Lines (bare_or_string test)
+bare_or_string_lined test safe octets h = go ((some_of test).fits octets) refl
+  where
+    go : (v : Bool) → (some_of test).fits octets ≡ v → IsLined (cond v octets (string.text octets))
+    go true e = consists_lined test safe octets (both_true _ _ e).1
+    go false e = string_lined octets h
+
+pub astring_lined : Lines astring
+astring_lined = bare_or_string_lined is_astring_char astring_safe
 
 -- ---- sets and flags
 
@@ -227,10 +239,17 @@ seq_number_lined : (n : SeqNumber) → number_fits n ≡ true → IsLined (numbe
 seq_number_lined seq.Last h = safe_lined (42 ∷ []) refl
 seq_number_lined (seq.Number n) h = number_lined 1 4294967295 (omega arith) n h
 
-range_lined : Lines seq_range
-range_lined r h =
+range_by : (r : SeqRange) → seq_range.fits r ≡ true → (v : Bool) → IsLined (cond v (number_text r.first) (number_text r.first ++ 58 ∷ number_text r.last))
+range_by r h v =
     let q = both_true (number_fits r.first) (number_fits r.last) h in
-    append_lined (number_text r.first) (58 ∷ number_text r.last) (seq_number_lined r.first q.0) (octet_lined 58 (number_text r.last) refl (seq_number_lined r.last q.1))
+    go v (seq_number_lined r.first q.0) (append_lined (number_text r.first) (58 ∷ number_text r.last) (seq_number_lined r.first q.0) (octet_lined 58 (number_text r.last) refl (seq_number_lined r.last q.1)))
+  where
+    go : (w : Bool) → IsLined (number_text r.first) → IsLined (number_text r.first ++ 58 ∷ number_text r.last) → IsLined (cond w (number_text r.first) (number_text r.first ++ 58 ∷ number_text r.last))
+    go true one both = one
+    go false one both = both
+
+range_lined : Lines seq_range
+range_lined r h = range_by r h (is_same r.first r.last)
 
 pub seq_set_lined : Lines seq_set
 seq_set_lined ranges h = separated_lined 44 seq_range refl range_lined ranges h
@@ -253,40 +272,54 @@ flag_lined (flag.Keyword word) h = atom_lined word h
 two_lined : (n : ℕ) → IsLined (two_digits n)
 two_lined n = digits_lined (two_digits n) (rw (is_digit (n / 10), is_digit n) refl)
 
-pub name_lined : (o : Option Month) → IsLined (name_of o)
-name_lined None = none_lined
-name_lined (Some m) = word_lined month_table word_safe m
+month_lined : (m : Month) → IsLined (month_name m)
+month_lined m = word_lined month_table word_safe m
   where
     word_safe : (b : ℕ) → is_word_char b ≡ true → is_safe b ≡ true
     word_safe b h = grind (arith, nat_tests)
 
-pub date_lined : (d : Date) → IsLined (date.text d)
-date_lined d =
-    let name = name_of (month_of d.month) in
+month_year_lined : (d : Day) → IsLined (month_year_text d)
+month_year_lined d =
+    let name = month_name d.month in
     let year = four_digits d.year in
-    append_lined (two_digits d.day) (45 ∷ (name ++ (45 ∷ year))) (two_lined d.day)
-    (octet_lined 45 (name ++ (45 ∷ year)) refl
-    (append_lined name (45 ∷ year) (name_lined (month_of d.month))
-    (octet_lined 45 year refl (append_lined (two_digits (d.year / 100)) (two_digits d.year) (two_lined (d.year / 100)) (two_lined d.year)))))
+    octet_lined 45 (name ++ (45 ∷ year)) refl
+    (append_lined name (45 ∷ year) (month_lined d.month)
+    (octet_lined 45 year refl (append_lined (two_digits (d.year / 100)) (two_digits d.year) (two_lined (d.year / 100)) (two_lined d.year))))
+
+day_lined : (n : ℕ) (few : Bool) → IsLined (cond few (digit n ∷ []) (two_digits n))
+day_lined n true = digits_lined (digit n ∷ []) (rw (is_digit n) refl)
+day_lined n false = two_lined n
+
+pub date_lined : (d : Day) → IsLined (date.text d)
+date_lined d = append_lined (day_text d.day) (month_year_text d) (day_lined d.day (ltb d.day 10)) (month_year_lined d)
+
+fixed_day_lined : (n : ℕ) (few : Bool) → IsLined (cond few (32 ∷ digit n ∷ []) (two_digits n))
+fixed_day_lined n true = octet_lined 32 (digit n ∷ []) refl (digits_lined (digit n ∷ []) (rw (is_digit n) refl))
+fixed_day_lined n false = two_lined n
+
+fixed_date_lined : (d : Day) → IsLined (fixed_date_text d)
+fixed_date_lined d = append_lined (fixed_day_text d.day) (month_year_text d) (fixed_day_lined d.day (ltb d.day 10)) (month_year_lined d)
 
 sign_safe : (west : Bool) → is_safe (sign west) ≡ true
 sign_safe true = refl
 sign_safe false = refl
 
-zone_lined : (z : Zone) → IsLined (zone_text z)
+zone_lined : (z : Offset) → IsLined (zone_text z)
 zone_lined z = octet_lined (sign z.west) (two_digits z.hours ++ two_digits z.minutes) (sign_safe z.west) (append_lined (two_digits z.hours) (two_digits z.minutes) (two_lined z.hours) (two_lined z.minutes))
 
-clock_lined : (t : DateTime) → IsLined (clock_text t)
+clock_lined : (t : Moment) → IsLined (clock_text t)
 clock_lined t =
     append_lined (two_digits t.hour) (58 ∷ (two_digits t.minute ++ (58 ∷ two_digits t.second))) (two_lined t.hour)
     (octet_lined 58 (two_digits t.minute ++ (58 ∷ two_digits t.second)) refl
     (append_lined (two_digits t.minute) (58 ∷ two_digits t.second) (two_lined t.minute) (octet_lined 58 (two_digits t.second) refl (two_lined t.second))))
 
-pub date_time_lined : (t : DateTime) → IsLined (date_time_end.text t)
-date_time_lined t =
+date_time_text_lined : (t : Moment) → IsLined (date_time_text t)
+date_time_text_lined t =
     let clock = clock_text t in
     let zone = zone_text t.zone in
-    append_lined (date.text t.date) (32 ∷ (clock ++ (32 ∷ (zone ++ 34 ∷ [])))) (date_lined t.date)
-    (octet_lined 32 (clock ++ (32 ∷ (zone ++ 34 ∷ []))) refl
-    (append_lined clock (32 ∷ (zone ++ 34 ∷ [])) (clock_lined t)
-    (octet_lined 32 (zone ++ 34 ∷ []) refl (append_lined zone (34 ∷ []) (zone_lined t.zone) (safe_lined (34 ∷ []) refl)))))
+    append_lined (fixed_date_text t.date) (32 ∷ (clock ++ (32 ∷ zone))) (fixed_date_lined t.date)
+    (octet_lined 32 (clock ++ (32 ∷ zone)) refl
+    (append_lined clock (32 ∷ zone) (clock_lined t) (octet_lined 32 zone refl (zone_lined t.zone))))
+
+pub date_time_lined : (t : Moment) → IsLined (date_time_end.text t)
+date_time_lined t = append_lined (date_time_text t) (34 ∷ []) (date_time_text_lined t) (safe_lined (34 ∷ []) refl)

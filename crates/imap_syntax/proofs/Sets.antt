@@ -11,8 +11,8 @@ use Rattle.imap_syntax.proofs.Lists.{flag_lawful, flag_then_lawful, flag_then_fo
 use Rattle.imap_syntax.proofs.Numbers.{nz_number_lawful, nz_number_opens}
 use Rattle.imap_syntax.proofs.Ends.{AtEnd, before, give_before, end_stops, differs}
 
--- what may stand behind a range
-abbrev AfterRange : List ℕ → Type 0
+-- what may follow a range
+abbrev pub AfterRange : List ℕ → Type 0
 AfterRange rest = StopsAt is_ascii_digit rest × StopsAt (λ b. eqb b 58) rest
 
 unfoldable pub begins_number : ℕ → Bool
@@ -31,7 +31,7 @@ seq_number_opens : Opens begins_number seq_number
 unfolding begins_number
 seq_number_opens = or_opens (then_opens _ (octet_opens _ 42 refl)) (then_opens _ (opens_weaker digit_begins (nz_number_opens _)))
 
-seq_range_lawful : Lawful AfterRange seq_range
+pub seq_range_lawful : Lawful AfterRange seq_range
 seq_range_lawful =
     then_lawful seq_number_lawful
     (λ first. flag_then_lawful 58 (range_from first)

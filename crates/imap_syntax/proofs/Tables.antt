@@ -8,13 +8,13 @@ use Rattle.imap_syntax.specs.Rule.{ConsistsOf}
 use Rattle.imap_syntax.specs.Lexical.{is_astring_char, is_atom_char, is_word_char}
 use Rattle.imap_syntax.proofs.Words.{IsTable}
 use Rattle.imap_syntax.specs.Flags.{flag_name}
-use Rattle.imap_syntax.specs.Dates.{month_name}
+use Rattle.imap_syntax.specs.Calendar.{month_name}
 use Rattle.imap_syntax.specs.declared.flag.SystemFlag.{SystemFlag}
 use Rattle.imap_syntax.specs.declared.flag.SystemFlag.TheVariants as flag
 use Rattle.imap_syntax.specs.declared.flag.TheConstants.{SYSTEM_FLAGS}
-use Rattle.imap_syntax.specs.declared.date.TheConstants.{MONTHS}
-use Rattle.imap_syntax.specs.declared.date.Month.{Month}
-use Rattle.imap_syntax.specs.declared.date.Month.TheVariants as month_word
+use Rattle.imap_syntax.specs.declared.month.TheConstants.{MONTHS}
+use Rattle.imap_syntax.specs.declared.month.Month.{Month}
+use Rattle.imap_syntax.specs.declared.month.Month.TheVariants as month_word
 
 pub either_case_astring : (a b : ℕ) → to_ascii_lowercase a ≡ to_ascii_lowercase b → is_astring_char b ≡ true → is_astring_char a ≡ true
 either_case_astring a b e h = grind (arith, nat_tests)

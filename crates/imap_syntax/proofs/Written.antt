@@ -6,9 +6,10 @@ use Rattle.std.specs.Char.{is_ascii_digit}
 use Rattle.std.specs.List.{list_any}
 use Rattle.std.specs.Str.{str_eq_ignore_ascii_case}
 use Rattle.std.proofs.lemmas.Fmt.{first_decimal}
+use Rattle.std.proofs.lemmas.Bool.{eqb-true}
 use Rattle.std.proofs.lemmas.Bool.Decides.{nat_tests}
 use Rattle.std.proofs.lemmas.List.{append-nil}
-use Rattle.imap_syntax.specs.Rule.{ConsistsOf, ◌>>=◌, give, when, octet, counted}
+use Rattle.imap_syntax.specs.Rule.{ConsistsOf, ◌<|>◌, ◌>>=◌, give, when, octet, counted}
 use Rattle.imap_syntax.specs.Lexical as lexical
 use Rattle.imap_syntax.specs.Lexical.{decimal, begins_with_zero, is_astring_char, is_atom_char, is_text_char, is_quoted_special, has_nul, IsQuoted, IsQuotedChar}
 use Rattle.imap_syntax.specs.declared.set.SeqNumber.{SeqNumber}
@@ -25,8 +26,9 @@ use Rattle.imap_syntax.specs.declared.flag.TheConstants.{SYSTEM_FLAGS}
 use Rattle.imap_syntax.specs.Flags as flags
 use Rattle.imap_syntax.specs.Flags.{system_flag, known_or, flag_of}
 use Rattle.imap_syntax.specs.Flags.{flag_name}
-use Rattle.imap_syntax.specs.Writing.{number}
-use Rattle.imap_syntax.specs.Written.{is_unquotable, is_quotable, escaped, quoted_text, literal_text, quoted, string, atom, number_fits, number_text, seq_range, seq_set, message_set, set_fits, set_text, mod_sequence, number64, is_other, flag_fits, flag_text, message_flag}
+use Rattle.imap_syntax.specs.Writing.{number, some_of}
+use Rattle.imap_syntax.specs.Rule as rule
+use Rattle.imap_syntax.specs.Written.{is_unquotable, is_quotable, is_written_quoted, escaped, quoted_text, literal_text, quoted, string, bare_or_string, astring, atom, is_same, number_fits, number_text, seq_range, seq_set, message_set, set_fits, set_text, mod_sequence, number64, is_other, flag_fits, flag_text, message_flag}
 use Rattle.imap_syntax.proofs.Numbers.{decimal_grows}
 use Rattle.imap_syntax.proofs.Writing.{Writes, both_true, digits_made, number_made, number_value, number_writes, some_of_writes, separated_writes}
 
@@ -74,11 +76,38 @@ literal_made octets nul short =
 
 -- ---- either
 
-string_made : (octets : List ℕ) (v : Bool) → is_quotable octets ≡ v → (v || (not (has_nul octets) && ltb (length octets) 18446744073709551616)) ≡ true → lexical.string.spells octets (cond v (quoted_text octets) (literal_text octets))
+quotable_no_nul : (octets : List ℕ) → is_quotable octets ≡ true → not (has_nul octets) ≡ true
+quotable_no_nul [] h = refl
+quotable_no_nul (b ∷ octets) h =
+    let q = neither (is_unquotable b) (list_any is_unquotable octets) h in
+    let other : eqb b 0 ≡ false = not_nul b q.0 in
+    rw other (quotable_no_nul octets q.1)
+  where
+    not_nul : (b : ℕ) → is_unquotable b ≡ false → eqb b 0 ≡ false
+    not_nul b h = grind (arith, nat_tests)
+
+few_enough : (n : ℕ) (short : Bool) → ((short || ltb 18446744073709551615 n) && true) ≡ false → ltb n 18446744073709551616 ≡ true
+few_enough n true h = absurd cc
+few_enough n false h = go (ltb 18446744073709551615 n) refl h
+  where
+    go : (many : Bool) → ltb 18446744073709551615 n ≡ many → (many && true) ≡ false → ltb n 18446744073709551616 ≡ true
+    go true e k = absurd cc
+    go false e k = grind (arith, nat_tests)
+
+-- what is not written in quotes can be a literal
+pub literal_can : (octets : List ℕ) → is_written_quoted octets ≡ false → string.fits octets ≡ true → (not (has_nul octets) ≡ true) × (ltb (length octets) 18446744073709551616 ≡ true)
+literal_can octets e h = go (is_quotable octets) refl
+  where
+    go : (v : Bool) → is_quotable octets ≡ v → (not (has_nul octets) ≡ true) × (ltb (length octets) 18446744073709551616 ≡ true)
+    go true q = (quotable_no_nul octets q, few_enough (length octets) (not (ltb 255 (length octets))) (rw q at e))
+    go false q = both_true _ _ (rw q at h)
+
+string_made : (octets : List ℕ) (v : Bool) → is_written_quoted octets ≡ v → string.fits octets ≡ true → lexical.string.spells octets (cond v (quoted_text octets) (literal_text octets))
 unfolding lexical.string
-string_made octets true e h = inl (tt, 34 ∷ [], flat_map escaped octets ++ 34 ∷ [], refl, quoted_made octets e, refl)
+string_made octets true e h = inl (tt, 34 ∷ [], flat_map escaped octets ++ 34 ∷ [], refl, quoted_made octets (both_true _ _ e).1, refl)
 string_made octets false e h =
-    let q = both_true (not (has_nul octets)) (ltb (length octets) 18446744073709551616) h in
+    let q = literal_can octets e h in
+    let test = q.1 in
     let short : length octets < 2 ^ 64 = grind (arith, nat_tests) in
     inr (literal_made octets q.0 short)
 
@@ -107,7 +136,7 @@ string_fits octets text (inl quoted) = rw (quoted_fits octets quoted.2 quoted.4)
 string_fits octets text (inr literal) = or_right (is_quotable octets) _ (literal_fits octets text literal)
 
 pub string_writes : Writes lexical.string string
-string_writes = record { made = λ octets h. string_made octets (is_quotable octets) refl h; fits = string_fits }
+string_writes = record { made = λ octets h. string_made octets (is_written_quoted octets) refl h; fits = string_fits }
 
 pub quoted_writes : Writes lexical.quoted quoted
 quoted_writes = record {
@@ -130,17 +159,22 @@ atom_char_plain b h = astring_char_plain b (both_true (is_astring_char b) (not (
 pub quotable_fits : (octets : List ℕ) → is_quotable octets ≡ true → string.fits octets ≡ true
 quotable_fits octets h = rw h refl
 
-astring_fits : (octets text : List ℕ) → lexical.astring.spells octets text → string.fits octets ≡ true
-unfolding lexical.astring
-astring_fits octets text (inl atom) = quotable_fits octets (plain_quotable is_astring_char astring_char_plain octets (subst (ConsistsOf is_astring_char) atom.0 atom.1))
-astring_fits octets text (inr other) = string_fits octets text other
+module _ (test : ℕ → Bool) (plain : (b : ℕ) → test b ≡ true → is_unquotable b ≡ false) where
+  bare_fits : (octets text : List ℕ) → (rule.some_of test <|> lexical.string).spells octets text → string.fits octets ≡ true
+  bare_fits octets text (inl bare) = quotable_fits octets (plain_quotable test plain octets (subst (ConsistsOf test) bare.0 bare.1))
+  bare_fits octets text (inr other) = string_fits octets text other
 
-astring_made : (octets : List ℕ) → string.fits octets ≡ true → lexical.astring.spells octets (string.text octets)
-unfolding lexical.astring
-astring_made octets h = inr (string_writes.made octets h)
+  bare_made : (octets : List ℕ) → string.fits octets ≡ true → (v : Bool) → (some_of test).fits octets ≡ v → (rule.some_of test <|> lexical.string).spells octets (cond v octets (string.text octets))
+  bare_made octets h true e = inl ((some_of_writes test).made octets e)
+  bare_made octets h false e = inr (string_writes.made octets h)
 
-pub astring_writes : Writes lexical.astring string
-astring_writes = record { made = astring_made; fits = astring_fits }
+  -- octets of a class that are written bare, or a string
+  pub bare_or_string_writes : Writes (rule.some_of test <|> lexical.string) (bare_or_string test)
+  bare_or_string_writes = record { made = λ octets h. bare_made octets h ((some_of test).fits octets) refl; fits = bare_fits }
+
+pub astring_writes : Writes lexical.astring astring
+unfolding lexical.astring
+astring_writes = bare_or_string_writes is_astring_char astring_char_plain
 
 -- ---- sets
 
@@ -190,11 +224,25 @@ seq_number_fits : (n : SeqNumber) (text : List ℕ) → sets.seq_number.spells n
 seq_number_fits n text (inl h) = rw (h.4.0) refl
 seq_number_fits n text (inr h) = rw (h.4.0) (nz_number_fits 4294967295 h.0 h.1 h.3)
 
-range_made : (r : SeqRange) → seq_range.fits r ≡ true → sets.seq_range.spells r (seq_range.text r)
-range_made r h =
+same_number : (m n : SeqNumber) → is_same m n ≡ true → n ≡ m
+same_number seq.Last seq.Last h = refl
+same_number seq.Last (seq.Number n) h = absurd cc
+same_number (seq.Number m) seq.Last h = absurd cc
+same_number (seq.Number m) (seq.Number n) h = ap seq.Number (sym (eqb-true m n h))
+
+range_by : (r : SeqRange) → seq_range.fits r ≡ true → (v : Bool) → is_same r.first r.last ≡ v → sets.seq_range.spells r (cond v (number_text r.first) (number_text r.first ++ 58 ∷ number_text r.last))
+range_by r h true e =
+    let q = both_true (number_fits r.first) (number_fits r.last) h in
+    let with_last : SeqNumber → SeqRange = λ n. record { first = r.first; last = n } in
+    let whole : r ≡ record { first = r.first; last = r.first } = ap with_last (same_number r.first r.last e) in
+    (r.first, number_text r.first, [], seq_number_made r.first q.0, (false, [], [], refl, (whole, refl), refl), sym (append-nil (number_text r.first)))
+range_by r h false e =
     let q = both_true (number_fits r.first) (number_fits r.last) h in
     let behind : (sets.range_from r.first true).spells r (number_text r.last) = (r.last, number_text r.last, [], seq_number_made r.last q.1, (refl, refl), sym (append-nil (number_text r.last))) in
     (r.first, number_text r.first, 58 ∷ number_text r.last, seq_number_made r.first q.0, (true, 58 ∷ [], number_text r.last, refl, behind, refl), refl)
+
+range_made : (r : SeqRange) → seq_range.fits r ≡ true → sets.seq_range.spells r (seq_range.text r)
+range_made r h = range_by r h (is_same r.first r.last) refl
 
 range_fits : (first : SeqNumber) → number_fits first ≡ true → (colon : Bool) (r : SeqRange) (text : List ℕ) → (sets.range_from first colon).spells r text → seq_range.fits r ≡ true
 range_fits first f false r text h = rw (h.0) (rw f refl)

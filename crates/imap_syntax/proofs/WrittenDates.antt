@@ -1,21 +1,19 @@
 -- Dates are written as they are spelt.
-use Rattle.std.proofs.Common.{◌≡◌, ℕ, ◌+◌, ◌*◌, ◌/◌, ◌%◌, ◌<◌, Bool, true, false, cond, not, ◌&&◌, eqb, ltb, List, [], ◌∷◌, ◌++◌, Option, Some, None, refl, sym, ap, ◌∙◌, arith}
-use Rattle.std.specs.Prelude.{find}
+use Rattle.std.proofs.Common.{◌≡◌, ℕ, ◌+◌, ◌*◌, ◌/◌, ◌%◌, ◌<◌, Bool, true, false, cond, not, ◌&&◌, eqb, ltb, List, [], ◌∷◌, ◌++◌, refl, sym, ap, ◌∙◌, append_assoc, append-nil, arith}
 use Rattle.std.specs.Char.{is_ascii_digit}
 use Rattle.std.proofs.Math.Nat.{div-add-mod, mod-eq_of_lt, div-lt_iff_lt-mul, div-div-eq-div-mul}
 use Rattle.std.proofs.lemmas.Bool.Decides.{nat_tests}
-use Rattle.imap_syntax.specs.declared.date.Date.{Date}
-use Rattle.imap_syntax.specs.declared.date.Zone.{Zone}
-use Rattle.imap_syntax.specs.declared.date.DateTime.{DateTime}
-use Rattle.imap_syntax.specs.declared.date.Month.{Month}
-use Rattle.imap_syntax.specs.declared.date.Month.TheVariants as month
-use Rattle.imap_syntax.specs.declared.date.TheConstants.{MONTHS}
+use Rattle.imap_syntax.specs.declared.month.Month.{Month}
+use Rattle.imap_syntax.specs.declared.month.Month.TheVariants as month
+use Rattle.imap_syntax.specs.declared.month.TheConstants.{MONTHS}
 use Rattle.imap_syntax.specs.Rule as rule
 use Rattle.imap_syntax.specs.Rule.{Rule, give, when, ◌>>=◌}
 use Rattle.imap_syntax.specs.Lexical.{decimal, is_word_char}
 use Rattle.imap_syntax.specs.Dates as dates
-use Rattle.imap_syntax.specs.Dates.{month_name, month_number, day_exists, days_in}
-use Rattle.imap_syntax.specs.WrittenDates.{digit, two_digits, four_digits, month_of, exists_in, name_of, date, zone_fits, sign, date_time_end}
+use Rattle.imap_syntax.specs.Calendar as calendar
+use Rattle.imap_syntax.specs.Calendar.{month_name, day_exists, days_in}
+use Rattle.imap_syntax.specs.Moments.{Day, Offset, Moment}
+use Rattle.imap_syntax.specs.WrittenDates.{digit, two_digits, four_digits, day_text, month_year_text, fixed_day_text, date_fits as day_fits, date, clock_fits, zone_fits, sign, zone_text, date_time_fits, date_time_text, date_time_end}
 use Rattle.imap_syntax.proofs.Writing.{Writes, both_true, word_writes}
 
 -- ---- digits
@@ -77,47 +75,18 @@ four_made n lt = (four_digits n, four_digits n, [], four_spelt (n / 100) n, (ref
 pair_made : (a b : ℕ) → a < 100 → b < 100 → (dates.digits_of 4 4).spells (100 * a + b) (two_digits a ++ two_digits b)
 pair_made a b la lb = (two_digits a ++ two_digits b, two_digits a ++ two_digits b, [], four_spelt a b, (refl, sym (both_value a b la lb), refl), refl)
 
--- ---- months
-
-month_found : (m : Month) → month_of (month_number m) ≡ Some m
-unfolding month_of
-month_found month.Jan = refl
-month_found month.Feb = refl
-month_found month.Mar = refl
-month_found month.Apr = refl
-month_found month.May = refl
-month_found month.Jun = refl
-month_found month.Jul = refl
-month_found month.Aug = refl
-month_found month.Sep = refl
-month_found month.Oct = refl
-month_found month.Nov = refl
-month_found month.Dec = refl
-
-found_first : (n : ℕ) (known : Month) (others : Option Month) (m : Month) (b : Bool) → eqb (month_number known) n ≡ b → (others ≡ Some m → month_number m ≡ n) → cond b (Some known) others ≡ Some m → month_number m ≡ n
-found_first n known others m true test behind e = let same : known ≡ m = cc in rw (← same) (grind (arith, nat_tests, test))
-found_first n known others m false test behind e = behind e
-
-found_among : (n : ℕ) (all : List Month) (m : Month) → find (λ known. eqb (month_number known) n) all ≡ Some m → month_number m ≡ n
-found_among n [] m e = absurd cc
-found_among n (known ∷ all) m e = found_first n known (find (λ other. eqb (month_number other) n) all) m (eqb (month_number known) n) refl (found_among n all m) e
-
-number_of : (n : ℕ) (m : Month) → month_of n ≡ Some m → month_number m ≡ n
-unfolding month_of
-number_of n m e = found_among n MONTHS m e
-
 -- ---- days
 
 below_limit : (n limit : ℕ) (b c : Bool) → (ltb n limit && b && c) ≡ true → n < limit
 below_limit n limit b c h = let q = both_true (ltb n limit && b) c h in let r = both_true (ltb n limit) b q.0 in grind (arith, nat_tests)
 
-year_below : (year : ℕ) (m : Month) (day : ℕ) → day_exists year m day ≡ true → year < 10000
+pub year_below : (year : ℕ) (m : Month) (day : ℕ) → day_exists year m day ≡ true → year < 10000
 unfolding day_exists
 year_below year m day h = below_limit year 10000 (not (eqb day 0)) (not (ltb (days_in year m) day)) h
 
 few_days : (year : ℕ) (m : Month) → days_in year m < 100
 few_days year month.Jan = omega arith
-few_days year month.Feb = few (dates.is_leap_year year)
+few_days year month.Feb = few (calendar.is_leap_year year)
   where
     few : (b : Bool) → cond b 29 28 < 100
     few true = omega arith
@@ -136,24 +105,17 @@ few_days year month.Dec = omega arith
 within : (day most : ℕ) → not (ltb most day) ≡ true → most < 100 → day < 100
 within day most h lt = grind (arith, nat_tests)
 
-day_below : (year : ℕ) (m : Month) (day : ℕ) → day_exists year m day ≡ true → day < 100
+pub day_below : (year : ℕ) (m : Month) (day : ℕ) → day_exists year m day ≡ true → day < 100
 unfolding day_exists
 day_below year m day h = within day (days_in year m) (both_true _ _ h).1 (few_days year m)
 
 -- ---- dates
 
-same_date : (d : Date) (m : Month) → month_number m ≡ d.month → d ≡ record { year = d.year; month = month_number m; day = d.day }
-same_date d m e = let with_month : ℕ → Date = λ n. record { year = d.year; month = n; day = d.day } in ap with_month (sym e)
-
-abbrev behind_text : Option Month → (year : ℕ) → List ℕ
-behind_text o year = 45 ∷ (name_of o ++ (45 ∷ four_digits year))
-
-behind_made : (d : Date) (o : Option Month) → month_of d.month ≡ o → exists_in o d.year d.day ≡ true → (dates.date_behind_day d.day).spells d (behind_text o d.year)
-behind_made d None e h = absurd cc
-behind_made d (Some m) e h =
-    let same : d ≡ record { year = d.year; month = month_number m; day = d.day } = same_date d m (number_of d.month m e) in
-    let year : (dates.digits_of 4 4 >>= λ year. when (day_exists year m d.day) (record { year = year; month = month_number m; day = d.day })).spells d (four_digits d.year) =
-    (d.year, four_digits d.year, [], four_made d.year (year_below d.year m d.day h), (h, same, refl), refl) in (
+behind_made : (d : Day) → day_fits d ≡ true → (dates.date_behind_day d.day).spells d (month_year_text d)
+behind_made d h =
+    let m = d.month in
+    let year : (dates.digits_of 4 4 >>= λ year. when (day_exists year m d.day) (record { year = year; month = m; day = d.day })).spells d (four_digits d.year) =
+    (d.year, four_digits d.year, [], four_made d.year (year_below d.year m d.day h), (h, refl, refl), refl) in (
       tt,
       45 ∷ [],
       month_name m ++ (45 ∷ four_digits d.year),
@@ -169,23 +131,25 @@ behind_made d (Some m) e h =
       refl,
     )
 
-date_behind_made : (d : Date) → date.fits d ≡ true → (dates.date_behind_day d.day).spells d (behind_text (month_of d.month) d.year)
-date_behind_made d h = behind_made d (month_of d.month) refl h
+one_value : (n : ℕ) → n < 10 → decimal (digit n ∷ []) ≡ n
+one_value n lt = rw (mod-eq_of_lt lt) (omega arith)
 
-day_fits : (d : Date) (o : Option Month) → exists_in o d.year d.day ≡ true → d.day < 100
-day_fits d None h = absurd cc
-day_fits d (Some m) h = day_below d.year m d.day h
+day_made : (n : ℕ) → n < 100 → (few : Bool) → ltb n 10 ≡ few → (dates.digits_of 1 2).spells n (cond few (digit n ∷ []) (two_digits n))
+day_made n lt true e =
+    let small : n < 10 = grind (arith, nat_tests) in
+    (digit n ∷ [], digit n ∷ [], [], (refl, (is_digit n, tt), λ e. absurd cc), (refl, sym (one_value n small), refl), refl)
+day_made n lt false e = short_day_made n lt
 
-date_text_made : (d : Date) → date.fits d ≡ true → dates.date_text.spells d (date.text d)
-date_text_made d h = (d.day, two_digits d.day, behind_text (month_of d.month) d.year, short_day_made d.day (day_fits d (month_of d.month) h), date_behind_made d h, refl)
+date_text_made : (d : Day) → day_fits d ≡ true → dates.date_text.spells d (date.text d)
+date_text_made d h = (d.day, day_text d.day, month_year_text d, day_made d.day (day_below d.year d.month d.day h) (ltb d.day 10) refl, behind_made d h, refl)
 
-date_behind_fits : (day : ℕ) (d : Date) (text : List ℕ) → (dates.date_behind_day day).spells d text → date.fits d ≡ true
+date_behind_fits : (day : ℕ) (d : Day) (text : List ℕ) → (dates.date_behind_day day).spells d text → day_fits d ≡ true
 date_behind_fits day d text h =
     let month = h.4 in
     let year = month.4.4 in
-    rw (year.4.1) (rw (month_found month.0) year.4.0)
+    rw (year.4.1) year.4.0
 
-date_fits : (quoted : Bool) (d : Date) (text : List ℕ) → (dates.date_behind quoted).spells d text → date.fits d ≡ true
+date_fits : (quoted : Bool) (d : Day) (text : List ℕ) → (dates.date_behind quoted).spells d text → day_fits d ≡ true
 date_fits false d text h = date_behind_fits h.0 d h.2 h.4
 date_fits true d text h = rw (h.4.4.0) (date_behind_fits h.3.0 h.0 h.3.2 h.3.4)
 
@@ -207,10 +171,10 @@ below_fits limit n text h = rw (h.4.1) h.4.0
 hundreds_apart : (a b n : ℕ) → 100 * a + b ≡ n → b < 100 → (n / 100 ≡ a) × (n % 100 ≡ b)
 hundreds_apart a b n e lt = (omega arith, omega arith)
 
-same_zone : (z : Zone) (hours minutes : ℕ) → hours ≡ z.hours → minutes ≡ z.minutes → z ≡ record { west = z.west; hours = hours; minutes = minutes }
+same_zone : (z : Offset) (hours minutes : ℕ) → hours ≡ z.hours → minutes ≡ z.minutes → z ≡ record { west = z.west; hours = hours; minutes = minutes }
 same_zone z hours minutes e f =
-    let with_hours : ℕ → Zone = λ n. record { west = z.west; hours = n; minutes = z.minutes } in
-    let with_minutes : ℕ → Zone = λ n. record { west = z.west; hours = hours; minutes = n } in
+    let with_hours : ℕ → Offset = λ n. record { west = z.west; hours = n; minutes = z.minutes } in
+    let with_minutes : ℕ → Offset = λ n. record { west = z.west; hours = hours; minutes = n } in
     ap with_hours (sym e) ∙ ap with_minutes (sym f)
 
 sign_made : (west : Bool) → (rule.flag 45 >>= λ minus. dates.west_behind minus).spells west (sign west ∷ [])
@@ -218,10 +182,10 @@ sign_made true = (true, 45 ∷ [], [], refl, (refl, refl), refl)
 sign_made false = (false, [], 43 ∷ [], refl, (tt, 43 ∷ [], [], refl, (refl, refl), refl), refl)
 
 -- the digits of a zone behind its sign
-abbrev behind_sign : (west : Bool) → Rule Zone
+abbrev behind_sign : (west : Bool) → Rule Offset
 behind_sign west = dates.digits_of 4 4 >>= λ n. when (ltb (n / 100) 24 && ltb (n % 100) 60) (record { west = west; hours = n / 100; minutes = n % 100 })
 
-zone_made : (z : Zone) → zone_fits z ≡ true → dates.zone.spells z (sign z.west ∷ two_digits z.hours ++ two_digits z.minutes)
+zone_made : (z : Offset) → zone_fits z ≡ true → dates.zone.spells z (sign z.west ∷ two_digits z.hours ++ two_digits z.minutes)
 zone_made z h =
     let q = both_true (ltb z.hours 24) (ltb z.minutes 60) h in
     let hours : z.hours < 100 = grind (arith, nat_tests) in
@@ -235,42 +199,42 @@ zone_made z h =
     (number, digits, [], pair_made z.hours z.minutes hours minutes, (test, same, refl), refl) in
     by_sign z.west z digits behind
   where
-    by_sign : (west : Bool) (z : Zone) (digits : List ℕ) → (behind_sign west).spells z digits → dates.zone.spells z (sign west ∷ digits)
+    by_sign : (west : Bool) (z : Offset) (digits : List ℕ) → (behind_sign west).spells z digits → dates.zone.spells z (sign west ∷ digits)
     by_sign true z digits h = (true, 45 ∷ [], digits, refl, (true, [], digits, (refl, refl), h, refl), refl)
     by_sign false z digits h = (false, [], 43 ∷ digits, refl, (false, 43 ∷ [], digits, (tt, 43 ∷ [], [], refl, (refl, refl), refl), h, refl), refl)
 
-zone_fits_all : (z : Zone) (text : List ℕ) → dates.zone.spells z text → zone_fits z ≡ true
+zone_fits_all : (z : Offset) (text : List ℕ) → dates.zone.spells z text → zone_fits z ≡ true
 zone_fits_all z text h = let number = h.4.4 in rw (number.4.1) number.4.0
 
-day_fixed_made : (n : ℕ) → n < 100 → dates.day_fixed.spells n (two_digits n)
-day_fixed_made n lt = (false, [], two_digits n, refl, two_made n lt, refl)
+day_fixed_made : (n : ℕ) → n < 100 → (few : Bool) → ltb n 10 ≡ few → dates.day_fixed.spells n (cond few (32 ∷ digit n ∷ []) (two_digits n))
+day_fixed_made n lt true e =
+    let small : n < 10 = grind (arith, nat_tests) in
+    (true, 32 ∷ [], digit n ∷ [], refl, (digit n ∷ [], digit n ∷ [], [], (refl, (is_digit n, tt), λ e. absurd cc), (refl, sym (one_value n small), refl), refl), refl)
+day_fixed_made n lt false e = (false, [], two_digits n, refl, two_made n lt, refl)
 
 -- what stands behind the date
-abbrev zone_end : DateTime → List ℕ
-zone_end t = sign t.zone.west ∷ (two_digits t.zone.hours ++ (two_digits t.zone.minutes ++ (34 ∷ [])))
+abbrev second_text : Moment → List ℕ
+second_text t = 58 ∷ (two_digits t.second ++ (32 ∷ zone_text t.zone))
 
-abbrev second_text : DateTime → List ℕ
-second_text t = 58 ∷ (two_digits t.second ++ (32 ∷ zone_end t))
-
-abbrev time_text : DateTime → List ℕ
+abbrev time_text : Moment → List ℕ
 time_text t = 32 ∷ (two_digits t.hour ++ (58 ∷ (two_digits t.minute ++ second_text t)))
 
-date_time_made : (t : DateTime) → date_time_end.fits t ≡ true → dates.date_time_end.spells t (date_time_end.text t)
-date_time_made t h =
-    let q = both_true (date.fits t.date) (ltb t.hour 24 && (ltb t.minute 60 && (ltb t.second 60 && zone_fits t.zone))) h in
-    let r = both_true (ltb t.hour 24) (ltb t.minute 60 && (ltb t.second 60 && zone_fits t.zone)) q.1 in
-    let s = both_true (ltb t.minute 60) (ltb t.second 60 && zone_fits t.zone) r.1 in
-    let u = both_true (ltb t.second 60) (zone_fits t.zone) s.1 in
-    let zone = sign t.zone.west ∷ two_digits t.zone.hours ++ two_digits t.zone.minutes in (
+pub date_time_text_made : (t : Moment) → date_time_fits t ≡ true → dates.date_time_text.spells t (date_time_text t)
+date_time_text_made t h =
+    let q = both_true (day_fits t.date) (clock_fits t.hour t.minute t.second && zone_fits t.zone) h in
+    let r = both_true (clock_fits t.hour t.minute t.second) (zone_fits t.zone) q.1 in
+    let s = both_true (ltb t.hour 24 && ltb t.minute 60) (ltb t.second 60) r.0 in
+    let u = both_true (ltb t.hour 24) (ltb t.minute 60) s.0 in
+    let zone = zone_text t.zone in (
       t.date.day,
-      two_digits t.date.day,
-      behind_text (month_of t.date.month) t.date.year ++ time_text t,
-      day_fixed_made t.date.day (day_fits t.date (month_of t.date.month) q.0),
+      fixed_day_text t.date.day,
+      month_year_text t.date ++ time_text t,
+      day_fixed_made t.date.day (day_below t.date.year t.date.month t.date.day q.0) (ltb t.date.day 10) refl,
       (
         t.date,
-        behind_text (month_of t.date.month) t.date.year,
+        month_year_text t.date,
         time_text t,
-        date_behind_made t.date q.0,
+        behind_made t.date q.0,
         (
           tt,
           32 ∷ [],
@@ -280,7 +244,7 @@ date_time_made t h =
             t.hour,
             two_digits t.hour,
             58 ∷ (two_digits t.minute ++ second_text t),
-            below_made 24 t.hour (omega arith) r.0,
+            below_made 24 t.hour (omega arith) u.0,
             (
               tt,
               58 ∷ [],
@@ -290,23 +254,23 @@ date_time_made t h =
                 t.minute,
                 two_digits t.minute,
                 second_text t,
-                below_made 60 t.minute (omega arith) s.0,
+                below_made 60 t.minute (omega arith) u.1,
                 (
                   tt,
                   58 ∷ [],
-                  two_digits t.second ++ (32 ∷ zone_end t),
+                  two_digits t.second ++ (32 ∷ zone),
                   refl,
                   (
                     t.second,
                     two_digits t.second,
-                    32 ∷ zone_end t,
-                    below_made 60 t.second (omega arith) u.0,
+                    32 ∷ zone,
+                    below_made 60 t.second (omega arith) s.1,
                     (
                       tt,
                       32 ∷ [],
-                      zone_end t,
+                      zone,
                       refl,
-                      (t.zone, zone, 34 ∷ [], zone_made t.zone u.1, (tt, 34 ∷ [], [], refl, (refl, refl), refl), refl),
+                      (t.zone, zone, [], zone_made t.zone r.1, (refl, refl), sym (append-nil zone)),
                       refl,
                     ),
                     refl,
@@ -323,17 +287,23 @@ date_time_made t h =
         ),
         refl,
       ),
-      refl,
+      append_assoc (fixed_day_text t.date.day) (month_year_text t.date) (time_text t),
     )
 
-date_time_fits : (t : DateTime) (text : List ℕ) → dates.date_time_end.spells t text → date_time_end.fits t ≡ true
-date_time_fits t text h =
+date_time_made : (t : Moment) → date_time_end.fits t ≡ true → dates.date_time_end.spells t (date_time_end.text t)
+date_time_made t h = (t, date_time_text t, 34 ∷ [], date_time_text_made t h, (tt, 34 ∷ [], [], refl, (refl, refl), refl), refl)
+
+text_fits : (t : Moment) (text : List ℕ) → dates.date_time_text.spells t text → date_time_fits t ≡ true
+text_fits t text h =
     let date = h.4 in
     let hour = date.4.4 in
     let minute = hour.4.4 in
     let second = minute.4.4 in
     let zone = second.4.4 in
-    rw (zone.4.4.0) (rw (date_behind_fits h.0 date.0 date.1 date.3, below_fits 24 hour.0 hour.1 hour.3, below_fits 60 minute.0 minute.1 minute.3, below_fits 60 second.0 second.1 second.3) (zone_fits_all zone.0 zone.1 zone.3))
+    rw (zone.4.0) (rw (date_behind_fits h.0 date.0 date.1 date.3, below_fits 24 hour.0 hour.1 hour.3, below_fits 60 minute.0 minute.1 minute.3, below_fits 60 second.0 second.1 second.3) (zone_fits_all zone.0 zone.1 zone.3))
+
+end_fits : (t : Moment) (text : List ℕ) → dates.date_time_end.spells t text → date_time_end.fits t ≡ true
+end_fits t text h = rw (h.4.4.0) (text_fits h.0 h.1 h.3)
 
 pub date_time_writes : Writes dates.date_time_end date_time_end
-date_time_writes = record { made = date_time_made; fits = date_time_fits }
+date_time_writes = record { made = date_time_made; fits = end_fits }

@@ -10,7 +10,7 @@ use Rattle.imap_syntax.specs.Rule.{Rule, give, ◌>>=◌, ◌>>◌, ◌<|>◌, o
 abbrev pub is_atom_char : ℕ → Bool
 is_atom_char b = is_astring_char b && not (b == 93)
 
--- what the words of FETCH and the names of months are made of: letters, digits and .
+-- the characters of the words of FETCH and of the names of months: letters, digits and .
 abbrev pub is_word_char : ℕ → Bool
 is_word_char b = is_ascii_alphabetic b || is_ascii_digit b || b == 46
 
@@ -32,9 +32,10 @@ is_quoted_special b = b == 34 || b == 92
 abbrev pub is_text_char : ℕ → Bool
 is_text_char b = not (b == 0 || b == 13 || b == 10) && not (is_quoted_special b)
 
--- QUOTED-CHAR, with more behind it: the octet itself, or behind a backslash where it is special
+-- QUOTED-CHAR, and more after it: the octet itself, or a backslash and the octet if it is special
 abbrev pub IsQuotedChar : (value : ℕ) → (more text : List ℕ) → Type 0
-IsQuotedChar b more text = ((is_text_char b ≡ true) × (text ≡ b ∷ more)) ⊎ ((is_quoted_special b ≡ true) × (text ≡ 92 ∷ b ∷ more))
+IsQuotedChar b more text =
+    ((is_text_char b ≡ true) × (text ≡ b ∷ more)) ⊎ ((is_quoted_special b ≡ true) × (text ≡ 92 ∷ b ∷ more))
 
 -- *QUOTED-CHAR DQUOTE
 abbrev pub IsQuoted : (value text : List ℕ) → Type 0
@@ -47,7 +48,10 @@ with_first b read = option_map (λ found. (b ∷ found.0, found.1)) read
 abbrev pub quoted_read : (escaped : Bool) → List ℕ → Option (List ℕ × List ℕ)
 quoted_read escaped [] = None
 quoted_read true (b ∷ rest) = cond (is_quoted_special b) (with_first b (quoted_read false rest)) None
-quoted_read false (b ∷ rest) = cond (b == 34) (Some ([], rest)) (cond (b == 92) (quoted_read true rest) (cond (is_text_char b) (with_first b (quoted_read false rest)) None))
+quoted_read false (b ∷ rest) =
+    cond (b == 34) (Some ([], rest))
+    (cond (b == 92) (quoted_read true rest)
+    (cond (is_text_char b) (with_first b (quoted_read false rest)) None))
 
 abbrev pub quoted_end : Rule (List ℕ)
 quoted_end = record {
@@ -98,7 +102,7 @@ literal_head = do
   crlf
   give n
 
--- `literal`: so many octets without NUL
+-- `literal`: the announced number of octets, without NUL
 abbrev pub literal : Rule (List ℕ)
 literal = do
   n ← literal_head

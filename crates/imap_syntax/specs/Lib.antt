@@ -4,7 +4,10 @@ pub mod Reading
 pub mod Lexical
 pub mod Sets
 pub mod Flags
+pub mod Moments
+pub mod Calendar
 pub mod Dates
 pub mod Writing
 pub mod Written
 pub mod WrittenDates
+pub mod DayNumbers

@@ -1,23 +1,24 @@
 -- What reading code returns, beside what a rule reads.
 use Rattle.std.specs.Prelude.{◌≡◌, ℕ, List, Option, Some, None, Result, Ok, Err}
-use Rattle.imap_syntax.specs.declared.fault.Fault.{Fault}
-use Rattle.imap_syntax.specs.declared.fault.Fault.TheVariants.{Memory, Unread}
+use Rattle.imap_syntax.specs.declared.error.ReadError.{ReadError}
+use Rattle.imap_syntax.specs.declared.error.ReadError.TheVariants.{Memory, Syntax}
 
-abbrev pub Fails : {Y : Type 0} → Fault → Option Y → Type 0
+-- Memory may have run out; a syntax error comes exactly if nothing was to be read.
+abbrev pub Fails : {Y : Type 0} → ReadError → Option Y → Type 0
 Fails Memory read = Unit {0}
-Fails Unread read = read ≡ None
+Fails Syntax read = read ≡ None
 
--- The code returned the outcome and left the rest. Unless memory ran out, that is what was to be read, where `view`
--- says which value the code's stands for.
-abbrev pub Gives : {X Y : Type 0} → (X → Y) → Result X Fault → List ℕ → Option (Y × List ℕ) → Type 0
-Gives view (Ok x) rest read = read ≡ Some (view x, rest)
-Gives view (Err fault) rest read = Fails fault read
+-- The code returned a result and left the rest of its input. Unless memory ran out, this is what was to be read. `view`
+-- gives the value that the code's value stands for.
+abbrev pub ReadsIfMemory : {X Y : Type 0} → (X → Y) → Result X ReadError → List ℕ → Option (Y × List ℕ) → Type 0
+ReadsIfMemory view (Ok x) rest read = read ≡ Some (view x, rest)
+ReadsIfMemory view (Err error) rest read = Fails error read
 
--- The same of code that takes no memory, and so can't want it.
-abbrev pub Refuses : {Y : Type 0} → Fault → Option Y → Type 0
+-- The same of code that takes no memory.
+abbrev pub Refuses : {Y : Type 0} → ReadError → Option Y → Type 0
 Refuses Memory read = ⊥
-Refuses Unread read = read ≡ None
+Refuses Syntax read = read ≡ None
 
-abbrev pub Finds : {X Y : Type 0} → (X → Y) → Result X Fault → List ℕ → Option (Y × List ℕ) → Type 0
-Finds view (Ok x) rest read = read ≡ Some (view x, rest)
-Finds view (Err fault) rest read = Refuses fault read
+abbrev pub Reads : {X Y : Type 0} → (X → Y) → Result X ReadError → List ℕ → Option (Y × List ℕ) → Type 0
+Reads view (Ok x) rest read = read ≡ Some (view x, rest)
+Reads view (Err error) rest read = Refuses error read

@@ -1,11 +1,11 @@
--- Rules of a grammar: which octets spell a value, and what reading from left to right finds.
+-- Rules of a grammar: the octets that spell a value, and the value that is read from octets.
 use Rattle.std.specs.Prelude.{◌≡◌, ◌≢◌, ℕ, zero, suc, Bool, true, false, cond, ◌==◌, ◌⊎◌, nat_lt, List, [], ◌∷◌, ◌++◌, length, take, drop, find, Option, Some, None, option_map}
 use Rattle.std.specs.List.{AllByRecursion, prefix_len}
 use Rattle.std.specs.Option.{option_and_then, option_or}
 use Rattle.std.specs.Str.{str_eq_ignore_ascii_case}
 
 -- `spells value text`: the text, from its first octet to its last, is a spelling of the value.
--- `read input`: the value whose spelling stands at the front of the input, and what stands behind it.
+-- `read input`: the value whose spelling stands at the front of the input, and the octets after it.
 pub record Rule (A : Type 0) : Type 1 where
   pub spells : A → List ℕ → Type 0
   pub read : List ℕ → Option (A × List ℕ)
@@ -24,18 +24,20 @@ fail = record {
   read = λ input. None;
 }
 
--- no octets, for this value, where the test passes
+-- no octets, for this value, if the test passes
 abbrev pub when : {A : Type 0} → Bool → A → Rule A
 when test value = record {
   spells = λ a text. (test ≡ true) × (a ≡ value) × (text ≡ []);
   read = λ input. cond test (Some (value, input)) None;
 }
 
--- a text of the first rule, and behind it one of the rule that its value chooses
+-- a text of the first rule, and after it one of the rule that its value chooses
 infixl 10 ◌>>=◌
 abbrev pub ◌>>=◌ : {A B : Type 0} → Rule A → (A → Rule B) → Rule B
 p >>= next = record {
-  spells = λ b text. (a : _) × (front : List ℕ) × (back : List ℕ) × p.spells a front × (next a).spells b back × (text ≡ front ++ back);
+  spells = λ b text.
+      (a : _) × (front : List ℕ) × (back : List ℕ) ×
+      p.spells a front × (next a).spells b back × (text ≡ front ++ back);
   read = λ input. option_and_then (λ found. (next found.0).read found.1) (p.read input);
 }
 
@@ -90,7 +92,7 @@ counted n = record {
   read = λ input. cond (nat_lt (length input) n) None (Some (take n input, drop n input));
 }
 
--- the first n octets, where n is not 0
+-- the first n octets, if n is not 0
 abbrev pub front_read : ℕ → List ℕ → Option (List ℕ × List ℕ)
 front_read n input = cond (n == 0) None (Some (take n input, drop n input))
 
@@ -112,9 +114,10 @@ some_of test = record {
 -- ---- words
 
 abbrev pub word_read : {V : Type 0} → (V → List ℕ) → List V → List ℕ × List ℕ → Option (V × List ℕ)
-word_read name all found = option_and_then (λ v. Some (v, found.1)) (find (λ v. str_eq_ignore_ascii_case found.0 (name v)) all)
+word_read name all found =
+    option_and_then (λ v. Some (v, found.1)) (find (λ v. str_eq_ignore_ascii_case found.0 (name v)) all)
 
--- a word of a table, in any ASCII case; the octets of the words are such as pass the test
+-- a word of a table, in any ASCII case. The octets of the words pass the test.
 abbrev pub keyword : {V : Type 0} → (ℕ → Bool) → (V → List ℕ) → List V → Rule V
 keyword test name all = record {
   spells = λ v text. str_eq_ignore_ascii_case text (name v) ≡ true;
@@ -127,19 +130,25 @@ keyword test name all = record {
 abbrev pub IsSeparated : {A : Type 0} → ℕ → (A → List ℕ → Type 0) → List A → List ℕ → Type 0
 IsSeparated b spells [] text = ⊥
 IsSeparated b spells (a ∷ []) text = spells a text
-IsSeparated b spells (a ∷ c ∷ others) text = (front : List ℕ) × (back : List ℕ) × spells a front × IsSeparated b spells (c ∷ others) back × (text ≡ front ++ (b ∷ back))
+IsSeparated b spells (a ∷ c ∷ others) text =
+    (front : List ℕ) × (back : List ℕ) ×
+    spells a front × IsSeparated b spells (c ∷ others) back × (text ≡ front ++ (b ∷ back))
 
 abbrev pub with_front : {A : Type 0} → List A → Option (List A × List ℕ) → Option (List A × List ℕ)
 with_front front read = option_map (λ found. (front ++ found.0, found.1)) read
 
--- behind the item a: the others, where there are some
+-- after the item a: the others, if there are any
 abbrev pub others_read : {A : Type 0} → ℕ → A → (List ℕ → Option (List A × List ℕ)) → List ℕ → Option (List A × List ℕ)
-others_read b a read rest = option_and_then (λ found. cond found.0 (with_front (a ∷ []) (read found.1)) (Some (a ∷ [], found.1))) (flag_read b rest)
+others_read b a read rest =
+    option_and_then
+    (λ found. cond found.0 (with_front (a ∷ []) (read found.1)) (Some (a ∷ [], found.1)))
+    (flag_read b rest)
 
 -- n items at most
 abbrev pub separated_read : {A : Type 0} → ℕ → (List ℕ → Option (A × List ℕ)) → ℕ → List ℕ → Option (List A × List ℕ)
 separated_read b read zero input = None
-separated_read b read (suc n) input = option_and_then (λ found. others_read b found.0 (separated_read b read n) found.1) (read input)
+separated_read b read (suc n) input =
+    option_and_then (λ found. others_read b found.0 (separated_read b read n) found.1) (read input)
 
 unfoldable pub items_read : {A : Type 0} → ℕ → (List ℕ → Option (A × List ℕ)) → List ℕ → Option (List A × List ℕ)
 items_read b read input = separated_read b read (suc (length input)) input
@@ -176,11 +185,11 @@ listed_or_none p = do
   octet 40
   listed_end p
 
--- what reads so, for contracts of code that knows no more of a rule
+-- a rule of which only the reading is known, for contracts of generic code
 abbrev pub reading : {A : Type 0} → (List ℕ → Option (A × List ℕ)) → Rule A
 reading read = record { spells = λ a text. ⊥; read = read }
 
--- no octets, for this value, where there is one
+-- no octets, for this value, if there is one
 abbrev pub judged : {A : Type 0} → Option A → Rule A
 judged None = fail
 judged (Some value) = give value

@@ -1,9 +1,9 @@
--- How values are written: one text for each value that some text spells.
+-- How values are written: one text for each value that can be spelt.
 use Rattle.std.specs.Prelude.{ℕ, Bool, true, not, ◌==◌, ◌&&◌, nat_lt, List, [], ◌∷◌, ◌++◌, length, decimal, flat_map}
 use Rattle.std.specs.List.{list_all}
 
 -- `fits value`: some text spells the value.
--- `text value`: the spelling that is written, where it does.
+-- `text value`: the spelling that is written, if there is one.
 pub record Writing (A : Type 0) : Type 0 where
   pub fits : A → Bool
   pub text : A → List ℕ

@@ -1,5 +1,5 @@
--- The one spelling in which strings, sets and flags are written.
-use Rattle.std.specs.Prelude.{ℕ, Bool, true, not, ◌==◌, ◌&&◌, ◌||◌, nat_lt, List, [], ◌∷◌, ◌++◌, length, codes, decimal, flat_map, find, is_none, if◌then◌else◌}
+-- How strings, sets and flags are written.
+use Rattle.std.specs.Prelude.{ℕ, Bool, true, false, not, ◌==◌, ◌&&◌, ◌||◌, nat_lt, List, [], ◌∷◌, ◌++◌, length, codes, decimal, flat_map, find, is_none, if◌then◌else◌}
 use Rattle.std.specs.List.{list_any}
 use Rattle.std.specs.Str.{str_eq_ignore_ascii_case}
 use Rattle.imap_syntax.specs.declared.set.SeqNumber.{SeqNumber}
@@ -11,7 +11,7 @@ use Rattle.imap_syntax.specs.declared.flag.Flag.{Flag}
 use Rattle.imap_syntax.specs.declared.flag.Flag.TheVariants as flag
 use Rattle.imap_syntax.specs.declared.flag.SystemFlag.TheVariants as system
 use Rattle.imap_syntax.specs.declared.flag.TheConstants.{SYSTEM_FLAGS}
-use Rattle.imap_syntax.specs.Lexical.{is_atom_char, is_quoted_special, has_nul}
+use Rattle.imap_syntax.specs.Lexical.{is_astring_char, is_atom_char, is_quoted_special, has_nul}
 use Rattle.imap_syntax.specs.Flags.{flag_name}
 use Rattle.imap_syntax.specs.Writing as writing
 use Rattle.imap_syntax.specs.Writing.{Writing, some_of, separated}
@@ -38,12 +38,37 @@ quoted = record { fits = is_quotable; text = quoted_text }
 abbrev pub literal_text : List ℕ → List ℕ
 literal_text octets = codes "{" ++ decimal (length octets) ++ codes "}\r\n" ++ octets
 
--- `string`: quoted where it can be, else a literal
+-- the most octets that are written in quotes
+abbrev pub max_quoted_octets : ℕ
+max_quoted_octets = 255
+
+-- the most octets that a literal can announce
+abbrev pub max_announced_octets : ℕ
+max_announced_octets = 18446744073709551615
+
+-- The octets are written in quotes: they are quotable and few, or too many for a literal, as no octets in memory are.
+abbrev pub is_written_quoted : List ℕ → Bool
+is_written_quoted octets =
+    (not (nat_lt max_quoted_octets (length octets)) || nat_lt max_announced_octets (length octets))
+    && is_quotable octets
+
+-- `string`: a short quotable text in quotes, all else as a literal
 abbrev pub string : Writing (List ℕ)
 string = record {
   fits = λ octets. is_quotable octets || (not (has_nul octets) && nat_lt (length octets) 18446744073709551616);
-  text = λ octets. if is_quotable octets then quoted_text octets else literal_text octets;
+  text = λ octets. if is_written_quoted octets then quoted_text octets else literal_text octets;
 }
+
+-- octets of the class alone as they are, all else as a string
+abbrev pub bare_or_string : (ℕ → Bool) → Writing (List ℕ)
+bare_or_string test = record {
+  fits = string.fits;
+  text = λ octets. if (some_of test).fits octets then octets else string.text octets;
+}
+
+-- `astring`: an atom string as it is, all else as a string
+abbrev pub astring : Writing (List ℕ)
+astring = bare_or_string is_astring_char
 
 -- `atom`
 abbrev pub atom : Writing (List ℕ)
@@ -67,12 +92,21 @@ abbrev pub number_text : SeqNumber → List ℕ
 number_text number.Last = codes "*"
 number_text (number.Number n) = decimal n
 
--- `seq-range`: both ends
+abbrev pub is_same : SeqNumber → SeqNumber → Bool
+is_same number.Last number.Last = true
+is_same number.Last (number.Number n) = false
+is_same (number.Number m) number.Last = false
+is_same (number.Number m) (number.Number n) = m == n
+
+abbrev pub range_text : SeqRange → List ℕ
+range_text range =
+    if is_same range.first range.last
+    then number_text range.first
+    else number_text range.first ++ 58 ∷ number_text range.last
+
+-- `seq-number` / `seq-range`: one number, or both ends
 abbrev pub seq_range : Writing SeqRange
-seq_range = record {
-  fits = λ range. number_fits range.first && number_fits range.last;
-  text = λ range. number_text range.first ++ 58 ∷ number_text range.last;
-}
+seq_range = record { fits = λ range. number_fits range.first && number_fits range.last; text = range_text }
 
 abbrev pub seq_set : Writing (List SeqRange)
 seq_set = separated 44 seq_range

@@ -1,61 +1,79 @@
 //! Reading from left to right, by the rules of any grammar.
 
-ghost use Rattle.std.specs.Prelude.{◌≡◌, ◌≤◌, ℕ, Bool, List, Option, Some, length, find, drop};
+ghost use Rattle.std.specs.Prelude.{◌≡◌, ◌≤◌, ℕ, Bool, List, Option, Some, length, find, drop, take, IfOk};
 ghost use Rattle.std.specs.List.{prefix_len};
 ghost use Rattle.std.specs.Str.{str_eq_ignore_ascii_case};
 ghost use Rattle.imap_syntax.specs.Rule.{octet, flag, counted, first_read, front_read, some_of, items_read, keyword, listed, listed_end, listed_or_none, reading};
-ghost use Rattle.imap_syntax.specs.Reading.{Gives, Finds};
+ghost use Rattle.imap_syntax.specs.Reading.{ReadsIfMemory, Reads};
 
-use crate::fault::Fault;
+use crate::error::ReadError;
 use crate::items::Items;
-use imap_lex::Octets;
-use std::alloc::Global;
+use imap_lex::{OctetClass, Octets, leading};
+use std::alloc::{AllocError, Global};
 use std::marker::{Model, PhantomData};
 
-/// A frame from the place on to which it has been read. In contracts it is the octets that are left.
+/// Octets, and the place up to which they have been read. In contracts it is the octets after that place.
 #[derive(Drop)]
 pub struct Cursor<'a> {
-    frame: &'a Octets,
+    octets: &'a [u8],
     place: usize,
+    /// The frame of which these are the octets, if they are shared.
+    frame: Option<&'a Octets>,
 }
 
 impl<'a> Model for Cursor<'a> {
-    ghost use Rattle.std.specs.Prelude.{◌≤◌, ℕ, List, length, drop};
+    ghost use Rattle.std.specs.Prelude.{◌≡◌, ◌≤◌, ℕ, List, length, drop};
+    ghost use Rattle.std.specs.Option.{ForSome};
 
     ghost Value = { List ℕ };
 
-    ghost view = { λ c. drop c.place c.frame.now };
+    ghost view = { λ c. drop c.place c.octets.now };
 
-    ghost invariant = { λ c. c.place ≤ length c.frame.now };
+    ghost invariant = { λ c. (c.place ≤ length c.octets.now) × ForSome c.frame (λ f. f.now ≡ c.octets.now) };
 }
 
 impl<'a> Cursor<'a> {
-    /// At the beginning of the frame.
+    /// Returns a cursor at the beginning of `frame`.
     pub fn new(frame: &'a Octets) -> Cursor<'a>
         ensures { result ≡ frame.now }
     {
-        Cursor { frame, place: 0 }
+        Cursor {
+            octets: frame.as_slice(),
+            place: 0,
+            frame: Some(frame),
+        }
     }
 
-    /// The octets that are left.
+    /// Returns a cursor at the beginning of octets that are not shared.
+    pub(crate) fn over(octets: &'a [u8]) -> Cursor<'a>
+        ensures { result ≡ octets.now }
+    {
+        Cursor {
+            octets,
+            place: 0,
+            frame: None,
+        }
+    }
+
+    /// Returns the octets after the cursor.
     pub fn rest(&self) -> &'a [u8]
         ensures { result.now ≡ self.now }
     {
-        &self.frame.as_slice()[self.place..]
+        &self.octets[self.place..]
     }
 
-    /// Goes on behind the next `len` octets.
+    /// Moves the cursor over the next `len` octets.
     pub fn skip(&mut self, len: usize)
         requires { len ≤ length self.old }
         ensures { self.new ≡ drop len self.old }
     {
         let left = self.rest().len() - len;
-        self.place = self.frame.as_slice().len() - left;
+        self.place = self.octets.len() - left;
     }
 
-    /// Any octet.
-    pub(crate) fn next(&mut self) -> Result<u8, Fault>
-        ensures { Finds (λ b. b) result self.new (first_read self.old) }
+    /// Reads any octet.
+    pub(crate) fn next(&mut self) -> Result<u8, ReadError>
+        ensures { Reads (λ b. b) result self.new (first_read self.old) }
     {
         match self.rest() {
             [first, ..] => {
@@ -63,37 +81,37 @@ impl<'a> Cursor<'a> {
                 self.skip(1);
                 Ok(first)
             }
-            [] => Err(Fault::Unread),
+            [] => Err(ReadError::Syntax),
         }
     }
 
-    /// This octet.
-    pub fn octet(&mut self, wanted: u8) -> Result<(), Fault>
-        ensures { Finds (λ _. tt) result self.new ((octet wanted).read self.old) }
+    /// Reads the octet `wanted`.
+    pub fn octet(&mut self, wanted: u8) -> Result<(), ReadError>
+        ensures { Reads (λ _. tt) result self.new ((octet wanted).read self.old) }
     {
         match self.rest() {
             [first, ..] if *first == wanted => {
                 self.skip(1);
                 Ok(())
             }
-            _ => Err(Fault::Unread),
+            _ => Err(ReadError::Syntax),
         }
     }
 
-    /// The next `len` octets, where there are to be some.
-    pub fn front(&mut self, len: usize) -> Result<&'a [u8], Fault>
+    /// Reads the next `len` octets. Fails if `len` is 0.
+    pub fn front(&mut self, len: usize) -> Result<&'a [u8], ReadError>
         requires { len ≤ length self.old }
-        ensures { Finds (λ s. s.now) result self.new (front_read len self.old) }
+        ensures { Reads (λ s. s.now) result self.new (front_read len self.old) }
     {
         if len == 0 {
-            return Err(Fault::Unread);
+            return Err(ReadError::Syntax);
         }
         let front = &self.rest()[..len];
         self.skip(len);
         Ok(front)
     }
 
-    /// Takes this octet where it comes next, and says whether it did.
+    /// Reads the octet `wanted` if it comes next, and returns whether it did.
     pub fn has(&mut self, wanted: u8) -> bool
         ensures { (flag wanted).read self.old ≡ Some (result, self.new) }
     {
@@ -106,48 +124,57 @@ impl<'a> Cursor<'a> {
         }
     }
 
-    /// The next `len` octets.
-    pub fn counted(&mut self, len: u64) -> Result<&'a [u8], Fault>
-        ensures { Finds (λ s. s.now) result self.new ((counted len).read self.old) }
+    /// Reads the next `len` octets.
+    pub fn counted(&mut self, len: u64) -> Result<&'a [u8], ReadError>
+        ensures { Reads (λ s. s.now) result self.new ((counted len).read self.old) }
     {
         let rest = self.rest();
         if (rest.len() as u64) < len {
-            return Err(Fault::Unread);
+            return Err(ReadError::Syntax);
         }
         let front = &rest[..len as usize];
         self.skip(len as usize);
         Ok(front)
     }
 
-    /// The next `len` octets, which aren't copied.
-    pub fn shared(&mut self, len: u64) -> Result<Octets, Fault>
-        ensures { Gives (λ o. o) result self.new ((counted len).read self.old) }
+    /// Reads the next `len` octets, without copying those of a frame.
+    pub fn shared(&mut self, alloc: Global, len: u64) -> Result<Octets, ReadError>
+        ensures { ReadsIfMemory (λ o. o) result self.new ((counted len).read self.old) }
     {
-        let left = self.rest().len();
-        if (left as u64) < len {
-            return Err(Fault::Unread);
+        if (self.rest().len() as u64) < len {
+            return Err(ReadError::Syntax);
         }
-        let end = self.frame.as_slice().len() - (left - len as usize);
-        let octets = self.frame.slice(self.place, end)?;
+        let octets = self.part(alloc, len as usize)?;
         self.skip(len as usize);
         Ok(octets)
     }
 
-    /// A word of a table.
-    pub fn keyword<W: Keyword>(&mut self) -> Result<W, Fault>
-        ensures { Finds (λ w. w) result self.new ((keyword W.test W.name_of W.table).read self.old) }
+    /// Returns the next `len` octets.
+    fn part(&self, alloc: Global, len: usize) -> Result<Octets, AllocError>
+        requires { len ≤ length self.now }
+        ensures { IfOk result (λ part. part ≡ take len self.now) }
     {
-        let word = self.front(front_len::<W>(self.rest()))?;
-        word_of(word).ok_or(Fault::Unread)
+        match self.frame {
+            Some(frame) => frame.slice(self.place, self.place + len),
+            None => Octets::from_slice(alloc, &self.rest()[..len]),
+        }
     }
 
-    /// One item or more, with the separator between them.
+    /// Reads a word of the table `W`, in any case.
+    pub fn keyword<W: Keyword>(&mut self) -> Result<W, ReadError>
+        ensures { Reads (λ w. w) result self.new ((keyword W.Class.test W.name_of W.table).read self.old) }
+    {
+        let word = self.front(leading::<W::Class>(self.rest()))?;
+        word_of(word).ok_or(ReadError::Syntax)
+    }
+
+    /// Reads one item or more, with `separator` between them.
     pub fn separated<I: Item>(
         &mut self,
         alloc: Global,
         separator: u8,
-    ) -> Result<Items<I::Read>, Fault>
-        ensures { Gives (λ items. items) result self.new (items_read separator I.item_read self.old) }
+    ) -> Result<Items<I::Read>, ReadError>
+        ensures { ReadsIfMemory (λ items. items) result self.new (items_read separator I.item_read self.old) }
     {
         let mut items = Vec::new(alloc);
         let mut left = self.rest().len();
@@ -158,33 +185,34 @@ impl<'a> Cursor<'a> {
                 return Ok(Items::from_vec(items));
             }
             if left == 0 {
-                return Err(Fault::Unread);
+                return Err(ReadError::Syntax);
             }
             left -= 1;
         }
     }
 
-    /// Items in parentheses with spaces between them, one or more.
-    pub fn listed<I: Item>(&mut self, alloc: Global) -> Result<Items<I::Read>, Fault>
-        ensures { Gives (λ items. items) result self.new ((listed (reading I.item_read)).read self.old) }
+    /// Reads one item or more in parentheses, with spaces between them.
+    pub fn listed<I: Item>(&mut self, alloc: Global) -> Result<Items<I::Read>, ReadError>
+        ensures { ReadsIfMemory (λ items. items) result self.new ((listed (reading I.item_read)).read self.old) }
     {
         self.octet(b'(')?;
-        let items = self.separated::<I>(alloc, b' ')?;
+        let all = self.separated::<I>(alloc, b' ')?;
         self.octet(b')')?;
-        Ok(items)
+        Ok(all)
     }
 
-    /// Items in parentheses with spaces between them, or none.
-    pub fn listed_or_none<I: Item>(&mut self, alloc: Global) -> Result<Items<I::Read>, Fault>
-        ensures { Gives (λ items. items) result self.new ((listed_or_none (reading I.item_read)).read self.old) }
+    /// Reads items in parentheses with spaces between them, or `()`.
+    pub fn listed_or_none<I: Item>(&mut self, alloc: Global) -> Result<Items<I::Read>, ReadError>
+        ensures { let list = listed_or_none (reading I.item_read) in
+            ReadsIfMemory (λ items. items) result self.new (list.read self.old) }
     {
         self.octet(b'(')?;
         self.listed_end::<I>(alloc)
     }
 
-    /// As `listed_or_none`, behind the first parenthesis.
-    pub fn listed_end<I: Item>(&mut self, alloc: Global) -> Result<Items<I::Read>, Fault>
-        ensures { Gives (λ items. items) result self.new ((listed_end (reading I.item_read)).read self.old) }
+    /// As `listed_or_none`, after the first parenthesis.
+    pub fn listed_end<I: Item>(&mut self, alloc: Global) -> Result<Items<I::Read>, ReadError>
+        ensures { ReadsIfMemory (λ items. items) result self.new ((listed_end (reading I.item_read)).read self.old) }
     {
         if self.has(b')') {
             return Ok(Items::from_vec(Vec::new(alloc)));
@@ -195,34 +223,33 @@ impl<'a> Cursor<'a> {
     }
 }
 
-/// Words of which one is to be read, in either case.
+/// A table of words, which are read in any case.
 pub trait Keyword: Copy + 'static {
-    ghost test: { ℕ → Bool };
+    /// The octets of which words of the table are made.
+    type Class: OctetClass;
 
     ghost name_of: { Self → List ℕ };
 
     ghost table: { List Self };
 
-    /// Whether a word of the table may have this octet.
-    fn takes(octet: u8) -> bool
-        ensures { result ≡ test octet };
-
-    /// In capitals.
+    /// Returns the word as it is written.
     fn name(self) -> &'static [u8]
         ensures { result.now ≡ name_of self };
 
+    /// Returns the table.
     fn all() -> &'static [Self]
         ensures { result.now ≡ table };
 }
 
-/// What stands in a list.
+/// A kind of value that stands in lists.
 pub trait Item {
     type Read: Drop;
 
     ghost item_read: { List ℕ → Option (Self.Read × List ℕ) };
 
-    fn item(cursor: &mut Cursor<'_>, alloc: Global) -> Result<Self::Read, Fault>
-        ensures { Gives (λ v. v) result cursor.new (item_read cursor.old) };
+    /// Reads one.
+    fn item(cursor: &mut Cursor<'_>, alloc: Global) -> Result<Self::Read, ReadError>
+        ensures { ReadsIfMemory (λ v. v) result cursor.new (item_read cursor.old) };
 }
 
 /// A word of the table `W`.
@@ -232,19 +259,11 @@ pub struct WordOf<W>(PhantomData<W>);
 impl<W: Keyword> Item for WordOf<W> {
     type Read = W;
 
-    ghost item_read = { (keyword W.test W.name_of W.table).read };
+    ghost item_read = { (keyword W.Class.test W.name_of W.table).read };
 
-    fn item(cursor: &mut Cursor<'_>, _alloc: Global) -> Result<W, Fault> {
+    fn item(cursor: &mut Cursor<'_>, _alloc: Global) -> Result<W, ReadError> {
         cursor.keyword()
     }
-}
-
-#[tactic(auto, using(crate::proofs::RuleLaws::lengths))]
-fn front_len<W: Keyword>(octets: &[u8]) -> usize
-    ensures count { result ≡ prefix_len W.test octets.now }
-    ensures within { result ≤ length octets.now }
-{
-    octets.iter().take_while(|octet| W::takes(**octet)).count()
 }
 
 pub(crate) fn word_of<W: Keyword>(word: &[u8]) -> Option<W>

@@ -1,139 +1,283 @@
-//! Dates and times (RFC 9051, section 9, `date` and `date-time`).
+//! Days and moments.
 
-ghost use Rattle.std.specs.Prelude.{◌≡◌, ◌<◌, ◌≤◌, ◌^◌, IfOk, IsTrue};
-ghost use Rattle.imap_syntax.specs.Reading.{Finds};
-ghost use Rattle.imap_syntax.specs.Dates.{month_number, day_exists, digits_of, date_behind_day, date_text, date, day_fixed, below, zone, date_time_end};
+ghost use Rattle.std.specs.Prelude.{◌≡◌, ◌<◌, ◌++◌, IsTrue, OnOk, MatchOption};
+ghost use Rattle.imap_syntax.specs.Calendar.{day_exists};
+ghost use Rattle.imap_syntax.specs.Dates.{date_time_read};
+ghost use Rattle.imap_syntax.specs.DayNumbers.{day_number, IsNumbered, IsMomentAt, max_day, max_moment};
+ghost use Rattle.imap_syntax.specs.WrittenDates.{day_of, offset_of, moment_of, date_time_text};
 
-use crate::cursor::{Cursor, Keyword};
-use crate::fault::Fault;
-use crate::lexical::{decimal, is_word_char};
+use crate::cursor::Cursor;
+use crate::month::Month;
+use crate::write_dates::push_date_time_text;
 use jiff::civil;
+use std::alloc::AllocError;
+use std::marker::Model;
 
-/// A day of the calendar.
+const SECONDS_IN_A_DAY: u64 = 86_400;
+
+/// 31-Dec-9999, as a number of days after 1-Jan-1970.
+const MAX_DAY: u64 = 2_932_896;
+
+/// A day of the calendar, in a year of at most four digits.
 #[derive(Clone, Copy, Debug, PartialEq, Eq)]
 pub struct Date {
-    /// From 0 to 9999.
-    pub year: u16,
-    /// From 1 to 12.
-    pub month: u8,
-    pub day: u8,
+    pub(crate) year: u16,
+    pub(crate) month: Month,
+    pub(crate) day: u8,
 }
 
-/// How far local time is from UTC.
+impl Model for Date {
+    ghost use Rattle.std.specs.Prelude.{◌≡◌, true};
+    ghost use Rattle.imap_syntax.specs.Calendar.{day_exists};
+    ghost use Rattle.imap_syntax.specs.Moments.{Day};
+
+    ghost Value = { Day };
+
+    ghost view = { λ d. record { year = d.year; month = d.month; day = d.day } };
+
+    ghost invariant = { λ d. day_exists d.year d.month d.day ≡ true };
+
+    ghost inverse = { λ d. record { year = d.year; month = d.month; day = d.day } };
+}
+
+impl Date {
+    /// Returns the day, or `None` if the month has no such day or the year is over 9999.
+    pub fn new(year: u16, month: Month, day: u8) -> Option<Date>
+        ensures { result ≡ day_of year month day }
+    {
+        if !day_exists(u64::from(year), month, u64::from(day)) {
+            return None;
+        }
+        Some(Date { year, month, day })
+    }
+
+    pub fn year(self) -> u16
+        ensures { result ≡ self.year }
+    {
+        self.year
+    }
+
+    pub fn month(self) -> Month
+        ensures { result ≡ self.month }
+    {
+        self.month
+    }
+
+    pub fn day(self) -> u8
+        ensures { result ≡ self.day }
+    {
+        self.day
+    }
+
+    /// Returns the number of the day: 0 for 1-Jan-1970, and less before it.
+    pub fn day_number(self) -> i64
+        ensures { result ≡ day_number self }
+    {
+        let day = civil::date(self.year as i16, self.month.number() as i8, self.day as i8);
+        i64::from(day.to_plain().to_unix_epoch_day())
+    }
+
+    /// Returns the day `number` days after 1-Jan-1970, or `None` if it is after the year 9999.
+    fn of_day_number(number: u64) -> Option<Date>
+        ensures { MatchOption result (max_day < number) (IsNumbered number) }
+    {
+        if number > MAX_DAY {
+            return None;
+        }
+        let day = jiff_core::civil::Date::from_unix_epoch_day(number as i64).ok()?;
+        Date::new(
+            day.year.unsigned_abs(),
+            Month::of_number(day.month)?,
+            day.day,
+        )
+    }
+}
+
+/// How far local time is from UTC: less than a day.
 #[derive(Clone, Copy, Debug, PartialEq, Eq)]
 pub struct Zone {
-    /// Whether the sign is `-`.
-    pub west: bool,
-    /// From 0 to 23.
-    pub hours: u8,
-    /// From 0 to 59.
-    pub minutes: u8,
+    pub(crate) west: bool,
+    pub(crate) hours: u8,
+    pub(crate) minutes: u8,
 }
 
-/// A moment as the client writes it.
+impl Model for Zone {
+    ghost use Rattle.std.specs.Prelude.{◌≡◌, true};
+    ghost use Rattle.imap_syntax.specs.Moments.{Offset};
+    ghost use Rattle.imap_syntax.specs.WrittenDates.{zone_fits};
+
+    ghost Value = { Offset };
+
+    ghost view = { λ z. record { west = z.west; hours = z.hours; minutes = z.minutes } };
+
+    ghost invariant = { λ z. zone_fits (record { west = z.west; hours = z.hours; minutes = z.minutes }) ≡ true };
+
+    ghost inverse = { λ z. record { west = z.west; hours = z.hours; minutes = z.minutes } };
+}
+
+impl Zone {
+    /// Returns the zone, with the sign `-` if `west`, or `None` if there are over 23 `hours` or over 59 `minutes`.
+    pub fn new(west: bool, hours: u8, minutes: u8) -> Option<Zone>
+        ensures { result ≡ offset_of west hours minutes }
+    {
+        if hours < 24 && minutes < 60 {
+            Some(Zone {
+                west,
+                hours,
+                minutes,
+            })
+        } else {
+            None
+        }
+    }
+
+    /// Whether the sign is `-`.
+    pub fn west(self) -> bool
+        ensures { result ≡ self.west }
+    {
+        self.west
+    }
+
+    pub fn hours(self) -> u8
+        ensures { result ≡ self.hours }
+    {
+        self.hours
+    }
+
+    pub fn minutes(self) -> u8
+        ensures { result ≡ self.minutes }
+    {
+        self.minutes
+    }
+}
+
+/// A moment as a client writes it.
 #[derive(Clone, Copy, Debug, PartialEq, Eq)]
 pub struct DateTime {
-    pub date: Date,
-    /// From 0 to 23.
-    pub hour: u8,
-    /// From 0 to 59.
-    pub minute: u8,
-    /// From 0 to 59.
-    pub second: u8,
-    pub zone: Zone,
+    pub(crate) date: Date,
+    pub(crate) hour: u8,
+    pub(crate) minute: u8,
+    pub(crate) second: u8,
+    pub(crate) zone: Zone,
 }
 
-/// A month by its first letters.
-#[derive(Clone, Copy)]
-pub(crate) enum Month {
-    Jan,
-    Feb,
-    Mar,
-    Apr,
-    May,
-    Jun,
-    Jul,
-    Aug,
-    Sep,
-    Oct,
-    Nov,
-    Dec,
+impl Model for DateTime {
+    ghost use Rattle.std.specs.Prelude.{◌≡◌, true};
+    ghost use Rattle.imap_syntax.specs.Moments.{Moment};
+    ghost use Rattle.imap_syntax.specs.WrittenDates.{clock_fits};
+
+    ghost Value = { Moment };
+
+    ghost view = { λ t. record { date = t.date; hour = t.hour; minute = t.minute; second = t.second; zone = t.zone } };
+
+    ghost invariant = { λ t. clock_fits t.hour t.minute t.second ≡ true };
+
+    ghost inverse = { λ t. record {
+      date = t.date;
+      hour = t.hour;
+      minute = t.minute;
+      second = t.second;
+      zone = t.zone;
+    } };
 }
 
-pub(crate) const MONTHS: [Month; 12] = [
-    Month::Jan,
-    Month::Feb,
-    Month::Mar,
-    Month::Apr,
-    Month::May,
-    Month::Jun,
-    Month::Jul,
-    Month::Aug,
-    Month::Sep,
-    Month::Oct,
-    Month::Nov,
-    Month::Dec,
-];
-
-impl Keyword for Month {
-    ghost use Rattle.imap_syntax.specs.Lexical.{is_word_char};
-    ghost use Rattle.imap_syntax.specs.Dates.{month_name};
-    ghost use Rattle.imap_syntax.specs.declared.date.TheConstants.{MONTHS};
-
-    ghost test = { is_word_char };
-
-    ghost name_of = { month_name };
-
-    ghost table = { MONTHS };
-
-    fn takes(octet: u8) -> bool {
-        is_word_char(octet)
-    }
-
-    fn name(self) -> &'static [u8] {
-        match self {
-            Month::Jan => b"JAN",
-            Month::Feb => b"FEB",
-            Month::Mar => b"MAR",
-            Month::Apr => b"APR",
-            Month::May => b"MAY",
-            Month::Jun => b"JUN",
-            Month::Jul => b"JUL",
-            Month::Aug => b"AUG",
-            Month::Sep => b"SEP",
-            Month::Oct => b"OCT",
-            Month::Nov => b"NOV",
-            Month::Dec => b"DEC",
-        }
-    }
-
-    fn all() -> &'static [Month] {
-        &MONTHS
-    }
-}
-
-impl Month {
-    pub(crate) fn number(self) -> u8
-        ensures { result ≡ month_number self }
+impl DateTime {
+    /// Returns the moment, or `None` if `hour` is over 23, or `minute` or `second` over 59.
+    pub fn new(date: Date, hour: u8, minute: u8, second: u8, zone: Zone) -> Option<DateTime>
+        ensures { result ≡ moment_of date hour minute second zone }
     {
-        match self {
-            Month::Jan => 1,
-            Month::Feb => 2,
-            Month::Mar => 3,
-            Month::Apr => 4,
-            Month::May => 5,
-            Month::Jun => 6,
-            Month::Jul => 7,
-            Month::Aug => 8,
-            Month::Sep => 9,
-            Month::Oct => 10,
-            Month::Nov => 11,
-            Month::Dec => 12,
+        if hour < 24 && minute < 60 && second < 60 {
+            Some(DateTime {
+                date,
+                hour,
+                minute,
+                second,
+                zone,
+            })
+        } else {
+            None
         }
+    }
+
+    pub fn date(self) -> Date
+        ensures { result ≡ self.date }
+    {
+        self.date
+    }
+
+    pub fn hour(self) -> u8
+        ensures { result ≡ self.hour }
+    {
+        self.hour
+    }
+
+    pub fn minute(self) -> u8
+        ensures { result ≡ self.minute }
+    {
+        self.minute
+    }
+
+    pub fn second(self) -> u8
+        ensures { result ≡ self.second }
+    {
+        self.second
+    }
+
+    pub fn zone(self) -> Zone
+        ensures { result ≡ self.zone }
+    {
+        self.zone
+    }
+
+    /// Reads `date-time` without its quotes, as ` 1-Feb-1994 21:52:25 -0800`.
+    pub fn read(text: &[u8]) -> Option<DateTime>
+        ensures { result ≡ date_time_read text.now }
+    {
+        let mut cursor = Cursor::over(text);
+        let moment = cursor.date_time_text().ok()?;
+        if cursor.rest().is_empty() {
+            Some(moment)
+        } else {
+            None
+        }
+    }
+
+    /// Appends `date-time` without its quotes, as ` 1-Feb-1994 21:52:25 -0800`.
+    pub fn print(self, out: &mut Vec<u8>) -> Result<(), AllocError>
+        ensures { OnOk result (out.new.items ≡ out.old.items ++ date_time_text self) }
+    {
+        push_date_time_text(out, &self)
+    }
+
+    /// Returns the number of the day that is written, whatever the zone: 0 for 1-Jan-1970, and less before it.
+    pub fn day(self) -> i64
+        ensures { result ≡ day_number self.date }
+    {
+        self.date.day_number()
+    }
+
+    /// Returns the moment `seconds` after the beginning of 1-Jan-1970 in UTC, written at `+0000`, or `None` if it is
+    /// after the year 9999.
+    pub fn of_moment(seconds: u64) -> Option<DateTime>
+        ensures { MatchOption result (max_moment < seconds) (IsMomentAt seconds) }
+    {
+        let date = Date::of_day_number(seconds / SECONDS_IN_A_DAY)?;
+        let second = seconds % SECONDS_IN_A_DAY;
+        Some(DateTime {
+            date,
+            hour: (second / 3600) as u8,
+            minute: (second / 60 % 60) as u8,
+            second: (second % 60) as u8,
+            zone: Zone {
+                west: false,
+                hours: 0,
+                minutes: 0,
+            },
+        })
     }
 }
 
-/// Whether the month has the day, in a year of four digits.
+/// Whether the month has the day, in a year of at most four digits.
 pub(crate) fn day_exists(year: u64, month: Month, day: u64) -> bool
     ensures exists { result ≡ day_exists year month day }
     ensures year { IsTrue result → year < 10000 }
@@ -143,123 +287,4 @@ pub(crate) fn day_exists(year: u64, month: Month, day: u64) -> bool
         return false;
     }
     civil::Date::new(year as i16, month.number() as i8, day as i8).is_ok()
-}
-
-impl Cursor<'_> {
-    /// So many digits.
-    fn digits_of(&mut self, least: usize, most: usize) -> Result<u64, Fault>
-        requires { most ≤ 4 }
-        ensures { Finds (λ n. n) result self.new ((digits_of least most).read self.old) }
-    {
-        let digits = self.digits()?;
-        if digits.len() < least || most < digits.len() {
-            return Err(Fault::Unread);
-        }
-        match decimal(digits) {
-            Some(number) => Ok(number),
-            None => Err(Fault::Unread),
-        }
-    }
-
-    /// The rest of a date behind its day.
-    fn date_behind(&mut self, day: u64) -> Result<Date, Fault>
-        ensures { Finds (λ d. d) result self.new ((date_behind_day day).read self.old) }
-    {
-        self.octet(b'-')?;
-        let month = self.keyword::<Month>()?;
-        self.octet(b'-')?;
-        let year = self.digits_of(4, 4)?;
-        if !day_exists(year, month, day) {
-            return Err(Fault::Unread);
-        }
-        Ok(Date {
-            year: year as u16,
-            month: month.number(),
-            day: day as u8,
-        })
-    }
-
-    fn date_text(&mut self) -> Result<Date, Fault>
-        ensures { Finds (λ d. d) result self.new (date_text.read self.old) }
-    {
-        let day = self.digits_of(1, 2)?;
-        self.date_behind(day)
-    }
-
-    /// A date, quoted or not (`date`).
-    pub fn date(&mut self) -> Result<Date, Fault>
-        ensures { Finds (λ d. d) result self.new (date.read self.old) }
-    {
-        if !self.has(b'"') {
-            return self.date_text();
-        }
-        let date = self.date_text()?;
-        self.octet(b'"')?;
-        Ok(date)
-    }
-
-    fn day_fixed(&mut self) -> Result<u64, Fault>
-        ensures { Finds (λ n. n) result self.new (day_fixed.read self.old) }
-    {
-        if self.has(b' ') {
-            self.digits_of(1, 1)
-        } else {
-            self.digits_of(2, 2)
-        }
-    }
-
-    /// Two digits of a number below the limit.
-    fn below(&mut self, limit: u8) -> Result<u8, Fault>
-        ensures { Finds (λ n. n) result self.new ((below limit).read self.old) }
-    {
-        let number = self.digits_of(2, 2)?;
-        if number < u64::from(limit) {
-            Ok(number as u8)
-        } else {
-            Err(Fault::Unread)
-        }
-    }
-
-    fn zone(&mut self) -> Result<Zone, Fault>
-        ensures { Finds (λ z. z) result self.new (zone.read self.old) }
-    {
-        let west = self.has(b'-');
-        if !west {
-            self.octet(b'+')?;
-        }
-        let number = self.digits_of(4, 4)?;
-        if number / 100 < 24 && number % 100 < 60 {
-            Ok(Zone {
-                west,
-                hours: (number / 100) as u8,
-                minutes: (number % 100) as u8,
-            })
-        } else {
-            Err(Fault::Unread)
-        }
-    }
-
-    /// `date-time` behind its first quote.
-    pub fn date_time_end(&mut self) -> Result<DateTime, Fault>
-        ensures { Finds (λ t. t) result self.new (date_time_end.read self.old) }
-    {
-        let day = self.day_fixed()?;
-        let date = self.date_behind(day)?;
-        self.octet(b' ')?;
-        let hour = self.below(24)?;
-        self.octet(b':')?;
-        let minute = self.below(60)?;
-        self.octet(b':')?;
-        let second = self.below(60)?;
-        self.octet(b' ')?;
-        let zone = self.zone()?;
-        self.octet(b'"')?;
-        Ok(DateTime {
-            date,
-            hour,
-            minute,
-            second,
-            zone,
-        })
-    }
 }

@@ -1,17 +1,17 @@
 //! Flags (RFC 9051, section 9, `flag`).
 
 ghost use Rattle.std.specs.Prelude.{◌≡◌, IfOk};
-ghost use Rattle.imap_syntax.specs.Reading.{Gives};
+ghost use Rattle.imap_syntax.specs.Reading.{ReadsIfMemory};
 ghost use Rattle.imap_syntax.specs.Flags.{system_flag, flag_of, message_flag};
 
 use crate::cursor::{Cursor, Item, Keyword, word_of};
-use crate::fault::Fault;
+use crate::error::ReadError;
 use crate::items::Items;
-use crate::lexical::is_atom_char;
+use crate::lexical::AtomChar;
 use imap_lex::Octets;
 use std::alloc::{AllocError, Global};
 
-/// A flag as a command names it; the five of RFC 9051, section 2.3.2, in any case.
+/// A flag of a command. The five of RFC 9051, section 2.3.2 are read in any case.
 #[derive(Debug, Drop)]
 pub enum Flag {
     Answered,
@@ -19,14 +19,14 @@ pub enum Flag {
     Draft,
     Flagged,
     Seen,
-    /// Another word that stands behind a backslash, without it.
+    /// Another word after a backslash, without the backslash.
     Other(Octets),
     Keyword(Octets),
 }
 
 pub type Flags = Items<Flag>;
 
-/// The words behind a backslash that have a meaning.
+/// The flags of RFC 9051, section 2.3.2.
 #[derive(Clone, Copy)]
 pub(crate) enum SystemFlag {
     Answered,
@@ -45,19 +45,14 @@ pub(crate) const SYSTEM_FLAGS: [SystemFlag; 5] = [
 ];
 
 impl Keyword for SystemFlag {
-    ghost use Rattle.imap_syntax.specs.Lexical.{is_atom_char};
     ghost use Rattle.imap_syntax.specs.Flags.{flag_name};
     ghost use Rattle.imap_syntax.specs.declared.flag.TheConstants.{SYSTEM_FLAGS};
 
-    ghost test = { is_atom_char };
+    type Class = AtomChar;
 
     ghost name_of = { flag_name };
 
     ghost table = { SYSTEM_FLAGS };
-
-    fn takes(octet: u8) -> bool {
-        is_atom_char(octet)
-    }
 
     fn name(self) -> &'static [u8] {
         match self {
@@ -107,14 +102,14 @@ impl Item for Flag {
 
     ghost item_read = { message_flag.read };
 
-    fn item(cursor: &mut Cursor<'_>, alloc: Global) -> Result<Flag, Fault> {
+    fn item(cursor: &mut Cursor<'_>, alloc: Global) -> Result<Flag, ReadError> {
         cursor.flag(alloc)
     }
 }
 
 impl Cursor<'_> {
-    pub(crate) fn flag(&mut self, alloc: Global) -> Result<Flag, Fault>
-        ensures { Gives (λ f. f) result self.new (message_flag.read self.old) }
+    pub(crate) fn flag(&mut self, alloc: Global) -> Result<Flag, ReadError>
+        ensures { ReadsIfMemory (λ f. f) result self.new (message_flag.read self.old) }
     {
         let backslash = self.has(b'\\');
         let word = self.atom()?;

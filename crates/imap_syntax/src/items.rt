@@ -4,7 +4,7 @@ ghost use Rattle.std.specs.Prelude.{◌≡◌};
 
 use std::marker::Model;
 
-/// Values in the order in which the command has them.
+/// Values in the order of the command.
 #[derive(Debug, Drop)]
 pub struct Items<T>(Vec<T>);
 

@@ -1,22 +1,22 @@
 //! Sets of messages (RFC 9051, section 9, `sequence-set`).
 
 ghost use Rattle.std.specs.Prelude.{◌≡◌};
-ghost use Rattle.imap_syntax.specs.Reading.{Gives, Finds};
+ghost use Rattle.imap_syntax.specs.Reading.{ReadsIfMemory, Reads};
 ghost use Rattle.imap_syntax.specs.Sets.{seq_number, seq_range, seq_set, message_set};
 
 use crate::cursor::{Cursor, Item};
-use crate::fault::Fault;
+use crate::error::ReadError;
 use crate::items::Items;
 use std::alloc::Global;
 
-/// A message by its number or UID, from 1 on, or `*`, the greatest that is there.
+/// The number or UID of a message, from 1, or `*` for the greatest in the mailbox.
 #[derive(Clone, Copy, Debug, PartialEq, Eq)]
 pub enum SeqNumber {
     Number(u32),
     Last,
 }
 
-/// Both ends as written, either way round. A single number is both.
+/// The two ends of a range, in the order of the command. A single number is both ends.
 #[derive(Clone, Copy, Debug, PartialEq, Eq)]
 pub struct SeqRange {
     pub first: SeqNumber,
@@ -26,15 +26,15 @@ pub struct SeqRange {
 /// One range or more.
 pub type SeqSet = Items<SeqRange>;
 
-/// The messages that a command is about.
+/// The messages of a command.
 #[derive(Debug, Drop)]
 pub enum MessageSet {
-    /// `$`: what the last SEARCH has saved.
+    /// `$`: the result that a SEARCH has saved.
     Saved,
     Numbers(SeqSet),
 }
 
-/// What the numbers of a set stand for.
+/// Whether the numbers of a set are message numbers or UIDs.
 #[derive(Clone, Copy, Debug, PartialEq, Eq)]
 pub enum Numbering {
     Sequence,
@@ -48,14 +48,14 @@ impl Item for SeqRange {
 
     ghost item_read = { seq_range.read };
 
-    fn item(cursor: &mut Cursor<'_>, _alloc: Global) -> Result<SeqRange, Fault> {
+    fn item(cursor: &mut Cursor<'_>, _alloc: Global) -> Result<SeqRange, ReadError> {
         cursor.seq_range()
     }
 }
 
 impl Cursor<'_> {
-    fn seq_number(&mut self) -> Result<SeqNumber, Fault>
-        ensures { Finds (λ n. n) result self.new (seq_number.read self.old) }
+    fn seq_number(&mut self) -> Result<SeqNumber, ReadError>
+        ensures { Reads (λ n. n) result self.new (seq_number.read self.old) }
     {
         if self.has(b'*') {
             return Ok(SeqNumber::Last);
@@ -64,8 +64,8 @@ impl Cursor<'_> {
         Ok(SeqNumber::Number(number as u32))
     }
 
-    fn seq_range(&mut self) -> Result<SeqRange, Fault>
-        ensures { Finds (λ r. r) result self.new (seq_range.read self.old) }
+    fn seq_range(&mut self) -> Result<SeqRange, ReadError>
+        ensures { Reads (λ r. r) result self.new (seq_range.read self.old) }
     {
         let first = self.seq_number()?;
         if !self.has(b':') {
@@ -75,16 +75,16 @@ impl Cursor<'_> {
         Ok(SeqRange { first, last })
     }
 
-    /// Ranges with commas between them (`sequence-set` without `$`).
-    pub fn seq_set(&mut self, alloc: Global) -> Result<SeqSet, Fault>
-        ensures { Gives (λ s. s) result self.new (seq_set.read self.old) }
+    /// Reads ranges with commas between them (`sequence-set` without `$`).
+    pub fn seq_set(&mut self, alloc: Global) -> Result<SeqSet, ReadError>
+        ensures { ReadsIfMemory (λ s. s) result self.new (seq_set.read self.old) }
     {
         self.separated::<SeqRange>(alloc, b',')
     }
 
-    /// `sequence-set`: `$` alone, or ranges.
-    pub fn message_set(&mut self, alloc: Global) -> Result<MessageSet, Fault>
-        ensures { Gives (λ s. s) result self.new (message_set.read self.old) }
+    /// Reads `sequence-set`: `$` alone, or ranges.
+    pub fn message_set(&mut self, alloc: Global) -> Result<MessageSet, ReadError>
+        ensures { ReadsIfMemory (λ s. s) result self.new (message_set.read self.old) }
     {
         if self.has(b'$') {
             return Ok(MessageSet::Saved);

@@ -1,4 +1,4 @@
-//! Writing values of which lists are made.
+//! Writing values and lists of them.
 
 ghost use Rattle.std.specs.Prelude.{◌≡◌, ◌++◌, OnOk, decimal};
 ghost use Rattle.std.specs.List.{list_all};
@@ -9,17 +9,17 @@ use itoa::Buffer;
 use std::alloc::AllocError;
 use std::marker::PhantomData;
 
-/// How values of a kind are written.
+/// A kind of value that can be written.
 pub trait Spelling {
     type Value;
 
     ghost writing: { Writing Self.Value };
 
-    /// Whether some text spells the value.
+    /// Whether the value can be spelt.
     fn fits(value: &Self::Value) -> bool
         ensures { result ≡ writing.fits value.now };
 
-    /// Writes its one spelling.
+    /// Appends the spelling of `value`.
     fn push(out: &mut Vec<u8>, value: &Self::Value) -> Result<(), AllocError>
         ensures { OnOk result (out.new.items ≡ out.old.items ++ writing.text value.now) };
 }
@@ -44,21 +44,21 @@ impl<W: Keyword> Spelling for Word<W> {
     }
 }
 
-/// Whether each can be written.
+/// Whether each value can be spelt.
 pub fn all_fit<S: Spelling>(values: &[S::Value]) -> bool
     ensures { result ≡ list_all S.writing.fits values.now }
 {
     values.iter().all(|value| S::fits(value))
 }
 
-/// Whether there are some, and each can be written.
+/// Whether there are values and each can be spelt.
 pub fn some_fit<S: Spelling>(values: &[S::Value]) -> bool
     ensures { result ≡ (separated 32 S.writing).fits values.now }
 {
     !values.is_empty() && all_fit::<S>(values)
 }
 
-/// Writes the values with the separator before each of them.
+/// Appends the values with `separator` before each.
 fn push_further<S: Spelling>(
     out: &mut Vec<u8>,
     separator: u8,
@@ -73,7 +73,7 @@ fn push_further<S: Spelling>(
     Ok(())
 }
 
-/// Writes the values with the separator between each two of them.
+/// Appends the values with `separator` between them.
 pub fn push_separated<S: Spelling>(
     out: &mut Vec<u8>,
     separator: u8,
@@ -90,7 +90,7 @@ pub fn push_separated<S: Spelling>(
     }
 }
 
-/// Writes the values in parentheses, with spaces between them.
+/// Appends the values in parentheses, with spaces between them.
 pub fn push_listed<S: Spelling>(out: &mut Vec<u8>, values: &[S::Value]) -> Result<(), AllocError>
     ensures { OnOk result (out.new.items ≡ out.old.items ++ in_parentheses (joined 32 S.writing.text values.now)) }
 {
@@ -100,7 +100,7 @@ pub fn push_listed<S: Spelling>(out: &mut Vec<u8>, values: &[S::Value]) -> Resul
     Ok(())
 }
 
-/// Writes a number in digits, without leading zeros.
+/// Appends a number in digits, without leading zeros.
 pub fn push_number(out: &mut Vec<u8>, number: u64) -> Result<(), AllocError>
     ensures { OnOk result (out.new.items ≡ out.old.items ++ decimal number) }
 {
@@ -108,7 +108,7 @@ pub fn push_number(out: &mut Vec<u8>, number: u64) -> Result<(), AllocError>
     out.extend_from_slice(buffer.format(number).as_bytes())
 }
 
-/// A number with words around it.
+/// Appends `front`, a number in digits, and `back`.
 pub fn push_between(
     out: &mut Vec<u8>,
     front: &[u8],

@@ -1,13 +1,13 @@
 //! Dates and times, written.
 
-ghost use Rattle.std.specs.Prelude.{◌≡◌, ◌++◌, ◌∷◌, OnOk};
-ghost use Rattle.imap_syntax.specs.WrittenDates.{two_digits, four_digits, month_of, exists_in, name_of, date, zone_fits, sign, clock_text, zone_text, date_time_end};
+ghost use Rattle.std.specs.Prelude.{◌≡◌, ◌++◌, ◌∷◌, IsTrue, OnOk};
+ghost use Rattle.imap_syntax.specs.WrittenDates.{two_digits, four_digits, day_text, month_year_text, fixed_day_text, fixed_date_text, date, zone_fits, sign, clock_text, zone_text, date_time_text, date_time_end, date_time};
 
 use crate::cursor::Keyword;
-use crate::date::{Date, DateTime, MONTHS, Month, Zone, day_exists};
+use crate::date::{Date, DateTime, Zone};
 use std::alloc::AllocError;
 
-/// The last two digits.
+/// Appends the last two digits of `number`.
 fn push_two_digits(out: &mut Vec<u8>, number: u16) -> Result<(), AllocError>
     ensures { OnOk result (out.new.items ≡ out.old.items ++ two_digits number) }
 {
@@ -16,7 +16,7 @@ fn push_two_digits(out: &mut Vec<u8>, number: u16) -> Result<(), AllocError>
     Ok(())
 }
 
-/// The last four digits.
+/// Appends the last four digits of `number`.
 fn push_four_digits(out: &mut Vec<u8>, number: u16) -> Result<(), AllocError>
     ensures { OnOk result (out.new.items ≡ out.old.items ++ four_digits number) }
 {
@@ -24,50 +24,64 @@ fn push_four_digits(out: &mut Vec<u8>, number: u16) -> Result<(), AllocError>
     push_two_digits(out, number)
 }
 
-#[tactic(auto, unfolding(crate::specs::WrittenDates::month_of))]
-fn month_of(number: u8) -> Option<Month>
-    ensures { result ≡ month_of number }
+/// Appends a day of a month without a leading zero.
+fn push_day(out: &mut Vec<u8>, day: u8) -> Result<(), AllocError>
+    ensures { OnOk result (out.new.items ≡ out.old.items ++ day_text day) }
 {
-    MONTHS
-        .iter()
-        .copied()
-        .find(|month| month.number() == number)
-}
-
-/// Whether there is such a day.
-pub fn date_fits(day: &Date) -> bool
-    ensures { result ≡ date.fits day.now }
-{
-    match month_of(day.month) {
-        Some(month) => day_exists(u64::from(day.year), month, u64::from(day.day)),
-        None => false,
+    if day < 10 {
+        out.push(b'0' + day % 10)?;
+        Ok(())
+    } else {
+        push_two_digits(out, u16::from(day))
     }
 }
 
-fn push_month(out: &mut Vec<u8>, month: Option<Month>) -> Result<(), AllocError>
-    ensures { OnOk result (out.new.items ≡ out.old.items ++ name_of month) }
+/// Appends the part of a date after its day.
+fn push_month_year(out: &mut Vec<u8>, day: &Date) -> Result<(), AllocError>
+    ensures { OnOk result (out.new.items ≡ out.old.items ++ month_year_text day.now) }
 {
-    match month {
-        Some(month) => out.extend_from_slice(month.name()),
-        None => Ok(()),
-    }
-}
-
-/// Writes `date-text`, with two digits of day.
-pub fn push_date(out: &mut Vec<u8>, day: &Date) -> Result<(), AllocError>
-    ensures { OnOk result (out.new.items ≡ out.old.items ++ date.text day.now) }
-{
-    push_two_digits(out, u16::from(day.day))?;
     out.push(b'-')?;
-    push_month(out, month_of(day.month))?;
+    out.extend_from_slice(day.month.name())?;
     out.push(b'-')?;
     push_four_digits(out, day.year)
 }
 
-fn zone_fits(zone: &Zone) -> bool
-    ensures { result ≡ zone_fits zone.now }
+/// Whether the day can be written: it always can.
+pub fn date_fits(day: &Date) -> bool
+    ensures fits { result ≡ date.fits day.now }
+    ensures always { IsTrue result }
 {
-    zone.hours < 24 && zone.minutes < 60
+    let _year = day.year;
+    true
+}
+
+/// Appends a day as `date-text`, as `1-Feb-1994`.
+pub fn push_date(out: &mut Vec<u8>, day: &Date) -> Result<(), AllocError>
+    ensures { OnOk result (out.new.items ≡ out.old.items ++ date.text day.now) }
+{
+    push_day(out, day.day)?;
+    push_month_year(out, day)
+}
+
+/// Appends a day of a month as `date-day-fixed`: a day below 10 after a space.
+fn push_fixed_day(out: &mut Vec<u8>, day: u8) -> Result<(), AllocError>
+    ensures { OnOk result (out.new.items ≡ out.old.items ++ fixed_day_text day) }
+{
+    if day < 10 {
+        out.push(b' ')?;
+        out.push(b'0' + day % 10)?;
+        Ok(())
+    } else {
+        push_two_digits(out, u16::from(day))
+    }
+}
+
+/// Appends a date with a day of two octets.
+fn push_fixed_date(out: &mut Vec<u8>, day: &Date) -> Result<(), AllocError>
+    ensures { OnOk result (out.new.items ≡ out.old.items ++ fixed_date_text day.now) }
+{
+    push_fixed_day(out, day.day)?;
+    push_month_year(out, day)
 }
 
 fn sign(west: bool) -> u8
@@ -76,18 +90,25 @@ fn sign(west: bool) -> u8
     if west { b'-' } else { b'+' }
 }
 
-/// Whether there is such a moment.
-pub fn date_time_fits(moment: &DateTime) -> bool
-    ensures { result ≡ date_time_end.fits moment.now }
+/// Whether the zone can be written: it always can.
+fn zone_fits(zone: &Zone) -> bool
+    ensures fits { result ≡ zone_fits zone.now }
+    ensures always { IsTrue result }
 {
-    date_fits(&moment.date)
-        && moment.hour < 24
-        && moment.minute < 60
-        && moment.second < 60
-        && zone_fits(&moment.zone)
+    let _west = zone.west;
+    true
 }
 
-/// The hour, minute and second.
+/// Whether the moment can be written: it always can.
+pub fn date_time_fits(moment: &DateTime) -> bool
+    ensures fits { result ≡ date_time_end.fits moment.now }
+    ensures always { IsTrue result }
+{
+    let _hour = moment.hour;
+    date_fits(&moment.date) && zone_fits(&moment.zone)
+}
+
+/// Appends the hour, minute and second.
 fn push_clock(out: &mut Vec<u8>, moment: &DateTime) -> Result<(), AllocError>
     ensures { OnOk result (out.new.items ≡ out.old.items ++ clock_text moment.now) }
 {
@@ -106,15 +127,31 @@ fn push_zone(out: &mut Vec<u8>, zone: &Zone) -> Result<(), AllocError>
     push_two_digits(out, u16::from(zone.minutes))
 }
 
-/// A quoted moment behind its first quote.
-pub fn push_date_time_end(out: &mut Vec<u8>, moment: &DateTime) -> Result<(), AllocError>
-    ensures { OnOk result (out.new.items ≡ out.old.items ++ date_time_end.text moment.now) }
+/// Appends `date-time` without its quotes.
+pub(crate) fn push_date_time_text(out: &mut Vec<u8>, moment: &DateTime) -> Result<(), AllocError>
+    ensures { OnOk result (out.new.items ≡ out.old.items ++ date_time_text moment.now) }
 {
-    push_date(out, &moment.date)?;
+    push_fixed_date(out, &moment.date)?;
     out.push(b' ')?;
     push_clock(out, moment)?;
     out.push(b' ')?;
     push_zone(out, &moment.zone)?;
+    Ok(())
+}
+
+/// Appends `date-time` after its first quote.
+pub fn push_date_time_end(out: &mut Vec<u8>, moment: &DateTime) -> Result<(), AllocError>
+    ensures { OnOk result (out.new.items ≡ out.old.items ++ date_time_end.text moment.now) }
+{
+    push_date_time_text(out, moment)?;
     out.push(b'"')?;
     Ok(())
+}
+
+/// Appends a moment in quotes (`date-time`), as `" 1-Feb-1994 21:52:25 -0800"`.
+pub fn push_date_time(out: &mut Vec<u8>, moment: &DateTime) -> Result<(), AllocError>
+    ensures { OnOk result (out.new.items ≡ out.old.items ++ date_time.text moment.now) }
+{
+    out.push(b'"')?;
+    push_date_time_end(out, moment)
 }

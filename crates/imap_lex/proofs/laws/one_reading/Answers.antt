@@ -1,7 +1,7 @@
 use Rattle.imap_lex.proofs.Only.{has_one_reading}
 use Rattle.imap_lex.proofs.Readings.{each_has_reading}
-use Rattle.imap_lex.proofs.Told.{told_as_read}
+use Rattle.imap_lex.proofs.FramesRead.{frames_as_read}
 use Rattle.imap_lex.proofs.laws.one_reading.Goals as goal
 
 pub returns : goal.returns
-returns c = record { each = each_has_reading; once = has_one_reading; told = told_as_read }
+returns c = record { each = each_has_reading; once = has_one_reading; frames = frames_as_read }

@@ -1,7 +1,7 @@
 use Rattle.std.proofs.Common.{◌+◌, ◌++◌, arith, take, drop}
 use Rattle.imap_lex.specs.declared.frame.Frame.TheVariants as frame
 use Rattle.imap_lex.specs.declared.place.Turn.TheVariants.{On, Continue, Ended, Hangup}
-use Rattle.imap_lex.proofs.Turns.{IsTail-nil, tail_within, more_within, turn_within, turn_here, told_here, hung_up_here}
+use Rattle.imap_lex.proofs.Turns.{IsTail-nil, tail_within, more_within, turn_within, turn_here, frame_here, hung_up_here}
 use Rattle.imap_lex.proofs.reading.read_on.Goals as goal
 use Rattle.imap_lex.proofs.reading.read_on.Goals.{in-On, in-Continue+in_ok-push-in-Continue}
 
@@ -58,7 +58,7 @@ loop-at-preserved c =
         told = λ limit octets.
             let told = c.loop-at.invariant.told limit octets in
             let step = rw w.in-Continue.is at (c.in-Turn.ensures.outcome limit (octets ++ take at xs)) in
-            rw (w.frames-is, w.place-is) (told_here limit octets c.args.line.now xs line at place c.loop-at.frames.items _ told frame.Continue _ (drop (at + len) xs) _ w.in_ok-push-in-Continue.ensures.items
+            rw (w.frames-is, w.place-is) (frame_here limit octets c.args.line.now xs line at place c.loop-at.frames.items _ told frame.Continue _ (drop (at + len) xs) _ w.in_ok-push-in-Continue.ensures.items
             (turn_here limit octets c.args.line.now xs line at place c.loop-at.frames.items _ told len (Continue w.in-Continue.next) step));
       }
     ]

@@ -1,12 +1,12 @@
 use Rattle.std.proofs.Common.{◌≡◌, ℕ, ◌-◌, ◌≤◌, List, ◌++◌, length, take, drop}
 use Rattle.imap_lex.specs.Framing.{awaiting, after, run}
-use Rattle.imap_lex.specs.Places.{begun, Stands}
+use Rattle.imap_lex.specs.Places.{begun, IsPlace}
 use Rattle.imap_lex.proofs.Turns.{IsTail}
 use Rattle.imap_lex.proofs.reading.read_on.Given as goal
 
 abbrev pub invariant-loop-at : goal.invariant-loop-at
 invariant-loop-at l = record {
-  stands : Stands l.place;
+  stands : IsPlace l.place;
   within : l.at ≤ length l.piece;
   line : IsTail l.line (l.line-2 ++ take l.at l.piece);
   told : (limit : ℕ) (octets : List ℕ) →

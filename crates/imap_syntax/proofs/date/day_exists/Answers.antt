@@ -1,6 +1,6 @@
 use Rattle.std.proofs.Common.{◌≡◌, pos, to_z, w8, w16, sym, ap, ◌∙◌, arith, inl, inr}
 use Rattle.std.proofs.lemmas.Int.{to_z_pos}
-use Rattle.imap_syntax.specs.Dates.{month_number}
+use Rattle.imap_syntax.specs.Calendar.{month_number}
 use Rattle.imap_syntax.proofs.Calendar.{no_day, no_year, agrees_as, month_fits}
 use Rattle.imap_syntax.proofs.date.day_exists.Goals as goal
 
