@@ -5,7 +5,7 @@ use Rattle.std.specs.List.{join_with_byte, starts_with}
 use Rattle.std.proofs.lemmas.List.{reverse-append, reverse-reverse, length-append}
 use Rattle.imap_names.specs.Name.{Name, named, root_of, IsAbove}
 use Rattle.imap_names.specs.Text.{components_of}
-use Rattle.imap_names.proofs.PlaceLaws.{begins}
+use Rattle.imap_names.proofs.PrefixLaws.{begins}
 use Rattle.imap_names.proofs.NameLaws.{named-same}
 use Rattle.imap_names.proofs.Parts.{HasFirst, components_of-first, components_of-joined, join-append, join-components_of}
 
@@ -13,7 +13,7 @@ push_first : (xs : List (List ℕ)) (y : List ℕ) → HasFirst (xs ++ y ∷ [])
 push_first [] y = record { first = y; more = []; are = refl }
 push_first (x ∷ xs) y = record { first = x; more = xs ++ y ∷ []; are = refl }
 
-reverse_first : (xs : List (List ℕ)) → HasFirst xs → HasFirst (reverse xs)
+pub reverse_first : (xs : List (List ℕ)) → HasFirst xs → HasFirst (reverse xs)
 reverse_first xs h =
     let last : HasFirst (reverse h.more ++ h.first ∷ []) = push_first (reverse h.more) h.first in
     record { first = last.first; more = last.more; are = ap reverse h.are ∙ reverse-append (h.first ∷ []) h.more ∙ last.are }

@@ -23,7 +23,7 @@ is_nfc-composed text cs utf8 e =
 pub composed-nfc : (text : List ℕ) → is_utf8 text ≡ true → is_nfc (chars text) ≡ true → composed text ≡ text
 composed-nfc text utf8 h = ap encode_utf8_all (is_in_form-true Nfc (chars text) h) ∙ encodes-chars text (IsUtf8-from_is_utf8 text utf8)
 
--- ---- one ASCII text in another's place, before a delimiter
+-- ---- one ASCII text in another's parts, before a delimiter
 
 chars-front : (front rest : List ℕ) → IsAscii front → chars (front ++ 47 ∷ rest) ≡ front ++ 47 ∷ chars rest
 chars-front front rest ascii =

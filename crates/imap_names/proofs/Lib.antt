@@ -1,11 +1,15 @@
+pub mod OrderLaws
 pub mod NameLaws
 pub mod Parts
+pub mod PathOrder
+pub mod FrontLaws
 pub mod Composed
 pub mod UserLaws
-pub mod PlaceLaws
+pub mod PrefixLaws
 pub mod AboveLaws
 pub mod ViewLaws
 pub mod PathLaws
+pub mod SuperiorLaws
 pub mod InboxWord
 pub mod ReadLaws
 pub mod ShownLaws

@@ -1,59 +1,42 @@
--- The order of names, look-ups in maps by name, and the parts of a name.
-use Rattle.std.proofs.Common.{◌≡◌, ◌≢◌, ℕ, Bool, true, cond, List, [], ◌∷◌, ◌++◌, reverse, Some, None, Ordering, Less, Equal, Greater, refl, sym, ap, ◌∙◌}
+-- Look-ups in maps by name, and the parts of a name.
+use Rattle.std.proofs.Common.{◌≡◌, ◌≢◌, ℕ, Bool, true, cond, List, [], ◌∷◌, ◌++◌, reverse, Some, None, refl, sym, ap, ◌∙◌}
 use Rattle.std.proofs.lemmas.List.{reverse-append, reverse-reverse}
-use Rattle.std.specs.Cmp.{IsTotalOrder}
-use Rattle.std.specs.Ordering.{eq_by_cmp, is_eq, ordering_reverse}
-use Rattle.std.specs.Cmp.Lexicographic.{nat_list_cmp_total, lists_total}
+use Rattle.std.specs.Cmp.{tied_itself}
+use Rattle.std.specs.Ordering.{eq_by_cmp, is_eq}
 use Rattle.std.specs.FinMap as map
-use Rattle.std.specs.FinMap.{find, IsAntisymmetric, get-insert, get-remove, get-retain_keys, get-from_entries, from_entries_push, same_map, nat_cmp-IsAntisymmetric, slice_cmp-IsAntisymmetric}
-use Rattle.imap_names.specs.Name.{Name, Names, name_cmp, named, root_of, components}
-
-equal : (r : Ordering) → is_eq r ≡ true → r ≡ Equal
-equal Less e = cc
-equal Equal e = refl
-equal Greater e = cc
-
-own_reverse : (r : Ordering) → r ≡ ordering_reverse r → r ≡ Equal
-own_reverse Less e = cc
-own_reverse Equal e = refl
-own_reverse Greater e = cc
-
--- ---- the order
-
-pub name_cmp_total : IsTotalOrder name_cmp
-name_cmp_total = lists_total nat_list_cmp_total
-
-pub name_cmp-IsAntisymmetric : IsAntisymmetric name_cmp
-name_cmp-IsAntisymmetric = slice_cmp-IsAntisymmetric (slice_cmp-IsAntisymmetric nat_cmp-IsAntisymmetric)
+use Rattle.std.specs.FinMap.{find, get-insert, get-remove, get-retain_keys, get-from_entries, from_entries_push, same_map}
+use Rattle.imap_names.specs.Name.{Name, named, root_of, components}
+use Rattle.imap_names.specs.Order.{Names, name_cmp}
+use Rattle.imap_names.proofs.OrderLaws.{name_total, name_antisymmetric, tied}
 
 abbrev pub is_name_at : Name → Name → Bool
 is_name_at = eq_by_cmp name_cmp
 
 pub equal_names : (m n : Name) → is_name_at m n ≡ true → m ≡ n
-equal_names m n e = name_cmp-IsAntisymmetric m n (equal _ e)
+equal_names m n e = name_antisymmetric m n (tied _ e)
 
 pub is_name_at-same : (m : Name) → is_name_at m m ≡ true
-is_name_at-same m = ap is_eq (own_reverse (name_cmp m m) (name_cmp_total.antisymm m m))
+is_name_at-same m = ap is_eq (tied_itself name_total m)
 
 -- ---- maps by name
 
 pub same_names : {X : Type 0} (m n : Names X) → ((q : Name) → map.get m q ≡ map.get n q) → m ≡ n
-same_names m n h = same_map name_cmp_total name_cmp-IsAntisymmetric m n h
+same_names m n h = same_map name_total name_antisymmetric m n h
 
 pub get_put : {X : Type 0} (m : Names X) (k : Name) (x : X) (q : Name) → map.get (map.insert m k x) q ≡ cond (is_name_at q k) (Some x) (map.get m q)
-get_put m k x q = get-insert name_cmp_total m k x q
+get_put m k x q = get-insert name_total m k x q
 
 pub get_without : {X : Type 0} (m : Names X) (k q : Name) → map.get (map.remove m k) q ≡ cond (is_name_at q k) None (map.get m q)
-get_without m k q = get-remove name_cmp_total m k q
+get_without m k q = get-remove name_total m k q
 
 pub get_where : {X : Type 0} (m : Names X) (p : Name → Bool) (q : Name) → map.get (map.retain_keys m p) q ≡ cond (p q) (map.get m q) None
-get_where m p q = get-retain_keys m p q (λ x t. ap p (sym (name_cmp-IsAntisymmetric q x t)))
+get_where m p q = get-retain_keys m p q (λ x t. ap p (sym (name_antisymmetric q x t)))
 
 pub get_listed : {X : Type 0} (es : List (Name × X)) (q : Name) → map.get (map.from_entries {R = name_cmp} es) q ≡ find name_cmp q es
-get_listed es q = get-from_entries name_cmp_total es q
+get_listed es q = get-from_entries name_total es q
 
 pub from_entries_push_name : {X : Type 0} (es : List (Name × X)) (k : Name) (x : X) → find name_cmp k es ≡ None → map.from_entries {R = name_cmp} (es ++ (k, x) ∷ []) ≡ map.insert (map.from_entries es) k x
-from_entries_push_name es k x absent = from_entries_push name_cmp_total name_cmp-IsAntisymmetric es k x absent
+from_entries_push_name es k x absent = from_entries_push name_total name_antisymmetric es k x absent
 
 -- ---- the parts of a name
 

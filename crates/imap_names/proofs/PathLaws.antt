@@ -8,7 +8,7 @@ use Rattle.unicode_normalization.specs.Forms.{is_nfc}
 use Rattle.imap_names.specs.declared.error.NameError.{NameError}
 use Rattle.imap_names.specs.Name.{named, root_of, components, path_of, is_empty}
 use Rattle.imap_names.specs.Text.{components_of, has_control}
-use Rattle.imap_names.specs.Valid.{is_reserved, with_inbox, is_root, IsName}
+use Rattle.imap_names.specs.Valid.{max_path_octets, max_depth, is_reserved, with_inbox, is_root, IsName}
 use Rattle.imap_names.specs.Reading.{path_fault}
 use Rattle.imap_names.proofs.NameLaws.{root_of-named, components-named}
 use Rattle.imap_names.proofs.Parts.{path_of-text}
@@ -17,8 +17,8 @@ use Rattle.imap_names.proofs.Parts.{path_of-text}
 pub record KeepsRules (root path : List ℕ) : Type 0 where
   pub unreserved : is_reserved root (components_of path) ≡ false
   pub filled : list_any is_empty (components_of path) ≡ false
-  pub short : length path ≤ 255
-  pub shallow : length (components_of path) ≤ 16
+  pub short : length path ≤ max_path_octets
+  pub shallow : length (components_of path) ≤ max_depth
 
 -- and it is NFC text without controls
 pub record IsText (path : List ℕ) : Type 0 where
@@ -35,8 +35,8 @@ IsName-from root path tree rules text inbox =
       tree = ap is_root r ∙ tree;
       parted = ap components_of p ∙ sym c;
       filled = ap (list_any is_empty) c ∙ rules.filled;
-      shallow = subst (λ (z : List (List ℕ)). length z ≤ 16) (sym c) rules.shallow;
-      short = subst (λ (z : List ℕ). length z ≤ 255) (sym p) rules.short;
+      shallow = subst (λ (z : List (List ℕ)). length z ≤ max_depth) (sym c) rules.shallow;
+      short = subst (λ (z : List ℕ). length z ≤ max_path_octets) (sym p) rules.short;
       utf8 = ap is_utf8 p ∙ text.utf8;
       nfc = ap (λ z. is_nfc (chars z)) p ∙ text.nfc;
       printable = ap has_control p ∙ text.printable;
@@ -53,11 +53,11 @@ pub path_fault-none : (root path : List ℕ) → path_fault root path ≡ None �
 path_fault-none root path h =
     let a = passed (is_reserved root (components_of path)) _ _ h in
     let b = passed (list_any is_empty (components_of path)) _ _ a.1 in
-    let c = passed (nat_lt 255 (length path)) _ _ b.1 in
-    let d = passed (nat_lt 16 (length (components_of path))) _ _ c.1 in
+    let c = passed (nat_lt max_path_octets (length path)) _ _ b.1 in
+    let d = passed (nat_lt max_depth (length (components_of path))) _ _ c.1 in
     record {
       unreserved = a.0;
       filled = b.0;
-      short = ltb-false 255 (length path) c.0;
-      shallow = ltb-false 16 (length (components_of path)) d.0;
+      short = ltb-false max_path_octets (length path) c.0;
+      shallow = ltb-false max_depth (length (components_of path)) d.0;
     }

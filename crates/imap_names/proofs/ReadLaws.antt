@@ -1,20 +1,21 @@
 -- What a name that was read is like.
-use Rattle.std.proofs.Common.{◌≡◌, ◌≢◌, ℕ, cond, Bool, true, false, not, List, [], refl, sym, ap, ◌∙◌, subst, arith, Result, Option, None, Some, Ok, Err}
-use Rattle.std.specs.Prelude.{◌||◌, codes}
+use Rattle.std.proofs.Common.{◌≡◌, ◌≢◌, ℕ, cond, Bool, true, false, not, List, [], refl, sym, ap, ◌∙◌, subst, arith, Result, Option, None, Some, Ok, Err, inl, inr}
+use Rattle.std.specs.Prelude.{◌||◌, codes, bytes_eq}
 use Rattle.std.specs.Char.{is_control}
 use Rattle.std.specs.List.{list_any}
 use Rattle.std.specs.Str.{IsUtf8, is_utf8}
-use Rattle.std.proofs.lemmas.Bool.{or_right, cond-true, cond-false, false_from_ne_true}
+use Rattle.std.proofs.lemmas.Bool.{cases_Bool, or_from, or_right, cond-true, cond-false, false_from_ne_true}
 use Rattle.std.proofs.lemmas.Str.{chars-IsAscii, IsUtf8-from_ascii, is_utf8-from_IsUtf8, IsUtf8-from_is_utf8}
 use Rattle.unicode_normalization.specs.Forms.{is_nfc}
 use Rattle.std.specs.Prelude.{chars}
 use Rattle.imap_names.specs.Name.{Name, named, is_empty}
 use Rattle.imap_names.specs.Text.{components_of, composed, has_control}
 use Rattle.imap_names.specs.UserName.{is_user_name}
-use Rattle.imap_names.specs.Valid.{is_root, with_inbox, held_path, IsName}
-use Rattle.imap_names.proofs.Composed.{is_nfc-ascii}
+use Rattle.imap_names.specs.Valid.{is_prefix_word, is_root, with_inbox, held_path, IsName}
+use Rattle.std.proofs.lemmas.Slice.Eq.{bytes_eq-Decides}
+use Rattle.imap_names.proofs.Composed.{is_nfc-ascii, ascii_by_test, composed-empty, has_control-empty}
 use Rattle.imap_names.proofs.PathLaws.{KeepsRules, IsName-from, path_fault-none}
-use Rattle.imap_names.specs.Reading.{place_of, root_at, is_own, path_fault, unless_fault, name_in, in_tree, name_at, read_by}
+use Rattle.imap_names.specs.Reading.{NameParts, parts_of, root_at, is_own, path_fault, unless_fault, name_in, in_tree, name_at, read_by}
 use Rattle.imap_names.specs.declared.error.NameError.{NameError}
 use Rattle.imap_names.specs.declared.error.NameError.TheVariants.{EmptyComponent, TooLong, TooDeep, Reserved, Control, Memory}
 use Rattle.imap_names.specs.declared.read.Namespace.{Namespace}
@@ -51,17 +52,40 @@ name_in-held root path held nfc printable same none =
     ap (λ fault. unless_fault fault (named root (with_inbox (components_of path)))) none
     ∙ ap (λ z. Ok (named root z)) (sym (components_of-held root path held (path_fault-none root path none) nfc printable same))
 
-pub read_by-text : (own : Option (List ℕ)) (text owner path : List ℕ) → IsUtf8 text → owner ≡ composed (place_of text).owner → path ≡ composed (place_of text).path → read_by own text ≡ name_at own (place_of text).namespace owner path
+pub read_by-text : (own : Option (List ℕ)) (text owner path : List ℕ) → IsUtf8 text → owner ≡ composed (parts_of text).owner → path ≡ composed (parts_of text).path → read_by own text ≡ name_at own (parts_of text).namespace owner path
 unfolding read_by
 read_by-text own text owner path utf8 o p =
     cond-true _ _ _ (is_utf8-from_IsUtf8 text utf8)
-    ∙ ap (λ z. name_at own (place_of text).namespace z (composed (place_of text).path)) (sym o)
-    ∙ ap (name_at own (place_of text).namespace owner) (sym p)
+    ∙ ap (λ z. name_at own (parts_of text).namespace z (composed (parts_of text).path)) (sym o)
+    ∙ ap (name_at own (parts_of text).namespace owner) (sym p)
 
 pub read_by-no_text : (own : Option (List ℕ)) (text : List ℕ) → ¬ (IsUtf8 text) → read_by own text ≡ Err Control
 unfolding read_by
 read_by-no_text own text never =
     cond-false _ _ _ (false_from_ne_true (is_utf8 text) (λ utf8. never (IsUtf8-from_is_utf8 text utf8)))
+
+-- ---- a prefix alone
+
+prefix_word_utf8 : (text word : List ℕ) → IsUtf8 word → bytes_eq text word ≡ true → IsUtf8 text
+prefix_word_utf8 text word utf8 same = subst IsUtf8 (sym ((bytes_eq-Decides text word).0 same)) utf8
+
+pub IsUtf8-prefix_word : (text : List ℕ) → is_prefix_word text ≡ true → IsUtf8 text
+IsUtf8-prefix_word text word =
+    elim (cases_Bool (bytes_eq text (codes "Other Users"))) [
+      | inl fits ↦ prefix_word_utf8 text (codes "Other Users") (IsUtf8-from_ascii (codes "Other Users") (ascii_by_test (codes "Other Users") refl)) fits
+      | inr fails ↦
+          prefix_word_utf8 text (codes "Shared") (IsUtf8-from_ascii (codes "Shared") (ascii_by_test (codes "Shared") refl))
+          (ap (λ b. b || bytes_eq text (codes "Shared")) (sym fails) ∙ word)
+    ]
+
+pub read_by-prefix_word : (own : Option (List ℕ)) (text : List ℕ) → is_prefix_word text ≡ true → read_by own text ≡ Err Reserved
+read_by-prefix_word own text word =
+    let bare : parts_of text ≡ record { namespace = Bare; owner = []; path = [] } = cond-true _ _ _ word in
+    read_by-text own text [] [] (IsUtf8-prefix_word text word)
+    (sym composed-empty ∙ ap (λ (parts : NameParts). composed parts.owner) (sym bare))
+    (sym composed-empty ∙ ap (λ (parts : NameParts). composed parts.path) (sym bare))
+    ∙ ap (λ (parts : NameParts). name_at own parts.namespace [] []) bare
+    ∙ cond-false _ _ _ (or_from _ _ has_control-empty has_control-empty)
 
 -- ---- the meaning of a text never speaks of memory
 
@@ -138,4 +162,4 @@ text_or_control false meant h e = cc
 pub read_by-not_memory : (own : Option (List ℕ)) (text : List ℕ) → read_by own text ≢ Err Memory
 unfolding read_by
 read_by-not_memory own text =
-    text_or_control (is_utf8 text) _ (name_at-not_memory own (place_of text).namespace (composed (place_of text).owner) (composed (place_of text).path))
+    text_or_control (is_utf8 text) _ (name_at-not_memory own (parts_of text).namespace (composed (parts_of text).owner) (composed (parts_of text).path))

@@ -10,12 +10,12 @@ use Rattle.imap_names.specs.declared.read.Namespace.TheVariants.{Personal, Other
 use Rattle.imap_names.specs.Name.{Name, named, root_of, components, path_of, is_empty}
 use Rattle.imap_names.specs.Text.{components_of, composed, has_control}
 use Rattle.imap_names.specs.UserName.{is_user_name}
-use Rattle.imap_names.specs.Reading.{Place, place_of, root_at, path_fault, unless_fault, name_in, name_at, in_tree, read_by, name_read}
+use Rattle.imap_names.specs.Reading.{NameParts, parts_of, root_at, path_fault, unless_fault, name_in, name_at, in_tree, read_by, name_read}
 use Rattle.imap_names.specs.Showing.{shown}
-use Rattle.imap_names.specs.Valid.{is_prefix_word, is_reserved, with_inbox, is_root, IsName}
+use Rattle.imap_names.specs.Valid.{max_path_octets, max_depth, is_prefix_word, is_reserved, with_inbox, is_root, IsName}
 use Rattle.imap_names.proofs.NameLaws.{named-parts}
 use Rattle.imap_names.proofs.Parts.{HasFirst, components_of-first}
-use Rattle.imap_names.proofs.PlaceLaws.{place_of-personal, other_place-user}
+use Rattle.imap_names.proofs.PrefixLaws.{parts_of-personal, other_parts-user}
 use Rattle.imap_names.proofs.Composed.{composed-nfc, composed-empty, has_control-empty, is_utf8-front, is_utf8-append, ascii_by_test}
 use Rattle.imap_names.proofs.UserLaws.{UserNameFacts, user_name_facts, has_control-user, undelimited-user}
 
@@ -30,8 +30,8 @@ path_fault-valid name valid =
     let parts : components_of (path_of name) ≡ components name = valid.parted in
     cond-false _ _ _ (ap (is_reserved (root_of name)) parts ∙ valid.unreserved)
     ∙ cond-false _ _ _ (ap (list_any is_empty) parts ∙ valid.filled)
-    ∙ cond-false _ _ _ (le-ltb 255 (length (path_of name)) valid.short)
-    ∙ cond-false _ _ _ (le-ltb 16 (length (components_of (path_of name))) (subst (λ p. length p ≤ 16) (sym parts) valid.shallow))
+    ∙ cond-false _ _ _ (le-ltb max_path_octets (length (path_of name)) valid.short)
+    ∙ cond-false _ _ _ (le-ltb max_depth (length (components_of (path_of name))) (subst (λ p. length p ≤ max_depth) (sym parts) valid.shallow))
 
 pub name_in-valid : (name : Name) → IsName name → name_in (root_of name) (path_of name) ≡ Ok name
 name_in-valid name valid =
@@ -41,26 +41,26 @@ name_in-valid name valid =
     ∙ ap (λ p. Ok (named (root_of name) p)) valid.inbox
     ∙ ap Ok (named-parts name (name_some name valid))
 
--- a place with an owner and a path in NFC, in a tree that may be named
+-- a text whose owner and path are in NFC, in a tree that may be named
 name_at-valid : (own : Option (List ℕ)) (namespace : Namespace) (owner path : List ℕ) (root : List ℕ) → has_control owner ≡ false → has_control path ≡ false → root_at own namespace owner ≡ Ok root → name_at own namespace owner path ≡ name_in root path
 name_at-valid own namespace owner path root h k at =
     cond-false _ _ _ (or_from _ _ h k) ∙ ap (λ r. in_tree r path) at
 
-read_place : (own : Option (List ℕ)) (text : List ℕ) (place : Place) (name : Name) → IsName name → is_utf8 text ≡ true → place_of text ≡ place → composed place.owner ≡ place.owner → has_control place.owner ≡ false → place.path ≡ path_of name → root_at own place.namespace place.owner ≡ Ok (root_of name) → read_by own text ≡ Ok name
+read_parts : (own : Option (List ℕ)) (text : List ℕ) (parts : NameParts) (name : Name) → IsName name → is_utf8 text ≡ true → parts_of text ≡ parts → composed parts.owner ≡ parts.owner → has_control parts.owner ≡ false → parts.path ≡ path_of name → root_at own parts.namespace parts.owner ≡ Ok (root_of name) → read_by own text ≡ Ok name
 unfolding read_by
-read_place own text place name valid utf8 at same printable path root =
+read_parts own text parts name valid utf8 at same printable path root =
     cond-true _ _ _ utf8
     ∙ ap (λ p. name_at own p.namespace (composed p.owner) (composed p.path)) at
-    ∙ ap (λ o. name_at own place.namespace o (composed place.path)) same
-    ∙ ap (λ p. name_at own place.namespace place.owner p) (ap composed path ∙ composed-nfc (path_of name) valid.utf8 valid.nfc)
-    ∙ name_at-valid own place.namespace place.owner (path_of name) (root_of name) printable valid.printable root
+    ∙ ap (λ o. name_at own parts.namespace o (composed parts.path)) same
+    ∙ ap (λ p. name_at own parts.namespace parts.owner p) (ap composed path ∙ composed-nfc (path_of name) valid.utf8 valid.nfc)
+    ∙ name_at-valid own parts.namespace parts.owner (path_of name) (root_of name) printable valid.printable root
     ∙ name_in-valid name valid
 
 -- ---- the three namespaces
 
 reads_shared : (user : List ℕ) (name : Name) → IsName name → root_of name ≡ [] → name_read user (codes "Shared/" ++ path_of name) ≡ Ok name
 reads_shared user name valid shared =
-    read_place (Some user) _ (record { namespace = Shared; owner = []; path = path_of name }) name valid
+    read_parts (Some user) _ (record { namespace = Shared; owner = []; path = path_of name }) name valid
     (is_utf8-front (codes "Shared/") (path_of name) (ascii_by_test (codes "Shared/") refl) valid.utf8) refl composed-empty has_control-empty refl (ap Ok (sym shared))
 
 reads_own : (name : Name) → IsName name → is_empty (root_of name) ≡ false → name_read (root_of name) (path_of name) ≡ Ok name
@@ -69,17 +69,17 @@ reads_own name valid owned =
     let free : is_prefix_word parts.first ≡ false =
     sym (ap (λ b. not b && is_prefix_word parts.first) owned)
     ∙ ap (is_reserved (root_of name)) (sym parts.are ∙ valid.parted) ∙ valid.unreserved in
-    read_place (Some (root_of name)) _ (record { namespace = Personal; owner = []; path = path_of name }) name valid
-    valid.utf8 (place_of-personal (path_of name) parts.first parts.more parts.are free) composed-empty has_control-empty refl refl
+    read_parts (Some (root_of name)) _ (record { namespace = Personal; owner = []; path = path_of name }) name valid
+    valid.utf8 (parts_of-personal (path_of name) parts.first parts.more parts.are free) composed-empty has_control-empty refl refl
 
 reads_other : (user : List ℕ) (name : Name) → IsName name → is_user_name (root_of name) ≡ true → bytes_eq (root_of name) user ≡ false → name_read user (codes "Other Users/" ++ (root_of name ++ 47 ∷ path_of name)) ≡ Ok name
 reads_other user name valid owned other =
     let facts : UserNameFacts (root_of name) = user_name_facts (root_of name) owned in
-    read_place (Some user) _ (record { namespace = OtherUsers; owner = root_of name; path = path_of name }) name valid
+    read_parts (Some user) _ (record { namespace = OtherUsers; owner = root_of name; path = path_of name }) name valid
     (is_utf8-front (codes "Other Users/") _ (ascii_by_test (codes "Other Users/") refl)
     (is_utf8-append (root_of name) (47 ∷ path_of name) facts.utf8
     (is_utf8-front (47 ∷ []) (path_of name) (ascii_by_test (47 ∷ []) refl) valid.utf8)))
-    (other_place-user (root_of name) (path_of name) (undelimited-user (root_of name) owned))
+    (other_parts-user (root_of name) (path_of name) (undelimited-user (root_of name) owned))
     (composed-nfc (root_of name) facts.utf8 facts.nfc)
     (has_control-user (root_of name) owned)
     refl

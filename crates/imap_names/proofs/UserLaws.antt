@@ -1,23 +1,23 @@
 -- What holds of a user name.
 use Rattle.std.proofs.Common.{◌≡◌, ℕ, ◌<◌, ◌≤◌, Bool, true, false, not, eqb, List, [], ◌∷◌, length, get_or, refl, sym, ap, ◌∙◌, arith}
-use Rattle.std.specs.Prelude.{◌||◌, ◌&&◌, nat_lt, nat_le, chars}
+use Rattle.std.specs.Prelude.{◌||◌, ◌&&◌, ◌==◌, nat_eq, nat_lt, nat_le, bytes_eq, chars, codes}
 use Rattle.std.specs.Char.{is_control}
 use Rattle.std.specs.Str.{IsUtf8, is_utf8, NonePass, NoCharPasses}
-use Rattle.std.specs.List.{list_any}
+use Rattle.std.specs.List.{list_any, starts_with}
 use Rattle.std.proofs.lemmas.Bool.{and_parts, or_parts, or_from, not-true, ltb-true, leb-true, ne_eqb}
 use Rattle.std.proofs.lemmas.Str.{IsUtf8-from_is_utf8, is_utf8-from_IsUtf8, encodes-chars, NoCharPasses-byte}
 use Rattle.unicode_normalization.specs.Forms.{is_nfc, Nfc, IsInForm}
 use Rattle.unicode_normalization.proofs.FormsLemmas.{is_in_form_from}
 use Rattle.imap_names.specs.Name.{is_empty}
 use Rattle.imap_names.specs.Text.{is_delimiter, has_control}
-use Rattle.imap_names.specs.UserName.{is_user_name, has_user_form, is_barred, names_no_user}
+use Rattle.imap_names.specs.UserName.{max_user_name_octets, is_user_name, has_user_form, is_barred, names_no_user}
 use Rattle.imap_names.proofs.Parts.{undelimited}
 
 pub record UserNameFacts (text : List ℕ) : Type 0 where
   pub utf8 : is_utf8 text ≡ true
   pub nfc : is_nfc (chars text) ≡ true
   pub some : 0 < length text
-  pub short : length text ≤ 64
+  pub short : length text ≤ max_user_name_octets
   pub unbarred : list_any is_barred (chars text) ≡ false
   pub user : names_no_user text ≡ false
 
@@ -28,12 +28,12 @@ user_name_facts text h =
     let b = and_parts (is_utf8 text) (is_nfc (chars text)) a.0 in
     let c = and_parts _ (not (names_no_user text)) a.1 in
     let d = and_parts _ (not (list_any is_barred (chars text))) c.0 in
-    let e = and_parts (nat_lt 0 (length text)) (nat_le (length text) 64) d.0 in
+    let e = and_parts (nat_lt 0 (length text)) (nat_le (length text) max_user_name_octets) d.0 in
     record {
       utf8 = b.0;
       nfc = b.1;
       some = ltb-true 0 (length text) e.0;
-      short = leb-true (length text) 64 e.1;
+      short = leb-true (length text) max_user_name_octets e.1;
       unbarred = not-true _ d.1;
       user = not-true _ c.1;
     }
@@ -70,3 +70,15 @@ undelimited-user text h =
     let small : get_or text i 0 < 128 = omega arith in
     let fails : is_barred (get_or text i 0) ≡ false = NoCharPasses-byte is_barred text i none l small in
     let clash : is_barred 47 ≡ false = ap is_barred (sym e) ∙ fails in cc)
+
+not_minus : (text : List ℕ) → starts_with nat_eq text (codes "-") ≡ false → (get_or text 0 0 == 45) ≡ false
+not_minus [] h = refl
+not_minus (c ∷ cs) h = ne_eqb c 45 (λ e.
+    let clash : starts_with nat_eq (45 ∷ cs) (codes "-") ≡ false = ap (λ z. starts_with nat_eq (z ∷ cs) (codes "-")) (sym e) ∙ h in cc)
+
+-- a user name begins with no `-`
+pub not_minus-user : (text : List ℕ) → is_user_name text ≡ true → (get_or text 0 0 == 45) ≡ false
+not_minus-user text h =
+    let word : Bool = bytes_eq text (codes "anyone") || starts_with nat_eq text (codes "-") in
+    let parts = or_parts word (starts_with nat_eq text (codes "group:")) (user_name_facts text h).user in
+    not_minus text (or_parts (bytes_eq text (codes "anyone")) (starts_with nat_eq text (codes "-")) parts.0).1

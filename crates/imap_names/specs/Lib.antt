@@ -1,4 +1,5 @@
 pub mod Name
+pub mod Order
 pub mod Text
 pub mod UserName
 pub mod Valid

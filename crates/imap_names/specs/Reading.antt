@@ -9,29 +9,30 @@ use Rattle.imap_names.specs.declared.read.Namespace.TheVariants.{Personal, Other
 use Rattle.imap_names.specs.Name.{Name, named, shared_root, is_empty}
 use Rattle.imap_names.specs.Text.{is_delimiter, components_of, composed, has_control}
 use Rattle.imap_names.specs.UserName.{is_user_name}
-use Rattle.imap_names.specs.Valid.{is_prefix_word, is_reserved, with_inbox}
+use Rattle.imap_names.specs.Valid.{max_path_octets, max_depth, is_prefix_word, is_reserved, with_inbox}
 
--- the namespace of a text, the owner that it names there and the path that is left, both as they were written
-pub record Place : Type 0 where
+-- the namespace of a text, the owner that it names there and the rest as the path, both as they were written
+pub record NameParts : Type 0 where
   pub namespace : Namespace
   pub owner : List ℕ
   pub path : List ℕ
 
--- behind the prefix of the other users stand a user and a path; a user alone names no mailbox
-abbrev pub other_place : List ℕ → Place
-other_place rest =
+-- after the prefix of the other users stand a user and a path; a user alone names no mailbox
+abbrev pub other_parts : List ℕ → NameParts
+other_parts rest =
     if list_any is_delimiter rest
     then record { namespace = OtherUsers; owner = before_first is_delimiter rest; path = after_first is_delimiter rest }
     else record { namespace = Bare; owner = rest; path = [] }
 
-abbrev pub place_of : List ℕ → Place
-place_of text =
+abbrev pub parts_of : List ℕ → NameParts
+parts_of text =
     if is_prefix_word text then record { namespace = Bare; owner = []; path = [] }
-    else if starts_with nat_eq text (codes "Shared/") then record { namespace = Shared; owner = []; path = drop 7 text }
-    else if starts_with nat_eq text (codes "Other Users/") then other_place (drop 12 text)
+    else if starts_with nat_eq text (codes "Shared/")
+    then record { namespace = Shared; owner = []; path = drop 7 text }
+    else if starts_with nat_eq text (codes "Other Users/") then other_parts (drop 12 text)
     else record { namespace = Personal; owner = []; path = text }
 
--- no reader may name his own tree by the prefix of the other users
+-- whether the owner is the reader, who may not name his own tree by the prefix of the other users
 abbrev pub is_own : Option (List ℕ) → List ℕ → Bool
 is_own None owner = false
 is_own (Some user) owner = bytes_eq owner user
@@ -41,10 +42,14 @@ abbrev pub own_root : Option (List ℕ) → Result (List ℕ) NameError
 own_root None = Err Reserved
 own_root (Some user) = Ok user
 
--- the root of the tree
+-- another user's tree
+abbrev pub other_root : Option (List ℕ) → List ℕ → Result (List ℕ) NameError
+other_root own owner = if is_own own owner || not (is_user_name owner) then Err Reserved else Ok owner
+
+-- the root of the tree that a namespace has for a reader, by the owner that is named there
 abbrev pub root_at : Option (List ℕ) → Namespace → List ℕ → Result (List ℕ) NameError
 root_at own Personal owner = own_root own
-root_at own OtherUsers owner = if is_own own owner || not (is_user_name owner) then Err Reserved else Ok owner
+root_at own OtherUsers owner = other_root own owner
 root_at own Shared owner = Ok shared_root
 root_at own Bare owner = Err Reserved
 
@@ -53,8 +58,8 @@ abbrev pub path_fault : List ℕ → List ℕ → Option NameError
 path_fault root path =
     if is_reserved root (components_of path) then Some Reserved
     else if list_any is_empty (components_of path) then Some EmptyComponent
-    else if nat_lt 255 (length path) then Some TooLong
-    else if nat_lt 16 (length (components_of path)) then Some TooDeep
+    else if nat_lt max_path_octets (length path) then Some TooLong
+    else if nat_lt max_depth (length (components_of path)) then Some TooDeep
     else None
 
 abbrev pub unless_fault : Option NameError → Name → Result Name NameError
@@ -78,8 +83,8 @@ name_at own namespace owner path =
 -- what a text names for a reader with this tree, if he has one
 unfoldable pub read_by : Option (List ℕ) → List ℕ → Result Name NameError
 read_by own text =
-    let place : Place = place_of text in
-    if is_utf8 text then name_at own place.namespace (composed place.owner) (composed place.path) else Err Control
+    let parts : NameParts = parts_of text in
+    if is_utf8 text then name_at own parts.namespace (composed parts.owner) (composed parts.path) else Err Control
 
 -- what a text names for a user
 abbrev pub name_read : List ℕ → List ℕ → Result Name NameError

@@ -8,6 +8,14 @@ use Rattle.imap_names.specs.Name.{Name, root_of, components, path_of, is_empty}
 use Rattle.imap_names.specs.Text.{components_of, has_control}
 use Rattle.imap_names.specs.UserName.{is_user_name}
 
+-- the most octets of a path
+abbrev pub max_path_octets : ℕ
+max_path_octets = 255
+
+-- the most components of a path
+abbrev pub max_depth : ℕ
+max_depth = 16
+
 -- the first component of a prefix of a namespace (RFC 9051, section 5.1.2)
 abbrev pub is_prefix_word : List ℕ → Bool
 is_prefix_word component = bytes_eq component (codes "Other Users") || bytes_eq component (codes "Shared")
@@ -38,8 +46,8 @@ pub record IsName (name : Name) : Type 0 where
   -- so there is a component, and none has a delimiter in it
   pub parted : components_of (path_of name) ≡ components name
   pub filled : list_any is_empty (components name) ≡ false
-  pub shallow : length (components name) ≤ 16
-  pub short : length (path_of name) ≤ 255
+  pub shallow : length (components name) ≤ max_depth
+  pub short : length (path_of name) ≤ max_path_octets
   pub utf8 : is_utf8 (path_of name) ≡ true
   pub nfc : is_nfc (chars (path_of name)) ≡ true
   pub printable : has_control (path_of name) ≡ false

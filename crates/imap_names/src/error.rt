@@ -1,42 +1,35 @@
-//! What may be wrong with the text of a name.
+//! The faults of the text of a name.
 ghost use Rattle.std.specs.Prelude.{◌≡◌};
 ghost use Rattle.imap_names.specs.declared.error.NameError.TheVariants.{Memory};
 
-use std::alloc::{AllocError, AllocFailed};
-use std::error::Error;
-use std::fmt;
+use crate::name::{MAX_DEPTH, MAX_PATH_OCTETS};
+use std::alloc::AllocError;
+use thiserror::Error;
 
-/// Why a text is no name; where several hold, the first of `Control`, `Reserved`, `EmptyComponent`, `TooLong` and `TooDeep`.
-#[derive(Clone, Copy, Debug, PartialEq, Eq)]
+/// Why a text is no name.
+///
+/// Of several faults the first of `Control`, `Reserved`, `EmptyComponent`, `TooLong` and `TooDeep` counts.
+#[derive(Clone, Copy, Debug, PartialEq, Eq, Error)]
 pub enum NameError {
     /// Two delimiters in a row, or one at an end.
+    #[error("a component of the name is empty")]
     EmptyComponent,
-    /// A path of more than 255 octets.
+    /// A path of more than [`MAX_PATH_OCTETS`] octets.
+    #[error("the path is longer than {max} octets", max = MAX_PATH_OCTETS)]
     TooLong,
-    /// More than 16 components.
+    /// More than [`MAX_DEPTH`] components.
+    #[error("the path has more than {max} components", max = MAX_DEPTH)]
     TooDeep,
-    /// A namespace alone, a tree that cannot be named so, or a path that begins as a namespace does.
+    /// A namespace alone, a tree that has no name of this kind, or a path that begins as a namespace does.
+    #[error("the name is reserved")]
     Reserved,
-    /// A control character, or octets that are no UTF-8.
+    /// A control character, or octets that are not UTF-8.
+    #[error("the name is not printable text")]
     Control,
     /// Out of memory.
+    #[error("out of memory")]
     Memory,
 }
-
-impl fmt::Display for NameError {
-    fn fmt<W: fmt::Write>(&self, f: &mut fmt::Formatter<W>) -> fmt::Result {
-        match self {
-            NameError::EmptyComponent => write!(f, "a component of the name is empty"),
-            NameError::TooLong => write!(f, "the path is longer than 255 octets"),
-            NameError::TooDeep => write!(f, "the path has more than 16 components"),
-            NameError::Reserved => write!(f, "the name is reserved"),
-            NameError::Control => write!(f, "the name is not printable text"),
-            NameError::Memory => write!(f, "out of memory"),
-        }
-    }
-}
-
-impl Error for NameError {}
 
 impl From<AllocError> for NameError {
     ghost from_gives = { λ _ error. error ≡ Memory };

@@ -1,18 +1,21 @@
-//! Mailbox names (RFC 9051, section 5.1): what a text names for a user, and how a name is shown to him.
+//! Mailbox names (RFC 9051, section 5.1): the name that a text means for a user, and the text that shows him a name.
 //!
-//! A name lies in a user's tree or in the one that all share, and has a path of components there.
-//! A user names what is his without a prefix, another's as `Other Users/NAME/PATH`, and what all share as `Shared/PATH`.
+//! A name lies in a user's tree or in the tree that all share, and has a path of components there.
+//! A user writes a name in his own tree without a prefix, one in another's tree as `Other Users/NAME/PATH`, and one in
+//! the tree that all share as `Shared/PATH`.
 #![tactic(auto)]
 
 pub mod error;
 pub mod laws;
 pub mod name;
+pub mod name_ref;
 pub mod read;
 pub mod show;
 pub mod user_name;
 
 pub use error::NameError;
-pub use name::{Name, Tree, inbox, is_above};
+pub use name::{MAX_DEPTH, MAX_PATH_OCTETS, Name, Tree, inbox, is_above};
+pub use name_ref::NameRef;
 pub use read::{read_full, read_name};
 pub use show::show_name;
-pub use user_name::UserName;
+pub use user_name::{MAX_USER_NAME_OCTETS, UserName};

@@ -1,12 +1,20 @@
 //! Mailbox names.
-ghost use Rattle.std.specs.Prelude.{◌≡◌, ◌≢◌, ◌↔◌, ◌∷◌, [], true, codes, string_bytes, IsTrue, IfOk, MatchOption};
+ghost use Rattle.std.specs.Prelude.{◌≡◌, ◌≢◌, ◌↔◌, ◌∷◌, [], true, codes, IsTrue, IfOk, MatchOption};
 ghost use Rattle.imap_names.specs.Name.{named, root_of, path_of, shared_root, is_inbox, IsAbove};
 ghost use Rattle.imap_names.specs.Tree.{root_of_tree};
 ghost use Rattle.imap_names.specs.Valid.{IsName};
 
+use crate::name_ref::NameRef;
 use crate::user_name::UserName;
 use std::alloc::{AllocError, Global};
 use std::marker::Model;
+use std::sync::ArcStr;
+
+/// The most octets of a path.
+pub const MAX_PATH_OCTETS: usize = 255;
+
+/// The most components of a path.
+pub const MAX_DEPTH: usize = 16;
 
 /// The tree that a name lies in.
 #[derive(Debug, Drop)]
@@ -16,15 +24,17 @@ pub enum Tree {
 }
 
 impl Tree {
-    pub fn try_copy(&self, alloc: Global) -> Result<Tree, AllocError>
+    /// The same tree, without copying the owner's name.
+    pub fn try_copy(&self) -> Result<Tree, AllocError>
         ensures { IfOk result (λ copy. copy ≡ self.now) }
     {
         match self {
-            Tree::User(owner) => Ok(Tree::User(owner.try_copy(alloc)?)),
+            Tree::User(owner) => Ok(Tree::User(owner.try_copy()?)),
             Tree::Shared => Ok(Tree::Shared),
         }
     }
 
+    /// Whether both are the same tree.
     pub fn is_same(&self, other: &Tree) -> bool
         ensures { IsTrue result ↔ (root_of_tree self.now ≡ root_of_tree other.now) }
     {
@@ -44,30 +54,39 @@ impl Tree {
 
 /// The name of a mailbox, which may or may not exist.
 ///
-/// Contracts see the list of its components, the deepest first, and last the root of its tree: the owner's name, or no octets.
-/// The path has at most 16 components, none of them empty, and 255 octets; it is NFC text without control characters.
-/// A first component that spells INBOX is in upper case, and in a user's tree it is neither `Other Users` nor `Shared`.
+/// The path has at most [`MAX_DEPTH`] components, none of them empty, and [`MAX_PATH_OCTETS`] octets. It is NFC text
+/// without control characters. A first component that spells INBOX is in upper case, and in a user's tree it is neither
+/// `Other Users` nor `Shared`. Contracts see the list of its components, the deepest first, and last the root of its
+/// tree: the owner's name, or no octets. A copy shares the text.
 #[derive(Debug, Drop)]
 pub struct Name {
     pub(crate) tree: Tree,
-    pub(crate) path: String,
+    pub(crate) path: ArcStr,
 }
 
 impl Model for Name {
-    ghost use Rattle.std.specs.Prelude.{ℕ, List, string_bytes};
-    ghost use Rattle.imap_names.specs.Name.{named};
-    ghost use Rattle.imap_names.specs.Text.{components_of};
-    ghost use Rattle.imap_names.specs.Tree.{root_of_tree};
+    ghost use Rattle.std.specs.Prelude.{ℕ, List};
+    ghost use Rattle.std.specs.Arc.{arc_str_bytes};
+    ghost use Rattle.imap_names.specs.Tree.{name_below};
     ghost use Rattle.imap_names.specs.Valid.{IsName};
 
     ghost Value = { List (List ℕ) };
 
-    ghost view = { λ name. named (root_of_tree name.tree) (components_of (string_bytes name.path)) };
+    ghost view = { λ name. name_below name.tree (arc_str_bytes name.path) };
 
-    ghost invariant = { λ name. IsName (named (root_of_tree name.tree) (components_of (string_bytes name.path))) };
+    ghost invariant = { λ name. IsName (name_below name.tree (arc_str_bytes name.path)) };
 }
 
 impl Name {
+    /// The name, borrowed.
+    pub fn as_ref(&self) -> NameRef<'_>
+        ensures name { result ≡ self.now }
+        ensures valid { IsName self.now }
+    {
+        NameRef::new(self.tree.root(), self.path.as_str())
+    }
+
+    /// The tree that the name lies in.
     pub fn tree(&self) -> &Tree
         ensures root { root_of_tree result.now ≡ root_of self.now }
         ensures valid { IsName self.now }
@@ -75,9 +94,10 @@ impl Name {
         &self.tree
     }
 
-    /// Whose tree it is, unless it is the one that all share.
+    /// The owner of the tree, or `None` for the tree that all share.
     pub fn owner(&self) -> Option<&UserName>
-        ensures { MatchOption result (root_of self.now ≡ shared_root) (λ owner. root_of self.now ≡ owner.now) }
+        ensures { MatchOption result
+            (root_of self.now ≡ shared_root) (λ owner. root_of self.now ≡ owner.now) }
     {
         match &self.tree {
             Tree::User(owner) => Some(owner),
@@ -93,24 +113,27 @@ impl Name {
         self.path.as_str()
     }
 
+    /// Whether it is the INBOX of a user (RFC 9051, section 5.1).
     pub fn is_inbox(&self) -> bool
         ensures { result ≡ is_inbox self.now }
     {
-        !self.tree.root().is_empty() && self.path.as_str() == "INBOX"
+        self.as_ref().is_inbox()
     }
 
+    /// Whether both are the same name.
     pub fn is_same(&self, other: &Name) -> bool
         ensures { IsTrue result ↔ (self.now ≡ other.now) }
     {
-        self.tree.is_same(&other.tree) && self.path.as_str() == other.path.as_str()
+        self.as_ref().is_same(&other.as_ref())
     }
 
-    pub fn try_copy(&self, alloc: Global) -> Result<Name, AllocError>
+    /// The same name, without copying its text.
+    pub fn try_copy(&self) -> Result<Name, AllocError>
         ensures copy { IfOk result (λ copy. copy ≡ self.now) }
         ensures valid { IsName self.now }
     {
-        let tree = self.tree.try_copy(alloc)?;
-        let path = String::from_str(alloc, self.path.as_str())?;
+        let tree = self.tree.try_copy()?;
+        let path = self.path.clone()?;
         Ok(Name { tree, path })
     }
 }
@@ -120,12 +143,12 @@ pub fn inbox(alloc: Global, user: &UserName) -> Result<Name, AllocError>
     ensures name { IfOk result (λ name. name ≡ named user.now (codes "INBOX" ∷ [])) }
     ensures valid { IfOk result IsName }
 {
-    let tree = Tree::User(user.try_copy(alloc)?);
-    let path = String::from_str(alloc, "INBOX")?;
+    let tree = Tree::User(user.try_copy()?);
+    let path = ArcStr::from_str(alloc, "INBOX")?;
     Ok(Name { tree, path })
 }
 
-/// Whether one name is a superior of the other, which no name is of itself.
+/// Whether `above` is a superior of `below`. No name is a superior of itself.
 pub fn is_above(above: &Name, below: &Name) -> bool
     ensures { IsTrue result ↔ IsAbove above.now below.now }
 {

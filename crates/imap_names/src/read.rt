@@ -3,26 +3,22 @@ ghost use Rattle.std.specs.Prelude.{◌≡◌, ℕ, List, ◌∷◌, false, true
 ghost use Rattle.std.specs.List.{list_any};
 ghost use Rattle.std.specs.Str.{IsUtf8};
 ghost use Rattle.unicode_normalization.specs.Forms.{is_nfc};
-ghost use Rattle.imap_names.specs.Answer.{Reads, ReadsAs};
+ghost use Rattle.imap_names.specs.Answer.{AnswersIfMemory, AnswersAsIfMemory, FailsBy};
 ghost use Rattle.imap_names.specs.Name.{is_empty};
-ghost use Rattle.imap_names.specs.Reading.{place_of, other_place, is_own, own_root, root_at, path_fault, name_in, name_at, read_by, name_read, full_name_read};
+ghost use Rattle.imap_names.specs.Reading.{parts_of, other_parts, is_own, own_root, other_root, root_at, path_fault, name_in, name_at, read_by, name_read, full_name_read};
 ghost use Rattle.imap_names.specs.Text.{components_of, has_control};
 ghost use Rattle.imap_names.specs.Tree.{root_of_tree};
 ghost use Rattle.imap_names.specs.Valid.{is_reserved, is_inbox_word, is_prefix_word, held_path, is_root, IsName};
 
 use crate::error::NameError;
-use crate::name::{Name, Tree};
+use crate::name::{MAX_DEPTH, MAX_PATH_OCTETS, Name, Tree};
 use crate::user_name::UserName;
 use std::alloc::{AllocError, Global};
 use std::str;
+use std::sync::ArcStr;
 use unicode_normalization::to_nfc;
 
-/// The most octets of a path.
-const MAX_PATH_OCTETS: usize = 255;
-/// The most components of a path.
-const MAX_DEPTH: usize = 16;
-
-/// What a text points to by its prefix (RFC 9051, section 5.1.2).
+/// The namespace that a text names by its prefix (RFC 9051, section 5.1.2).
 #[derive(Clone, Copy)]
 pub(crate) enum Namespace {
     Personal,
@@ -32,47 +28,57 @@ pub(crate) enum Namespace {
     Bare,
 }
 
-/// A text without its prefix, as it was written.
+/// A text by the parts of a name, as they are written: its namespace, the owner that it names there, and its path.
 #[derive(Clone, Copy)]
-struct Place<'a> {
+struct NameParts<'a> {
     namespace: Namespace,
     owner: &'a str,
     path: &'a str,
 }
 
-/// The name that the user's text means.
+/// The name that a text means for `user`.
+///
+/// Octets that are not UTF-8, and a prefix alone, are refused before memory is taken, other texts after it.
 pub fn read_name(alloc: Global, user: &UserName, text: &[u8]) -> Result<Name, NameError>
-    ensures read { Reads result (name_read user.now text.now) }
+    ensures read { AnswersIfMemory result (name_read user.now text.now) }
     ensures valid { IfOk result IsName }
     ensures not_text { ¬ (IsUtf8 text.now) → result ≡ Err NameError.Control }
+    ensures bare { is_prefix_word text.now ≡ true → result ≡ Err NameError.Reserved }
 {
     read_by(alloc, Some(user), text)
 }
 
-/// The name that a text means which says its tree in full: `Other Users/NAME/PATH` of every user, or `Shared/PATH`.
+/// The name that a text in full means: `Other Users/NAME/PATH`, of every user, or `Shared/PATH`.
+///
+/// Octets that are not UTF-8, and a prefix alone, are refused before memory is taken, other texts after it.
 pub fn read_full(alloc: Global, text: &[u8]) -> Result<Name, NameError>
-    ensures read { Reads result (full_name_read text.now) }
+    ensures read { AnswersIfMemory result (full_name_read text.now) }
     ensures valid { IfOk result IsName }
     ensures not_text { ¬ (IsUtf8 text.now) → result ≡ Err NameError.Control }
+    ensures bare { is_prefix_word text.now ≡ true → result ≡ Err NameError.Reserved }
 {
     read_by(alloc, None, text)
 }
 
 fn read_by(alloc: Global, own: Option<&UserName>, text: &[u8]) -> Result<Name, NameError>
-    ensures read { Reads result (read_by (option_copied own.entry) text.now) }
+    ensures read { AnswersIfMemory result (read_by (option_copied own.entry) text.now) }
     ensures valid { IfOk result IsName }
     ensures not_text { ¬ (IsUtf8 text.now) → result ≡ Err NameError.Control }
+    ensures bare { is_prefix_word text.now ≡ true → result ≡ Err NameError.Reserved }
 {
     let Ok(text) = str::from_utf8(text) else {
         return Err(NameError::Control);
     };
-    let place = place_of(text);
-    let owner = to_nfc(alloc, place.owner)?;
-    let path = to_nfc(alloc, place.path)?;
-    name_at(alloc, own, place.namespace, owner.as_str(), path)
+    if is_prefix_word(text) {
+        return Err(NameError::Reserved);
+    }
+    let parts = parts_of(text);
+    let owner = to_nfc(alloc, parts.owner)?;
+    let path = to_nfc(alloc, parts.path)?;
+    name_at(alloc, own, parts.namespace, owner.as_str(), path)
 }
 
-/// The name in the namespace, of an owner and a path in NFC.
+/// The name in the namespace, with an owner and a path in NFC.
 fn name_at(
     alloc: Global,
     own: Option<&UserName>,
@@ -81,7 +87,8 @@ fn name_at(
     path: String,
 ) -> Result<Name, NameError>
     requires { is_nfc (chars (string_bytes path)) ≡ true }
-    ensures read { Reads result (name_at (option_copied own.entry) namespace owner.now (string_bytes path)) }
+    ensures read { AnswersIfMemory result
+        (name_at (option_copied own.entry) namespace owner.now (string_bytes path)) }
     ensures valid { IfOk result IsName }
 {
     if has_control(owner) || has_control(path.as_str()) {
@@ -91,28 +98,23 @@ fn name_at(
     name_in(alloc, tree, path)
 }
 
-fn place_of(text: &str) -> Place<'_>
-    ensures namespace { result.namespace ≡ (place_of text.now).namespace }
-    ensures owner { result.owner.now ≡ (place_of text.now).owner }
-    ensures path { result.path.now ≡ (place_of text.now).path }
+/// The parts of a text that is no prefix alone.
+fn parts_of(text: &str) -> NameParts<'_>
+    requires { is_prefix_word text.now ≡ false }
+    ensures namespace { result.namespace ≡ (parts_of text.now).namespace }
+    ensures owner { result.owner.now ≡ (parts_of text.now).owner }
+    ensures path { result.path.now ≡ (parts_of text.now).path }
 {
-    if is_prefix_word(text) {
-        return Place {
-            namespace: Namespace::Bare,
-            owner: "",
-            path: "",
-        };
-    }
     if let Some(path) = text.strip_prefix("Shared/") {
-        return Place {
+        return NameParts {
             namespace: Namespace::Shared,
             owner: "",
             path,
         };
     }
     match text.strip_prefix("Other Users/") {
-        Some(rest) => other_place(rest),
-        None => Place {
+        Some(rest) => other_parts(rest),
+        None => NameParts {
             namespace: Namespace::Personal,
             owner: "",
             path: text,
@@ -120,18 +122,19 @@ fn place_of(text: &str) -> Place<'_>
     }
 }
 
-fn other_place(rest: &str) -> Place<'_>
-    ensures namespace { result.namespace ≡ (other_place rest.now).namespace }
-    ensures owner { result.owner.now ≡ (other_place rest.now).owner }
-    ensures path { result.path.now ≡ (other_place rest.now).path }
+/// The parts of a text by what follows `Other Users/` in it.
+fn other_parts(rest: &str) -> NameParts<'_>
+    ensures namespace { result.namespace ≡ (other_parts rest.now).namespace }
+    ensures owner { result.owner.now ≡ (other_parts rest.now).owner }
+    ensures path { result.path.now ≡ (other_parts rest.now).path }
 {
     match rest.split_once('/') {
-        Some((owner, path)) => Place {
+        Some((owner, path)) => NameParts {
             namespace: Namespace::OtherUsers,
             owner,
             path,
         },
-        None => Place {
+        None => NameParts {
             namespace: Namespace::Bare,
             owner: rest,
             path: "",
@@ -158,30 +161,31 @@ fn tree_at(
     namespace: Namespace,
     owner: &str,
 ) -> Result<Tree, NameError>
-    ensures read { ReadsAs root_of_tree result (root_at (option_copied own.entry) namespace owner.now) }
+    ensures read { AnswersAsIfMemory root_of_tree result
+        (root_at (option_copied own.entry) namespace owner.now) }
     ensures valid { IfOk result (λ tree. is_root (root_of_tree tree) ≡ true) }
 {
     match namespace {
-        Namespace::Personal => own_tree(alloc, own),
+        Namespace::Personal => own_tree(own),
         Namespace::OtherUsers => other_tree(alloc, own, owner),
         Namespace::Shared => Ok(Tree::Shared),
         Namespace::Bare => Err(NameError::Reserved),
     }
 }
 
-fn own_tree(alloc: Global, own: Option<&UserName>) -> Result<Tree, NameError>
-    ensures read { ReadsAs root_of_tree result (own_root (option_copied own.entry)) }
+fn own_tree(own: Option<&UserName>) -> Result<Tree, NameError>
+    ensures read { AnswersAsIfMemory root_of_tree result (own_root (option_copied own.entry)) }
     ensures valid { IfOk result (λ tree. is_root (root_of_tree tree) ≡ true) }
 {
     match own {
-        Some(user) => Ok(Tree::User(user.try_copy(alloc)?)),
+        Some(user) => Ok(Tree::User(user.try_copy()?)),
         None => Err(NameError::Reserved),
     }
 }
 
-/// Another's tree, which nobody names as his own.
+/// The tree of `owner`, which is not the reader's own.
 fn other_tree(alloc: Global, own: Option<&UserName>, owner: &str) -> Result<Tree, NameError>
-    ensures read { ReadsAs root_of_tree result (root_at (option_copied own.entry) Namespace.OtherUsers owner.now) }
+    ensures read { AnswersAsIfMemory root_of_tree result (other_root (option_copied own.entry) owner.now) }
     ensures valid { IfOk result (λ tree. is_root (root_of_tree tree) ≡ true) }
 {
     if is_own(own, owner) {
@@ -202,18 +206,20 @@ fn is_own(own: Option<&UserName>, owner: &str) -> bool
     }
 }
 
-/// The name with the path, which is NFC text without controls.
+/// The name with the path in the tree. A fault of the path is found before memory is taken.
 fn name_in(alloc: Global, tree: Tree, path: String) -> Result<Name, NameError>
     requires tree { is_root (root_of_tree tree) ≡ true }
     requires nfc { is_nfc (chars (string_bytes path)) ≡ true }
     requires printable { has_control (string_bytes path) ≡ false }
-    ensures read { Reads result (name_in (root_of_tree tree) (string_bytes path)) }
+    ensures read { AnswersIfMemory result (name_in (root_of_tree tree) (string_bytes path)) }
+    ensures fault { FailsBy (path_fault (root_of_tree tree) (string_bytes path)) result }
     ensures valid { IfOk result IsName }
 {
     if let Some(fault) = path_fault(&tree, path.as_str()) {
         return Err(fault);
     }
-    let path = with_inbox(alloc, path)?;
+    let held = with_inbox(alloc, path)?;
+    let path = ArcStr::from_string(held)?;
     Ok(Name { tree, path })
 }
 
@@ -234,7 +240,7 @@ fn path_fault(tree: &Tree, path: &str) -> Option<NameError>
     }
 }
 
-/// Whether the path would lead out of a user's tree.
+/// Whether the path would look as if it led out of a user's tree.
 fn is_reserved(tree: &Tree, path: &str) -> bool
     ensures { result ≡ is_reserved (root_of_tree tree.now) (components_of path.now) }
 {
@@ -256,13 +262,14 @@ fn has_empty_component(path: &str) -> bool
     path.split('/').any(|component| component.is_empty())
 }
 
-fn depth(path: &str) -> usize
+/// How many components the path has.
+pub(crate) fn depth(path: &str) -> usize
     ensures { result ≡ length (components_of path.now) }
 {
     path.split('/').count()
 }
 
-/// The path with a first component that spells INBOX in upper case.
+/// The path, with a first component that spells INBOX in upper case.
 fn with_inbox(alloc: Global, path: String) -> Result<String, AllocError>
     ensures { IfOk result (λ held. string_bytes held ≡ held_path (string_bytes path)) }
 {

@@ -2,6 +2,7 @@
 ghost use Rattle.std.specs.Prelude.{◌≡◌, string_bytes, IfOk, Ok};
 ghost use Rattle.imap_names.specs.Reading.{name_read};
 ghost use Rattle.imap_names.specs.Showing.{shown};
+ghost use Rattle.imap_names.specs.Valid.{IsName};
 
 use crate::name::Name;
 use crate::user_name::UserName;
@@ -11,6 +12,7 @@ use std::alloc::{AllocError, Global};
 pub fn show_name(alloc: Global, user: &UserName, name: &Name) -> Result<String, AllocError>
     ensures text { IfOk result (λ text. string_bytes text ≡ shown user.now name.now) }
     ensures reads_back { name_read user.now (shown user.now name.now) ≡ Ok name.now }
+    ensures valid { IsName name.now }
 {
     let owner = name.tree.root();
     let path = name.path.as_str();

@@ -1,47 +1,51 @@
 //! Names of users.
-ghost use Rattle.std.specs.Prelude.{◌≡◌, ◌↔◌, true, false, chars, IsTrue, IfOk, MatchOption};
+ghost use Rattle.std.specs.Prelude.{◌≡◌, ◌↔◌, true, chars, IsTrue, IfOk};
 ghost use Rattle.std.specs.List.{list_any};
-ghost use Rattle.imap_names.specs.UserName.{is_user_name, has_user_form, is_barred, names_no_user};
+ghost use Rattle.imap_names.specs.UserName.{IsUserNameRead, is_user_name, has_user_form, is_barred, names_no_user};
 
 use std::alloc::{AllocError, Global};
 use std::marker::Model;
+use std::sync::ArcStr;
 use unicode_normalization::is_nfc;
 
 /// The most octets of a user name.
-const MAX_OCTETS: usize = 64;
+pub const MAX_USER_NAME_OCTETS: usize = 64;
 
-/// A user's name: NFC text (RFC 5198), not empty, with at most 64 octets and no space, `/` or control character.
+/// A user's name: NFC text (RFC 5198) without space, `/` or control character.
 ///
-/// `anyone`, and what has `-` or `group:` at its head, is no user: these mean other things in an ACL (RFC 4314).
-/// Contracts see its octets.
+/// It has at least one octet and at most [`MAX_USER_NAME_OCTETS`]. `anyone`, and a text that begins with `-` or
+/// `group:`, is no user name: these mean other things in an ACL (RFC 4314).
+/// Contracts see its octets. A copy shares them.
 #[derive(Debug, Drop)]
 pub struct UserName {
-    text: String,
+    text: ArcStr,
 }
 
 impl Model for UserName {
-    ghost use Rattle.std.specs.Prelude.{◌≡◌, ℕ, List, true, string_bytes};
+    ghost use Rattle.std.specs.Prelude.{◌≡◌, ℕ, List, true};
+    ghost use Rattle.std.specs.Arc.{arc_str_bytes};
     ghost use Rattle.imap_names.specs.UserName.{is_user_name};
 
     ghost Value = { List ℕ };
 
-    ghost view = { λ name. string_bytes name.text };
+    ghost view = { λ name. arc_str_bytes name.text };
 
-    ghost invariant = { λ name. is_user_name (string_bytes name.text) ≡ true };
+    ghost invariant = { λ name. is_user_name (arc_str_bytes name.text) ≡ true };
 }
 
 impl UserName {
-    /// The name that the text spells, if it is one; a text that isn't in NFC is none.
+    /// The text as a user name, or `None` if it is none. A text that isn't in NFC is none.
     pub fn read(alloc: Global, text: &str) -> Result<Option<UserName>, AllocError>
-        ensures { IfOk result (λ read. MatchOption read (is_user_name text.now ≡ false) (λ name. (name ≡ text.now) × (is_user_name name ≡ true))) }
+        ensures { IfOk result (IsUserNameRead text.now) }
     {
         if !spells_user(alloc, text)? {
             return Ok(None);
         }
-        let text = String::from_str(alloc, text)?;
+        let text = ArcStr::from_str(alloc, text)?;
         Ok(Some(UserName { text }))
     }
 
+    /// The text of the name.
     pub fn as_str(&self) -> &str
         ensures text { result.now ≡ self.now }
         ensures valid { is_user_name self.now ≡ true }
@@ -49,14 +53,16 @@ impl UserName {
         self.text.as_str()
     }
 
-    pub fn try_copy(&self, alloc: Global) -> Result<UserName, AllocError>
+    /// The same name, without copying its text.
+    pub fn try_copy(&self) -> Result<UserName, AllocError>
         ensures copy { IfOk result (λ copy. copy ≡ self.now) }
         ensures valid { is_user_name self.now ≡ true }
     {
-        let text = String::from_str(alloc, self.text.as_str())?;
+        let text = self.text.clone()?;
         Ok(UserName { text })
     }
 
+    /// Whether both are the same name.
     pub fn is_same(&self, other: &UserName) -> bool
         ensures { IsTrue result ↔ (self.now ≡ other.now) }
     {
@@ -76,10 +82,13 @@ fn spells_user(alloc: Global, text: &str) -> Result<bool, AllocError>
 fn has_user_form(text: &str) -> bool
     ensures { result ≡ has_user_form text.now }
 {
-    !text.is_empty() && text.len() <= MAX_OCTETS && !has_barred(text) && !names_no_user(text)
+    !text.is_empty()
+        && text.len() <= MAX_USER_NAME_OCTETS
+        && !has_barred(text)
+        && !names_no_user(text)
 }
 
-/// Whether a character of the text cannot stand in a user name.
+/// Whether the text has a character that no user name has.
 fn has_barred(text: &str) -> bool
     ensures { result ≡ list_any is_barred (chars text.now) }
 {
@@ -87,7 +96,7 @@ fn has_barred(text: &str) -> bool
         .any(|char| char == ' ' || char == '/' || char.is_control())
 }
 
-/// Whether the text means something else in an ACL.
+/// Whether the text means something else in an ACL (RFC 4314, sections 2 and 3.1).
 fn names_no_user(text: &str) -> bool
     ensures { result ≡ names_no_user text.now }
 {

@@ -1,0 +1,13 @@
+//! Maps from mailbox names to values, in the order of the names.
+//!
+//! In this order a name and all names below it stand together, so that they are one slice of the entries.
+#![tactic(auto)]
+
+mod copies;
+mod edits;
+mod moves;
+pub mod name_map;
+mod places;
+
+pub use copies::TryCopy;
+pub use name_map::NameMap;

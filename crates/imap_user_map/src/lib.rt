@@ -1,0 +1,8 @@
+//! A map from user names that can be changed in memory that was reserved before.
+//!
+//! A look-up takes the same time however many users there are.
+#![tactic(auto)]
+
+mod user_map;
+
+pub use user_map::UserMap;

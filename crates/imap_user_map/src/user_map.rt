@@ -1,0 +1,80 @@
+//! The map.
+
+ghost use Rattle.std.specs.Prelude.{◌≡◌, ◌+◌, ◌<◌, ◌≤◌, is_some, OnOk, OnSome, option_copied};
+ghost use Rattle.std.specs.Option.{option_copied_mut};
+ghost use Rattle.std.specs.Borrow.{sem, LendsSo};
+ghost use Rattle.std.specs.FinMap as map;
+ghost use Rattle.std.specs.String.{string_bytes};
+ghost use Rattle.imap_user_map.specs.contracts.user_map.UserMap.{the_row};
+ghost use Rattle.imap_user_map.specs.Rows.{with_value};
+
+use std::alloc::{AllocError, Global};
+use std::collections::HashMap;
+use std::marker::Model;
+
+/// A map from user names. Contracts see the map and its room: for how many more names no memory is needed.
+#[derive(Drop)]
+pub struct UserMap<V> {
+    entries: HashMap<String, V>,
+}
+
+impl<V> Model for UserMap<V> {
+    ghost use Rattle.imap_user_map.specs.Rows.{Rows, rows_code, rows_of};
+
+    ghost Value = { Rows V };
+
+    ghost coded = { rows_code V.code };
+
+    ghost view = { λ m. rows_of m.entries };
+}
+
+impl<V> UserMap<V> {
+    pub fn new(alloc: Global) -> Self
+        ensures { result.map ≡ map.empty }
+    {
+        UserMap {
+            entries: HashMap::new(alloc),
+        }
+    }
+
+    pub fn get(&self, user: &str) -> Option<&V>
+        ensures { option_copied result ≡ map.get self.now.map user.now }
+    {
+        self.entries.get(user)
+    }
+
+    pub fn contains(&self, user: &str) -> bool
+        ensures { result ≡ is_some (map.get self.now.map user.now) }
+    {
+        self.entries.contains_key(user)
+    }
+
+    /// The value of a user, to be changed in its place.
+    pub fn get_mut(&mut self, user: &str) -> Option<&mut V>
+        ensures* writes_back { sem 𝓛 (LendsSo (the_row V.row) V.row self.entry result
+            (λ n w. OnSome result (n ≡ with_value self.old user.now w)) (λ n. n ≡ self.old)) }
+        ensures value { option_copied_mut result ≡ map.get self.old.map user.now }
+    {
+        self.entries.get_mut(user)
+    }
+
+    /// Makes room for `more` users.
+    pub fn reserve(&mut self, more: usize) -> Result<(), AllocError>
+        ensures map { self.new.map ≡ self.old.map }
+        ensures ok { OnOk result (more ≤ self.new.spare) }
+        ensures spare { self.old.spare ≤ self.new.spare }
+    {
+        self.entries.reserve(more)
+    }
+}
+
+impl<V: Drop> UserMap<V> {
+    /// Sets the value of a user, in room that is there.
+    pub fn insert_reserved(&mut self, user: String, value: V)
+        requires { 0 < self.old.spare }
+        ensures map { self.new.map ≡ map.insert self.old.map (string_bytes user) value }
+        ensures spare { self.old.spare ≤ self.new.spare + 1 }
+    {
+        let _inserted = self.entries.insert(user, value);
+    }
+}
