@@ -9,7 +9,7 @@ use Rattle.std.specs.FinMap.{get-empty, get-insert, get-remove}
 use Rattle.std.proofs.lemmas.Bool.{eqb-true}
 use Rattle.std.proofs.lemmas.Map.Text.{is_eq-slice_cmp}
 use Rattle.bitflags.specs.Sets.{known_from, known_bits}
-use Rattle.imap_rights.specs.Rights.{no_rights, all_rights, flag_names}
+use Rattle.imap_rights.specs.Rights.{no_rights, all_rights, known, flag_names}
 use Rattle.imap_rights.specs.Acl.{AclMap, with_entry, owner_acl}
 use Rattle.imap_rights.specs.Effective.{entry, owner_rights, effective}
 
@@ -31,12 +31,12 @@ pub entry-remove : (acl : AclMap) (k q : List ℕ) → entry (map.remove acl k) 
 entry-remove acl k q = ap (λ o. unwrap_or o no_rights) (get-remove nat_list_cmp_total acl k q) ∙ at_key q k None (map.get acl q)
 
 -- the entry that was set has the rights, and the others are as they were
-pub entry-with_entry : (acl : AclMap) (k : List ℕ) (rights : ℕ) (q : List ℕ) → entry (with_entry acl k rights) q ≡ cond (bytes_eq q k) rights (entry acl q)
-entry-with_entry acl k rights q = by_test (rights == no_rights) refl
+pub entry-with_entry : (acl : AclMap) (k : List ℕ) (rights : ℕ) (q : List ℕ) → entry (with_entry acl k rights) q ≡ cond (bytes_eq q k) (known rights) (entry acl q)
+entry-with_entry acl k rights q = by_test (known rights == no_rights) refl
   where
-    by_test : (b : Bool) → (rights == no_rights) ≡ b → entry (cond b (map.remove acl k) (map.insert acl k rights)) q ≡ cond (bytes_eq q k) rights (entry acl q)
-    by_test true none = entry-remove acl k q ∙ ap (λ r. cond (bytes_eq q k) r (entry acl q)) (sym (eqb-true rights no_rights none))
-    by_test false some = entry-insert acl k rights q
+    by_test : (b : Bool) → (known rights == no_rights) ≡ b → entry (cond b (map.remove acl k) (map.insert acl k (known rights))) q ≡ cond (bytes_eq q k) (known rights) (entry acl q)
+    by_test true none = entry-remove acl k q ∙ ap (λ r. cond (bytes_eq q k) r (entry acl q)) (sym (eqb-true (known rights) no_rights none))
+    by_test false some = entry-insert acl k (known rights) q
 
 pub entry-owner_acl : (owner q : List ℕ) → entry (owner_acl owner) q ≡ cond (bytes_eq q owner) all_rights no_rights
 entry-owner_acl owner q = entry-insert map.empty owner all_rights q ∙ ap (cond (bytes_eq q owner) all_rights) (entry-empty q)

@@ -4,7 +4,8 @@ pub mod Letters
 pub mod Finite
 pub mod Found
 pub mod Printed
-pub mod Places
+pub mod Valid
+pub mod Positions
 pub mod Puts
 pub mod Changed
 pub mod ReadBack

@@ -12,10 +12,11 @@ right_named letter =
     else if letter == 100 then Some (union delete_messages expunge)
     else option_map (λ row. row.1) (find (λ row. row.0 == letter) letters)
 
--- the rights of a text of letters, where each is one
+-- the rights of a text of letters, if each is the letter of a right
 abbrev pub rights_named : List ℕ → Option ℕ
 rights_named [] = Some no_rights
-rights_named (letter ∷ rest) = option_and_then (λ right. option_map (union right) (rights_named rest)) (right_named letter)
+rights_named (letter ∷ rest) =
+    option_and_then (λ right. option_map (union right) (rights_named rest)) (right_named letter)
 
 abbrev pub replacing : ℕ → RightsChange
 replacing rights = Replace (record { 0 = rights })

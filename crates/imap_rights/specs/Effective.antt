@@ -13,17 +13,19 @@ anyone = codes "anyone"
 abbrev pub negative : List ℕ → List ℕ
 negative identifier = minus ∷ identifier
 
--- the rights of an entry, and none where there is no entry
+-- the rights of an entry, and no rights if there is no entry
 abbrev pub entry : AclMap → List ℕ → ℕ
 entry acl identifier = unwrap_or (map.get acl identifier) no_rights
 
 -- what the entries give a user, less what the negative ones take away
 abbrev pub granted : List ℕ → AclMap → ℕ
-granted user acl = less (union (entry acl user) (entry acl anyone)) (union (entry acl (negative user)) (entry acl (negative anyone)))
+granted user acl =
+    less (union (entry acl user) (entry acl anyone)) (union (entry acl (negative user)) (entry acl (negative anyone)))
 
--- an owner may always see his mailbox and change its list
+-- what an owner always has: to see the mailbox and to change its list
 abbrev pub owner_rights : ℕ
 owner_rights = union lookup administer
 
 abbrev pub effective : List ℕ → List ℕ → AclMap → ℕ
-effective user owner acl = if bytes_eq user owner then union (granted user acl) owner_rights else granted user acl
+effective user owner acl =
+    if bytes_eq user owner then union (granted user acl) owner_rights else granted user acl

@@ -1,14 +1,19 @@
 -- What holds of the definitions, in words that do not repeat them.
-use Rattle.std.specs.Prelude.{◌≡◌, ℕ, ◌^◌, Bool, List, Some, bytes_eq, not, ◌&&◌, ◌||◌}
-use Rattle.std.specs.Int.RustNames.{bit_and}
-use Rattle.imap_rights.specs.Rights.{all_rights, has_any, letters_of}
+use Rattle.std.specs.Prelude.{◌≡◌, ℕ, ◌^◌, Bool, true, List, Some, bytes_eq, not, ◌&&◌, ◌||◌}
+use Rattle.imap_rights.specs.Rights.{known, has_any, letters_of}
+use Rattle.imap_rights.specs.Identifier.{is_identifier, identifier_read}
 use Rattle.imap_rights.specs.Change.{rights_read, replacing}
 use Rattle.imap_rights.specs.Acl.{AclMap}
 use Rattle.imap_rights.specs.Effective.{anyone, negative, entry, owner_rights, effective}
 
+-- an identifier is read as itself
+abbrev pub IdentifiersAreRead : Type 0
+IdentifiersAreRead = (text : List ℕ) → is_identifier text ≡ true → identifier_read text ≡ Some text
+
 -- the letters that are printed for rights are read as these rights
 abbrev pub LettersAreRead : Type 0
-LettersAreRead = (rights : ℕ) → bit_and rights all_rights ≡ rights → rights_read (letters_of rights) ≡ Some (replacing rights)
+LettersAreRead =
+    (rights : ℕ) → known rights ≡ rights → rights_read (letters_of rights) ≡ Some (replacing rights)
 
 -- whether a set has the right with this bit
 abbrev pub has_right : ℕ → ℕ → Bool
@@ -26,4 +31,5 @@ is_taken acl user bit = has_right (entry acl (negative user)) bit || has_right (
 abbrev pub RightsAreThoseGiven : Type 0
 RightsAreThoseGiven =
     (bit : ℕ) (user owner : List ℕ) (acl : AclMap)
-    → has_right (effective user owner acl) bit ≡ ((is_given acl user bit && not (is_taken acl user bit)) || (bytes_eq user owner && has_right owner_rights bit))
+    → has_right (effective user owner acl) bit
+    ≡ ((is_given acl user bit && not (is_taken acl user bit)) || (bytes_eq user owner && has_right owner_rights bit))

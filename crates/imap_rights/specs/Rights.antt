@@ -52,9 +52,17 @@ union a b = bit_or a b
 abbrev pub all_rights : ℕ
 all_rights = 2047
 
+-- the rights in a set of bits; the other bits mean nothing
+abbrev pub known : ℕ → ℕ
+known set = bit_and set all_rights
+
 -- the rights of which any lets its holder know that the mailbox is there (section 4, of MYRIGHTS)
 abbrev pub visible_rights : ℕ
 visible_rights = union lookup (union read (union insert (union create (union delete_mailbox administer))))
+
+-- to know which names are in use below a mailbox takes k, x or a
+abbrev pub place_rights : ℕ
+place_rights = union create (union delete_mailbox administer)
 
 -- the rights of the first set that are not in the second
 abbrev pub less : ℕ → ℕ → ℕ

@@ -1,12 +1,10 @@
-ghost use Rattle.std.specs.Prelude.{◌≡◌, ◌≤◌, ◌↔◌, IsTrue, IsErrOf, IfOk, OnOk, OnErr, IsOk, is_some, bytes_eq};
-ghost use Rattle.std.specs.Ordering.{nat_cmp};
-ghost use Rattle.std.specs.Cmp.Lexicographic.{slice_cmp};
+ghost use Rattle.std.specs.Prelude.{◌≡◌, ◌≤◌, ◌↔◌, true, IsTrue, IsErrOf, IfOk, OnOk, OnErr, IsOk, bytes_eq};
 ghost use Rattle.std.specs.FinMap as finite;
-ghost use Rattle.std.specs.FinMap.Entries.{find};
-ghost use Rattle.imap_rights.specs.Rights.{bits, no_rights};
-ghost use Rattle.imap_rights.specs.Acl.{with_entry, is_full_for, owner_acl};
+ghost use Rattle.imap_rights.specs.Rights.{bits, known, no_rights};
+ghost use Rattle.imap_rights.specs.Acl.{IsAcl, is_some_rights, max_entries, with_entry, is_full_for, owner_acl};
 ghost use Rattle.imap_rights.specs.Effective.{effective, entry, negative};
-ghost use Rattle.imap_rights.specs.Entries.{AreEntries, pairs_of, rights_where, is_negative_of, place, with_pair, without_pair, is_full_list};
+ghost use Rattle.imap_rights.specs.Entries.{AreEntries, PutsEntry, pairs_of, rights_where, is_negative_of, position};
+ghost use Rattle.imap_rights.specs.Entries.{without_pair, has_entry, is_full};
 
 use crate::identifier::Identifier;
 use crate::rights::Rights;
@@ -14,11 +12,18 @@ use bitflags::Flags;
 use std::alloc::{AllocError, AllocFailed, Global};
 use std::cmp::Ordering;
 use std::marker::Model;
+use thiserror::Error;
 
-/// An access control list: the rights of each identifier (RFC 4314, section 2), at most 64 of them.
+/// The most entries of a list.
+pub const MAX_ENTRIES: usize = 64;
+
+/// An access control list: the rights of each identifier (RFC 4314, section 2).
+///
+/// It has at most [`MAX_ENTRIES`] entries, each with one of the eleven rights or more.
+/// Contracts see a finite map from the octets of identifiers to sets of rights.
 #[derive(Drop, Debug)]
 pub struct Acl {
-    // By the octets of their identifiers. There are so few that they are walked through.
+    // In the order of their identifiers. Each look-up walks through them, since they are few.
     entries: Vec<Entry>,
 }
 
@@ -44,11 +49,13 @@ impl Model for Acl {
 }
 
 /// Why an entry was not set.
-#[derive(Clone, Copy, PartialEq, Eq, Debug)]
+#[derive(Clone, Copy, PartialEq, Eq, Debug, Error)]
 pub enum AclError {
-    /// There are 64 entries.
+    /// The list has [`MAX_ENTRIES`] entries already.
+    #[error("the access control list is full")]
     Full,
     /// There was no memory for the entry.
+    #[error("out of memory")]
     Memory,
 }
 
@@ -65,8 +72,6 @@ impl<T: Drop> From<AllocFailed<T>> for AclError {
 
 const ANYONE: &[u8] = b"anyone";
 
-const MOST_ENTRIES: usize = 64;
-
 impl Acl {
     /// A list without entries.
     pub fn new(alloc: Global) -> Acl
@@ -77,10 +82,11 @@ impl Acl {
         }
     }
 
-    /// How many entries there are.
+    /// The number of entries.
     pub fn len(&self) -> usize
         ensures count { result ≡ finite.len self.now }
-        ensures bounded { result ≤ 64 }
+        ensures bounded { result ≤ max_entries }
+        ensures valid { IsAcl self.now }
     {
         self.entries.len()
     }
@@ -92,7 +98,7 @@ impl Acl {
         self.entries.is_empty()
     }
 
-    /// The rights of an entry, which are none where there is no entry.
+    /// The rights of the entry of `identifier`, and no rights if there is no entry.
     pub fn rights_of(&self, identifier: &Identifier) -> Rights
         ensures { bits result ≡ entry self.now identifier.now }
     {
@@ -100,18 +106,19 @@ impl Acl {
     }
 
     /// A list by which the owner alone has rights, and all of them.
-    pub fn of_owner(alloc: Global, owner: &str) -> Result<Acl, AllocError>
-        ensures { IfOk result (λ acl. acl ≡ owner_acl owner.now) }
+    pub fn of_owner(alloc: Global, owner: Identifier) -> Result<Acl, AllocError>
+        ensures { IfOk result (λ acl. acl ≡ owner_acl owner) }
     {
-        let mut entries = Vec::new(alloc);
-        entries.push(Entry {
-            identifier: Identifier::of_user(alloc, owner)?,
-            rights: Rights::ALL,
-        })?;
-        Ok(Acl { entries })
+        let mut acl = Acl::new(alloc);
+        match acl.set(owner, Rights::ALL) {
+            Ok(()) => Ok(acl),
+            // An empty list is not full.
+            Err(_) => Err(AllocError),
+        }
     }
 
-    /// Gives an identifier just these rights. To hold none is to have no entry.
+    /// Sets the rights of the entry of `identifier`, and removes the entry if they are none. Bits of `rights` that
+    /// are none of the eleven rights are dropped.
     pub fn set(&mut self, identifier: Identifier, rights: Rights) -> Result<(), AclError>
         ensures ok { OnOk result (self.new ≡ with_entry self.old identifier (bits rights)) }
         ensures err { OnErr result (self.new ≡ self.old) }
@@ -119,8 +126,9 @@ impl Acl {
 
         // Only a new entry takes memory.
         ensures there { IsTrue (finite.contains_key self.old identifier) → IsOk result }
-        ensures none { bits rights ≡ no_rights → IsOk result }
+        ensures none { known (bits rights) ≡ no_rights → IsOk result }
     {
+        let rights = rights.known();
         if rights.is_empty() {
             self.remove(&identifier);
             return Ok(());
@@ -128,16 +136,16 @@ impl Acl {
         put_entry(&mut self.entries, Entry { identifier, rights })
     }
 
-    /// Takes an identifier's entry away, if there is one.
+    /// Removes the entry of `identifier`, if there is one.
     pub fn remove(&mut self, identifier: &Identifier)
         ensures { self.new ≡ finite.remove self.old identifier.now }
     {
         take_entry(&mut self.entries, identifier.as_bytes());
     }
 
-    /// The rights that a user holds on a mailbox with this list: those of the entries of the user and of
-    /// `anyone`, less those of their entries behind a `-` (RFC 4314, section 2). The user whose mailbox
-    /// it is, `owner`, always has l and a.
+    /// The rights that `user` holds on a mailbox of `owner` with this list (RFC 4314, section 2): those of the
+    /// entries of the user and of `anyone`, less those of their entries with a leading `-`. The owner always has
+    /// l and a.
     pub fn effective(&self, user: &str, owner: &str) -> Rights
         ensures { bits result ≡ effective user.now owner.now self.now }
     {
@@ -194,7 +202,7 @@ fn rights_taken_in(entries: &[Entry], subject: &[u8]) -> Rights
         .map_or(Rights::empty(), |entry| entry.rights)
 }
 
-// Whether an identifier is the negative one of a subject.
+// Whether an identifier takes rights from a subject.
 fn is_negative(identifier: &[u8], subject: &[u8]) -> bool
     ensures { result ≡ is_negative_of identifier.now subject.now }
 {
@@ -204,9 +212,9 @@ fn is_negative(identifier: &[u8], subject: &[u8]) -> bool
     }
 }
 
-// The place of an identifier among the entries, or else the place where it would stand.
-fn place_of(entries: &[Entry], identifier: &[u8]) -> Result<usize, usize>
-    ensures { result ≡ place identifier.now (pairs_of entries.now) }
+// Ok with the position of an identifier among the entries, or Err with the position of a new entry for it.
+fn position_of(entries: &[Entry], identifier: &[u8]) -> Result<usize, usize>
+    ensures { result ≡ position identifier.now (pairs_of entries.now) }
 {
     for (i, entry) in entries.iter().enumerate() {
         match identifier.cmp(entry.identifier.as_bytes()) {
@@ -218,29 +226,30 @@ fn place_of(entries: &[Entry], identifier: &[u8]) -> Result<usize, usize>
     Err(entries.len())
 }
 
-// Puts an entry in its place, over one of its identifier.
+// Puts an entry in its position. It replaces the entry of its identifier, if there is one.
 fn put_entry(entries: &mut Vec<Entry>, entry: Entry) -> Result<(), AclError>
-    requires { AreEntries entries.old.items }
-    ensures ok { OnOk result (pairs_of entries.new.items ≡ with_pair entry.identifier (bits entry.rights) (pairs_of entries.old.items)) }
+    requires entries { AreEntries entries.old.items }
+    requires rights { is_some_rights (bits entry.rights) ≡ true }
+    ensures ok { OnOk result (PutsEntry entry entries.old.items entries.new.items) }
     ensures err { OnErr result (entries.new.items ≡ entries.old.items) }
-    ensures full { IsErrOf result AclError.Full ↔ IsTrue (is_full_list entry.identifier (pairs_of entries.old.items)) }
-    ensures there { IsTrue (is_some (find (slice_cmp nat_cmp) entry.identifier (pairs_of entries.old.items))) → IsOk result }
+    ensures full { IsErrOf result AclError.Full ↔ IsTrue (is_full entry.identifier entries.old.items) }
+    ensures there { IsTrue (has_entry entry.identifier entries.old.items) → IsOk result }
     ensures kept { AreEntries entries.new.items }
 {
-    match place_of(entries.as_slice(), entry.identifier.as_bytes()) {
-        Ok(place) => {
-            entries[place].rights = entry.rights;
+    match position_of(entries.as_slice(), entry.identifier.as_bytes()) {
+        Ok(position) => {
+            entries[position].rights = entry.rights;
             Ok(())
         }
-        Err(_) if entries.len() >= MOST_ENTRIES => Err(AclError::Full),
-        Err(place) => {
-            entries.insert(place, entry)?;
+        Err(_) if entries.len() >= MAX_ENTRIES => Err(AclError::Full),
+        Err(position) => {
+            entries.insert(position, entry)?;
             Ok(())
         }
     }
 }
 
-// Takes the entry of an identifier out.
+// Removes the entry of an identifier, if there is one.
 fn take_entry(entries: &mut Vec<Entry>, identifier: &[u8])
     requires { AreEntries entries.old.items }
     ensures pairs { pairs_of entries.new.items ≡ without_pair identifier.now (pairs_of entries.old.items) }

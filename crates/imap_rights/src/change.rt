@@ -5,7 +5,7 @@ ghost use Rattle.imap_rights.specs.Change.{applied, right_named, rights_named, r
 use crate::rights::Rights;
 use bitflags::Flags;
 
-/// What a text of rights asks of an entry (RFC 4314, section 3.1).
+/// The change of an entry that a text of rights asks for (RFC 4314, section 3.1).
 #[derive(Clone, Copy, PartialEq, Eq, Debug)]
 pub enum RightsChange {
     /// The entry has just these rights.
@@ -17,7 +17,7 @@ pub enum RightsChange {
 }
 
 impl RightsChange {
-    /// The rights of an entry after the change, where it had `old` before it.
+    /// The rights of an entry after the change, if it had `old` before it.
     pub fn applied(self, old: Rights) -> Rights
         ensures { bits result ≡ applied self (bits old) }
     {
@@ -29,8 +29,8 @@ impl RightsChange {
     }
 }
 
-/// Reads the rights of SETACL: letters of RFC 4314, sections 2.1 and 2.1.1, in lower case and in any
-/// order, behind one `+` or `-` or neither. A text with any other octet asks for nothing.
+/// Reads the rights of SETACL: letters of RFC 4314, sections 2.1 and 2.1.1, in lower case and in any order, after one
+/// `+` or `-` or neither. Returns `None` for a text with any other octet.
 pub fn read_rights(text: &[u8]) -> Option<RightsChange>
     ensures { result ≡ rights_read text.now }
 {

@@ -1,8 +1,12 @@
 //! Theorems on the definitions that the contracts cite. The functions do nothing.
+ghost use Rattle.imap_rights.specs.Laws.{IdentifiersAreRead, LettersAreRead, RightsAreThoseGiven};
 
-ghost use Rattle.imap_rights.specs.Laws.{LettersAreRead, RightsAreThoseGiven};
+/// The octets of an identifier are read as that identifier.
+pub fn identifiers_are_read()
+    ensures { IdentifiersAreRead }
+{}
 
-/// What is printed of rights is read as the same rights.
+/// The letters of rights are read as the same rights.
 pub fn letters_are_read()
     ensures { LettersAreRead }
 {}

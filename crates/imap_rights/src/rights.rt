@@ -107,13 +107,18 @@ impl Flags for Rights {
 }
 
 impl Rights {
-    ghost use Rattle.imap_rights.specs.Rights.{has_any, less, visible_rights};
+    ghost use Rattle.imap_rights.specs.Rights.{has_any, known, less, place_rights, visible_rights};
 
     /// All eleven rights.
     pub const ALL: Rights = Rights(0x7ff);
 
-    /// The rights of which one makes a mailbox visible to its holder: l, r, i, k, x and a (RFC 4314,
-    /// section 4, of MYRIGHTS).
+    /// The rights of which one lets its holder know which names are in use below a mailbox: k, x and a.
+    pub const PLACE: Rights = Rights(
+        Rights::CREATE.0 | Rights::DELETE_MAILBOX.0 | Rights::ADMINISTER.0,
+    );
+
+    /// The rights of which one lets its holder know of a mailbox: l, r, i, k, x and a (RFC 4314, section 4, of
+    /// MYRIGHTS).
     pub const VISIBLE: Rights = Rights(
         Rights::LOOKUP.0
             | Rights::READ.0
@@ -123,6 +128,13 @@ impl Rights {
             | Rights::ADMINISTER.0,
     );
 
+    /// The rights of this set, without bits that are none of the eleven.
+    pub fn known(self) -> Rights
+        ensures { bits result ≡ known (bits self) }
+    {
+        Rights(self.0 & Rights::ALL.0)
+    }
+
     /// The rights of this set that are not in the other.
     pub fn less(self, other: Rights) -> Rights
         ensures { bits result ≡ less (bits self) (bits other) }
@@ -130,21 +142,28 @@ impl Rights {
         Rights(self.0 & !other.0)
     }
 
-    /// Whether one of the rights is in this set.
+    /// Whether one of the rights of `some` is in this set.
     pub fn has_any(self, some: Rights) -> bool
         ensures { result ≡ has_any (bits self) (bits some) }
     {
         self.intersects(some)
     }
 
-    /// Whether a mailbox is visible to who holds these rights on it.
+    /// Whether a user who holds these rights on a mailbox may know of it.
     pub fn show_mailbox(self) -> bool
         ensures { result ≡ has_any (bits self) visible_rights }
     {
         self.intersects(Rights::VISIBLE)
     }
 
-    /// Writes the letters of the rights, in the order `lrswipkxtea`.
+    /// Whether they let their holder know which names are in use below a mailbox.
+    pub fn make_place(self) -> bool
+        ensures { result ≡ has_any (bits self) place_rights }
+    {
+        self.intersects(Rights::PLACE)
+    }
+
+    /// Appends to `out` the letters of the rights, in the order `lrswipkxtea`.
     pub fn push_letters(self, out: &mut Vec<u8>) -> Result<(), AllocError>
         ensures ok { OnOk result (out.new.items ≡ out.old.items ++ letters_of (bits self)) }
         ensures err { OnErr result (out.new.items ≡ out.old.items) }
