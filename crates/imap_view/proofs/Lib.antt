@@ -1,0 +1,2 @@
+pub mod Afters
+pub mod Views

@@ -1,0 +1,5 @@
+use Rattle.imap_view.proofs.Afters.{own_effects}
+use Rattle.imap_view.proofs.laws.own_effects_are_seen.Goals as goal
+
+pub returns : goal.returns
+returns c = own_effects

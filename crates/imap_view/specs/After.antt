@@ -1,0 +1,41 @@
+-- What the view of a user becomes when the world changes.
+use Rattle.std.specs.Prelude.{◌≡◌, ◌≢◌, ℕ, Bool, false, List, [], ◌∷◌, None}
+use Rattle.std.specs.FinMap as map
+use Rattle.imap_names.specs.Name.{Name}
+use Rattle.imap_world.specs.declared.effect.Effect.{Effect}
+use Rattle.imap_world.specs.declared.effect.Effect.TheVariants as effect
+use Rattle.imap_world.specs.Effects.{after_all}
+use Rattle.imap_world.specs.World.{World}
+use Rattle.imap_view.specs.View.{View, view_of, is_below_place_in}
+
+-- the user of the view may ask for it, from a session
+abbrev pub MayAsk : View → Effect → Type 0
+MayAsk view (effect.CreateInbox owner) = ⊥
+MayAsk view (effect.Subscribe user name) = user ≡ view.user
+MayAsk view (effect.Unsubscribe user name) = user ≡ view.user
+
+-- the view once the user's own effect is made
+abbrev pub view_after : Effect → View → View
+view_after (effect.CreateInbox owner) view = view
+view_after (effect.Subscribe user name) view = record view { subscribed = map.insert view.subscribed name tt }
+view_after (effect.Unsubscribe user name) view = record view { subscribed = map.remove view.subscribed name }
+
+-- The view after an effect that the user may ask for is found from the view before alone.
+abbrev pub OwnEffectsAreSeen : Type 0
+OwnEffectsAreSeen = (administrator user : List ℕ) (world : World) (asked : Effect) →
+    let view = view_of administrator user world in
+    MayAsk view asked → view_of administrator user (after_all (asked ∷ []) world) ≡ view_after asked view
+
+-- another user's subscriptions are not in the view
+abbrev pub OthersSubscriptionsAreHidden : Type 0
+OthersSubscriptionsAreHidden = (administrator user other : List ℕ) (world : World) (name : Name) → other ≢ user →
+    let view = view_of administrator user world in
+    (view_of administrator user (after_all (effect.Subscribe other name ∷ []) world) ≡ view)
+    × (view_of administrator user (after_all (effect.Unsubscribe other name ∷ []) world) ≡ view)
+
+-- Mailboxes that the user doesn't see, and whose names lie below no place, can go and come, and the view stays.
+abbrev pub HiddenIsAbsent : Type 0
+HiddenIsAbsent = (administrator user : List ℕ) (world : World) (left : Name → Bool) →
+    let view = view_of administrator user world in
+    ((name : Name) → left name ≡ false → (map.get view.seen name ≡ None) × (is_below_place_in view name ≡ false))
+    → view_of administrator user (record world { mailboxes = map.retain_keys world.mailboxes left }) ≡ view

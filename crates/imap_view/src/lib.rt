@@ -1,0 +1,12 @@
+//! What a user may see of the mailboxes.
+//!
+//! A [`View`] lends what it shows from the whole world, takes no memory, and shows nothing else: the commands that a
+//! user sends are answered by it alone.
+#![tactic(auto)]
+
+pub mod laws;
+mod seen;
+mod view;
+
+pub use seen::Seen;
+pub use view::View;

@@ -1,0 +1,135 @@
+//! The view.
+
+ghost use Rattle.std.specs.Prelude.{◌≡◌, false, option_copied, option_map};
+ghost use Rattle.std.specs.FinMap as map;
+ghost use Rattle.imap_names.specs.Name.{root_of};
+ghost use Rattle.imap_names.specs.Valid.{IsName};
+ghost use Rattle.imap_view.specs.Seen.{is_root, owner_by_root, shown};
+ghost use Rattle.imap_view.specs.View.{epoch_in, is_below_place_in, is_own_root, is_place, may_create, view_of};
+ghost use Rattle.imap_world.specs.Stored.{names_in, world_of};
+
+use crate::seen::Seen;
+use imap_name_map::NameMap;
+use imap_names::{NameRef, UserName};
+use imap_rights::Rights;
+use imap_world::{Site, World};
+use std::marker::Model;
+
+/// What a user may see of a world.
+#[derive(Drop)]
+pub struct View<'a> {
+    world: &'a World,
+    site: &'a Site,
+    user: &'a UserName,
+}
+
+impl<'a> Model for View<'a> {
+    ghost use Rattle.imap_view.specs.View as specs;
+    ghost use Rattle.imap_world.specs.Stored.{world_of};
+
+    ghost Value = { specs.View };
+
+    ghost coded = { specs.view_code };
+
+    ghost view = { λ v. specs.view_of v.site.now.administrator v.user.now (world_of v.world.now) };
+}
+
+impl<'a> View<'a> {
+    pub fn new(world: &'a World, site: &'a Site, user: &'a UserName) -> View<'a>
+        ensures { result ≡ view_of site.now.administrator user.now (world_of world.now) }
+    {
+        View { world, site, user }
+    }
+
+    /// The mailbox of this name, if the user sees it.
+    pub fn seen(&self, name: &NameRef<'_>) -> Option<Seen<'a>>
+        ensures { option_map shown result ≡ map.get self.now.seen name.now }
+    {
+        let mailbox = self.world.mailbox(name)?;
+        let owner = owner_by_root(self.site, name.root());
+        let rights = mailbox.acl.effective(self.user.as_str(), owner);
+        if rights.show_mailbox() {
+            Some(Seen { rights, mailbox })
+        } else {
+            None
+        }
+    }
+
+    /// Whether the user may know which names are in use below `name`.
+    fn is_place(&self, name: &NameRef<'_>) -> bool
+        requires { is_root name.now ≡ false }
+        ensures { result ≡ is_place self.now.administrator self.now.user self.now.seen name.now }
+    {
+        match self.seen(name) {
+            Some(seen) => seen.rights().make_place(),
+            None => false,
+        }
+    }
+
+    /// Whether the tree that the name lies in is the user's own.
+    fn owns_tree(&self, name: &NameRef<'_>) -> bool
+        ensures own { result ≡ is_own_root self.now.administrator self.now.user (root_of name.now) }
+        ensures valid { IsName name.now }
+    {
+        owner_by_root(self.site, name.root()) == self.user.as_str()
+    }
+
+    /// Whether the user may know if `name` is in use.
+    pub fn is_below_place(&self, name: &NameRef<'_>) -> bool
+        ensures { result ≡ is_below_place_in self.now name.now }
+    {
+        match name.superior() {
+            Some(above) => self.is_place(&above) || self.is_below_place(&above),
+            None => self.owns_tree(name),
+        }
+    }
+
+    /// Whether `name` is in use, as far as the user may know.
+    pub fn is_taken(&self, name: &NameRef<'_>) -> bool
+        ensures { result ≡ map.contains_key self.now.taken name.now }
+    {
+        self.world.mailbox(name).is_some() && self.is_below_place(name)
+    }
+
+    /// The greatest UIDVALIDITY that was used under the name, and 0 if none was. `None` if the user may not know.
+    pub fn epoch(&self, name: &NameRef<'_>) -> Option<u32>
+        ensures { result ≡ epoch_in self.now name.now }
+    {
+        if self.is_below_place(name) {
+            Some(self.world.epoch(name))
+        } else {
+            None
+        }
+    }
+
+    /// Whether the user may create a mailbox of this name, as far as rights go (RFC 4314, section 4).
+    pub fn may_create(&self, name: &NameRef<'_>) -> bool
+        ensures { result ≡ may_create self.now name.now }
+    {
+        match name.superior() {
+            Some(above) => match self.seen(&above) {
+                Some(seen) => seen.rights().has_any(Rights::CREATE),
+                None => !self.is_taken(&above) && self.may_create(&above),
+            },
+            None => self.owns_tree(name),
+        }
+    }
+
+    /// The names that the user subscribed to, or `None` if there never was one.
+    pub fn subscribed(&self) -> Option<&'a NameMap<()>>
+        ensures { names_in (option_copied result) ≡ self.now.subscribed }
+    {
+        self.world.subscriptions(self.user.as_str())
+    }
+}
+
+/// The user whose tree has this root. The tree that all share is the administrator's.
+fn owner_by_root<'a>(site: &'a Site, root: &'a str) -> &'a str
+    ensures { result.now ≡ owner_by_root site.now.administrator root.now }
+{
+    if root.is_empty() {
+        site.administrator.as_str()
+    } else {
+        root
+    }
+}

@@ -1,0 +1,7 @@
+pub mod Changed
+pub mod Finding
+pub mod Owners
+pub mod Resolved
+pub mod Room
+pub mod Sets
+pub mod Sound

@@ -1,0 +1,24 @@
+use Rattle.std.proofs.Common.{sym, ap, subst, ◌∙◌}
+use Rattle.imap_world.specs.Effects.{after_writes}
+use Rattle.imap_world.specs.Ready.{IsReady}
+use Rattle.imap_world.specs.Stored.{world_of}
+use Rattle.imap_world.proofs.Room.{first_ready, rest_ready}
+use Rattle.imap_world.proofs.world.World.commit.Goals as goal
+
+pub loop-write-init : goal.loop-write-init
+loop-write-init c = record {
+  rest = ap (λ ws. after_writes ws (world_of c.args.self.now)) c.change.view_is;
+  ready = subst (λ ws. IsReady ws c.args.self.now) (sym c.change.view_is) c.requires;
+}
+
+pub write-requires : goal.write-requires
+write-requires c =
+    first_ready c.loop-write.self c.in-Some.write c.pop_front.new.self.items
+    (subst (λ ws. IsReady ws c.loop-write.self) c.in-Some.ensures.items c.loop-write.invariant.ready)
+
+pub loop-write-preserved : goal.loop-write-preserved
+loop-write-preserved c = record {
+  rest = ap (after_writes c.pop_front.new.self.items) c.write.ensures.world ∙ sym (ap (λ ws. after_writes ws (world_of c.loop-write.self)) c.in-Some.ensures.items) ∙ c.loop-write.invariant.rest;
+  ready = rest_ready c.loop-write.self c.write.new.self c.write.ensures.room c.in-Some.write c.pop_front.new.self.items
+      (subst (λ ws. IsReady ws c.loop-write.self) c.in-Some.ensures.items c.loop-write.invariant.ready);
+}

@@ -1,0 +1,39 @@
+//! Refusals.
+
+ghost use Rattle.std.specs.Prelude.{◌≡◌};
+ghost use Rattle.imap_world.specs.declared.error.WorldError.TheVariants.{Memory};
+
+use std::alloc::{AllocError, AllocFailed};
+use thiserror::Error;
+
+/// Why a change of the mailboxes was refused.
+#[derive(Clone, Copy, Debug, Error, PartialEq, Eq)]
+pub enum WorldError {
+    /// There is no such mailbox, or no superior of it.
+    #[error("there is no such mailbox")]
+    NoSuch,
+    /// The name is in use.
+    #[error("the name is taken")]
+    Taken,
+    /// The access control list is full, or no UIDVALIDITY is left under the name.
+    #[error("a limit is reached")]
+    Limit,
+    #[error("out of memory")]
+    Memory,
+}
+
+impl From<AllocError> for WorldError {
+    ghost from_gives = { λ _ error. error ≡ Memory };
+
+    fn from(_error: AllocError) -> WorldError {
+        WorldError::Memory
+    }
+}
+
+impl<T: Drop> From<AllocFailed<T>> for WorldError {
+    ghost from_gives = { λ _ error. error ≡ Memory };
+
+    fn from(_error: AllocFailed<T>) -> WorldError {
+        WorldError::Memory
+    }
+}

@@ -1,0 +1,23 @@
+//! The mailboxes of all users, and what changes them.
+//!
+//! A change is made in two halves. [`World::prepare`] finds the values to be written and reserves all room, and may be
+//! refused; [`World::commit`] writes them, takes no memory, and cannot.
+#![tactic(auto)]
+
+mod change;
+mod effect;
+mod error;
+mod mailbox;
+mod owner;
+mod placing;
+mod rights;
+mod site;
+mod subscriptions;
+mod world;
+
+pub use change::{Change, Row, Write};
+pub use effect::Effect;
+pub use error::WorldError;
+pub use mailbox::Mailbox;
+pub use site::{Limits, Site};
+pub use world::World;

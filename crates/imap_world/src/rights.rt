@@ -1,0 +1,44 @@
+//! The rights that a mailbox gives.
+
+ghost use Rattle.std.specs.Prelude.{◌≡◌, OnErr};
+ghost use Rattle.imap_world.specs.Changing.{Changes, acl_with_rights, mailboxes_with_rights};
+
+use crate::error::WorldError;
+use crate::mailbox::Mailbox;
+use imap_name_map::NameMap;
+use imap_names::NameRef;
+use imap_rights::{Acl, AclError, Identifier, RightsChange};
+
+/// Changes the rights of one identifier on a mailbox. Fails with `NoSuch` if there is no such mailbox.
+pub(crate) fn set_rights(
+    mailboxes: &mut NameMap<Mailbox>,
+    name: &NameRef<'_>,
+    identifier: Identifier,
+    change: RightsChange,
+) -> Result<(), WorldError>
+    ensures mailboxes { let meant = mailboxes_with_rights mailboxes.old.map name.now identifier change in
+        Changes result mailboxes.new.map meant }
+    ensures err { OnErr result (mailboxes.new ≡ mailboxes.old) }
+    ensures spare { mailboxes.new.spare ≡ mailboxes.old.spare }
+{
+    match mailboxes.get_mut(name) {
+        Some(mailbox) => change_rights(&mut mailbox.acl, identifier, change),
+        None => Err(WorldError::NoSuch),
+    }
+}
+
+fn change_rights(
+    acl: &mut Acl,
+    identifier: Identifier,
+    change: RightsChange,
+) -> Result<(), WorldError>
+    ensures acl { Changes result acl.new (acl_with_rights acl.old identifier change) }
+    ensures err { OnErr result (acl.new ≡ acl.old) }
+{
+    let rights = change.applied(acl.rights_of(&identifier));
+    match acl.set(identifier, rights) {
+        Ok(()) => Ok(()),
+        Err(AclError::Full) => Err(WorldError::Limit),
+        Err(AclError::Memory) => Err(WorldError::Memory),
+    }
+}

@@ -1,0 +1,20 @@
+//! What is settled when a host starts.
+
+use imap_names::UserName;
+
+/// Limits that the host's administrator may choose.
+#[derive(Clone, Copy, Debug, PartialEq, Eq)]
+pub struct Limits {
+    /// The most messages of a mailbox.
+    pub max_messages: u64,
+    /// The most octets of a message, and of the literals of one command together.
+    pub max_octets: u64,
+}
+
+/// What doesn't change while the server runs.
+#[derive(Debug, Drop)]
+pub struct Site {
+    /// The owner of the Shared tree, who is also a user.
+    pub administrator: UserName,
+    pub limits: Limits,
+}

@@ -1,0 +1,231 @@
+//! The world.
+
+ghost use Rattle.std.specs.Prelude.{◌≡◌, ◌<◌, true, IfOk, Ok, OnErr, option_copied};
+ghost use Rattle.std.specs.FinMap as map;
+ghost use Rattle.imap_world.specs.Changing.{AnswersOrMemory, Changes, world_with_placed, world_with_rights};
+ghost use Rattle.imap_world.specs.Effects.{after_write, after_writes, with_row, write_of, writes_of};
+ghost use Rattle.imap_world.specs.Kept.{IsSound, superior_is_there};
+ghost use Rattle.imap_world.specs.Ready.{IsOneReady, IsReady, IsWriteReady, KeepsRoom, Leaves};
+ghost use Rattle.imap_world.specs.Stored.{names_in, world_of};
+ghost use Rattle.imap_world.specs.World.{epoch, subscribed_by};
+
+use crate::change::{Change, Row, Write};
+use crate::effect::Effect;
+use crate::error::WorldError;
+use crate::mailbox::Mailbox;
+use crate::owner::owner_acl;
+use crate::placing::{epoch_of, has_superior, new_row};
+use crate::rights::set_rights;
+use crate::subscriptions::{add_name, make_room, remove_name};
+use imap_name_map::NameMap;
+use imap_names::{Name, NameRef, UserName, inbox};
+use imap_rights::{Acl, Identifier, RightsChange};
+use imap_user_map::UserMap;
+use std::alloc::{AllocError, Global};
+use std::collections::VecDeque;
+use std::marker::Model;
+
+/// The mailboxes by their names, the greatest UIDVALIDITY that was ever used under each name, and the names that each
+/// user subscribed to.
+///
+/// The superiors of a mailbox are there, and its UIDVALIDITY is counted among those that were used. Contracts see the
+/// room for more, too; `world_of` leaves it out.
+#[derive(Drop)]
+pub struct World {
+    mailboxes: NameMap<Mailbox>,
+    epochs: NameMap<u32>,
+    subscriptions: UserMap<NameMap<()>>,
+}
+
+impl Model for World {
+    ghost use Rattle.imap_world.specs.Kept.{IsSound};
+    ghost use Rattle.imap_world.specs.Stored.{Stored, stored_code, world_of};
+
+    ghost Value = { Stored };
+
+    ghost coded = { stored_code };
+
+    ghost view = { λ w. record { mailboxes = w.mailboxes; epochs = w.epochs; subscriptions = w.subscriptions } };
+
+    ghost invariant = { λ w.
+        IsSound (world_of (record { mailboxes = w.mailboxes; epochs = w.epochs; subscriptions = w.subscriptions })) };
+}
+
+impl World {
+    /// Without mailboxes.
+    pub fn new(alloc: Global) -> World
+        ensures mailboxes { (world_of result).mailboxes ≡ map.empty }
+        ensures epochs { (world_of result).epochs ≡ map.empty }
+        ensures subscriptions { (world_of result).subscriptions ≡ map.empty }
+    {
+        World {
+            mailboxes: NameMap::new(alloc),
+            epochs: NameMap::new(alloc),
+            subscriptions: UserMap::new(alloc),
+        }
+    }
+
+    pub fn mailbox(&self, name: &NameRef<'_>) -> Option<&Mailbox>
+        ensures there { option_copied result ≡ map.get (world_of self.now).mailboxes name.now }
+        ensures valid { IsSound (world_of self.now) }
+    {
+        self.mailboxes.get(name)
+    }
+
+    /// All mailboxes, in the order of their names.
+    pub fn mailboxes(&self) -> &NameMap<Mailbox>
+        ensures { result.now.map ≡ (world_of self.now).mailboxes }
+    {
+        &self.mailboxes
+    }
+
+    /// The greatest UIDVALIDITY that was ever used under the name, and 0 if none was.
+    pub fn epoch(&self, name: &NameRef<'_>) -> u32
+        ensures { result ≡ epoch (world_of self.now).epochs name.now }
+    {
+        epoch_of(&self.epochs, name)
+    }
+
+    /// The names that the user subscribed to, or `None` if there never was one.
+    pub fn subscriptions(&self, user: &str) -> Option<&NameMap<()>>
+        ensures { names_in (option_copied result) ≡ subscribed_by (world_of self.now) user.now }
+    {
+        self.subscriptions.get(user)
+    }
+
+    /// Makes a mailbox. Fails with `Taken` if it is there, else with `NoSuch` if its superior isn't, else with `Limit`
+    /// if no UIDVALIDITY is left under its name. The root of a tree counts as there.
+    pub fn place(&mut self, name: Name, acl: Acl) -> Result<(), WorldError>
+        ensures world { Changes result (world_of self.new) (world_with_placed (world_of self.old) name acl) }
+        ensures err { OnErr result (world_of self.new ≡ world_of self.old) }
+    {
+        if self.mailbox(&name.as_ref()).is_some() {
+            return Err(WorldError::Taken);
+        }
+        if !has_superior(&self.mailboxes, &name.as_ref()) {
+            return Err(WorldError::NoSuch);
+        }
+        match new_row(&self.epochs, name, acl) {
+            Ok(row) => self.add(row),
+            Err(error) => Err(error),
+        }
+    }
+
+    /// Makes room for a mailbox and writes it.
+    fn add(&mut self, row: Row) -> Result<(), WorldError>
+        requires { superior_is_there self.old.mailboxes.map row.name ≡ true }
+        ensures world { Changes result (world_of self.new) (Ok (with_row (world_of self.old) row)) }
+        ensures err { OnErr result (world_of self.new ≡ world_of self.old) }
+    {
+        self.mailboxes.reserve(1)?;
+        self.epochs.reserve(1)?;
+        self.put(row);
+        Ok(())
+    }
+
+    /// Changes the rights of one identifier on a mailbox (RFC 4314, section 3.1). Fails with `NoSuch` if there is no
+    /// such mailbox, and with `Limit` if its list is full.
+    pub fn set_acl(
+        &mut self,
+        name: &NameRef<'_>,
+        identifier: Identifier,
+        change: RightsChange,
+    ) -> Result<(), WorldError>
+        ensures world { let meant = world_with_rights (world_of self.old) name.now identifier change in
+            Changes result (world_of self.new) meant }
+        ensures err { OnErr result (world_of self.new ≡ world_of self.old) }
+    {
+        set_rights(&mut self.mailboxes, name, identifier, change)
+    }
+
+    /// Finds the values to be written for the effects, and reserves all room. Fails with `Limit` if a mailbox is to be
+    /// made and no UIDVALIDITY is left under its name. Changes nothing that is kept.
+    pub fn prepare(&mut self, alloc: Global, effects: &[Effect]) -> Result<Change, WorldError>
+        ensures unchanged { world_of self.new ≡ world_of self.old }
+        ensures change { AnswersOrMemory result (writes_of effects.now (world_of self.old)) }
+        ensures ready { IfOk result (λ change. IsReady change self.new) }
+    {
+        let more = effects.len();
+        let mut writes = VecDeque::new(alloc);
+        self.mailboxes.reserve(more)?;
+        self.epochs.reserve(more)?;
+        for effect in effects {
+            match self.resolve(alloc, effect, more) {
+                Ok(write) => writes.push_back(write)?,
+                Err(error) => return Err(error),
+            }
+        }
+        Ok(Change { writes })
+    }
+
+    /// Finds the value to be written for one effect, and makes room for `more` names where it needs some.
+    fn resolve(&mut self, alloc: Global, effect: &Effect, more: usize) -> Result<Write, WorldError>
+        ensures unchanged { world_of self.new ≡ world_of self.old }
+        ensures write { AnswersOrMemory result (write_of effect.now (world_of self.old)) }
+        ensures ready { IfOk result (λ write. IsWriteReady self.new more write) }
+        ensures mailboxes { self.new.mailboxes ≡ self.old.mailboxes }
+        ensures epochs { self.new.epochs ≡ self.old.epochs }
+        ensures room { KeepsRoom self.old.subscriptions self.new.subscriptions }
+    {
+        match effect {
+            Effect::CreateInbox(user) => self.resolve_inbox(alloc, user),
+            Effect::Subscribe(user, name) => {
+                make_room(&mut self.subscriptions, alloc, user.as_str(), more)?;
+                Ok(Write::Subscribe(user.try_copy()?, name.try_copy()?))
+            }
+            Effect::Unsubscribe(user, name) => {
+                Ok(Write::Unsubscribe(user.try_copy()?, name.try_copy()?))
+            }
+        }
+    }
+
+    /// Finds the mailbox to be written for a user's INBOX.
+    fn resolve_inbox(&self, alloc: Global, user: &UserName) -> Result<Write, WorldError>
+        ensures { AnswersOrMemory result (write_of (Effect.CreateInbox user.now) (world_of self.now)) }
+    {
+        let acl = owner_acl(alloc, user)?;
+        let name = inbox(alloc, user)?;
+        Ok(Write::Put(new_row(&self.epochs, name, acl)?))
+    }
+
+    /// Writes what was prepared. Since then nothing else may have been written.
+    pub fn commit(&mut self, change: Change)
+        requires { IsReady change self.old }
+        ensures { world_of self.new ≡ after_writes change (world_of self.old) }
+    {
+        let mut writes = change.writes;
+        while let Some(write) = writes.pop_front() {
+            self.write(write);
+        }
+    }
+
+    /// Writes one value.
+    fn write(&mut self, write: Write)
+        requires { IsOneReady self.old write }
+        ensures world { world_of self.new ≡ after_write write (world_of self.old) }
+        ensures room { Leaves self.old self.new }
+    {
+        match write {
+            Write::Put(row) => self.put(row),
+            Write::Subscribe(user, name) => {
+                add_name(&mut self.subscriptions, user.as_str(), name)
+            }
+            Write::Unsubscribe(user, name) => {
+                remove_name(&mut self.subscriptions, user.as_str(), &name.as_ref())
+            }
+        }
+    }
+
+    /// Writes a mailbox, and counts its UIDVALIDITY as used.
+    fn put(&mut self, row: Row)
+        requires mailboxes { 0 < self.old.mailboxes.spare }
+        requires epochs { 0 < self.old.epochs.spare }
+        requires superior { superior_is_there self.old.mailboxes.map row.name ≡ true }
+        ensures world { world_of self.new ≡ with_row (world_of self.old) row }
+        ensures room { Leaves self.old self.new }
+    {
+        let validity = row.mailbox.validity;
+        self.mailboxes.insert_reserved(row.name, row.mailbox);
+        self.epochs.insert_reserved(row.again, validity);
+    }
+}
