@@ -1,0 +1,4 @@
+pub mod Merge
+pub mod Numbers
+pub mod Clocks
+pub mod Laws

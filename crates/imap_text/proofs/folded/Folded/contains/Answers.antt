@@ -1,0 +1,12 @@
+use Rattle.std.proofs.Common.{◌∙◌, List, ℕ, sym, subst}
+use Rattle.memchr.specs.Find.{FindsNeedle}
+use Rattle.imap_text.proofs.Within.{found_within}
+use Rattle.imap_text.proofs.folded.Folded.contains.Goals as goal
+
+pub returns : goal.returns
+returns c =
+    let whole = c.as_bytes.ensures.value ∙ c.self.view_is in
+    let part = c.as_bytes-2.ensures.value ∙ c.wanted.view_is in
+    let found = subst (λ (p : List ℕ). FindsNeedle c.args.self.now p 0 c.find.result) part (subst (λ (t : List ℕ). FindsNeedle t c.as_bytes-2.result.now 0 c.find.result) whole c.find.ensures) in
+    let both = found_within c.args.self.now c.args.wanted.now c.find.result found in
+    (λ e. both.0 (sym c.is_some.ensures ∙ e), λ is. c.is_some.ensures ∙ both.1 is)

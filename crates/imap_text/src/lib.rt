@@ -1,0 +1,17 @@
+//! What a message is as octets: its header and its text, the fields of the header, the text that SEARCH looks for, and
+//! the internal date.
+//!
+//! Lines end with CRLF alone. Sections share the octets of the message.
+#![tactic(auto)]
+
+mod field;
+mod folded;
+mod header_fields;
+pub mod laws;
+mod line;
+mod section;
+
+pub use folded::{Folded, contains_fold};
+pub use header_fields::{field_texts, fields};
+pub use imap_syntax::DateTime as InternalDate;
+pub use section::{header, header_length, partial, text};
