@@ -1,9 +1,11 @@
 -- A set is printed with all of its numbers, and in as few ranges as there may be.
-use Rattle.std.proofs.Common.{◌≡◌, ◌≢◌, ℕ, zero, suc, ◌+◌, ◌-◌, ◌<◌, ◌≤◌, Bool, true, false, cond, eqb, ltb, List, [], ◌∷◌, ◌++◌, length, refl, sym, ap, ◌∙◌, append_assoc, arith, inl, inr, ◌⊎◌, flat_map}
+use Rattle.std.proofs.Common.{◌≡◌, ◌≢◌, ℕ, zero, suc, ◌+◌, ◌-◌, ◌<◌, ◌≤◌, Bool, true, false, not, cond, eqb, ltb, List, [], ◌∷◌, ◌++◌, length, refl, sym, ap, ◌∙◌, append_assoc, arith, inl, inr, ◌⊎◌, flat_map}
 use Rattle.std.specs.List.{range_with_len}
 use Rattle.std.proofs.lemmas.Bool.Decides.{nat_tests}
-use Rattle.imap_print.specs.Sets.{Range, runs_from}
-use Rattle.imap_print.specs.Ranges.{range_numbers, RunsHaveTheNumbers, IsAmong, IsCovered, RiseFrom, RunsAreFewest}
+use Rattle.std.proofs.lemmas.Bool.{ltb-true}
+use Rattle.imap_syntax.proofs.Writing.{both_true}
+use Rattle.imap_print.specs.Sets.{Range, runs_from, rise_above, IsNumberSet}
+use Rattle.imap_print.specs.Ranges.{range_numbers, RunsHaveTheNumbers, IsAmong, IsCovered, RunsAreFewest}
 
 -- ---- the numbers
 
@@ -44,7 +46,7 @@ numbers_from first last (n ∷ numbers) h =
     let same : n ≤ n = omega arith in
     numbers_from_next first last n numbers (eqb n (last + 1)) refl h (λ le. numbers_from first n numbers le) (numbers_from n n numbers same)
 
-pub runs_have_the_numbers : RunsHaveTheNumbers
+pub runs_have_the_numbers : (numbers : List ℕ) → RunsHaveTheNumbers numbers
 runs_have_the_numbers [] = refl
 runs_have_the_numbers (n ∷ numbers) = let le : n ≤ n = omega arith in numbers_from n n numbers le ∙ ap (λ (ns : List ℕ). ns ++ numbers) (single n)
 
@@ -123,12 +125,23 @@ record Starts (whole : List ℕ) (n : ℕ) : Type 0 where
 begins_at : (whole : List ℕ) (ranges : List Range) → HaveJust whole ranges → (n : ℕ) → Starts whole n → BeginsAt n ranges
 begins_at whole ranges same n s = starts_range n ranges ((same n).0 s.there) (λ m e c. s.before m e ((same m).1 c))
 
+-- the numbers are above this one, each above the one before
+abbrev RiseFrom : ℕ → List ℕ → Type 0
+RiseFrom low [] = Unit {0}
+RiseFrom low (n ∷ numbers) = (low < n) × RiseFrom n numbers
+
+rising : (low : ℕ) (numbers : List ℕ) → rise_above low numbers ≡ true → RiseFrom low numbers
+rising low [] h = tt
+rising low (n ∷ numbers) h =
+    let parts = both_true (ltb low n) (rise_above n numbers) h in
+    (ltb-true low n parts.0, rising n numbers parts.1)
+
 above : (low m : ℕ) (numbers : List ℕ) → RiseFrom low numbers → IsAmong m numbers → low < m
 above low m [] r a = absurd a
 above low m (n ∷ numbers) r (inl e) = let lt = r.0 in omega (arith, lt)
 above low m (n ∷ numbers) r (inr a) = let lt = r.0 in let more = above n m numbers r.1 a in omega (arith, lt, more)
 
--- what is left of a list behind its `last`
+-- what is left of a list after its `last`
 record Left (whole : List ℕ) (last : ℕ) (numbers : List ℕ) : Type 0 where
   rise : RiseFrom last numbers
   there : (m : ℕ) → IsAmong m numbers → IsAmong m whole
@@ -138,12 +151,12 @@ left_next : (whole : List ℕ) (last n : ℕ) (numbers : List ℕ) → Left whol
 left_next whole last n numbers l = record {
   rise = l.rise.1;
   there = λ m a. l.there m (inr a);
-  all = λ m lt a. behind m lt (l.all m (let low = l.rise.0 in omega (arith, low)) a);
+  all = λ m lt a. later m lt (l.all m (let low = l.rise.0 in omega (arith, low)) a);
 }
   where
-    behind : (m : ℕ) → n < m → (m ≡ n) ⊎ IsAmong m numbers → IsAmong m numbers
-    behind m lt (inl e) = absurd (omega arith)
-    behind m lt (inr a) = a
+    later : (m : ℕ) → n < m → (m ≡ n) ⊎ IsAmong m numbers → IsAmong m numbers
+    later m lt (inl e) = absurd (omega arith)
+    later m lt (inr a) = a
 
 starts_next : (whole : List ℕ) (last n : ℕ) (numbers : List ℕ) → Left whole last (n ∷ numbers) → n ≢ last + 1 → Starts whole n
 starts_next whole last n numbers l ne = record {
@@ -188,15 +201,16 @@ at_first n numbers r = record { there = inl refl; before = none }
     none m e (inr a) = let gt = above n m numbers r a in omega (arith, gt)
 
 left_first : (n : ℕ) (numbers : List ℕ) → RiseFrom n numbers → Left (n ∷ numbers) n numbers
-left_first n numbers r = record { rise = r; there = λ m a. inr a; all = behind }
+left_first n numbers r = record { rise = r; there = λ m a. inr a; all = later }
   where
-    behind : (m : ℕ) → n < m → (m ≡ n) ⊎ IsAmong m numbers → IsAmong m numbers
-    behind m lt (inl e) = absurd (omega arith)
-    behind m lt (inr a) = a
+    later : (m : ℕ) → n < m → (m ≡ n) ⊎ IsAmong m numbers → IsAmong m numbers
+    later m lt (inl e) = absurd (omega arith)
+    later m lt (inr a) = a
 
-pub runs_are_fewest : RunsAreFewest
-runs_are_fewest [] ranges r same = omega arith
-runs_are_fewest (n ∷ numbers) ranges r same =
+pub runs_are_fewest : (numbers : List ℕ) → IsNumberSet numbers → RunsAreFewest numbers
+runs_are_fewest [] set ranges same = omega arith
+runs_are_fewest (n ∷ numbers) set ranges same =
+    let r : RiseFrom n numbers = (rising 0 (n ∷ numbers) (both_true (not (eqb (length (n ∷ numbers)) 0)) (rise_above 0 (n ∷ numbers)) set.rising).1).1 in
     let le : n ≤ n = omega arith in
     let fits = few (n ∷ numbers) ranges same n n numbers le (at_first n numbers r) (left_first n numbers r) in
     let most = begin_from-le n ranges in

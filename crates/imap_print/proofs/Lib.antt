@@ -5,3 +5,4 @@ pub mod ReadSets
 pub mod Fewest
 pub mod Reader
 pub mod OneLine
+pub mod Plain

@@ -20,28 +20,30 @@ use Rattle.imap_print.specs.declared.search.SearchResults.{SearchResults}
 use Rattle.imap_print.specs.declared.acl.AclEntry.{AclEntry}
 use Rattle.imap_query.specs.declared.status.StatusItem.{StatusItem}
 use Rattle.imap_query.specs.declared.status.StatusItem.TheVariants as item
+use Rattle.imap_query.specs.StatusWords.{status_name}
 use Rattle.imap_print.specs.declared.status.StatusValue.{StatusValue}
 use Rattle.imap_print.specs.declared.list.Children.{Children}
 use Rattle.imap_print.specs.declared.list.Children.TheVariants as children
 use Rattle.imap_print.specs.declared.list.ListAttributes.{ListAttributes}
 use Rattle.imap_print.specs.declared.flag.FlagSet.{FlagSet}
-use Rattle.imap_syntax.specs.declared.date.DateTime.{DateTime}
-use Rattle.imap_syntax.specs.declared.date.Date.{Date}
-use Rattle.imap_syntax.specs.declared.date.Zone.{Zone}
+use Rattle.imap_syntax.specs.declared.month.Month.{Month}
+use Rattle.imap_syntax.specs.declared.month.Month.TheVariants as month
+use Rattle.imap_syntax.specs.Calendar.{month_name}
+use Rattle.imap_syntax.specs.Moments.{Day, Offset, Moment}
+use Rattle.imap_syntax.specs.WrittenDates.{digit, two_digits, sign, fixed_day_text, fixed_date_text, zone_text, clock_text, date_time}
 use Rattle.imap_query.specs.declared.fetch.Section.{Section}
 use Rattle.imap_query.specs.declared.fetch.Section.TheVariants as section
 use Rattle.imap_print.specs.declared.fetch.FetchedSection.{FetchedSection}
 use Rattle.imap_print.specs.declared.fetch.FetchedItems.{FetchedItems}
 use Rattle.imap_print.specs.Words.{before_each, joined, given, given_by}
-use Rattle.imap_print.specs.Strings.{astring_text}
+use Rattle.imap_print.specs.Strings.{name_text}
 use Rattle.imap_print.specs.Sets.{Range, runs, range_text, set_text}
 use Rattle.imap_print.specs.Flags.{system_flags, flag_words, flags_text, permanent_text, every_system_flag}
-use Rattle.imap_print.specs.Dates.{digit, two_digits, day_text, month_text, date_text, sign_text, zone_text, time_text, date_time_text}
 use Rattle.imap_print.specs.Fetched.{section_text, origin_text, body_text, fetched_words, fetched_text}
-use Rattle.imap_print.specs.Mailboxes.{children_words, attributes_text, item_text, value_text, values_text, entry_text, grantable_text}
+use Rattle.imap_print.specs.Mailboxes.{children_words, attributes_text, value_text, values_text, entry_text, grantable_text}
 use Rattle.imap_print.specs.Printed.{farewell_text, refusal_text, tag_text, copied_text, code_text, done_text, enabled_words, earlier_text, results_words, line_text, printed}
 use Rattle.imap_print.specs.Lines.{IsPlain, IsHeld, section_names, flags_keywords, given_tag, texts, literals, EachIsOneLine, AllAreRead}
-use Rattle.imap_print.proofs.Reader.{Settles, settled, settles-append, one_line, is_quiet, Quiet, quiet, quiet-append, quiet_settles, quiet_decimal, tagged, quoted_settles, astring_settles, literal_settles, AllPlain, plain_words_settle, AllSettle, all_settle-append, before_each_settles, words_settle}
+use Rattle.imap_print.proofs.Reader.{Settles, settled, settles-append, one_line, is_quiet, Quiet, quiet, quiet-append, quiet_settles, quiet_decimal, tagged, quoted_settles, name_settles, literal_settles, AllPlain, plain_words_settle, AllSettle, all_settle-append, before_each_settles, words_settle}
 use Rattle.imap_syntax.proofs.Writing.{both_true}
 
 -- ---- numbers and sets
@@ -118,7 +120,7 @@ every_plain = (refl, (refl, (refl, (refl, (refl, tt)))))
 -- ---- mailboxes
 
 children_settle : (c : Children) → AllSettle (children_words c)
-children_settle children.Untold = tt
+children_settle children.Omitted = tt
 children_settle children.Has = (settled _ refl, tt)
 children_settle children.HasNo = (settled _ refl, tt)
 
@@ -129,7 +131,7 @@ attributes_settle attributes =
     (all_settle-append (given attributes.non_existent (codes "\\NonExistent")) (children_words attributes.children) (given_settles attributes.non_existent _ (settled _ refl)) (children_settle attributes.children))
     (given_settles attributes.subscribed _ (settled _ refl)))
 
-item_settles : (i : StatusItem) → Settles (item_text i)
+item_settles : (i : StatusItem) → Settles (status_name i)
 item_settles item.Messages = settled _ refl
 item_settles item.UidNext = settled _ refl
 item_settles item.UidValidity = settled _ refl
@@ -159,7 +161,7 @@ unfolding letters_of
 rights_settle rights = quiet_settles (quiet (letters_of (bits rights)) (letters_quiet (bits rights) letters refl))
 
 entry_settles : (entry : AclEntry) → IsPlain entry.identifier → Settles (entry_text entry)
-entry_settles entry plain = settles-append (settles-append (astring_settles entry.identifier plain) (settled (codes " ") refl)) (rights_settle entry.rights)
+entry_settles entry plain = settles-append (settles-append (name_settles entry.identifier plain) (settled (codes " ") refl)) (rights_settle entry.rights)
 
 entries_settle : (entries : List AclEntry) → AllByRecursion IsPlain (map (λ entry. entry.identifier) entries) → AllSettle (map entry_text entries)
 entries_settle [] h = tt
@@ -171,16 +173,16 @@ grantable_settles false = settled _ refl
 
 -- ---- what was fetched
 
-names_settle : (names : List (List ℕ)) → AllByRecursion IsPlain names → AllSettle (map astring_text names)
+names_settle : (names : List (List ℕ)) → AllByRecursion IsPlain names → AllSettle (map name_text names)
 names_settle [] h = tt
-names_settle (name ∷ names) h = (astring_settles name h.0, names_settle names h.1)
+names_settle (name ∷ names) h = (name_settles name h.0, names_settle names h.1)
 
 section_settles : (s : Section) → AllByRecursion IsPlain (section_names s) → Settles (section_text s)
 section_settles section.Whole h = settled _ refl
 section_settles section.Header h = settled _ refl
 section_settles section.Text h = settled _ refl
-section_settles (section.Fields names) h = settles-append (settled (codes "HEADER.FIELDS ") refl) (words_settle (map astring_text names) (names_settle names h))
-section_settles (section.FieldsNot names) h = settles-append (settled (codes "HEADER.FIELDS.NOT ") refl) (words_settle (map astring_text names) (names_settle names h))
+section_settles (section.Fields names) h = settles-append (settled (codes "HEADER.FIELDS ") refl) (words_settle (map name_text names) (names_settle names h))
+section_settles (section.FieldsNot names) h = settles-append (settled (codes "HEADER.FIELDS.NOT ") refl) (words_settle (map name_text names) (names_settle names h))
 
 origin_settles : (origin : Option ℕ) → Settles (origin_text origin)
 origin_settles None = settled _ refl
@@ -208,60 +210,60 @@ fetched_flags_settle (Some flags) h = (settles-append (settled (codes "FLAGS ") 
 
 -- ---- dates
 
-either : (b : Bool) {x y : List ℕ} → Quiet x → Quiet y → Quiet (cond b x y)
-either true q r = q
-either false q r = r
-
 digit_quiet : (n : ℕ) → is_quiet (digit n) ≡ true
 digit_quiet n = let lt : n % 10 < 10 = omega arith in grind (arith, nat_tests)
 
 two_quiet : (n : ℕ) → Quiet (two_digits n)
 two_quiet n = let tens = digit_quiet (n / 10) in let ones = digit_quiet n in quiet (two_digits n) (rw (tens, ones) refl)
 
-spaced_quiet : (n : ℕ) → Quiet (32 ∷ digit n ∷ [])
-spaced_quiet n = let ones = digit_quiet n in quiet (32 ∷ digit n ∷ []) (rw ones refl)
+either_quiet : (b : Bool) {x y : List ℕ} → Quiet x → Quiet y → Quiet (cond b x y)
+either_quiet true q r = q
+either_quiet false q r = r
 
-day_quiet : (day : ℕ) → Quiet (day_text day)
-day_quiet day = either (nat_lt day 10) (spaced_quiet day) (two_quiet day)
+month_quiet : (m : Month) → Quiet (month_name m)
+month_quiet month.Jan = quiet _ refl
+month_quiet month.Feb = quiet _ refl
+month_quiet month.Mar = quiet _ refl
+month_quiet month.Apr = quiet _ refl
+month_quiet month.May = quiet _ refl
+month_quiet month.Jun = quiet _ refl
+month_quiet month.Jul = quiet _ refl
+month_quiet month.Aug = quiet _ refl
+month_quiet month.Sep = quiet _ refl
+month_quiet month.Oct = quiet _ refl
+month_quiet month.Nov = quiet _ refl
+month_quiet month.Dec = quiet _ refl
 
-month_quiet : (month : ℕ) → Quiet (month_text month)
-month_quiet month =
-    either (eqb month 1) (quiet _ refl)
-    (either (eqb month 2) (quiet _ refl)
-    (either (eqb month 3) (quiet _ refl)
-    (either (eqb month 4) (quiet _ refl)
-    (either (eqb month 5) (quiet _ refl)
-    (either (eqb month 6) (quiet _ refl)
-    (either (eqb month 7) (quiet _ refl)
-    (either (eqb month 8) (quiet _ refl)
-    (either (eqb month 9) (quiet _ refl)
-    (either (eqb month 10) (quiet _ refl)
-    (either (eqb month 11) (quiet _ refl) (quiet _ refl)))))))))))
+-- a quiet octet before quiet octets
+before_quiet : (octet : ℕ) → is_quiet octet ≡ true → {octets : List ℕ} → Quiet octets → Quiet (octet ∷ octets)
+before_quiet octet h q = quiet-append (quiet (octet ∷ []) (rw h refl)) q
 
-date_quiet : (date : Date) → Quiet (date_text date)
+day_quiet : (day : ℕ) → Quiet (fixed_day_text day)
+day_quiet day = either_quiet (nat_lt day 10) (before_quiet 32 refl (before_quiet (digit day) (digit_quiet day) (quiet [] refl))) (two_quiet day)
+
+date_quiet : (date : Day) → Quiet (fixed_date_text date)
 date_quiet date =
-    quiet-append (quiet-append (quiet-append (quiet-append (day_quiet date.day) (quiet (codes "-") refl)) (month_quiet date.month)) (quiet (codes "-") refl))
-    (quiet-append (two_quiet (date.year / 100)) (two_quiet date.year))
+    quiet-append (day_quiet date.day)
+    (before_quiet 45 refl
+    (quiet-append (month_quiet date.month) (before_quiet 45 refl (quiet-append (two_quiet (date.year / 100)) (two_quiet date.year)))))
 
-sign_quiet : (west : Bool) → Quiet (sign_text west)
-sign_quiet true = quiet _ refl
-sign_quiet false = quiet _ refl
+sign_quiet : (west : Bool) → is_quiet (sign west) ≡ true
+sign_quiet true = refl
+sign_quiet false = refl
 
-zone_quiet : (zone : Zone) → Quiet (zone_text zone)
-zone_quiet zone = quiet-append (quiet-append (sign_quiet zone.west) (two_quiet zone.hours)) (two_quiet zone.minutes)
+zone_quiet : (zone : Offset) → Quiet (zone_text zone)
+zone_quiet zone = before_quiet (sign zone.west) (sign_quiet zone.west) (quiet-append (two_quiet zone.hours) (two_quiet zone.minutes))
 
-time_quiet : (hour minute second : ℕ) → Quiet (time_text hour minute second)
-time_quiet hour minute second =
-    quiet-append (quiet-append (quiet-append (quiet-append (two_quiet hour) (quiet (codes ":") refl)) (two_quiet minute)) (quiet (codes ":") refl)) (two_quiet second)
+clock_quiet : (time : Moment) → Quiet (clock_text time)
+clock_quiet time =
+    quiet-append (two_quiet time.hour) (before_quiet 58 refl (quiet-append (two_quiet time.minute) (before_quiet 58 refl (two_quiet time.second))))
 
-date_time_settles : (time : DateTime) → Settles (date_time_text time)
+date_time_settles : (time : Moment) → Settles (date_time.text time)
 date_time_settles time =
-    quiet_settles
-    (quiet-append
-    (quiet-append (quiet-append (quiet-append (quiet-append (quiet-append (quiet (codes "\"") refl) (date_quiet time.date)) (quiet (codes " ") refl)) (time_quiet time.hour time.minute time.second)) (quiet (codes " ") refl)) (zone_quiet time.zone))
-    (quiet (codes "\"") refl))
+    let text = quiet-append (date_quiet time.date) (before_quiet 32 refl (quiet-append (clock_quiet time) (before_quiet 32 refl (zone_quiet time.zone)))) in
+    quiet_settles (before_quiet 34 refl (quiet-append text (quiet (34 ∷ []) refl)))
 
-dated_settles : (date : Option DateTime) → AllSettle (given_by (λ time. codes "INTERNALDATE " ++ date_time_text time) date)
+dated_settles : (date : Option Moment) → AllSettle (given_by (λ time. codes "INTERNALDATE " ++ date_time.text time) date)
 dated_settles date = given_by_settles _ (λ time. settles-append (settled (codes "INTERNALDATE ") refl) (date_time_settles time)) date
 
 -- ---- lines
@@ -314,8 +316,8 @@ code_settles (code.Modified numbers) = settles-append (settled (codes "MODIFIED 
 done_settles : (tag : List ℕ) (c : Option Code) → IsPlain tag → Settles (tag ++ done_text c)
 done_settles tag None plain = tagged tag (codes "OK done") plain refl
 done_settles tag (Some c) plain =
-    let told : Settles (codes "OK [" ++ code_text c ++ codes "] done") = settles-append (settles-append (settled (codes "OK [") refl) (code_settles c)) (settled (codes "] done") refl) in
-    tagged tag (codes "OK [" ++ code_text c ++ codes "] done") plain told.is
+    let reply : Settles (codes "OK [" ++ code_text c ++ codes "] done") = settles-append (settles-append (settled (codes "OK [") refl) (code_settles c)) (settled (codes "] done") refl) in
+    tagged tag (codes "OK [" ++ code_text c ++ codes "] done") plain reply.is
 
 farewell_settles : (f : Farewell) → Settles (farewell_text f)
 farewell_settles farewell.LoggingOut = settled _ refl
@@ -353,10 +355,10 @@ enabled_settle enabled =
     (all_settle-append (given enabled.condstore (codes "CONDSTORE")) (given enabled.imap4rev2 (codes "IMAP4rev2")) (given_settles enabled.condstore _ (settled _ refl)) (given_settles enabled.imap4rev2 _ (settled _ refl)))
     (given_settles enabled.qresync _ (settled _ refl))
 
-between_settles : (front : List ℕ) (n : ℕ) (back : List ℕ) → Settles front → Settles back → Settles (front ++ decimal n ++ back)
-between_settles front n back s t = settles-append (settles-append s (number_settles n)) t
+between_settles : (front : List ℕ) (n : ℕ) (back : List ℕ) → Settles front → Settles back → Settles (front ++ (decimal n ++ back))
+between_settles front n back s t = settles-append s (settles-append (number_settles n) t)
 
-line_settles : (told : Response) → AllByRecursion IsPlain (texts told) → AllByRecursion IsHeld (literals told) → Settles (line_text told)
+line_settles : (reply : Response) → AllByRecursion IsPlain (texts reply) → AllByRecursion IsHeld (literals reply) → Settles (line_text reply)
 line_settles response.Greeting h held = settled _ refl
 line_settles response.Capability h held = settled _ refl
 line_settles (response.Bye f) h held = settles-append (settled (codes "* BYE ") refl) (farewell_settles f)
@@ -367,16 +369,16 @@ line_settles response.Idling h held = settled _ refl
 line_settles response.Namespace h held = settled _ refl
 line_settles (response.Enabled enabled) h held = settles-append (settled (codes "* ENABLED") refl) (before_each_settles _ (enabled_settle enabled))
 line_settles (response.List attributes mailbox) h held =
-    settles-append (settles-append (settles-append (settled (codes "* LIST ") refl) (attributes_settle attributes)) (settled (codes " \"/\" ") refl)) (astring_settles mailbox h.0)
+    settles-append (settles-append (settles-append (settled (codes "* LIST ") refl) (attributes_settle attributes)) (settled (codes " \"/\" ") refl)) (name_settles mailbox h.0)
 line_settles response.ListRoot h held = settled _ refl
 line_settles (response.Status mailbox items) h held =
-    settles-append (settles-append (settles-append (settled (codes "* STATUS ") refl) (astring_settles mailbox h.0)) (settled (codes " ") refl)) (values_settle items)
-line_settles (response.Acl mailbox entries) h held = settles-append (settles-append (settled (codes "* ACL ") refl) (astring_settles mailbox h.0)) (before_each_settles _ (entries_settle entries h.1))
+    settles-append (settles-append (settles-append (settled (codes "* STATUS ") refl) (name_settles mailbox h.0)) (settled (codes " ") refl)) (values_settle items)
+line_settles (response.Acl mailbox entries) h held = settles-append (settles-append (settled (codes "* ACL ") refl) (name_settles mailbox h.0)) (before_each_settles _ (entries_settle entries h.1))
 line_settles (response.MyRights mailbox rights) h held =
-    settles-append (settles-append (settles-append (settled (codes "* MYRIGHTS ") refl) (astring_settles mailbox h.0)) (settled (codes " ") refl)) (rights_settle rights)
+    settles-append (settles-append (settles-append (settled (codes "* MYRIGHTS ") refl) (name_settles mailbox h.0)) (settled (codes " ") refl)) (rights_settle rights)
 line_settles (response.ListRights mailbox identifier owner) h held =
     settles-append
-    (settles-append (settles-append (settles-append (settles-append (settled (codes "* LISTRIGHTS ") refl) (astring_settles mailbox h.0)) (settled (codes " ") refl)) (astring_settles identifier h.1.0)) (settled (codes " ") refl))
+    (settles-append (settles-append (settles-append (settles-append (settled (codes "* LISTRIGHTS ") refl) (name_settles mailbox h.0)) (settled (codes " ") refl)) (name_settles identifier h.1.0)) (settled (codes " ") refl))
     (grantable_settles owner)
 line_settles (response.Flags keywords) h held =
     settles-append (settled (codes "* FLAGS ") refl) (plain_words_settle (every_system_flag ++ keywords) (all_plain-append every_system_flag keywords every_plain (all_plain keywords h)))
@@ -398,8 +400,8 @@ line_settles (response.Search tag uid results) h held =
     (before_each_settles _ (all_settle-append (given uid (codes "UID")) (results_words results) (given_settles uid _ (settled _ refl)) (results_settle results)))
 
 pub each_is_one_line : EachIsOneLine
-each_is_one_line told rest h = one_line (line_text told) rest (line_settles told h.0 h.1)
+each_is_one_line reply rest h = one_line (line_text reply) rest (line_settles reply h.plain h.held)
 
 pub all_are_read : AllAreRead
 all_are_read [] h = refl
-all_are_read (told ∷ responses) h = (printed responses, refl, each_is_one_line told (printed responses) h.0, all_are_read responses h.1)
+all_are_read (reply ∷ responses) h = (printed responses, refl, each_is_one_line reply (printed responses) h.0, all_are_read responses h.1)

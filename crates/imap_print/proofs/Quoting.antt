@@ -7,7 +7,8 @@ use Rattle.imap_syntax.specs.Lexical.{is_astring_char, is_quoted_special, IsQuot
 use Rattle.imap_syntax.proofs.RuleLaws.{StopsAt}
 use Rattle.imap_syntax.proofs.Strings.{astring_lawful}
 use Rattle.imap_syntax.proofs.Writing.{both_true, consists}
-use Rattle.imap_print.specs.Strings.{is_bare, escaped, quoted_text, astring_text}
+use Rattle.imap_syntax.specs.Written.{escaped, quoted_text}
+use Rattle.imap_print.specs.Strings.{is_bare, name_text}
 use Rattle.imap_print.specs.ReadBack.{may_be_quoted, IsDelimited, NamesAreReadBack}
 
 -- ---- an atom
@@ -47,4 +48,4 @@ stops [] h = tt
 stops (octet ∷ rest) h = h
 
 pub names_are_read_back : NamesAreReadBack
-names_are_read_back name rest plain end = astring_lawful.complete name (astring_text name) rest (name_spelt name (is_bare name) refl plain) (stops rest end)
+names_are_read_back name rest plain end = astring_lawful.complete name (name_text name) rest (name_spelt name (is_bare name) refl plain) (stops rest end)

@@ -1,5 +1,5 @@
 -- A printed set is read back by the grammar.
-use Rattle.std.proofs.Common.{◌≡◌, ℕ, ◌+◌, ◌<◌, ◌^◌, Bool, true, false, not, cond, ◌&&◌, ◌||◌, eqb, ltb, List, [], ◌∷◌, ◌++◌, get_or, map, refl, sym, ap, subst, append_assoc, append-nil, inr, codes, arith}
+use Rattle.std.proofs.Common.{◌≡◌, ℕ, ◌+◌, ◌<◌, ◌^◌, Bool, true, false, not, cond, ◌&&◌, ◌||◌, eqb, ltb, List, [], ◌∷◌, ◌++◌, length, get_or, map, refl, sym, ap, subst, append_assoc, append-nil, inr, codes, arith}
 use Rattle.std.specs.Fmt.{decimal}
 use Rattle.std.specs.Char.{is_ascii_digit}
 use Rattle.std.specs.List.{AllByRecursion}
@@ -10,38 +10,20 @@ use Rattle.imap_syntax.specs.declared.set.SeqNumber.TheVariants as number
 use Rattle.imap_syntax.specs.declared.set.SeqRange.{SeqRange}
 use Rattle.imap_syntax.specs.Rule.{octet, IsSeparated}
 use Rattle.imap_syntax.specs.Lexical.{nz_number, begins_with_zero, decimal as value_of}
-use Rattle.imap_syntax.specs.Sets.{seq_number, range_from, seq_range, seq_set}
-use Rattle.imap_syntax.proofs.RuleLaws.{StopsAt, Lawful, ended_lawful, then_lawful, give_lawful, give_follows, octet_lawful}
-use Rattle.imap_syntax.proofs.Opens.{then_opens, or_apart}
-use Rattle.imap_syntax.proofs.Lists.{EndsList, flag_then_lawful, flag_then_follows, separated_lawful}
-use Rattle.imap_syntax.proofs.Numbers.{nz_number_lawful, nz_number_opens}
-use Rattle.imap_syntax.proofs.Ends.{before, give_before, differs}
-use Rattle.imap_syntax.proofs.Writing.{digits_made, number_value}
-use Rattle.imap_print.specs.Sets.{Range, runs, runs_from, range_text}
-use Rattle.imap_print.specs.ReadBack.{IsNumber, EndsSet, seq_range_of, SetsAreReadBack}
+use Rattle.imap_syntax.specs.Sets.{seq_number, seq_range, seq_set}
+use Rattle.imap_syntax.proofs.RuleLaws.{Lawful}
+use Rattle.imap_syntax.proofs.Lists.{EndsList, separated_lawful}
+use Rattle.imap_syntax.proofs.Sets.{AfterRange, seq_range_lawful}
+use Rattle.imap_syntax.proofs.Writing.{both_true, digits_made, number_value}
+use Rattle.std.proofs.lemmas.Bool.{ltb-true}
+use Rattle.imap_print.specs.Sets.{Range, Fits, IsNumberSet, rise_above, runs, runs_from, range_text}
+use Rattle.imap_print.specs.ReadBack.{EndsSet, seq_range_of, SetIsReadBack}
 use Rattle.imap_print.proofs.Runs.{ranges_text, comma}
 
--- ---- what the grammar reads, with such behind it as may stand behind a set
-
-abbrev AfterRange : List ℕ → Type 0
-AfterRange rest = StopsAt is_ascii_digit rest × StopsAt (λ b. eqb b 58) rest
-
-number_lawful : Lawful (StopsAt is_ascii_digit) seq_number
-number_lawful =
-    or_apart (ended_lawful (octet_lawful 42) (λ u. give_lawful _)) (then_lawful (nz_number_lawful _) (λ n. give_lawful _) (λ n. give_follows _))
-    (then_opens _ (nz_number_opens _)) (λ b rest h. let k : eqb b 42 ≡ false = differs is_ascii_digit 42 refl b h in rw k refl)
-
-range_lawful : Lawful AfterRange seq_range
-range_lawful =
-    then_lawful number_lawful
-    (λ first. flag_then_lawful 58 (range_from first)
-    (before (λ rest n. n.0) (then_lawful number_lawful (λ last. give_lawful _) (λ last. give_follows _)))
-    (give_lawful _)
-    (give_before _ (λ rest n. n.1)))
-    (λ first. flag_then_follows 58 (range_from first) (λ rest. refl) (give_before _ (λ rest n. n.0)))
+-- ---- what the grammar reads, by what may follow a set
 
 set_lawful : Lawful (EndsList 44 AfterRange) seq_set
-set_lawful = separated_lawful 44 (λ rest. (refl, refl)) range_lawful
+set_lawful = separated_lawful 44 (λ rest. (refl, refl)) seq_range_lawful
 
 none_holds : (a b c : Bool) → (a || b || c) ≡ false → (a ≡ false) × (b ≡ false) × (c ≡ false)
 none_holds true b c h = absurd cc
@@ -53,6 +35,18 @@ ends_list [] h = ((tt, tt), tt)
 ends_list (octet ∷ rest) h = let no = none_holds (is_ascii_digit octet) (eqb octet 58) (eqb octet 44) h in ((no.0, no.1), no.2)
 
 -- ---- a number
+
+-- a message number or UID
+abbrev IsNumber : ℕ → Type 0
+IsNumber n = (0 < n) × (n < 2 ^ 32)
+
+are_numbers : (low : ℕ) (numbers : List ℕ) → rise_above low numbers ≡ true → AllByRecursion Fits numbers → AllByRecursion IsNumber numbers
+are_numbers low [] rise fit = tt
+are_numbers low (n ∷ numbers) rise fit =
+    let parts = both_true (ltb low n) (rise_above n numbers) rise in
+    let lt : low < n = ltb-true low n parts.0 in
+    let some : 0 < n = omega arith in
+    ((some, fit.0), are_numbers n numbers parts.1 fit.1)
 
 no_zero_first : (digits : List ℕ) → 48 < get_or digits 0 0 → begins_with_zero digits ≡ false
 no_zero_first [] h = refl
@@ -105,7 +99,8 @@ ranges_spelt first last (n ∷ numbers) h k all =
       | false ↦ subst (λ (t : List ℕ). IsSeparated 44 seq_range.spells (map seq_range_of (range ∷ others)) (range_text range ++ t)) (sym (comma n n numbers)) anew
     ]
 
-pub sets_are_read_back : SetsAreReadBack
-sets_are_read_back [] rest some all end = absurd (some refl)
-sets_are_read_back (n ∷ numbers) rest some all end =
+pub sets_are_read_back : (numbers : List ℕ) → IsNumberSet numbers → SetIsReadBack numbers
+sets_are_read_back [] set rest end = let no : false ≡ true = set.rising in absurd cc
+sets_are_read_back (n ∷ numbers) set rest end =
+    let all : AllByRecursion IsNumber (n ∷ numbers) = are_numbers 0 (n ∷ numbers) (both_true (not (eqb (length (n ∷ numbers)) 0)) (rise_above 0 (n ∷ numbers)) set.rising).1 set.fit in
     set_lawful.complete (map seq_range_of (runs (n ∷ numbers))) (ranges_text (runs (n ∷ numbers))) rest (ranges_spelt n n numbers all.0 all.0 all.1) (ends_list rest end)

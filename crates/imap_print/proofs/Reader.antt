@@ -11,31 +11,31 @@ use Rattle.std.proofs.lemmas.List.Folds.{list_all-append}
 use Rattle.imap_lex.specs.Framing.{crlf}
 use Rattle.imap_syntax.specs.Lexical.{is_astring_char, is_quoted_special, decimal_from}
 use Rattle.imap_print.specs.Words.{before_each, joined, in_parentheses}
-use Rattle.imap_print.specs.Strings.{is_bare, escaped, quoted_text, astring_text}
-use Rattle.imap_print.specs.Fetched.{literal_text}
-use Rattle.imap_print.specs.Lines.{Place, text, opened, counting, counted, announced, within, ending, ended, broken, literal, next, has_ended, behind_line, is_plain, IsPlain, IsHeld}
+use Rattle.imap_syntax.specs.Written.{escaped, quoted_text, literal_text}
+use Rattle.imap_print.specs.Strings.{is_bare, name_text}
+use Rattle.imap_print.specs.Lines.{LineState, text, opened, counting, counted, announced, within, ending, ended, broken, literal, text_next, next, has_ended, after_line, is_plain, IsPlain, IsHeld}
 use Rattle.imap_syntax.proofs.Writing.{both_true, numerals}
 use Rattle.imap_print.proofs.Quoting.{bare_parts}
 
--- where a reader stands behind octets
-abbrev pub run : Place → List ℕ → Place
-run place [] = place
-run place (octet ∷ octets) = run (next place octet) octets
+-- the state after octets
+abbrev pub run : LineState → List ℕ → LineState
+run state [] = state
+run state (octet ∷ octets) = run (next state octet) octets
 
-pub run-append : (place : Place) (a b : List ℕ) → run place (a ++ b) ≡ run (run place a) b
-run-append place [] b = refl
-run-append place (octet ∷ a) b = run-append (next place octet) a b
+pub run-append : (state : LineState) (a b : List ℕ) → run state (a ++ b) ≡ run (run state a) b
+run-append state [] b = refl
+run-append state (octet ∷ a) b = run-append (next state octet) a b
 
--- ---- what stands behind a line
+-- ---- after a line
 
 pub ended_stays : (octets : List ℕ) → run ended octets ≡ ended
 ended_stays [] = refl
 ended_stays (octet ∷ octets) = ended_stays octets
 
-goes_by : (ended_here : Bool) (place : Place) (octet : ℕ) (octets rest : List ℕ) → has_ended place ≡ ended_here → has_ended (run place (octet ∷ octets)) ≡ false
-    → behind_line (next place octet) (octets ++ rest) ≡ behind_line (run (next place octet) octets) rest
-    → cond ended_here (Some (octet ∷ (octets ++ rest))) (behind_line (next place octet) (octets ++ rest)) ≡ behind_line (run (next place octet) octets) rest
-goes_by false place octet octets rest is unended more = more
+goes_by : (ended_here : Bool) (state : LineState) (octet : ℕ) (octets rest : List ℕ) → has_ended state ≡ ended_here → has_ended (run state (octet ∷ octets)) ≡ false
+    → after_line (next state octet) (octets ++ rest) ≡ after_line (run (next state octet) octets) rest
+    → cond ended_here (Some (octet ∷ (octets ++ rest))) (after_line (next state octet) (octets ++ rest)) ≡ after_line (run (next state octet) octets) rest
+goes_by false state octet octets rest is unended more = more
 goes_by true ended octet octets rest is unended more = absurd (let k : has_ended (run ended octets) ≡ true = ap has_ended (ended_stays octets) in let f : true ≡ false = sym k ∙ unended in cc)
 goes_by true text octet octets rest is unended more = absurd cc
 goes_by true opened octet octets rest is unended more = absurd cc
@@ -46,13 +46,13 @@ goes_by true (within n) octet octets rest is unended more = absurd cc
 goes_by true ending octet octets rest is unended more = absurd cc
 goes_by true broken octet octets rest is unended more = absurd cc
 
-goes_through : (place : Place) (octets rest : List ℕ) → has_ended (run place octets) ≡ false → behind_line place (octets ++ rest) ≡ behind_line (run place octets) rest
-goes_through place [] rest unended = refl
-goes_through place (octet ∷ octets) rest unended = goes_by (has_ended place) place octet octets rest refl unended (goes_through (next place octet) octets rest unended)
+goes_through : (state : LineState) (octets rest : List ℕ) → has_ended (run state octets) ≡ false → after_line state (octets ++ rest) ≡ after_line (run state octets) rest
+goes_through state [] rest unended = refl
+goes_through state (octet ∷ octets) rest unended = goes_by (has_ended state) state octet octets rest refl unended (goes_through (next state octet) octets rest unended)
 
-behind_ended : (rest : List ℕ) → behind_line ended rest ≡ Some rest
-behind_ended [] = refl
-behind_ended (octet ∷ rest) = refl
+after_ended : (rest : List ℕ) → after_line ended rest ≡ Some rest
+after_ended [] = refl
+after_ended (octet ∷ rest) = refl
 
 -- ---- octets from text to text
 
@@ -63,16 +63,16 @@ pub settled : (octets : List ℕ) → run text octets ≡ text → Settles octet
 settled octets e = record { is = e }
 
 pub settles-append : {a b : List ℕ} → Settles a → Settles b → Settles (a ++ b)
-settles-append {a = a} {b = b} s t = record { is = run-append text a b ∙ ap (λ (p : Place). run p b) s.is ∙ t.is }
+settles-append {a = a} {b = b} s t = record { is = run-append text a b ∙ ap (λ (p : LineState). run p b) s.is ∙ t.is }
 
 -- a line that settles ends with its CRLF
-pub one_line : (octets rest : List ℕ) → Settles octets → behind_line text ((octets ++ crlf) ++ rest) ≡ Some rest
+pub one_line : (octets rest : List ℕ) → Settles octets → after_line text ((octets ++ crlf) ++ rest) ≡ Some rest
 one_line octets rest s =
     let unended : has_ended (run text octets) ≡ false = ap has_ended s.is in
-    ap (behind_line text) (append_assoc octets crlf rest)
+    ap (after_line text) (append_assoc octets crlf rest)
     ∙ goes_through text octets (crlf ++ rest) unended
-    ∙ ap (λ (p : Place). behind_line p (crlf ++ rest)) s.is
-    ∙ behind_ended rest
+    ∙ ap (λ (p : LineState). after_line p (crlf ++ rest)) s.is
+    ∙ after_ended rest
 
 -- ---- octets that do nothing
 
@@ -92,7 +92,7 @@ quiet_run : (octets : List ℕ) → list_all is_quiet octets ≡ true → run te
 quiet_run [] h = refl
 quiet_run (octet ∷ octets) h =
     let parts = both_true (is_quiet octet) (list_all is_quiet octets) h in
-    ap (λ (p : Place). run p octets) (quiet_by (eqb octet 123) (eqb octet 13) (eqb octet 10) parts.0) ∙ quiet_run octets parts.1
+    ap (λ (p : LineState). run p octets) (quiet_by (eqb octet 123) (eqb octet 13) (eqb octet 10) parts.0) ∙ quiet_run octets parts.1
 
 pub quiet_settles : {octets : List ℕ} → Quiet octets → Settles octets
 quiet_settles {octets = octets} q = record { is = quiet_run octets q.all }
@@ -108,14 +108,14 @@ quiet-append {a = a} {b = b} q r = record { all = list_all-append is_quiet a b �
 quiet_digit : (n : ℕ) → is_quiet (digit_glyph false (n % 10)) ≡ true
 quiet_digit n = let lt : n % 10 < 10 = omega arith in grind (arith, nat_tests)
 
-digits_quiet : (k n : ℕ) (behind : List ℕ) → list_all is_quiet behind ≡ true → list_all is_quiet (digits_onto k 10 false n behind) ≡ true
-digits_quiet zero n behind h = h
-digits_quiet (suc k) n behind h =
+digits_quiet : (k n : ℕ) (appended : List ℕ) → list_all is_quiet appended ≡ true → list_all is_quiet (digits_onto k 10 false n appended) ≡ true
+digits_quiet zero n appended h = h
+digits_quiet (suc k) n appended h =
     let glyph = digit_glyph false (n % 10) in
-    let more : list_all is_quiet (glyph ∷ behind) ≡ true = ap (λ (b : Bool). b && list_all is_quiet behind) (quiet_digit n) ∙ h in
-    elim (eqb (n / 10) 0) as (λ b. list_all is_quiet (cond b (glyph ∷ behind) (digits_onto k 10 false (n / 10) (glyph ∷ behind))) ≡ true) [
+    let more : list_all is_quiet (glyph ∷ appended) ≡ true = ap (λ (b : Bool). b && list_all is_quiet appended) (quiet_digit n) ∙ h in
+    elim (eqb (n / 10) 0) as (λ b. list_all is_quiet (cond b (glyph ∷ appended) (digits_onto k 10 false (n / 10) (glyph ∷ appended))) ≡ true) [
       | true ↦ more
-      | false ↦ digits_quiet k (n / 10) (glyph ∷ behind) more
+      | false ↦ digits_quiet k (n / 10) (glyph ∷ appended) more
     ]
 
 pub quiet_decimal : (n : ℕ) → Quiet (decimal n)
@@ -124,7 +124,7 @@ quiet_decimal n = record { all = digits_quiet 64 n [] refl }
 
 -- ---- octets among which there is no CR or LF
 
-abbrev is_calm : Place → Bool
+abbrev is_calm : LineState → Bool
 is_calm text = true
 is_calm opened = true
 is_calm (counting n) = true
@@ -154,7 +154,7 @@ calm_counted : (a b c : Bool) (n : ℕ) → not (b || c) ≡ true → is_calm (c
 calm_counted a true c n h = absurd cc
 calm_counted a false c n h = calm_text a false c h
 
-calm_next : (place : Place) (octet : ℕ) → is_calm place ≡ true → is_plain octet ≡ true → is_calm (next place octet) ≡ true
+calm_next : (state : LineState) (octet : ℕ) → is_calm state ≡ true → is_plain octet ≡ true → is_calm (next state octet) ≡ true
 calm_next text octet calm plain = calm_text (eqb octet 123) (eqb octet 13) (eqb octet 10) plain
 calm_next opened octet calm plain = calm_opened (is_ascii_digit octet) (eqb octet 123) (eqb octet 13) (eqb octet 10) (octet - 48) plain
 calm_next (counting n) octet calm plain = calm_counting (is_ascii_digit octet) (eqb octet 125) (eqb octet 123) (eqb octet 13) (eqb octet 10) n (10 * n + (octet - 48)) plain
@@ -165,56 +165,41 @@ calm_next ending octet calm plain = absurd cc
 calm_next ended octet calm plain = absurd cc
 calm_next broken octet calm plain = absurd cc
 
-calm_run : (place : Place) (octets : List ℕ) → is_calm place ≡ true → IsPlain octets → is_calm (run place octets) ≡ true
-calm_run place [] calm plain = calm
-calm_run place (octet ∷ octets) calm plain =
+calm_run : (state : LineState) (octets : List ℕ) → is_calm state ≡ true → IsPlain octets → is_calm (run state octets) ≡ true
+calm_run state [] calm plain = calm
+calm_run state (octet ∷ octets) calm plain =
     let parts = both_true (is_plain octet) (list_all is_plain octets) plain in
-    calm_run (next place octet) octets (calm_next place octet calm parts.0) parts.1
+    calm_run (next state octet) octets (calm_next state octet calm parts.0) parts.1
 
--- an octet that no `{n}` has
-record Resets (octet : ℕ) : Type 0 where
-  resets : (place : Place) → is_calm place ≡ true → next place octet ≡ text
+-- after an octet that is no digit, `}` or CR, and begins nothing, there is text
+by_octet : (octet : ℕ) → text_next octet ≡ text → is_ascii_digit octet ≡ false → eqb octet 125 ≡ false → eqb octet 13 ≡ false
+    → (state : LineState) → is_calm state ≡ true → next state octet ≡ text
+by_octet octet plain digit brace cr text calm = plain
+by_octet octet plain digit brace cr opened calm = rw digit plain
+by_octet octet plain digit brace cr (counting n) calm = rw (digit, brace) plain
+by_octet octet plain digit brace cr (counted n) calm = ap (λ (b : Bool). cond b (announced n) (text_next octet)) cr ∙ plain
+by_octet octet plain digit brace cr (announced n) calm = absurd cc
+by_octet octet plain digit brace cr (within n) calm = absurd cc
+by_octet octet plain digit brace cr ending calm = absurd cc
+by_octet octet plain digit brace cr ended calm = absurd cc
+by_octet octet plain digit brace cr broken calm = absurd cc
 
-by_space : (place : Place) → is_calm place ≡ true → next place 32 ≡ text
-by_space text calm = refl
-by_space opened calm = refl
-by_space (counting n) calm = refl
-by_space (counted n) calm = refl
-by_space (announced n) calm = absurd cc
-by_space (within n) calm = absurd cc
-by_space ending calm = absurd cc
-by_space ended calm = absurd cc
-by_space broken calm = absurd cc
+by_space : (state : LineState) → is_calm state ≡ true → next state 32 ≡ text
+by_space = by_octet 32 refl refl refl refl
 
-by_quote : (place : Place) → is_calm place ≡ true → next place 34 ≡ text
-by_quote text calm = refl
-by_quote opened calm = refl
-by_quote (counting n) calm = refl
-by_quote (counted n) calm = refl
-by_quote (announced n) calm = absurd cc
-by_quote (within n) calm = absurd cc
-by_quote ending calm = absurd cc
-by_quote ended calm = absurd cc
-by_quote broken calm = absurd cc
+by_quote : (state : LineState) → is_calm state ≡ true → next state 34 ≡ text
+by_quote = by_octet 34 refl refl refl refl
 
-by_parenthesis : (place : Place) → is_calm place ≡ true → next place 41 ≡ text
-by_parenthesis text calm = refl
-by_parenthesis opened calm = refl
-by_parenthesis (counting n) calm = refl
-by_parenthesis (counted n) calm = refl
-by_parenthesis (announced n) calm = absurd cc
-by_parenthesis (within n) calm = absurd cc
-by_parenthesis ending calm = absurd cc
-by_parenthesis ended calm = absurd cc
-by_parenthesis broken calm = absurd cc
+by_parenthesis : (state : LineState) → is_calm state ≡ true → next state 41 ≡ text
+by_parenthesis = by_octet 41 refl refl refl refl
 
 plain-append : (a b : List ℕ) → IsPlain a → IsPlain b → IsPlain (a ++ b)
 plain-append a b p q = list_all-append is_plain a b ∙ rw (p, q) refl
 
--- a tag, and a space behind it
+-- a tag, and a space after it
 pub tagged : (tag rest : List ℕ) → IsPlain tag → run text rest ≡ text → Settles (tag ++ 32 ∷ rest)
 tagged tag rest plain e = record {
-  is = run-append text tag (32 ∷ rest) ∙ ap (λ (p : Place). run p rest) (by_space (run text tag) (calm_run text tag refl plain)) ∙ e;
+  is = run-append text tag (32 ∷ rest) ∙ ap (λ (p : LineState). run p rest) (by_space (run text tag) (calm_run text tag refl plain)) ∙ e;
 }
 
 -- ---- strings
@@ -243,12 +228,12 @@ quoted_settles octets plain = record {
   is = run-append text (flat_map escaped octets) (34 ∷ []) ∙ by_quote (run text (flat_map escaped octets)) (calm_run text (flat_map escaped octets) refl (plain_escaped octets plain));
 }
 
-name_settles : (name : List ℕ) (bare : Bool) → is_bare name ≡ bare → IsPlain name → Settles (cond bare name (quoted_text name))
-name_settles name true is plain = quiet_settles (quiet name (quiet_atom name (bare_parts name is).0))
-name_settles name false is plain = quoted_settles name plain
+name_by : (name : List ℕ) (bare : Bool) → is_bare name ≡ bare → IsPlain name → Settles (cond bare name (quoted_text name))
+name_by name true is plain = quiet_settles (quiet name (quiet_atom name (bare_parts name is).0))
+name_by name false is plain = quoted_settles name plain
 
-pub astring_settles : (name : List ℕ) → IsPlain name → Settles (astring_text name)
-astring_settles name plain = name_settles name (is_bare name) refl plain
+pub name_settles : (name : List ℕ) → IsPlain name → Settles (name_text name)
+name_settles name plain = name_by name (is_bare name) refl plain
 
 -- ---- literals
 
@@ -274,10 +259,9 @@ literal_settles octets held =
     let n = length octets in
     let number = decimal n in
     let spelt : run opened number ≡ counting n = counts_all number (decimal_nonempty n held) (digits_decimal numerals n held) ∙ ap counting (digits_value-decimal numerals n held) in
-    let announces : run text (((123 ∷ number) ++ codes "}") ++ crlf) ≡ literal n =
-    run-append text ((123 ∷ number) ++ codes "}") crlf
-    ∙ ap (λ (p : Place). run p crlf) (run-append text (123 ∷ number) (codes "}") ∙ ap (λ (p : Place). run p (codes "}")) spelt) in
-    record { is = run-append text (((123 ∷ number) ++ codes "}") ++ crlf) octets ∙ ap (λ (p : Place). run p octets) announces ∙ within_all octets }
+    let announces : run text ((123 ∷ number) ++ codes "}\r\n") ≡ literal n =
+    run-append text (123 ∷ number) (codes "}\r\n") ∙ ap (λ (p : LineState). run p (codes "}\r\n")) spelt in
+    record { is = run-append text ((123 ∷ number) ++ codes "}\r\n") octets ∙ ap (λ (p : LineState). run p octets) announces ∙ within_all octets }
 
 -- ---- lists
 

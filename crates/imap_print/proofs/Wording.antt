@@ -1,4 +1,4 @@
--- Words behind words.
+-- Words after words.
 use Rattle.std.proofs.Common.{◌≡◌, ℕ, Bool, true, false, ◌||◌, List, [], ◌∷◌, ◌++◌, refl, sym, ap, ◌∙◌, append_assoc, append-nil}
 use Rattle.imap_print.specs.Words.{before_each, joined, further, space, are_there, GoesOn}
 
@@ -54,6 +54,6 @@ enclosed out opened closed words now done o g d =
     d ∙ ap (λ (t : List ℕ). t ++ 41 ∷ []) (g.printed ∙ ap (λ (t : List ℕ). t ++ joined 32 words) o)
     ∙ append_assoc (out ++ 40 ∷ []) (joined 32 words) (41 ∷ []) ∙ append_assoc out (40 ∷ []) (joined 32 words ++ 41 ∷ [])
 
--- one text behind another
-pub behind : (out a b : List ℕ) {m n : List ℕ} → m ≡ out ++ a → n ≡ m ++ b → n ≡ out ++ (a ++ b)
-behind out a b e f = f ∙ ap (λ (t : List ℕ). t ++ b) e ∙ append_assoc out a b
+-- one text after another
+pub appended : (out a b : List ℕ) {m n : List ℕ} → m ≡ out ++ a → n ≡ m ++ b → n ≡ out ++ (a ++ b)
+appended out a b e f = f ∙ ap (λ (t : List ℕ). t ++ b) e ∙ append_assoc out a b

@@ -5,7 +5,8 @@ use Rattle.imap_print.specs.Words.{given, in_parentheses}
 
 abbrev pub system_flags : FlagSet → List (List ℕ)
 system_flags flags =
-    given flags.answered (codes "\\Answered") ++ given flags.deleted (codes "\\Deleted") ++ given flags.draft (codes "\\Draft")
+    given flags.answered (codes "\\Answered") ++ given flags.deleted (codes "\\Deleted")
+    ++ given flags.draft (codes "\\Draft")
     ++ given flags.flagged (codes "\\Flagged") ++ given flags.seen (codes "\\Seen")
 
 abbrev pub flag_words : FlagSet → List (List ℕ)

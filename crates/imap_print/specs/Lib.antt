@@ -2,7 +2,6 @@ pub mod Words
 pub mod Strings
 pub mod Sets
 pub mod Flags
-pub mod Dates
 pub mod Fetched
 pub mod Mailboxes
 pub mod Printed

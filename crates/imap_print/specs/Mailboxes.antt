@@ -1,41 +1,33 @@
--- How what is told of a mailbox is printed.
+-- How the properties of a mailbox are printed.
 use Rattle.std.specs.Prelude.{ℕ, Bool, true, false, List, [], ◌∷◌, ◌++◌, codes, decimal, map}
 use Rattle.imap_rights.specs.Rights.{bits, letters_of}
 use Rattle.imap_print.specs.declared.list.Children.{Children}
 use Rattle.imap_print.specs.declared.list.Children.TheVariants as children
 use Rattle.imap_print.specs.declared.list.ListAttributes.{ListAttributes}
-use Rattle.imap_query.specs.declared.status.StatusItem.{StatusItem}
-use Rattle.imap_query.specs.declared.status.StatusItem.TheVariants as item
+use Rattle.imap_query.specs.StatusWords.{status_name}
 use Rattle.imap_print.specs.declared.status.StatusValue.{StatusValue}
 use Rattle.imap_print.specs.declared.acl.AclEntry.{AclEntry}
 use Rattle.imap_print.specs.Words.{given, before_each, in_parentheses}
-use Rattle.imap_print.specs.Strings.{astring_text}
+use Rattle.imap_print.specs.Strings.{name_text}
 
 -- ---- LIST (RFC 9051, section 7.3.1)
 
 abbrev pub children_words : Children → List (List ℕ)
-children_words children.Untold = []
+children_words children.Omitted = []
 children_words children.Has = codes "\\HasChildren" ∷ []
 children_words children.HasNo = codes "\\HasNoChildren" ∷ []
 
 -- `mbx-list-flags`
 abbrev pub attributes_text : ListAttributes → List ℕ
 attributes_text attributes =
-    in_parentheses (given attributes.non_existent (codes "\\NonExistent") ++ children_words attributes.children ++ given attributes.subscribed (codes "\\Subscribed"))
+    in_parentheses
+    (given attributes.non_existent (codes "\\NonExistent") ++ children_words attributes.children
+    ++ given attributes.subscribed (codes "\\Subscribed"))
 
 -- ---- STATUS (RFC 9051, section 7.3.4; RFC 7162, section 3.1)
 
-abbrev pub item_text : StatusItem → List ℕ
-item_text item.Messages = codes "MESSAGES"
-item_text item.UidNext = codes "UIDNEXT"
-item_text item.UidValidity = codes "UIDVALIDITY"
-item_text item.Unseen = codes "UNSEEN"
-item_text item.Deleted = codes "DELETED"
-item_text item.Size = codes "SIZE"
-item_text item.HighestModSeq = codes "HIGHESTMODSEQ"
-
 abbrev pub value_text : StatusValue → List ℕ
-value_text value = item_text value.item ++ codes " " ++ decimal value.value
+value_text value = status_name value.item ++ codes " " ++ decimal value.value
 
 abbrev pub values_text : List StatusValue → List ℕ
 values_text values = in_parentheses (map value_text values)
@@ -43,12 +35,12 @@ values_text values = in_parentheses (map value_text values)
 -- ---- access control lists (RFC 4314, sections 3.6 and 3.7)
 
 abbrev pub entry_text : AclEntry → List ℕ
-entry_text entry = astring_text entry.identifier ++ codes " " ++ letters_of (bits entry.rights)
+entry_text entry = name_text entry.identifier ++ codes " " ++ letters_of (bits entry.rights)
 
 abbrev pub entries_text : List AclEntry → List ℕ
 entries_text entries = before_each 32 (map entry_text entries)
 
--- An owner always has `l` and `a`.
+-- the rights that an identifier always has, and those that it may be given. An owner always has `l` and `a`
 abbrev pub grantable_text : (owner : Bool) → List ℕ
 grantable_text true = codes "la r s w i p k x t e"
 grantable_text false = codes "\"\" l r s w i p k x t e a"

@@ -14,7 +14,8 @@ use Rattle.imap_print.specs.declared.response.Response.{Response}
 use Rattle.imap_print.specs.declared.response.Response.TheVariants as response
 use Rattle.imap_print.specs.declared.search.SearchResults.{SearchResults}
 use Rattle.imap_print.specs.Words.{before_each, given, given_by, in_parentheses}
-use Rattle.imap_print.specs.Strings.{quoted_text, astring_text}
+use Rattle.imap_syntax.specs.Written.{quoted_text}
+use Rattle.imap_print.specs.Strings.{name_text}
 use Rattle.imap_print.specs.Sets.{set_text}
 use Rattle.imap_print.specs.Flags.{every_system_flag, permanent_text}
 use Rattle.imap_print.specs.Fetched.{fetched_text}
@@ -54,7 +55,9 @@ tag_text None = codes "*"
 
 -- `resp-code-copy` (RFC 9051, section 9)
 abbrev pub copied_text : CopiedUids → List ℕ
-copied_text copied = codes "COPYUID " ++ decimal copied.validity ++ codes " " ++ set_text copied.source ++ codes " " ++ set_text copied.target
+copied_text copied =
+    codes "COPYUID " ++ decimal copied.validity ++ codes " " ++ set_text copied.source ++ codes " "
+    ++ set_text copied.target
 
 -- `resp-text-code` (RFC 9051, section 9; RFC 7162, section 7)
 abbrev pub code_text : Code → List ℕ
@@ -71,19 +74,24 @@ done_text None = codes " OK done"
 
 -- the words of ENABLED (RFC 9051, section 7.2.1)
 abbrev pub enabled_words : EnabledCapabilities → List (List ℕ)
-enabled_words enabled = given enabled.condstore (codes "CONDSTORE") ++ given enabled.imap4rev2 (codes "IMAP4rev2") ++ given enabled.qresync (codes "QRESYNC")
+enabled_words enabled =
+    given enabled.condstore (codes "CONDSTORE") ++ given enabled.imap4rev2 (codes "IMAP4rev2")
+    ++ given enabled.qresync (codes "QRESYNC")
 
 -- (RFC 7162, section 3.2.10)
 abbrev pub earlier_text : (earlier : Bool) → List ℕ
 earlier_text true = codes "(EARLIER) "
 earlier_text false = []
 
--- the words of ESEARCH behind the tag (RFC 9051, section 7.3.4; RFC 7162, section 3.1.5)
+abbrev pub found_words : Option (List ℕ) → List (List ℕ)
+found_words all = given_by (λ set. codes "ALL " ++ set_text set) all
+
+-- the words of ESEARCH after the tag (RFC 9051, section 7.3.4; RFC 7162, section 3.1.5)
 abbrev pub results_words : SearchResults → List (List ℕ)
 results_words results =
     given_by (λ min. codes "MIN " ++ decimal min) results.min
     ++ given_by (λ max. codes "MAX " ++ decimal max) results.max
-    ++ given_by (λ all. codes "ALL " ++ set_text all) results.all
+    ++ found_words results.all
     ++ given_by (λ count. codes "COUNT " ++ decimal count) results.count
     ++ given_by (λ mod_seq. codes "MODSEQ " ++ decimal mod_seq) results.mod_seq
 
@@ -97,28 +105,36 @@ line_text response.Ready = codes "+ ready"
 line_text response.Idling = codes "+ idling"
 line_text response.Namespace = codes "* NAMESPACE ((\"\" \"/\")) ((\"Other Users/\" \"/\")) ((\"Shared/\" \"/\"))"
 line_text (response.Enabled enabled) = codes "* ENABLED" ++ before_each 32 (enabled_words enabled)
-line_text (response.List attributes mailbox) = codes "* LIST " ++ attributes_text attributes ++ codes " \"/\" " ++ astring_text mailbox
+line_text (response.List attributes mailbox) =
+    codes "* LIST " ++ attributes_text attributes ++ codes " \"/\" " ++ name_text mailbox
 line_text response.ListRoot = codes "* LIST (\\Noselect) \"/\" \"\""
-line_text (response.Status mailbox items) = codes "* STATUS " ++ astring_text mailbox ++ codes " " ++ values_text items
-line_text (response.Acl mailbox entries) = codes "* ACL " ++ astring_text mailbox ++ entries_text entries
-line_text (response.MyRights mailbox rights) = codes "* MYRIGHTS " ++ astring_text mailbox ++ codes " " ++ letters_of (bits rights)
-line_text (response.ListRights mailbox identifier owner) = codes "* LISTRIGHTS " ++ astring_text mailbox ++ codes " " ++ astring_text identifier ++ codes " " ++ grantable_text owner
+line_text (response.Status mailbox items) = codes "* STATUS " ++ name_text mailbox ++ codes " " ++ values_text items
+line_text (response.Acl mailbox entries) = codes "* ACL " ++ name_text mailbox ++ entries_text entries
+line_text (response.MyRights mailbox rights) =
+    codes "* MYRIGHTS " ++ name_text mailbox ++ codes " " ++ letters_of (bits rights)
+line_text (response.ListRights mailbox identifier owner) =
+    codes "* LISTRIGHTS " ++ name_text mailbox ++ codes " " ++ name_text identifier ++ codes " "
+    ++ grantable_text owner
 line_text (response.Flags keywords) = codes "* FLAGS " ++ in_parentheses (every_system_flag ++ keywords)
-line_text (response.PermanentFlags flags any) = codes "* OK [PERMANENTFLAGS " ++ permanent_text flags any ++ codes "] flags kept"
-line_text (response.Exists n) = codes "* " ++ decimal n ++ codes " EXISTS"
-line_text (response.Expunge n) = codes "* " ++ decimal n ++ codes " EXPUNGE"
+line_text (response.PermanentFlags flags any) =
+    codes "* OK [PERMANENTFLAGS " ++ permanent_text flags any ++ codes "] flags kept"
+line_text (response.Exists n) = codes "* " ++ (decimal n ++ codes " EXISTS")
+line_text (response.Expunge n) = codes "* " ++ (decimal n ++ codes " EXPUNGE")
 line_text (response.Vanished earlier uids) = codes "* VANISHED " ++ earlier_text earlier ++ set_text uids
 line_text response.Closed = codes "* OK [CLOSED] closed"
-line_text (response.UidValidity n) = codes "* OK [UIDVALIDITY " ++ decimal n ++ codes "] validity"
-line_text (response.UidNext n) = codes "* OK [UIDNEXT " ++ decimal n ++ codes "] next"
-line_text (response.HighestModSeq n) = codes "* OK [HIGHESTMODSEQ " ++ decimal n ++ codes "] highest"
+line_text (response.UidValidity n) = codes "* OK [UIDVALIDITY " ++ (decimal n ++ codes "] validity")
+line_text (response.UidNext n) = codes "* OK [UIDNEXT " ++ (decimal n ++ codes "] next")
+line_text (response.HighestModSeq n) = codes "* OK [HIGHESTMODSEQ " ++ (decimal n ++ codes "] highest")
 line_text (response.Moved copied) = codes "* OK [" ++ copied_text copied ++ codes "] moved"
-line_text (response.Fetch number items) = codes "* " ++ decimal number ++ codes " FETCH " ++ fetched_text items
-line_text (response.Search tag uid results) = codes "* ESEARCH (TAG " ++ quoted_text tag ++ codes ")" ++ before_each 32 (given uid (codes "UID") ++ results_words results)
+line_text (response.Fetch number items) =
+    codes "* " ++ decimal number ++ codes " FETCH " ++ fetched_text items
+line_text (response.Search tag uid results) =
+    codes "* ESEARCH (TAG " ++ quoted_text tag ++ codes ")"
+    ++ before_each 32 (given uid (codes "UID") ++ results_words results)
 
 abbrev pub line : Response → List ℕ
 line response = line_text response ++ crlf
 
--- one line behind the other
+-- the lines in their order
 abbrev pub printed : List Response → List ℕ
 printed responses = flat_map line responses

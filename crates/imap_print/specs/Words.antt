@@ -28,7 +28,7 @@ abbrev pub given_by : {A : Type 0} → (A → List ℕ) → Option A → List (L
 given_by text (Some value) = text value ∷ []
 given_by text None = []
 
--- what stands between a word and those before it
+-- the separator before a word
 abbrev pub space : (begun : Bool) → List ℕ
 space true = 32 ∷ []
 space false = []
@@ -37,8 +37,8 @@ abbrev pub are_there : List (List ℕ) → Bool
 are_there [] = false
 are_there (word ∷ words) = true
 
--- `new` is `old` and behind it words of a list, of which some stand there already where `begun` says so; `now` says
--- whether some stand there by now
+-- `new` is `old` and then the words of a list. `begun` says whether the list has words in `old`, and `now` whether it
+-- has words in `new`
 pub record GoesOn (old : List ℕ) (begun : Bool) (words : List (List ℕ)) (new : List ℕ) (now : Bool) : Type 0 where
   pub printed : new ≡ old ++ further begun 32 words
   pub any : now ≡ (begun || are_there words)

@@ -1,4 +1,4 @@
-//! What is told of an access control list.
+//! The entries of an access control list, as they are printed.
 
 use imap_lex::Octets;
 use imap_rights::Rights;

@@ -1,4 +1,4 @@
-//! What is told of a message.
+//! The items of a message.
 
 use crate::flag::FlagSet;
 use imap_lex::Octets;
@@ -9,18 +9,18 @@ use imap_syntax::{DateTime, Items};
 #[derive(Debug, Drop)]
 pub struct FetchedSection {
     pub section: Section,
-    /// With which octet of the section they begin, where not all were asked for.
+    /// The offset of the first octet in the section, if a part of it was requested.
     pub origin: Option<u64>,
     pub octets: Octets,
 }
 
-/// What is told of a message (RFC 9051, section 7.5.2).
+/// The items of a message that are sent (RFC 9051, section 7.5.2).
 #[derive(Debug, Drop)]
 pub struct FetchedItems {
     pub uid: Option<u32>,
     pub flags: Option<FlagSet>,
     pub internal_date: Option<DateTime>,
-    /// How many octets the message has.
+    /// The number of octets of the message.
     pub size: Option<u64>,
     /// RFC 7162, section 3.1.
     pub mod_seq: Option<u64>,

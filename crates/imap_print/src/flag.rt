@@ -11,6 +11,6 @@ pub struct FlagSet {
     pub draft: bool,
     pub flagged: bool,
     pub seen: bool,
-    /// In the order in which they are told.
+    /// In the order in which they are printed.
     pub keywords: Items<Octets>,
 }

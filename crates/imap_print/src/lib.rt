@@ -24,7 +24,7 @@ pub use enabled::EnabledCapabilities;
 pub use fetch::{FetchedItems, FetchedSection};
 pub use flag::FlagSet;
 pub use list::{Children, ListAttributes};
-pub use numbering::Numbers;
+pub use numbering::NumberSet;
 pub use printing::print;
 pub use response::{Code, Farewell, Refusal, Response};
 pub use search::SearchResults;

@@ -1,10 +1,10 @@
-//! What is told of a mailbox name.
+//! The attributes of a mailbox name.
 
 /// Whether there are names below a name.
 #[derive(Clone, Copy, Debug, PartialEq, Eq)]
 pub enum Children {
-    /// It is not told.
-    Untold,
+    /// The attribute is left out.
+    Omitted,
     Has,
     HasNo,
 }

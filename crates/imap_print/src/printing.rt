@@ -7,7 +7,6 @@ ghost use Rattle.imap_print.specs.declared.response.Response.TheVariants as resp
 ghost use Rattle.imap_print.specs.Printed.{earlier_text, line_text, line, printed};
 
 mod codes;
-mod dates;
 mod fetched;
 mod flags;
 mod mailboxes;
@@ -19,24 +18,25 @@ mod words;
 use crate::enabled::EnabledCapabilities;
 use crate::fetch::FetchedItems;
 use crate::flag::FlagSet;
+use crate::numbering::NumberSet;
 use crate::response::Response;
-use codes::{
-    push_between, push_bye, push_capability, push_done, push_greeting, push_moved, push_refused,
-};
+use codes::{push_bye, push_capability, push_done, push_greeting, push_moved, push_refused};
 use fetched::push_fetched;
 use flags::{push_all_flags, push_permanent};
 use imap_lex::Octets;
+use imap_syntax::{push_between, push_number};
 use mailboxes::{push_acl, push_list, push_list_rights, push_my_rights, push_status};
-use numbers::{push_number, push_set};
+use numbers::push_set;
 use searched::push_search;
 use std::alloc::{AllocError, Global};
 use words::push_given;
 
-/// The octets of these responses, each a line that CRLF ends. A client reads just these lines in them, if the names and
-/// other texts have neither CR nor LF.
+/// The octets of the responses, each a line that CRLF ends. A client reads just these lines in them, if the names and
+/// other texts in the responses have neither CR nor LF.
 pub fn print(alloc: Global, responses: &[Response]) -> Result<Vec<u8>, AllocError>
     ensures octets { IfOk result (λ out. out.items ≡ printed responses.now) }
-    ensures lines { IfOk result (λ out. AllByRecursion IsPrintable responses.now → AreReadFrom (map line responses.now) out.items) }
+    ensures lines { IfOk result (λ out.
+        AllByRecursion IsPrintable responses.now → AreReadFrom (map line responses.now) out.items) }
 {
     let mut out = Vec::new(alloc);
     for response in responses {
@@ -82,7 +82,7 @@ fn push_text(out: &mut Vec<u8>, response: &Response) -> Result<(), AllocError>
         Response::PermanentFlags { flags, any } => push_permanent_flags(out, flags, *any),
         Response::Exists(n) => push_between(out, b"* ", u64::from(*n), b" EXISTS"),
         Response::Expunge(n) => push_between(out, b"* ", u64::from(*n), b" EXPUNGE"),
-        Response::Vanished { earlier, uids } => push_vanished(out, *earlier, uids.as_slice()),
+        Response::Vanished { earlier, uids } => push_vanished(out, *earlier, uids),
         Response::Closed => out.extend_from_slice(b"* OK [CLOSED] closed"),
         Response::UidValidity(n) => push_uid_validity(out, *n),
         Response::UidNext(n) => push_between(out, b"* OK [UIDNEXT ", u64::from(*n), b"] next"),
@@ -120,7 +120,8 @@ fn push_flags_line(out: &mut Vec<u8>, keywords: &[Octets]) -> Result<(), AllocEr
 }
 
 fn push_permanent_flags(out: &mut Vec<u8>, flags: &FlagSet, any: bool) -> Result<(), AllocError>
-    ensures { OnOk result (out.new.items ≡ out.old.items ++ line_text (response.PermanentFlags flags.now any)) }
+    ensures { OnOk result (out.new.items ≡ out.old.items
+        ++ line_text (response.PermanentFlags flags.now any)) }
 {
     out.extend_from_slice(b"* OK [PERMANENTFLAGS ")?;
     push_permanent(out, flags, any)?;
@@ -148,7 +149,7 @@ fn push_uid_validity(out: &mut Vec<u8>, validity: u32) -> Result<(), AllocError>
     )
 }
 
-fn push_vanished(out: &mut Vec<u8>, earlier: bool, uids: &[u32]) -> Result<(), AllocError>
+fn push_vanished(out: &mut Vec<u8>, earlier: bool, uids: &NumberSet) -> Result<(), AllocError>
     ensures { OnOk result (out.new.items ≡ out.old.items ++ line_text (response.Vanished earlier uids.now)) }
 {
     out.extend_from_slice(b"* VANISHED ")?;

@@ -1,4 +1,4 @@
-//! What a server tells a client.
+//! The responses of the server.
 
 use crate::acl::AclEntry;
 use crate::copied::CopiedUids;
@@ -6,7 +6,7 @@ use crate::enabled::EnabledCapabilities;
 use crate::fetch::FetchedItems;
 use crate::flag::FlagSet;
 use crate::list::ListAttributes;
-use crate::numbering::Numbers;
+use crate::numbering::NumberSet;
 use crate::search::SearchResults;
 use crate::status::StatusValue;
 use imap_lex::{Octets, Tag};
@@ -27,7 +27,7 @@ pub enum Response {
         tag: Tag,
         code: Option<Code>,
     },
-    /// A command was not carried out. There is no tag where none could be read.
+    /// A command was not carried out. It has no tag if none could be read.
     Refused {
         tag: Option<Tag>,
         refusal: Refusal,
@@ -79,32 +79,32 @@ pub enum Response {
         /// Further keywords may be made.
         any: bool,
     },
-    /// How many messages there are (section 7.4.1).
+    /// The number of messages (section 7.4.1).
     Exists(u32),
     /// The message of this number is gone (section 7.5.1).
     Expunge(u32),
     /// The messages of these UIDs are gone (RFC 7162, section 3.2.10).
     Vanished {
-        /// They went before the mailbox was selected, or are told anew.
+        /// They were gone before the mailbox was selected, or are sent once more.
         earlier: bool,
-        uids: Numbers,
+        uids: NumberSet,
     },
     /// The mailbox that was selected before is closed (section 7.1).
     Closed,
-    /// Section 7.1.
+    /// The UIDVALIDITY of the mailbox (section 7.1).
     UidValidity(u32),
     /// The next message's UID, at the least (section 7.1).
     UidNext(u32),
     /// The highest mod-sequence of the mailbox (RFC 7162, section 3.1.2.1).
     HighestModSeq(u64),
-    /// Where the messages are that were moved (section 7.1, of COPYUID).
+    /// The UIDs of messages that were moved (section 7.1, of COPYUID).
     Moved(CopiedUids),
-    /// What was asked of the message of this number, or is new of it (section 7.5.2).
+    /// Items of the message of this number: those that a command requested, or those that changed (section 7.5.2).
     Fetch {
         number: u32,
         items: FetchedItems,
     },
-    /// What a search found (section 7.3.4, of ESEARCH).
+    /// The results of a search (section 7.3.4, of ESEARCH).
     Search {
         tag: Tag,
         /// The numbers are UIDs.
@@ -113,7 +113,7 @@ pub enum Response {
     },
 }
 
-/// What is told with a command that was carried out, by the response codes of RFC 9051, section 7.1, and RFC 7162.
+/// The response code of a command that was carried out (RFC 9051, section 7.1, and RFC 7162).
 #[derive(Debug, Drop)]
 pub enum Code {
     /// The mailbox is selected, and may be changed.
@@ -122,12 +122,12 @@ pub enum Code {
     ReadOnly,
     /// The UIDVALIDITY of the mailbox and the UID that the message was given there.
     AppendUid { validity: u32, uid: u32 },
-    /// Where the copies are.
+    /// The UIDs of the messages and of their copies.
     CopyUid(CopiedUids),
     /// The highest mod-sequence of the mailbox (RFC 7162, section 3.2.7).
     HighestModSeq(u64),
     /// The messages that were not changed, as their mod-sequences were too high (RFC 7162, section 3.1.3).
-    Modified(Numbers),
+    Modified(NumberSet),
 }
 
 /// Why a session ends.
@@ -135,9 +135,9 @@ pub enum Code {
 pub enum Farewell {
     /// The client logs out.
     LoggingOut,
-    /// The user has as many sessions open as may be, or a line was too long.
+    /// The user has too many sessions open, or a line was too long.
     LimitReached,
-    /// The client said nothing for too long (RFC 9051, section 5.4).
+    /// The client sent nothing for too long (RFC 9051, section 5.4).
     IdleTooLong,
     /// The selected mailbox is gone, or the user may not read it any more.
     MailboxUnavailable,
@@ -154,7 +154,7 @@ pub enum Refusal {
     AlreadyExists,
     /// There are names below this one (RFC 9051, section 7.1).
     HasChildren,
-    /// It can never be done.
+    /// The server never does this.
     Cannot,
     /// A limit of this server is reached.
     Limit,
@@ -172,6 +172,6 @@ pub enum Refusal {
     BadCharset,
     /// The octets spell no command.
     Malformed,
-    /// The command has no place in this state (RFC 9051, section 3).
+    /// The command is not allowed in this state (RFC 9051, section 3).
     WrongState,
 }

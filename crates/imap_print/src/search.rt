@@ -1,6 +1,6 @@
-//! What is told of a search.
+//! The results of a search.
 
-use crate::numbering::Numbers;
+use crate::numbering::NumberSet;
 
 /// `search-return-data` of RFC 9051, section 9, and MODSEQ of RFC 7162, section 3.1.5.
 #[derive(Debug, Drop)]
@@ -9,7 +9,7 @@ pub struct SearchResults {
     pub min: Option<u32>,
     /// The highest.
     pub max: Option<u32>,
-    pub all: Option<Numbers>,
+    pub all: Option<NumberSet>,
     pub count: Option<u32>,
     pub mod_seq: Option<u64>,
 }

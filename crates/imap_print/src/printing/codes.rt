@@ -1,18 +1,19 @@
 //! Conditions and their response codes (RFC 9051, section 7.1).
 
-ghost use Rattle.std.specs.Prelude.{◌≡◌, ◌++◌, OnOk, decimal};
+ghost use Rattle.std.specs.Prelude.{◌≡◌, ◌++◌, OnOk};
 ghost use Rattle.imap_print.specs.declared.response.Code.TheVariants as code;
 ghost use Rattle.imap_print.specs.declared.response.Response.TheVariants as response;
-ghost use Rattle.imap_print.specs.Sets.{set_text};
-ghost use Rattle.imap_print.specs.Printed.{capabilities, farewell_text, refusal_text, tag_text, copied_text, code_text, done_text, line_text};
+ghost use Rattle.imap_print.specs.Printed.{capabilities, farewell_text, refusal_text, tag_text};
+ghost use Rattle.imap_print.specs.Printed.{copied_text, code_text, done_text, line_text};
 
-use super::numbers::{push_number, push_set};
+use super::numbers::push_set;
 use crate::copied::CopiedUids;
 use crate::response::{Code, Farewell, Refusal};
 use imap_lex::Tag;
+use imap_syntax::push_number;
 use std::alloc::AllocError;
 
-/// The capabilities, as the greeting and CAPABILITY tell them.
+/// The capabilities of the greeting and of CAPABILITY (RFC 9051, section 7.2.2).
 const CAPABILITIES: &str = "IMAP4rev2 ACL RIGHTS=texk CONDSTORE ENABLE IDLE QRESYNC";
 
 pub(super) fn push_greeting(out: &mut Vec<u8>) -> Result<(), AllocError>
@@ -40,30 +41,15 @@ pub(super) fn push_bye(out: &mut Vec<u8>, farewell: Farewell) -> Result<(), Allo
     Ok(())
 }
 
-/// A number in an untagged OK, with the words around it.
-pub(super) fn push_between(
-    out: &mut Vec<u8>,
-    front: &[u8],
-    number: u64,
-    back: &[u8],
-) -> Result<(), AllocError>
-    ensures { OnOk result (out.new.items ≡ out.old.items ++ (front.now ++ decimal number ++ back.now)) }
-{
-    out.extend_from_slice(front)?;
-    push_number(out, number)?;
-    out.extend_from_slice(back)?;
-    Ok(())
-}
-
 fn push_copied(out: &mut Vec<u8>, copied: &CopiedUids) -> Result<(), AllocError>
     ensures { OnOk result (out.new.items ≡ out.old.items ++ copied_text copied.now) }
 {
     out.extend_from_slice(b"COPYUID ")?;
     push_number(out, u64::from(copied.validity))?;
     out.push(b' ')?;
-    push_set(out, copied.source.as_slice())?;
+    push_set(out, &copied.source)?;
     out.push(b' ')?;
-    push_set(out, copied.target.as_slice())?;
+    push_set(out, &copied.target)?;
     Ok(())
 }
 
@@ -90,7 +76,7 @@ fn push_code(out: &mut Vec<u8>, code: &Code) -> Result<(), AllocError>
         }
         Code::Modified(numbers) => {
             out.extend_from_slice(b"MODIFIED ")?;
-            push_set(out, numbers.as_slice())
+            push_set(out, numbers)
         }
     }
 }

@@ -1,31 +1,18 @@
-//! What was fetched of a message (RFC 9051, section 7.5.2).
+//! The items of a message (RFC 9051, section 7.5.2).
 
-ghost use Rattle.std.specs.Prelude.{◌≡◌, ◌++◌, IfOk, OnOk, codes, decimal, map, false};
-ghost use Rattle.imap_print.specs.Words.{GoesOn, given_by};
-ghost use Rattle.imap_print.specs.Flags.{flags_text};
-ghost use Rattle.imap_print.specs.Dates.{date_time_text};
-ghost use Rattle.imap_print.specs.Fetched.{literal_text, section_text, origin_text, body_text, fetched_words, fetched_text};
+ghost use Rattle.std.specs.Prelude.{◌≡◌, ◌++◌, IfOk, OnOk, map, false};
+ghost use Rattle.imap_print.specs.Words.{GoesOn};
+ghost use Rattle.imap_print.specs.Fetched.{section_text, origin_text, body_text};
+ghost use Rattle.imap_print.specs.Fetched.{flags_words, date_words, mod_seq_words, fetched_words, fetched_text};
 
-use super::dates::push_date_time;
 use super::flags::push_flags;
-use super::numbers::push_number;
 use super::strings::push_names;
 use super::words::{push_named, push_space, widened};
 use crate::fetch::{FetchedItems, FetchedSection};
 use crate::flag::FlagSet;
 use imap_query::Section;
-use imap_syntax::DateTime;
+use imap_syntax::{DateTime, push_date_time, push_literal, push_number};
 use std::alloc::AllocError;
-
-fn push_literal(out: &mut Vec<u8>, octets: &[u8]) -> Result<(), AllocError>
-    ensures { OnOk result (out.new.items ≡ out.old.items ++ literal_text octets.now) }
-{
-    out.push(b'{')?;
-    push_number(out, octets.len() as u64)?;
-    out.extend_from_slice(b"}\r\n")?;
-    out.extend_from_slice(octets)?;
-    Ok(())
-}
 
 fn push_section(out: &mut Vec<u8>, section: &Section) -> Result<(), AllocError>
     ensures { OnOk result (out.new.items ≡ out.old.items ++ section_text section.now) }
@@ -73,7 +60,7 @@ fn push_fetched_flags(
     begun: bool,
     flags: &Option<FlagSet>,
 ) -> Result<bool, AllocError>
-    ensures { IfOk result (λ now. GoesOn out.old.items begun (given_by (λ set. codes "FLAGS " ++ flags_text set) flags.now) out.new.items now) }
+    ensures { IfOk result (λ now. GoesOn out.old.items begun (flags_words flags.now) out.new.items now) }
 {
     match flags {
         Some(flags) => {
@@ -91,13 +78,13 @@ fn push_internal_date(
     begun: bool,
     date: Option<DateTime>,
 ) -> Result<bool, AllocError>
-    ensures { IfOk result (λ now. GoesOn out.old.items begun (given_by (λ time. codes "INTERNALDATE " ++ date_time_text time) date) out.new.items now) }
+    ensures { IfOk result (λ now. GoesOn out.old.items begun (date_words date) out.new.items now) }
 {
     match date {
         Some(date) => {
             push_space(out, begun)?;
             out.extend_from_slice(b"INTERNALDATE ")?;
-            push_date_time(out, date)?;
+            push_date_time(out, &date)?;
             Ok(true)
         }
         None => Ok(begun),
@@ -105,7 +92,7 @@ fn push_internal_date(
 }
 
 fn push_mod_seq(out: &mut Vec<u8>, begun: bool, mod_seq: Option<u64>) -> Result<bool, AllocError>
-    ensures { IfOk result (λ now. GoesOn out.old.items begun (given_by (λ n. codes "MODSEQ (" ++ decimal n ++ codes ")") mod_seq) out.new.items now) }
+    ensures { IfOk result (λ now. GoesOn out.old.items begun (mod_seq_words mod_seq) out.new.items now) }
 {
     match mod_seq {
         Some(mod_seq) => {

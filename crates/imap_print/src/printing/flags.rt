@@ -51,7 +51,8 @@ pub(super) fn push_permanent(
 
 /// The five flags of the standard, and these keywords.
 pub(super) fn push_all_flags(out: &mut Vec<u8>, keywords: &[Octets]) -> Result<(), AllocError>
-    ensures { OnOk result (out.new.items ≡ out.old.items ++ in_parentheses (every_system_flag ++ keywords.now)) }
+    ensures { OnOk result (out.new.items ≡ out.old.items
+        ++ in_parentheses (every_system_flag ++ keywords.now)) }
 {
     out.extend_from_slice(b"(\\Answered \\Deleted \\Draft \\Flagged \\Seen")?;
     push_words(out, true, keywords)?;

@@ -1,27 +1,27 @@
-//! What is told of mailboxes.
+//! The properties of mailboxes.
 
 ghost use Rattle.std.specs.Prelude.{◌≡◌, ◌++◌, IfOk, OnOk, map};
 ghost use Rattle.imap_print.specs.declared.response.Response.TheVariants as response;
 ghost use Rattle.imap_print.specs.Words.{before_each, GoesOn};
-ghost use Rattle.imap_print.specs.Mailboxes.{children_words, attributes_text, item_text, value_text, values_text, entry_text, entries_text, grantable_text};
+ghost use Rattle.imap_print.specs.Mailboxes.{children_words, attributes_text, value_text, values_text};
+ghost use Rattle.imap_print.specs.Mailboxes.{entry_text, entries_text, grantable_text};
 ghost use Rattle.imap_print.specs.Printed.{line_text};
 
-use super::numbers::push_number;
-use super::strings::push_astring;
+use super::strings::push_name;
 use super::words::push_given;
 use crate::acl::AclEntry;
 use crate::list::{Children, ListAttributes};
 use crate::status::StatusValue;
 use imap_lex::Octets;
-use imap_query::StatusItem;
 use imap_rights::Rights;
+use imap_syntax::{Keyword, push_number};
 use std::alloc::AllocError;
 
 fn push_children(out: &mut Vec<u8>, begun: bool, children: Children) -> Result<bool, AllocError>
     ensures { IfOk result (λ now. GoesOn out.old.items begun (children_words children) out.new.items now) }
 {
     match children {
-        Children::Untold => Ok(begun),
+        Children::Omitted => Ok(begun),
         Children::Has => push_given(out, begun, true, b"\\HasChildren"),
         Children::HasNo => push_given(out, begun, true, b"\\HasNoChildren"),
     }
@@ -43,33 +43,20 @@ pub(super) fn push_list(
     attributes: ListAttributes,
     mailbox: &Octets,
 ) -> Result<(), AllocError>
-    ensures { OnOk result (out.new.items ≡ out.old.items ++ line_text (response.List attributes mailbox.now)) }
+    ensures { OnOk result (out.new.items ≡ out.old.items
+        ++ line_text (response.List attributes mailbox.now)) }
 {
     out.extend_from_slice(b"* LIST ")?;
     push_attributes(out, attributes)?;
     out.extend_from_slice(b" \"/\" ")?;
-    push_astring(out, mailbox)?;
+    push_name(out, mailbox)?;
     Ok(())
-}
-
-fn item_name(item: StatusItem) -> &'static [u8]
-    ensures { result.now ≡ item_text item }
-{
-    match item {
-        StatusItem::Messages => b"MESSAGES",
-        StatusItem::UidNext => b"UIDNEXT",
-        StatusItem::UidValidity => b"UIDVALIDITY",
-        StatusItem::Unseen => b"UNSEEN",
-        StatusItem::Deleted => b"DELETED",
-        StatusItem::Size => b"SIZE",
-        StatusItem::HighestModSeq => b"HIGHESTMODSEQ",
-    }
 }
 
 fn push_value(out: &mut Vec<u8>, value: StatusValue) -> Result<(), AllocError>
     ensures { OnOk result (out.new.items ≡ out.old.items ++ value_text value) }
 {
-    out.extend_from_slice(item_name(value.item))?;
+    out.extend_from_slice(value.item.name())?;
     out.push(b' ')?;
     push_number(out, value.value)?;
     Ok(())
@@ -102,10 +89,11 @@ pub(super) fn push_status(
     mailbox: &Octets,
     items: &[StatusValue],
 ) -> Result<(), AllocError>
-    ensures { OnOk result (out.new.items ≡ out.old.items ++ line_text (response.Status mailbox.now items.now)) }
+    ensures { OnOk result (out.new.items ≡ out.old.items
+        ++ line_text (response.Status mailbox.now items.now)) }
 {
     out.extend_from_slice(b"* STATUS ")?;
-    push_astring(out, mailbox)?;
+    push_name(out, mailbox)?;
     out.push(b' ')?;
     push_values(out, items)?;
     Ok(())
@@ -114,7 +102,7 @@ pub(super) fn push_status(
 fn push_entry(out: &mut Vec<u8>, entry: &AclEntry) -> Result<(), AllocError>
     ensures { OnOk result (out.new.items ≡ out.old.items ++ entry_text entry.now) }
 {
-    push_astring(out, &entry.identifier)?;
+    push_name(out, &entry.identifier)?;
     out.push(b' ')?;
     entry.rights.push_letters(out)?;
     Ok(())
@@ -135,10 +123,11 @@ pub(super) fn push_acl(
     mailbox: &Octets,
     entries: &[AclEntry],
 ) -> Result<(), AllocError>
-    ensures { OnOk result (out.new.items ≡ out.old.items ++ line_text (response.Acl mailbox.now entries.now)) }
+    ensures { OnOk result (out.new.items ≡ out.old.items
+        ++ line_text (response.Acl mailbox.now entries.now)) }
 {
     out.extend_from_slice(b"* ACL ")?;
-    push_astring(out, mailbox)?;
+    push_name(out, mailbox)?;
     push_entries(out, entries)?;
     Ok(())
 }
@@ -148,10 +137,11 @@ pub(super) fn push_my_rights(
     mailbox: &Octets,
     rights: Rights,
 ) -> Result<(), AllocError>
-    ensures { OnOk result (out.new.items ≡ out.old.items ++ line_text (response.MyRights mailbox.now rights)) }
+    ensures { OnOk result (out.new.items ≡ out.old.items
+        ++ line_text (response.MyRights mailbox.now rights)) }
 {
     out.extend_from_slice(b"* MYRIGHTS ")?;
-    push_astring(out, mailbox)?;
+    push_name(out, mailbox)?;
     out.push(b' ')?;
     rights.push_letters(out)?;
     Ok(())
@@ -173,12 +163,13 @@ pub(super) fn push_list_rights(
     identifier: &Octets,
     owner: bool,
 ) -> Result<(), AllocError>
-    ensures { OnOk result (out.new.items ≡ out.old.items ++ line_text (response.ListRights mailbox.now identifier.now owner)) }
+    ensures { OnOk result (out.new.items ≡ out.old.items
+        ++ line_text (response.ListRights mailbox.now identifier.now owner)) }
 {
     out.extend_from_slice(b"* LISTRIGHTS ")?;
-    push_astring(out, mailbox)?;
+    push_name(out, mailbox)?;
     out.push(b' ')?;
-    push_astring(out, identifier)?;
+    push_name(out, identifier)?;
     out.push(b' ')?;
     push_grantable(out, owner)?;
     Ok(())

@@ -1,21 +1,15 @@
-//! Numbers and sets of them.
+//! Sets of numbers (RFC 9051, section 9, `sequence-set`).
 
-ghost use Rattle.std.specs.Prelude.{◌≡◌, ◌==◌, ◌+◌, ◌∷◌, ◌++◌, OnOk, decimal};
-ghost use Rattle.imap_print.specs.Sets.{range_text, runs_from, set_text};
+ghost use Rattle.std.specs.Prelude.{◌≡◌, ◌==◌, ◌+◌, ◌∷◌, ◌++◌, OnOk};
+ghost use Rattle.imap_print.specs.Sets.{range_text, set_text};
 
-use itoa::Buffer;
+use crate::numbering::NumberSet;
+use imap_syntax::push_number;
 use std::alloc::AllocError;
 
-pub(super) fn push_number(out: &mut Vec<u8>, number: u64) -> Result<(), AllocError>
-    ensures { OnOk result (out.new.items ≡ out.old.items ++ decimal number) }
-{
-    let mut buffer = Buffer::new();
-    out.extend_from_slice(buffer.format(number).as_bytes())?;
-    Ok(())
-}
-
 fn push_range(out: &mut Vec<u8>, first: u32, last: u32) -> Result<(), AllocError>
-    ensures { OnOk result (out.new.items ≡ out.old.items ++ range_text (record { first = first; last = last })) }
+    ensures { OnOk result (out.new.items ≡ out.old.items
+        ++ range_text (record { first = first; last = last })) }
 {
     push_number(out, u64::from(first))?;
     if first != last {
@@ -25,23 +19,24 @@ fn push_range(out: &mut Vec<u8>, first: u32, last: u32) -> Result<(), AllocError
     Ok(())
 }
 
-/// The shortest list of ranges that has these numbers, in their order.
-pub(super) fn push_set(out: &mut Vec<u8>, numbers: &[u32]) -> Result<(), AllocError>
-    ensures { OnOk result (out.new.items ≡ out.old.items ++ set_text numbers.now) }
+/// Appends the fewest ranges that have the numbers of the set, in their order.
+pub(super) fn push_set(out: &mut Vec<u8>, set: &NumberSet) -> Result<(), AllocError>
+    ensures { OnOk result (out.new.items ≡ out.old.items ++ set_text set.now) }
 {
-    match numbers {
+    match set.as_slice() {
         [first, rest @ ..] => push_runs(out, *first, rest),
         [] => Ok(()),
     }
 }
 
-/// Whether a range that has come to `last` goes on with this number.
+/// Whether a range that ends with `last` goes on with `number`.
 fn goes_on(last: u32, number: u32) -> bool
     ensures { result ≡ (number == last + 1) }
 {
     u64::from(number) == u64::from(last) + 1
 }
 
+/// Appends the ranges of a set of `number` and `rest`.
 fn push_runs(out: &mut Vec<u8>, number: u32, rest: &[u32]) -> Result<(), AllocError>
     ensures { OnOk result (out.new.items ≡ out.old.items ++ set_text (number ∷ rest.now)) }
 {

@@ -1,26 +1,25 @@
-//! What a search found (RFC 9051, section 7.3.4; RFC 7162, section 3.1.5).
+//! The results of a search (RFC 9051, section 7.3.4; RFC 7162, section 3.1.5).
 
 ghost use Rattle.std.specs.Prelude.{◌≡◌, ◌++◌, IfOk, OnOk, codes, true};
 ghost use Rattle.imap_print.specs.declared.response.Response.TheVariants as response;
-ghost use Rattle.imap_print.specs.Words.{GoesOn, given, given_by};
-ghost use Rattle.imap_print.specs.Sets.{set_text};
-ghost use Rattle.imap_print.specs.Printed.{results_words, line_text};
+ghost use Rattle.imap_print.specs.Words.{GoesOn, given};
+ghost use Rattle.imap_print.specs.Printed.{found_words, results_words, line_text};
 
 use super::numbers::push_set;
-use super::strings::push_quoted;
 use super::words::{push_given, push_named, push_space, widened};
-use crate::numbering::Numbers;
+use crate::numbering::NumberSet;
 use crate::search::SearchResults;
 use imap_lex::Tag;
+use imap_syntax::push_quoted;
 use std::alloc::AllocError;
 
-fn push_found(out: &mut Vec<u8>, all: &Option<Numbers>) -> Result<bool, AllocError>
-    ensures { IfOk result (λ now. GoesOn out.old.items true (given_by (λ set. codes "ALL " ++ set_text set) all.now) out.new.items now) }
+fn push_found(out: &mut Vec<u8>, all: &Option<NumberSet>) -> Result<bool, AllocError>
+    ensures { IfOk result (λ now. GoesOn out.old.items true (found_words all.now) out.new.items now) }
 {
     if let Some(all) = all {
         push_space(out, true)?;
         out.extend_from_slice(b"ALL ")?;
-        push_set(out, all.as_slice())?;
+        push_set(out, all)?;
     }
     Ok(true)
 }
@@ -40,7 +39,8 @@ fn push_words_found(
     uid: bool,
     results: &SearchResults,
 ) -> Result<bool, AllocError>
-    ensures { IfOk result (λ now. GoesOn out.old.items true (given uid (codes "UID") ++ results_words results.now) out.new.items now) }
+    ensures { IfOk result (λ now.
+        GoesOn out.old.items true (given uid (codes "UID") ++ results_words results.now) out.new.items now) }
 {
     push_given(out, true, uid, b"UID")?;
     push_results(out, results)
@@ -52,7 +52,8 @@ pub(super) fn push_search(
     uid: bool,
     results: &SearchResults,
 ) -> Result<(), AllocError>
-    ensures { OnOk result (out.new.items ≡ out.old.items ++ line_text (response.Search tag.now uid results.now)) }
+    ensures { OnOk result (out.new.items ≡ out.old.items
+        ++ line_text (response.Search tag.now uid results.now)) }
 {
     out.extend_from_slice(b"* ESEARCH (TAG ")?;
     push_quoted(out, tag.as_slice())?;

@@ -1,78 +1,52 @@
-//! Names and other strings (RFC 9051, section 9, `astring`).
+//! Names (RFC 9051, section 9, `astring`).
 
 ghost use Rattle.std.specs.Prelude.{◌≡◌, ◌++◌, OnOk, map};
-ghost use Rattle.std.specs.List.{list_all};
-ghost use Rattle.imap_syntax.specs.Lexical.{is_astring_char, is_quoted_special};
 ghost use Rattle.imap_print.specs.Words.{before_each};
-ghost use Rattle.imap_print.specs.Strings.{is_bare, quoted_text, astring_text};
+ghost use Rattle.imap_print.specs.Strings.{is_bare, name_text};
 ghost use Rattle.imap_print.specs.Fetched.{names_text};
 
-use imap_lex::{Octets, is_astring_char};
+use imap_lex::Octets;
+use imap_syntax::{is_atom_string, push_quoted};
 use std::alloc::AllocError;
 
-fn is_quoted_special(octet: u8) -> bool
-    ensures { result ≡ is_quoted_special octet }
+fn is_bare(name: &[u8]) -> bool
+    ensures { result ≡ is_bare name.now }
 {
-    matches!(octet, b'"' | b'\\')
+    is_atom_string(name) && !name.eq_ignore_ascii_case(b"NIL")
 }
 
-fn is_atom_string(text: &[u8]) -> bool
-    ensures { result ≡ list_all is_astring_char text.now }
+/// Appends a name, in quotes if it is no atom string or reads as NIL.
+pub(super) fn push_name(out: &mut Vec<u8>, name: &Octets) -> Result<(), AllocError>
+    ensures { OnOk result (out.new.items ≡ out.old.items ++ name_text name.now) }
 {
-    text.iter().all(|octet| is_astring_char(*octet))
-}
-
-fn is_bare(text: &[u8]) -> bool
-    ensures { result ≡ is_bare text.now }
-{
-    !text.is_empty() && is_atom_string(text) && !text.eq_ignore_ascii_case(b"NIL")
-}
-
-pub(super) fn push_quoted(out: &mut Vec<u8>, text: &[u8]) -> Result<(), AllocError>
-    ensures { OnOk result (out.new.items ≡ out.old.items ++ quoted_text text.now) }
-{
-    out.push(b'"')?;
-    for octet in text {
-        if is_quoted_special(*octet) {
-            out.push(b'\\')?;
-        }
-        out.push(*octet)?;
-    }
-    out.push(b'"')?;
-    Ok(())
-}
-
-/// A name, quoted where it has to be.
-pub(super) fn push_astring(out: &mut Vec<u8>, name: &Octets) -> Result<(), AllocError>
-    ensures { OnOk result (out.new.items ≡ out.old.items ++ astring_text name.now) }
-{
-    let text = name.as_slice();
-    if is_bare(text) {
-        out.extend_from_slice(text)
+    let name = name.as_slice();
+    if is_bare(name) {
+        out.extend_from_slice(name)
     } else {
-        push_quoted(out, text)
+        push_quoted(out, name)
     }
 }
 
-/// Names in parentheses.
+/// Appends names in parentheses.
 pub(super) fn push_names(out: &mut Vec<u8>, names: &[Octets]) -> Result<(), AllocError>
     ensures { OnOk result (out.new.items ≡ out.old.items ++ names_text names.now) }
 {
     out.push(b'(')?;
     if let [first, rest @ ..] = names {
-        push_astring(out, first)?;
+        push_name(out, first)?;
         push_further_names(out, rest)?;
     }
     out.push(b')')?;
     Ok(())
 }
 
+/// Appends names, each after a space.
 fn push_further_names(out: &mut Vec<u8>, names: &[Octets]) -> Result<(), AllocError>
-    ensures { OnOk result (out.new.items ≡ out.old.items ++ before_each 32 (map astring_text names.now)) }
+    ensures { OnOk result (out.new.items ≡ out.old.items ++ before_each 32 (map name_text names.now)) }
 {
     for name in names {
         out.push(b' ')?;
-        push_astring(out, name)?;
+        push_name(out, name)?;
     }
     Ok(())
 }

@@ -1,13 +1,13 @@
-//! Words with spaces between.
+//! Words with a space between each two of them.
 
 ghost use Rattle.std.specs.Prelude.{◌≡◌, ◌++◌, IfOk, OnOk, decimal};
 ghost use Rattle.imap_print.specs.Words.{space, given, given_by, GoesOn};
 
-use super::numbers::push_number;
 use imap_lex::Octets;
+use imap_syntax::push_number;
 use std::alloc::AllocError;
 
-/// What stands before a further word.
+/// Appends a space if `begun` says that there is a word already.
 pub(super) fn push_space(out: &mut Vec<u8>, begun: bool) -> Result<(), AllocError>
     ensures { OnOk result (out.new.items ≡ out.old.items ++ space begun) }
 {
@@ -17,7 +17,7 @@ pub(super) fn push_space(out: &mut Vec<u8>, begun: bool) -> Result<(), AllocErro
     Ok(())
 }
 
-/// The word, where it is to be there. Tells whether any words are there by now.
+/// Appends the word if it is `wanted`. Returns whether there is a word by now.
 pub(super) fn push_given(
     out: &mut Vec<u8>,
     begun: bool,
@@ -35,7 +35,7 @@ pub(super) fn push_given(
     }
 }
 
-/// The words of a list.
+/// Appends the words of a list. Returns whether there is a word by now.
 pub(super) fn push_words(
     out: &mut Vec<u8>,
     begun: bool,
@@ -52,7 +52,7 @@ pub(super) fn push_words(
     Ok(begun)
 }
 
-/// The number of 32 bits as one of 64.
+/// The number of 32 bits as one of 64 bits.
 pub(super) fn widened(number: Option<u32>) -> Option<u64>
     ensures { result ≡ number }
 {
@@ -62,14 +62,15 @@ pub(super) fn widened(number: Option<u32>) -> Option<u64>
     }
 }
 
-/// A number, where it is there, with a word before it.
+/// Appends `name` and the number, if there is one. Returns whether there is a word by now.
 pub(super) fn push_named(
     out: &mut Vec<u8>,
     begun: bool,
     name: &[u8],
     number: Option<u64>,
 ) -> Result<bool, AllocError>
-    ensures { IfOk result (λ now. GoesOn out.old.items begun (given_by (λ n. name.now ++ decimal n) number) out.new.items now) }
+    ensures { IfOk result (λ now.
+        GoesOn out.old.items begun (given_by (λ n. name.now ++ decimal n) number) out.new.items now) }
 {
     match number {
         Some(number) => {
