@@ -4,9 +4,11 @@ pub mod Kept
 pub mod Lent
 pub mod Listed
 pub mod Numbered
+pub mod Owners
+pub mod Printable
+pub mod Replay
 pub mod Runs
 pub mod Sameness
 pub mod Steps
-pub mod Replay
 pub mod Superiors
 pub mod Views

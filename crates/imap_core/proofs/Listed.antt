@@ -4,7 +4,8 @@ use Rattle.std.proofs.lemmas.List.{drop_all, take_all, take_more, take-append-dr
 use Rattle.std.proofs.Math.ListN.{set}
 use Rattle.std.specs.FinMap as map
 use Rattle.std.specs.FinMap.{find}
-use Rattle.imap_names.specs.Name.{Name, name_cmp}
+use Rattle.imap_names.specs.Name.{Name}
+use Rattle.imap_names.specs.Order.{name_cmp}
 use Rattle.imap_names.proofs.NameLaws.{is_name_at, is_name_at-same, equal_names, get_listed, get_put, same_names}
 
 not_at : (q n : Name) → (n ≡ q → ⊥) → (b : Bool) → is_name_at q n ≡ b → b ≡ false

@@ -1,9 +1,15 @@
 -- A run, one step further.
 use Rattle.std.proofs.Common.{◌≡◌, ℕ, ◌+◌, ◌<◌, List, [], ◌∷◌, ◌++◌, append_assoc, length, get_or, take, drop, drop-cons, add-one, suc, refl, sym, ap, ◌∙◌}
 use Rattle.std.proofs.lemmas.List.{take_more}
+use Rattle.std.specs.List.{AllByRecursion}
 use Rattle.imap_print.specs.declared.response.Response.{Response}
 use Rattle.imap_core.specs.declared.step.Step.{Step}
 use Rattle.imap_core.specs.Machine.{State, answer, answers, next, after_steps}
+
+-- what holds of each element holds after one more is pushed
+pub all-push : {X : Type 0} (P : X → Type 0) (xs : List X) (x : X) → AllByRecursion P xs → P x → AllByRecursion P (xs ++ x ∷ [])
+all-push P [] x each last = (last, tt)
+all-push P (y ∷ ys) x each last = (each.0, all-push P ys x each.1 last)
 
 pub this_step : (steps : List Step) (i : ℕ) (step : Step) → i < length steps → step ≡ get_or steps i step → drop i steps ≡ step ∷ drop (i + 1) steps
 this_step steps i step lt is = rw add-one (drop-cons steps i step lt ∙ ap (λ x. x ∷ drop (suc i) steps) (sym is))

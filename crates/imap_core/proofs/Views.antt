@@ -2,10 +2,11 @@
 use Rattle.std.proofs.Common.{◌≡◌, ℕ, true, false, cond, List, [], ◌∷◌, Some, None, refl, sym, ap, ◌∙◌}
 use Rattle.std.specs.Prelude.{option_and_then}
 use Rattle.std.specs.FinMap as map
-use Rattle.imap_names.specs.Name.{Name, name_cmp}
+use Rattle.imap_names.specs.Name.{Name}
+use Rattle.imap_names.specs.Order.{name_cmp}
 use Rattle.imap_names.specs.UserName.{is_user_name}
 use Rattle.imap_names.proofs.UserLaws.{is_empty-user}
-use Rattle.imap_names.proofs.NameLaws.{name_cmp-IsAntisymmetric}
+use Rattle.imap_names.proofs.OrderLaws.{name_antisymmetric}
 use Rattle.imap_rights.specs.Rights.{has_any, visible_rights, administer}
 use Rattle.imap_rights.specs.Effective.{effective}
 use Rattle.imap_core.specs.World.{World}
@@ -15,7 +16,7 @@ use Rattle.imap_core.proofs.Kept.{get-keep}
 
 pub get_seen : (administrator user : List ℕ) (world : World) (q : Name) → map.get (view administrator user world).seen q ≡ option_and_then (seen_at administrator user q) (map.get world.mailboxes q)
 unfolding view
-get_seen administrator user world q = get-keep name_cmp (seen_at administrator user) name_cmp-IsAntisymmetric world.mailboxes q
+get_seen administrator user world q = get-keep name_cmp (seen_at administrator user) name_antisymmetric world.mailboxes q
 
 module _ (administrator user : List ℕ) (world : World) (q : Name) where
   pub absent_is_unseen : None ≡ map.get world.mailboxes q → None ≡ map.get (view administrator user world).seen q

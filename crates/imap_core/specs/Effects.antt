@@ -4,13 +4,10 @@ use Rattle.imap_rights.specs.Acl.{owner_acl}
 use Rattle.imap_core.specs.World.{World, with_mailbox, inbox, first_validity}
 use Rattle.imap_core.specs.declared.effect.Effect.{Effect}
 use Rattle.imap_core.specs.declared.effect.Effect.TheVariants.{CreateInbox}
-use Rattle.imap_core.specs.declared.effect.Change.{Change}
-
-abbrev pub effects_of : Change → List Effect
-effects_of change = change.effects.items
 
 abbrev pub after : Effect → World → World
-after (CreateInbox user) world = with_mailbox world (inbox user) (record { validity = first_validity; acl = owner_acl user })
+after (CreateInbox user) world =
+    with_mailbox world (inbox user) (record { validity = first_validity; acl = owner_acl user })
 
 -- one effect after another
 abbrev pub after_all : List Effect → World → World

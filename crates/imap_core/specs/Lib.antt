@@ -1,13 +1,16 @@
 pub mod Accounts
+pub mod Commands
 pub mod Effects
 pub mod Finite
 pub mod Machine
 pub mod Opening
+pub mod Outcome
 pub mod Planned
 pub mod Reply
 pub mod Same
 pub mod Sessions
 pub mod Shown
+pub mod Step
 pub mod Trace
 pub mod View
 pub mod World

@@ -1,23 +1,39 @@
 -- The machine: the mailboxes and all open sessions, and what one step makes of them.
-use Rattle.std.specs.Prelude.{◌≡◌, ℕ, ◌≤◌, List, [], ◌∷◌, length, take, Option, Some, None}
+use Rattle.std.specs.Prelude.{◌≡◌, ℕ, ◌<◌, List, [], ◌∷◌, length, take, Option, Some, None, refl}
+use Rattle.std.specs.Coded.{Coded, coded_ℕ, coded_list, coded×, code_by}
 use Rattle.std.specs.FinMap as map
 use Rattle.imap_print.specs.declared.response.Response.{Response}
 use Rattle.imap_core.specs.declared.sessions.SessionChange.{SessionChange}
 use Rattle.imap_core.specs.declared.sessions.SessionChange.TheVariants as session
 use Rattle.imap_core.specs.declared.site.Site.{Site}
-use Rattle.imap_core.specs.declared.step.SessionId.{SessionId}
+use Rattle.imap_core.specs.declared.session_id.SessionId.{SessionId}
 use Rattle.imap_core.specs.declared.step.Step.{Step}
-use Rattle.imap_core.specs.Accounts.{Accounts}
+use Rattle.imap_core.specs.Accounts.{Accounts, accounts_code}
 use Rattle.imap_core.specs.Effects.{after_all}
-use Rattle.imap_core.specs.Reply.{Outcome, told, reply}
+use Rattle.imap_core.specs.Outcome.{Outcome, replies_alone}
+use Rattle.imap_core.specs.Reply.{reply}
 use Rattle.imap_core.specs.Sessions.{Own}
 use Rattle.imap_core.specs.View.{View, view}
-use Rattle.imap_core.specs.World.{World}
+use Rattle.imap_core.specs.World.{World, world_code}
 
 pub record State : Type 0 where
   pub site : Site
   pub world : World
   pub accounts : Accounts
+
+abbrev pub site_code : Coded Site
+site_code =
+    code_by (List ℕ × (ℕ × ℕ)) (coded× (coded_list coded_ℕ) (coded× coded_ℕ coded_ℕ))
+    (λ s. (s.administrator, (s.limits.max_messages, s.limits.max_octets)))
+    (λ p. record { administrator = p.0; limits = record { max_messages = p.1.0; max_octets = p.1.1 } })
+    (λ _. refl)
+
+abbrev pub state_code : Coded State
+state_code =
+    code_by (Site × (World × Accounts)) (coded× site_code (coded× world_code accounts_code))
+    (λ s. (s.site, (s.world, s.accounts)))
+    (λ p. record { site = p.0; world = p.1.0; accounts = p.1.1 })
+    (λ _. refl)
 
 -- what a user may see, and the user's own sessions, if the user is known
 abbrev pub view_of : State → List ℕ → View
@@ -26,9 +42,9 @@ view_of state user = view state.site.administrator user state.world
 abbrev pub own_of : State → List ℕ → Option Own
 own_of state user = map.get state.accounts user
 
--- a user whom nobody knows is told nothing
+-- a user whom nobody knows is answered nothing
 abbrev pub outcome_for : View → Option Own → Step → Outcome
-outcome_for view None step = told []
+outcome_for view None step = replies_alone []
 outcome_for view (Some own) step = reply step.who.user view own step.who.number step.act
 
 abbrev pub outcome : State → Step → Outcome
@@ -43,16 +59,18 @@ abbrev pub with_own : Accounts → List ℕ → (Own → Own) → Option Own →
 with_own accounts user f None = accounts
 with_own accounts user f (Some own) = map.insert accounts user (f own)
 
-abbrev pub settled : Accounts → SessionId → SessionChange → Accounts
-settled accounts who session.Keep = accounts
-settled accounts who (session.Put fresh) = with_own accounts who.user (λ own. map.insert own who.number fresh) (map.get accounts who.user)
-settled accounts who session.End = with_own accounts who.user (λ own. map.remove own who.number) (map.get accounts who.user)
+abbrev pub accounts_after : Accounts → SessionId → SessionChange → Accounts
+accounts_after accounts who session.Keep = accounts
+accounts_after accounts who (session.Put fresh) =
+    with_own accounts who.user (λ own. map.insert own who.number fresh) (map.get accounts who.user)
+accounts_after accounts who session.End =
+    with_own accounts who.user (λ own. map.remove own who.number) (map.get accounts who.user)
 
 abbrev pub next : State → Step → State
 next state step = record {
   site = state.site;
   world = after_all (outcome state step).effects state.world;
-  accounts = settled state.accounts step.who (outcome state step).session;
+  accounts = accounts_after state.accounts step.who (outcome state step).session;
 }
 
 -- ---- runs
@@ -65,6 +83,7 @@ abbrev pub after_steps : State → List Step → State
 after_steps state [] = state
 after_steps state (step ∷ steps) = after_steps (next state step) steps
 
--- the first steps were made, and the others not
+-- some of the first steps were made, and the others not
 abbrev pub IsPartWay : State → List Step → State → Type 0
-IsPartWay state steps reached = (made : ℕ) × (made ≤ length steps) × (reached ≡ after_steps state (take made steps))
+IsPartWay state steps reached =
+    (made : ℕ) × (made < length steps) × (reached ≡ after_steps state (take made steps))

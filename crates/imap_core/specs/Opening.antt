@@ -10,22 +10,25 @@ use Rattle.imap_core.specs.Machine.{State}
 use Rattle.imap_core.specs.World.{World, inbox}
 
 -- each user becomes known, without sessions
-abbrev pub admitted : Accounts → List (List ℕ) → Accounts
-admitted accounts [] = accounts
-admitted accounts (user ∷ users) = admitted (map.insert accounts user map.empty) users
+abbrev pub known_users : Accounts → List (List ℕ) → Accounts
+known_users accounts [] = accounts
+known_users accounts (user ∷ users) = known_users (map.insert accounts user map.empty) users
 
 -- each user who has no INBOX gets one (RFC 9051, section 5.1)
-abbrev pub inboxes_made : World → List (List ℕ) → List Effect
-inboxes_made world [] = []
-inboxes_made world (user ∷ users) =
+abbrev pub missing_inboxes : World → List (List ℕ) → List Effect
+missing_inboxes world [] = []
+missing_inboxes world (user ∷ users) =
     if map.contains_key world.mailboxes (inbox user)
-    then inboxes_made world users
-    else CreateInbox user ∷ inboxes_made (after (CreateInbox user) world) users
+    then missing_inboxes world users
+    else CreateInbox user ∷ missing_inboxes (after (CreateInbox user) world) users
+
+abbrev pub world_with_inboxes : World → List (List ℕ) → World
+world_with_inboxes world users = after_all (missing_inboxes world users) world
 
 -- the administrator is a user like the others
-abbrev pub opened : World → List ℕ → List (List ℕ) → Limits → State
-opened world administrator users limits = record {
+abbrev pub state_at_start : World → List ℕ → List (List ℕ) → Limits → State
+state_at_start world administrator users limits = record {
   site = record { administrator = administrator; limits = limits };
-  world = after_all (inboxes_made world (administrator ∷ users)) world;
-  accounts = admitted map.empty (administrator ∷ users);
+  world = world_with_inboxes world (administrator ∷ users);
+  accounts = known_users map.empty (administrator ∷ users);
 }

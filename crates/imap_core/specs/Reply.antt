@@ -1,88 +1,51 @@
 -- What a step is answered, and what becomes of its session: by what the user sees, and the user's own sessions, alone.
-use Rattle.std.specs.Prelude.{ℕ, not, ◌&&◌, nat_le, List, [], ◌∷◌, Option, Some, None, Result, Ok, Err, if◌then◌else◌}
+use Rattle.std.specs.Prelude.{ℕ, not, ◌&&◌, nat_le, List, [], ◌∷◌, None, if◌then◌else◌}
 use Rattle.std.specs.FinMap as map
 use Rattle.imap_grammar.specs.declared.request.Request.{Request}
 use Rattle.imap_grammar.specs.declared.request.Request.TheVariants as request
-use Rattle.imap_grammar.specs.declared.request.Body.{Body}
-use Rattle.imap_grammar.specs.declared.request.Body.TheVariants as body
-use Rattle.imap_names.specs.Name.{Name}
-use Rattle.imap_names.specs.Reading.{name_read}
-use Rattle.imap_names.specs.Showing.{shown}
-use Rattle.imap_names.specs.declared.error.NameError.{NameError}
-use Rattle.imap_print.specs.declared.response.Response.{Response}
+use Rattle.imap_grammar.specs.declared.command.Command.{Command}
+use Rattle.imap_grammar.specs.declared.command.Command.TheVariants as command
 use Rattle.imap_print.specs.declared.response.Response.TheVariants as response
-use Rattle.imap_print.specs.declared.response.Farewell.TheVariants.{LoggingOut, LimitReached}
-use Rattle.imap_print.specs.declared.response.Refusal.{Refusal}
-use Rattle.imap_print.specs.declared.response.Refusal.TheVariants.{NonExistent, Cannot, Limit, Malformed, WrongState}
-use Rattle.imap_core.specs.declared.effect.Effect.{Effect}
-use Rattle.imap_core.specs.declared.sessions.SessionChange.{SessionChange}
+use Rattle.imap_print.specs.declared.response.Farewell.TheVariants.{LimitReached}
+use Rattle.imap_print.specs.declared.response.Refusal.TheVariants.{Cannot, Limit, Malformed}
 use Rattle.imap_core.specs.declared.sessions.SessionChange.TheVariants as session
 use Rattle.imap_core.specs.declared.step.Act.{Act}
 use Rattle.imap_core.specs.declared.step.Act.TheVariants as act
-use Rattle.imap_core.specs.Sessions.{Own}
-use Rattle.imap_core.specs.View.{View, Seen}
+use Rattle.imap_core.specs.Commands.Acl.{my_rights_outcome}
+use Rattle.imap_core.specs.Commands.Session.{capability_outcome, noop_outcome, logout_outcome, authenticate_outcome}
+use Rattle.imap_core.specs.Outcome.{Outcome, replies_alone, last_replies, refusal_of}
+use Rattle.imap_core.specs.Sessions.{Own, max_sessions}
+use Rattle.imap_core.specs.View.{View}
 
--- the responses, what becomes of the session, and what changes in the mailboxes
-pub record Outcome : Type 0 where
-  pub replies : List Response
-  pub session : SessionChange
-  pub effects : List Effect
+-- a command that isn't built yet can't be done
+abbrev pub command_outcome : (user : List ℕ) → View → (tag : List ℕ) → Command → Outcome
+command_outcome user view tag command.Capability = capability_outcome tag
+command_outcome user view tag command.Noop = noop_outcome tag
+command_outcome user view tag command.Logout = logout_outcome tag
+command_outcome user view tag command.Authenticate = authenticate_outcome tag
+command_outcome user view tag (command.MyRights mailbox) = my_rights_outcome user view tag mailbox
+command_outcome user view tag _ = refusal_of tag Cannot
 
--- the session stays as it is
-abbrev pub told : List Response → Outcome
-told replies = record { replies = replies; session = session.Keep; effects = [] }
+abbrev pub request_outcome : (user : List ℕ) → View → Request → Outcome
+request_outcome user view (request.Command tag command) = command_outcome user view tag command
+request_outcome user view (request.Malformed tag) = replies_alone (response.Refused tag Malformed ∷ [])
+request_outcome user view (request.TooBig tag) = refusal_of tag Limit
 
--- the session ends
-abbrev pub ended : List Response → Outcome
-ended replies = record { replies = replies; session = session.End; effects = [] }
-
-abbrev pub done : List ℕ → Response
-done tag = response.Done tag None
-
-abbrev pub refused : List ℕ → Refusal → Outcome
-refused tag refusal = told (response.Refused (Some tag) refusal ∷ [])
-
--- ---- MYRIGHTS (RFC 4314, section 3.5): a mailbox that isn't there and one that isn't seen are answered alike (section 6)
-
-abbrev pub rights_told : List ℕ → List ℕ → Name → Option Seen → Outcome
-rights_told user tag name None = refused tag NonExistent
-rights_told user tag name (Some seen) = told (response.MyRights (shown user name) (record { 0 = seen.rights }) ∷ done tag ∷ [])
-
-abbrev pub rights_asked : List ℕ → View → List ℕ → Result Name NameError → Outcome
-rights_asked user view tag (Err error) = refused tag NonExistent
-rights_asked user view tag (Ok name) = rights_told user tag name (map.get view.seen name)
-
--- ---- commands (RFC 9051, sections 6.1 and 6.2: a session is authenticated when it begins); what isn't built yet can't be done
-
-abbrev pub command_outcome : List ℕ → View → List ℕ → Body → Outcome
-command_outcome user view tag body.Capability = told (response.Capability ∷ done tag ∷ [])
-command_outcome user view tag body.Noop = told (done tag ∷ [])
-command_outcome user view tag body.Logout = ended (response.Bye LoggingOut ∷ done tag ∷ [])
-command_outcome user view tag body.Authenticate = refused tag WrongState
-command_outcome user view tag (body.MyRights mailbox) = rights_asked user view tag (name_read user mailbox)
-command_outcome user view tag _ = refused tag Cannot
-
-abbrev pub request_outcome : List ℕ → View → Request → Outcome
-request_outcome user view (request.Command tag body) = command_outcome user view tag body
-request_outcome user view (request.Malformed tag) = told (response.Refused tag Malformed ∷ [])
-request_outcome user view (request.TooBig tag) = refused tag Limit
-
--- ---- acts
-
--- a session that is open begins anew; one more than 16 isn't opened
-abbrev pub opening : Own → ℕ → Outcome
-opening own number =
-    if nat_le 16 (map.len own) && not (map.contains_key own number)
-    then told (response.Bye LimitReached ∷ [])
+-- a session that is open begins anew; of one user no more than the limit are opened
+abbrev pub open_outcome : Own → (number : ℕ) → Outcome
+open_outcome own number =
+    if nat_le max_sessions (map.len own) && not (map.contains_key own number)
+    then replies_alone (response.Bye LimitReached ∷ [])
     else record { replies = response.Greeting ∷ []; session = session.Put (record {}); effects = [] }
 
--- what is said to a session that isn't open is lost
-abbrev pub if_open : Own → ℕ → Outcome → Outcome
-if_open own number outcome = if map.contains_key own number then outcome else told []
+-- what a client says to a session that isn't open is lost
+abbrev pub outcome_if_open : Own → (number : ℕ) → Outcome → Outcome
+outcome_if_open own number outcome = if map.contains_key own number then outcome else replies_alone []
 
-abbrev pub reply : List ℕ → View → Own → ℕ → Act → Outcome
-reply user view own number act.Open = opening own number
-reply user view own number (act.Do request) = if_open own number (request_outcome user view request)
-reply user view own number act.Poll = told []
-reply user view own number act.Done = if_open own number (told (response.Refused None Malformed ∷ []))
-reply user view own number act.Leave = if_open own number (ended [])
+-- DONE where no IDLE runs (RFC 2177) is malformed, and has no tag
+abbrev pub reply : (user : List ℕ) → View → Own → (number : ℕ) → Act → Outcome
+reply user view own number act.Open = open_outcome own number
+reply user view own number (act.Do request) = outcome_if_open own number (request_outcome user view request)
+reply user view own number act.Poll = replies_alone []
+reply user view own number act.Done = outcome_if_open own number (replies_alone (response.Refused None Malformed ∷ []))
+reply user view own number act.Leave = outcome_if_open own number (last_replies [])

@@ -10,6 +10,10 @@ use base.Stored.{coded_unit}
 use Rattle.std.specs.declared.vec.Vec.{Vec}
 use Rattle.imap_core.specs.declared.sessions.Session.{Session}
 
+-- the most sessions that a user may have open at once
+abbrev pub max_sessions : ℕ
+max_sessions = 16
+
 abbrev pub Own : Type 0
 Own = FinMap {K = ℕ} nat_cmp Session
 
@@ -24,8 +28,8 @@ abbrev pub are_apart : {X : Type 0} → List (ℕ × X) → Bool
 are_apart [] = true
 are_apart (e ∷ es) = not (list_any (λ f. f.0 == e.0) es) && are_apart es
 
--- each number stands once, there are no more than may be open, and there is room for as many
+-- Each number stands once. There are no more than may be open, and there is room for as many.
 pub record IsKept {Z : Type 0} (entries : Vec (ℕ × Session) Z) : Type 0 where
   pub apart : are_apart entries.items ≡ true
-  pub few : length entries.items ≤ 16
-  pub room : 16 ≤ vec_capacity entries
+  pub few : length entries.items ≤ max_sessions
+  pub room : max_sessions ≤ vec_capacity entries

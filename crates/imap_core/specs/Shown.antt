@@ -5,4 +5,7 @@ use Rattle.imap_core.specs.View.{Seen}
 use Rattle.imap_core.specs.declared.view.Seen.{Seen as SeenMailbox}
 
 abbrev pub shown : SeenMailbox → Seen
-shown s = record { rights = bits s.rights; acl = if has_any (bits s.rights) administer then Some s.mailbox.now.acl else None }
+shown s = record {
+  rights = bits s.rights;
+  acl = if has_any (bits s.rights) administer then Some s.mailbox.now.acl else None;
+}

@@ -1,6 +1,7 @@
 -- What a user may see of the mailboxes (RFC 4314, sections 4 and 6), and nothing else.
 use Rattle.std.specs.Prelude.{ℕ, List, [], ◌∷◌, Option, Some, None, if◌then◌else◌}
-use Rattle.imap_names.specs.Name.{Name, Names, root_of}
+use Rattle.imap_names.specs.Name.{Name, root_of}
+use Rattle.imap_names.specs.Order.{Names}
 use Rattle.imap_rights.specs.Rights.{has_any, visible_rights, administer}
 use Rattle.imap_rights.specs.Acl.{AclMap}
 use Rattle.imap_rights.specs.Effective.{effective}
@@ -29,7 +30,8 @@ seen_with rights acl =
 
 -- the mailbox of this name, for a user who holds a right by which it is visible
 abbrev pub seen_at : List ℕ → List ℕ → Name → Mailbox → Option Seen
-seen_at administrator user name mailbox = seen_with (effective user (owner_of administrator name) mailbox.acl) mailbox.acl
+seen_at administrator user name mailbox =
+    seen_with (effective user (owner_of administrator name) mailbox.acl) mailbox.acl
 
 pub record View : Type 0 where
   pub seen : Names Seen

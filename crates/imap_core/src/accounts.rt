@@ -46,7 +46,8 @@ impl Accounts {
 
     /// A known user's sessions, to be changed in their place.
     pub fn get_mut(&mut self, user: &str) -> Option<&mut OwnSessions>
-        ensures* writes_back { sem 𝓛 (LendsSo the_row own.the_row self.entry result (λ n w. OnSome result (n ≡ map.insert self.old user.now w)) (λ n. n ≡ self.old)) }
+        ensures* writes_back { sem 𝓛 (LendsSo the_row own.the_row self.entry result
+            (λ n w. OnSome result (n ≡ map.insert self.old user.now w)) (λ n. n ≡ self.old)) }
         ensures value { option_copied_mut result ≡ map.get self.old user.now }
     {
         self.by_user.get_mut(user)

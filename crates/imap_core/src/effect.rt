@@ -1,10 +1,10 @@
 //! Changes of the mailboxes.
 
 ghost use Rattle.std.specs.Prelude.{◌≡◌, []};
-ghost use Rattle.imap_core.specs.Effects.{effects_of};
 
 use imap_names::UserName;
 use std::alloc::Global;
+use std::marker::Model;
 
 /// One change of the mailboxes.
 #[derive(Debug, Drop)]
@@ -13,15 +13,24 @@ pub enum Effect {
     CreateInbox(UserName),
 }
 
-/// What a step changes in the mailboxes, in order.
+/// What a step changes in the mailboxes. In contracts it is the list of its effects, in order.
 #[derive(Debug, Drop)]
 pub struct Change {
     pub(crate) effects: Vec<Effect>,
 }
 
+impl Model for Change {
+    ghost use Rattle.std.specs.Prelude.{List};
+    ghost use Rattle.imap_core.specs.declared.effect.Effect.{Effect};
+
+    ghost Value = { List Effect };
+
+    ghost view = { λ c. c.effects.items };
+}
+
 impl Change {
     pub(crate) fn none(alloc: Global) -> Change
-        ensures { effects_of result ≡ [] }
+        ensures { result ≡ [] }
     {
         Change {
             effects: Vec::new(alloc),
@@ -29,7 +38,7 @@ impl Change {
     }
 
     pub fn effects(&self) -> &[Effect]
-        ensures { result.now ≡ effects_of self.now }
+        ensures { result.now ≡ self.now }
     {
         self.effects.as_slice()
     }

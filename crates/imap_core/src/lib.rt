@@ -9,11 +9,15 @@
 #![tactic(auto)]
 
 mod accounts;
+mod commands;
 mod effect;
 pub mod laws;
 mod machine;
+mod moment;
 mod opening;
 mod plan;
+mod reply;
+mod session_id;
 mod sessions;
 mod site;
 mod step;
@@ -22,7 +26,9 @@ mod world;
 
 pub use effect::{Change, Effect};
 pub use machine::{Core, Prepared};
+pub use moment::Moment;
+pub use session_id::{SessionId, SessionNumber};
 pub use sessions::{Session, SessionChange};
 pub use site::{Limits, Site};
-pub use step::{Act, SessionId, Step};
+pub use step::{Act, Step};
 pub use world::{Mailbox, World, WorldError};

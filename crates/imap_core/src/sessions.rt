@@ -4,11 +4,13 @@ ghost use Rattle.std.specs.Prelude.{◌≡◌, ◌<◌, ◌≤◌, ◌==◌, ◌
 ghost use Rattle.std.specs.List.{list_any};
 ghost use Rattle.std.specs.Vec.{vec_capacity};
 ghost use Rattle.std.specs.FinMap as map;
+ghost use Rattle.imap_core.specs.Sessions.{max_sessions};
 
+use crate::session_id::SessionNumber;
 use std::alloc::{AllocError, Global};
 use std::marker::Model;
 
-/// How many sessions a user may have open at once.
+/// The most sessions that a user may have open at once.
 pub const MAX_SESSIONS: usize = 16;
 
 /// What is kept of an open session. Nothing yet: no command selects a mailbox.
@@ -24,11 +26,11 @@ pub enum SessionChange {
     End,
 }
 
-/// The open sessions of one user, by their numbers, with room for as many as may be open. With
-/// so few a plain walk finds one.
+/// The open sessions of one user, by their numbers, with room for as many as may be open. They are so
+/// few that a plain walk finds one.
 #[derive(Drop)]
 pub struct OwnSessions {
-    entries: Vec<(u32, Session)>,
+    entries: Vec<(SessionNumber, Session)>,
 }
 
 impl Model for OwnSessions {
@@ -52,7 +54,7 @@ impl OwnSessions {
         Ok(OwnSessions { entries })
     }
 
-    pub fn is_open(&self, number: u32) -> bool
+    pub fn is_open(&self, number: SessionNumber) -> bool
         ensures { result ≡ map.contains_key self.now number }
     {
         stands_in(&self.entries, number)
@@ -60,14 +62,14 @@ impl OwnSessions {
 
     /// Whether as many are open as may be.
     pub fn is_full(&self) -> bool
-        ensures { result ≡ nat_le 16 (map.len self.now) }
+        ensures { result ≡ nat_le max_sessions (map.len self.now) }
     {
         self.entries.len() >= MAX_SESSIONS
     }
 
     /// Opens a session, or begins an open one anew.
-    pub fn put(&mut self, number: u32, session: Session)
-        requires { (map.len self.old < 16) ⊎ (map.contains_key self.old number ≡ true) }
+    pub fn put(&mut self, number: SessionNumber, session: Session)
+        requires { (map.len self.old < max_sessions) ⊎ (map.contains_key self.old number ≡ true) }
         ensures { self.new ≡ map.insert self.old number session }
     {
         take_out(&mut self.entries, number);
@@ -75,20 +77,20 @@ impl OwnSessions {
     }
 
     /// Closes a session, if it is open.
-    pub fn remove(&mut self, number: u32)
+    pub fn remove(&mut self, number: SessionNumber)
         ensures { self.new ≡ map.remove self.old number }
     {
         take_out(&mut self.entries, number);
     }
 }
 
-fn stands_in(entries: &[(u32, Session)], number: u32) -> bool
+fn stands_in(entries: &[(SessionNumber, Session)], number: SessionNumber) -> bool
     ensures { result ≡ list_any (λ e. e.0 == number) entries.now }
 {
     entries.iter().any(|entry| entry.0 == number)
 }
 
-fn take_out(entries: &mut Vec<(u32, Session)>, number: u32)
+fn take_out(entries: &mut Vec<(SessionNumber, Session)>, number: SessionNumber)
     ensures items { entries.new.items ≡ filter (λ e. not (e.0 == number)) entries.old.items }
     ensures capacity { vec_capacity entries.new ≡ vec_capacity entries.old }
     ensures bound { vec_len entries.new ≤ vec_len entries.old }

@@ -1,29 +1,8 @@
 //! What a session may do.
 
-ghost use Rattle.std.specs.Prelude.{◌≡◌, IfOk};
-
+use crate::moment::Moment;
+use crate::session_id::SessionId;
 use imap_grammar::Request;
-use imap_names::UserName;
-use std::alloc::{AllocError, Global};
-
-/// A session of a user.
-#[derive(Debug, Drop)]
-pub struct SessionId {
-    pub user: UserName,
-    /// From 1. Each user's sessions have numbers of their own.
-    pub number: u32,
-}
-
-impl SessionId {
-    pub fn try_copy(&self, alloc: Global) -> Result<SessionId, AllocError>
-        ensures { IfOk result (λ copy. copy ≡ self.now) }
-    {
-        Ok(SessionId {
-            user: self.user.try_copy(alloc)?,
-            number: self.number,
-        })
-    }
-}
 
 #[derive(Debug, Drop)]
 pub enum Act {
@@ -43,7 +22,6 @@ pub enum Act {
 #[derive(Debug, Drop)]
 pub struct Step {
     pub who: SessionId,
-    /// Seconds from 1970-01-01 UTC.
-    pub at: u64,
+    pub at: Moment,
     pub act: Act,
 }

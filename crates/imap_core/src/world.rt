@@ -2,13 +2,16 @@
 
 ghost use Rattle.std.specs.Prelude.{◌≡◌, ◌≢◌, ◌≤◌, ◌+◌, ◌↔◌, [], length, IsTrue, OnOk, OnErr, IsErrOf, MatchOption, option_copied};
 ghost use Rattle.std.specs.FinMap as map;
-ghost use Rattle.imap_core.specs.World.{listed, with_mailbox, first_validity, acl_changed, acl_set, placed, superior_of, superior_is_there, Changes, IsFirstAt};
-ghost use Rattle.imap_names.specs.Name.{name_cmp};
+ghost use Rattle.imap_core.specs.World.{listed, with_mailbox, first_validity, superior_of, superior_is_there};
+ghost use Rattle.imap_core.specs.World.{acl_with_rights, world_with_rights, world_with_placed, Changes, IsFirstAt};
+ghost use Rattle.imap_names.specs.Order.{name_cmp};
+ghost use Rattle.imap_core.specs.declared.world.Mailbox.{Mailbox};
 
 use imap_names::{Name, is_above};
 use imap_rights::{Acl, AclError, Identifier, RightsChange};
 use std::alloc::{AllocError, Global};
 use std::marker::Model;
+use thiserror::Error;
 
 /// UIDVALIDITY of a mailbox whose name is used for the first time.
 const FIRST_VALIDITY: u32 = 1;
@@ -22,14 +25,18 @@ pub struct Mailbox {
 }
 
 /// Why a change of the mailboxes was refused.
-#[derive(Clone, Copy, Debug, PartialEq, Eq)]
+#[derive(Clone, Copy, Debug, Error, PartialEq, Eq)]
 pub enum WorldError {
     /// There is no such mailbox, or no superior of it.
+    #[error("there is no such mailbox")]
     NoSuch,
     /// The name is in use.
+    #[error("the name is taken")]
     Taken,
     /// The access control list is full.
+    #[error("the access control list is full")]
     Limit,
+    #[error("out of memory")]
     Memory,
 }
 
@@ -65,9 +72,10 @@ impl World {
         find(&self.entries, name)
     }
 
-    /// Makes a mailbox, where its superior is there and it isn't. The root of a tree counts as there.
+    /// Makes a mailbox. Fails with `Taken` if it is there, else with `NoSuch` if its superior isn't. The root of a
+    /// tree counts as there.
     pub fn place(&mut self, name: Name, acl: Acl) -> Result<(), WorldError>
-        ensures world { Changes result self.new (placed self.old name acl) }
+        ensures world { Changes result self.new (world_with_placed self.old name acl) }
         ensures err { OnErr result (self.new ≡ self.old) }
     {
         if self.mailbox(&name).is_some() {
@@ -85,7 +93,8 @@ impl World {
     /// Makes a mailbox under a name that was never used.
     pub(crate) fn add(&mut self, name: Name, acl: Acl) -> Result<(), AllocError>
         requires { map.get self.old.mailboxes name ≡ None }
-        ensures ok { OnOk result (self.new ≡ with_mailbox self.old name (record { validity = first_validity; acl = acl })) }
+        ensures ok { let mailbox : Mailbox = record { validity = first_validity; acl = acl } in
+            OnOk result (self.new ≡ with_mailbox self.old name mailbox) }
         ensures err { OnErr result (self.new ≡ self.old) }
     {
         let mailbox = Mailbox {
@@ -103,11 +112,11 @@ impl World {
         identifier: Identifier,
         change: RightsChange,
     ) -> Result<(), WorldError>
-        ensures world { Changes result self.new (acl_set self.old name.now identifier change) }
+        ensures world { Changes result self.new (world_with_rights self.old name.now identifier change) }
         ensures err { OnErr result (self.new ≡ self.old) }
     {
-        match place_of(&self.entries, name) {
-            Some(place) => change_rights(&mut self.entries[place].1.acl, identifier, change),
+        match index_of(&self.entries, name) {
+            Some(index) => change_rights(&mut self.entries[index].1.acl, identifier, change),
             None => Err(WorldError::NoSuch),
         }
     }
@@ -118,7 +127,7 @@ fn change_rights(
     identifier: Identifier,
     change: RightsChange,
 ) -> Result<(), WorldError>
-    ensures acl { Changes result acl.new (acl_changed acl.old identifier change) }
+    ensures acl { Changes result acl.new (acl_with_rights acl.old identifier change) }
     ensures err { OnErr result (acl.new ≡ acl.old) }
 {
     let rights = change.applied(acl.rights_of(&identifier));
@@ -129,9 +138,10 @@ fn change_rights(
     }
 }
 
-/// Where the first mailbox of this name stands.
-fn place_of(entries: &[(Name, Mailbox)], name: &Name) -> Option<usize>
-    ensures { MatchOption result (map.find name_cmp name.now entries.now ≡ None) (λ i. IsFirstAt entries.now name.now i) }
+/// The index of the first mailbox of this name.
+fn index_of(entries: &[(Name, Mailbox)], name: &Name) -> Option<usize>
+    ensures { MatchOption result (map.find name_cmp name.now entries.now ≡ None)
+        (λ i. IsFirstAt entries.now name.now i) }
 {
     for (i, (other, _)) in entries.iter().enumerate() {
         if other.is_same(name) {

@@ -1,4 +1,4 @@
-//! The head of a script: who the users are, the limits, and the mailboxes that are there from the start.
+//! The head of a script: the users, the limits, and the mailboxes at the start.
 
 use crate::line::{LineError, read_number};
 use imap_core::{Core, Limits, World};
@@ -7,17 +7,19 @@ use imap_rights::{Acl, Identifier, read_rights};
 use std::alloc::{AllocError, Global};
 use std::collections::HashSet;
 
-/// The most messages of a mailbox that a script may ask for, and what it gets without asking.
-const MOST_MESSAGES: u64 = 1_000_000;
+/// The greatest `max_messages` of a script.
+const MAX_MESSAGES: u64 = 1_000_000;
 
+/// `max_messages` if the script names none.
 const DEFAULT_MESSAGES: u64 = 10_000;
 
-/// The most octets of a message that a script may ask for, and what it gets without asking.
-const MOST_OCTETS: u64 = 1_073_741_824;
+/// The greatest `max_octets` of a script.
+const MAX_OCTETS: u64 = 1_073_741_824;
 
+/// `max_octets` if the script names none.
 const DEFAULT_OCTETS: u64 = 33_554_432;
 
-/// The word that a line of the head begins with.
+/// The first word of a head line.
 #[derive(Clone, Copy, Debug, PartialEq, Eq)]
 pub(crate) enum HeadWord {
     Admin,
@@ -50,12 +52,12 @@ pub(crate) struct Head {
     world: World,
     /// The names of all users, the administrator among them.
     known: HashSet<String>,
-    /// The mailbox that was made or chosen last.
+    /// The mailbox that the last `mailbox` line named.
     chosen: Option<Name>,
 }
 
 impl Head {
-    /// The head of which the first line names the administrator.
+    /// The head whose first line names the administrator.
     pub(crate) fn begin(alloc: Global, administrator: &str) -> Result<Head, LineError> {
         let administrator = read_user(alloc, administrator)?;
         let mut known = HashSet::new(alloc);
@@ -73,7 +75,7 @@ impl Head {
         })
     }
 
-    /// Takes a further line. After a refusal the head is of no use.
+    /// Takes a further line: its first word and what stands after one space. After an error the head is of no use.
     pub(crate) fn take_line(
         &mut self,
         alloc: Global,
@@ -119,32 +121,32 @@ impl Head {
         let (limit, number) = text.split_once(' ').ok_or(LineError::Bad)?;
         match limit {
             "max_messages" => {
-                self.limits.max_messages = read_number(number, 1, MOST_MESSAGES).ok_or(
+                self.limits.max_messages = read_number(number, 1, MAX_MESSAGES).ok_or(
                     LineError::Bad,
                 )?;
             }
             "max_octets" => {
-                self.limits.max_octets = read_number(number, 1, MOST_OCTETS).ok_or(LineError::Bad)?;
+                self.limits.max_octets = read_number(number, 1, MAX_OCTETS).ok_or(LineError::Bad)?;
             }
             _ => return Err(LineError::Bad),
         }
         Ok(())
     }
 
-    /// Chooses a mailbox, and makes it first where it isn't there.
+    /// Chooses a mailbox. Makes it first if it isn't there.
     fn choose_mailbox(&mut self, alloc: Global, text: &str) -> Result<(), LineError> {
         let name = read_full(alloc, text.as_bytes())?;
         if !self.knows_owner_of(&name) {
             return Err(LineError::Bad);
         }
         if self.world.mailbox(&name).is_none() {
-            self.world.place(name.try_copy(alloc)?, Acl::new(alloc))?;
+            self.world.place(name.try_copy()?, Acl::new(alloc))?;
         }
         self.chosen = Some(name);
         Ok(())
     }
 
-    /// Whether the name lies in the tree of a known user or in the one that all share.
+    /// Whether `name` lies in the tree of a known user or in the Shared tree.
     fn knows_owner_of(&self, name: &Name) -> bool {
         match name.owner() {
             Some(owner) => self.known.contains(owner.as_str()),
@@ -152,7 +154,7 @@ impl Head {
         }
     }
 
-    /// Sets an entry of the chosen mailbox's access control list.
+    /// Changes an entry of the chosen mailbox's access control list.
     fn set_entry(&mut self, alloc: Global, text: &str) -> Result<(), LineError> {
         let (identifier, rights) = text.rsplit_once(' ').ok_or(LineError::Bad)?;
         let identifier = Identifier::read(alloc, identifier.as_bytes())?;

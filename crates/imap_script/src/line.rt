@@ -1,4 +1,4 @@
-//! What the lines of a script have in common.
+//! The errors and numbers of a script's lines.
 
 ghost use Rattle.std.specs.Prelude.{◌≤◌, IfSome};
 
@@ -8,10 +8,10 @@ use imap_names::NameError;
 use imap_rights::IdentifierError;
 use std::alloc::{AllocError, AllocFailed};
 
-/// Why a line of a script wasn't taken.
+/// Why a line of a script was not taken.
 #[derive(Clone, Copy, Debug, PartialEq, Eq)]
 pub(crate) enum LineError {
-    /// It isn't as a script's lines are, or can't stand where it stands.
+    /// It is no line of a script, or can't stand where it stands.
     Bad,
     Memory,
 }
@@ -64,7 +64,7 @@ impl From<FromHexError> for LineError {
     }
 }
 
-/// Reads a decimal number in this range, with leading zeros or without.
+/// Reads a decimal number from `least` to `most`. Leading zeros are allowed.
 pub(crate) fn read_number(text: &str, least: u64, most: u64) -> Option<u64>
     ensures { IfSome result (λ n. (least ≤ n) × (n ≤ most)) }
 {

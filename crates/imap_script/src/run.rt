@@ -1,4 +1,4 @@
-//! Running a script that was read.
+//! The run of a script.
 
 use crate::error::ScriptError;
 use crate::scenario::Scenario;
@@ -12,7 +12,7 @@ use std::alloc::Global;
 use std::collections::HashMap;
 use std::io::Write;
 
-/// Makes the steps of a script, and writes what the sessions are told.
+/// Makes the steps of a script, and writes the transcript.
 pub(crate) fn run_scenario<O: Write + Drop>(
     alloc: Global,
     scenario: Scenario,
@@ -32,7 +32,7 @@ pub(crate) fn run_scenario<O: Write + Drop>(
     run.transcript.finish()
 }
 
-/// The machine, the connections to it, and where it is written what they are told.
+/// The machine, the framers of its connections, and the transcript.
 #[derive(Drop)]
 struct Run<O: Write + Drop> {
     core: Core,
@@ -70,7 +70,7 @@ impl<O: Write + Drop> Run<O> {
         self.act(alloc, step, Act::Leave)
     }
 
-    /// Takes octets of the session's client. What comes behind the end of the session is dropped.
+    /// Takes octets of the session's client. What follows the end of the session is dropped.
     fn receive(
         &mut self,
         alloc: Global,
@@ -91,7 +91,7 @@ impl<O: Write + Drop> Run<O> {
         Ok(())
     }
 
-    /// The frames that end in these octets: none, if the session isn't open.
+    /// The frames that end in `octets`, and none if the session isn't open.
     fn frames(
         &mut self,
         alloc: Global,
@@ -108,13 +108,13 @@ impl<O: Write + Drop> Run<O> {
         }
     }
 
-    /// Ends a session that sent too long a line, or too long a literal without waiting.
+    /// Ends a session whose line was too long, or that sent too long a literal without waiting.
     fn hang_up(&mut self, alloc: Global, step: &ScriptStep) -> Result<(), ScriptError> {
         self.tell(alloc, step, Response::Bye(Farewell::LimitReached))?;
         self.leave(alloc, step)
     }
 
-    /// Tells the session what no step of the machine answers.
+    /// Writes a response that no step of the machine gave.
     fn tell(
         &mut self,
         alloc: Global,
@@ -136,14 +136,14 @@ impl<O: Write + Drop> Run<O> {
             .tell(alloc, step.label.as_str(), replies.as_slice())
     }
 
-    /// Makes the act, and gives what the session is told.
+    /// Makes the act, and returns its replies.
     fn replies(
         &mut self,
         alloc: Global,
         step: &ScriptStep,
         act: Act,
     ) -> Result<Vec<Response>, ScriptError> {
-        let (who, act) = named(alloc, &step.who, act)?;
+        let (who, act) = named(&step.who, act)?;
         let step = Step {
             who,
             at: step.at,
@@ -160,12 +160,12 @@ impl<O: Write + Drop> Run<O> {
     }
 }
 
-/// A session beside its act. It is generic as the proof that a request is let go is long.
-fn named<A: Drop>(alloc: Global, who: &SessionId, act: A) -> Result<(SessionId, A), ScriptError> {
-    Ok((who.try_copy(alloc)?, act))
+/// A copy of `who` beside `act`. It is generic, since the proof that a request is dropped is long.
+fn named<A: Drop>(who: &SessionId, act: A) -> Result<(SessionId, A), ScriptError> {
+    Ok((who.try_copy()?, act))
 }
 
-/// What a frame asks for. The line that ends IDLE (RFC 2177) is read as such at any time.
+/// The act of a frame. The line DONE (RFC 2177) is one of its own at any time.
 fn act_of(alloc: Global, frame: &Octets) -> Result<Act, ScriptError> {
     if frame.as_slice().eq_ignore_ascii_case(b"DONE\r\n") {
         return Ok(Act::Done);
@@ -173,7 +173,7 @@ fn act_of(alloc: Global, frame: &Octets) -> Result<Act, ScriptError> {
     Ok(Act::Do(parse(alloc, frame)?))
 }
 
-/// What a command asks for whose literal was refused before it came.
+/// The request of a command whose literal was refused before it came.
 fn rejected(tag: Option<Tag>) -> Request {
     match tag {
         Some(tag) => Request::TooBig { tag },
@@ -181,14 +181,14 @@ fn rejected(tag: Option<Tag>) -> Request {
     }
 }
 
-/// Whether a session was opened, by what it is told.
+/// Whether the replies open a session.
 fn is_greeted(replies: &[Response]) -> bool {
     replies
         .iter()
         .any(|reply| matches!(reply, Response::Greeting))
 }
 
-/// Whether a session was ended, by what it is told.
+/// Whether the replies end a session.
 fn is_dismissed(replies: &[Response]) -> bool {
     replies
         .iter()

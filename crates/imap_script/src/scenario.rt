@@ -4,13 +4,11 @@ use crate::error::ScriptError;
 use crate::head::{Head, HeadWord};
 use crate::line::{LineError, read_number};
 use crate::step::ScriptStep;
+use imap_core::Moment;
 use std::alloc::Global;
 use std::str;
 
-/// The last second of the year 9999.
-const LAST_MOMENT: u64 = 253_402_300_799;
-
-/// What a script starts with, and what it does then.
+/// A whole script: its head and its steps.
 #[derive(Drop)]
 pub(crate) struct Scenario {
     pub(crate) head: Head,
@@ -18,7 +16,8 @@ pub(crate) struct Scenario {
 }
 
 impl Scenario {
-    /// Reads a script, or finds its first bad line. What has no administrator is bad behind its last line.
+    /// Reads a script. Fails with its first bad line. A script without an administrator is bad at the line after its
+    /// last.
     pub(crate) fn read(alloc: Global, text: &[u8]) -> Result<Scenario, ScriptError> {
         let mut draft = Draft::new(alloc);
         let mut line = 1u64;
@@ -41,12 +40,12 @@ impl Scenario {
     }
 }
 
-/// The part of a script that was read.
+/// The part of a script that has been read.
 #[derive(Drop)]
 struct Draft {
     head: Option<Head>,
-    /// The moment of the next step, once a step line came.
-    clock: Option<u64>,
+    /// The moment of the next step, after the first step line.
+    clock: Option<Moment>,
     steps: Vec<ScriptStep>,
 }
 
@@ -59,7 +58,7 @@ impl Draft {
         }
     }
 
-    /// Takes a line, with the LF that ends it or without one.
+    /// Takes a line, with or without the LF that ends it.
     fn take_line(&mut self, alloc: Global, octets: &[u8]) -> Result<(), LineError> {
         let octets = octets.strip_suffix(b"\n").unwrap_or(octets);
         let line = str::from_utf8(octets).map_err(|_| LineError::Bad)?;
@@ -97,14 +96,19 @@ impl Draft {
             return Err(LineError::Bad);
         }
         if word == "at" {
-            self.clock = Some(read_number(rest, 0, LAST_MOMENT).ok_or(LineError::Bad)?);
+            self.clock = Some(read_moment(rest).ok_or(LineError::Bad)?);
             return Ok(());
         }
-        let at = self.clock.unwrap_or(0);
+        let at = self.clock.unwrap_or(Moment::epoch());
         self.clock = Some(at);
         if let Some(step) = ScriptStep::read(alloc, at, word, rest)? {
             self.steps.push(step)?;
         }
         Ok(())
     }
+}
+
+/// Seconds from 1970-01-01 UTC.
+fn read_moment(text: &str) -> Option<Moment> {
+    Moment::from_seconds(read_number(text, 0, u64::MAX)?)
 }

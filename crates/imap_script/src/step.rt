@@ -1,7 +1,7 @@
-//! The lines of a script that say what a session does.
+//! Step lines of a script.
 
 use crate::line::{LineError, read_number};
-use imap_core::SessionId;
+use imap_core::{Moment, SessionId, SessionNumber};
 use imap_names::UserName;
 use std::alloc::Global;
 
@@ -11,37 +11,37 @@ pub(crate) enum Event {
     Open,
     Poll,
     Leave,
-    /// Its client sends these octets.
+    /// The client sends these octets.
     Octets(Vec<u8>),
 }
 
-/// What a line of a script says.
+/// A step line.
 #[derive(Debug, Drop)]
 pub(crate) struct ScriptStep {
     pub(crate) who: SessionId,
     /// The session as the transcript names it, as `ann.1`.
     pub(crate) label: String,
-    /// Seconds from 1970-01-01 UTC.
-    pub(crate) at: u64,
+    pub(crate) at: Moment,
     pub(crate) event: Event,
 }
 
 impl ScriptStep {
-    /// Reads a line `SESSION TEXT`, which stands for nothing where the session's user has no user's name.
+    /// Reads a line `SESSION TEXT`. Returns `None` if the session's user has no user name: nobody knows that user.
     pub(crate) fn read(
         alloc: Global,
-        at: u64,
+        at: Moment,
         session: &str,
         text: &str,
     ) -> Result<Option<ScriptStep>, LineError> {
         let (user, number) = session.rsplit_once('.').ok_or(LineError::Bad)?;
-        let number = read_number(number, 1, u64::from(u32::MAX)).ok_or(LineError::Bad)? as u32;
+        let number = read_session_number(number).ok_or(LineError::Bad)?;
         let event = Event::read(alloc, text)?;
         let Some(user) = UserName::read(alloc, user)? else {
             return Ok(None);
         };
         let name = user.as_str();
-        let label = format!(in alloc; "{name}.{number}")?;
+        let shown = number.get();
+        let label = format!(in alloc; "{name}.{shown}")?;
         let who = SessionId { user, number };
         Ok(Some(ScriptStep {
             who,
@@ -63,7 +63,7 @@ impl Event {
     }
 }
 
-/// The octets of `< TEXT`, with a CRLF behind them, or of `raw HEX`.
+/// The octets of `< TEXT`, then CRLF, or the octets of `raw HEX`.
 fn read_octets(alloc: Global, text: &str) -> Result<Vec<u8>, LineError> {
     if let Some(line) = text.strip_prefix("<") {
         let line = line.strip_prefix(" ").unwrap_or(line);
@@ -73,4 +73,8 @@ fn read_octets(alloc: Global, text: &str) -> Result<Vec<u8>, LineError> {
     }
     let digits = text.strip_prefix("raw ").ok_or(LineError::Bad)?;
     Ok(hex::decode(alloc, digits)?)
+}
+
+fn read_session_number(text: &str) -> Option<SessionNumber> {
+    SessionNumber::new(read_number(text, 1, u64::from(u32::MAX))? as u32)
 }

@@ -1,11 +1,11 @@
-//! What the sessions were told.
+//! The transcript of a run.
 
 use crate::error::ScriptError;
 use imap_print::{Response, print};
 use std::alloc::Global;
 use std::io::{self, BufWriter, Write};
 
-/// Writes what the sessions are told, a line for each line to a client.
+/// Writes a line for each line to a client.
 #[derive(Drop)]
 pub(crate) struct Transcript<O: Write + Drop> {
     output: BufWriter<O>,
@@ -20,7 +20,7 @@ impl<O: Write + Drop> Transcript<O> {
         }
     }
 
-    /// Writes what one session is told.
+    /// Writes the replies to one session, which `label` names.
     pub(crate) fn tell(
         &mut self,
         alloc: Global,
@@ -43,7 +43,7 @@ impl<O: Write + Drop> Transcript<O> {
         self.output.write_all(b"\n")
     }
 
-    /// Hands the output all that was written.
+    /// Flushes the output.
     pub(crate) fn finish(&mut self) -> Result<(), ScriptError> {
         self.output.flush().map_err(|_| ScriptError::Io)
     }

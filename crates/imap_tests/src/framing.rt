@@ -25,8 +25,8 @@ fn between(out: &mut Vec<u8>, open: u8, octets: &[u8], close: u8) -> Result<(), 
     Ok(())
 }
 
-/// What is told of a stream that comes in pieces of this size, where literals may have so many octets; `?` where a
-/// piece is answered by `Closed`.
+/// Feeds the stream in pieces of `size` octets to a framer with the limit `max_octets`, and shows the frames. `?`
+/// stands for a piece that is refused with `Closed`.
 fn told(alloc: Global, max_octets: u64, stream: &[u8], size: usize) -> Result<Vec<u8>, LexError> {
     let mut out = Vec::new(alloc);
     let mut framer = Framer::new(alloc, max_octets);
@@ -40,7 +40,7 @@ fn told(alloc: Global, max_octets: u64, stream: &[u8], size: usize) -> Result<Ve
     Ok(out)
 }
 
-/// That these streams are told so, in pieces of this size.
+/// Asserts that the frames of these streams are these, in pieces of `size` octets.
 fn check_in(
     rt: &impl Abort,
     alloc: Global,
@@ -55,7 +55,7 @@ fn check_in(
     Ok(())
 }
 
-/// That these streams are told so, in pieces of any of these sizes.
+/// Asserts the same in pieces of several sizes.
 fn check_all(
     rt: &impl Abort,
     alloc: Global,
@@ -174,17 +174,25 @@ fn hangups(rt: HostRuntime) -> Result<(), Fail> {
 
 #[test]
 fn large_literals(rt: HostRuntime) -> Result<(), Fail> {
-    const CASES: [(&[u8], &[u8]); 4] = [
+    const CASES: [(&[u8], &[u8]); 3] = [
         (b"a1 X {4097+}\r\n", b"!"),
         (b"a1 X {4097}\r\n", b"+"),
-        (b"a1 X {18446744073709551615}\r\n", b"+"),
         (b"a1 X {18446744073709551616}\r\n", b"(a1)"),
     ];
     check_all(&rt, rt.alloc(), u64::MAX, &CASES)?;
     Ok(())
 }
 
-/// So many octets without a line end between these.
+/// The room of a literal is reserved when it is announced.
+#[test]
+fn a_literal_beyond_memory(rt: HostRuntime) -> Result<(), Fail> {
+    let stream = b"a1 X {18446744073709551615}\r\n";
+    let refused = told(rt.alloc(), u64::MAX, stream, 1000).err();
+    assert_eq!(rt; refused, Some(LexError::Memory));
+    Ok(())
+}
+
+/// `front`, `count` octets without a line end, and `end`.
 fn long(alloc: Global, front: &[u8], count: usize, end: &[u8]) -> Result<Vec<u8>, AllocError> {
     let mut octets = Vec::from_slice(alloc, front)?;
     octets.resize(front.len().saturating_add(count), b'x')?;
@@ -192,7 +200,7 @@ fn long(alloc: Global, front: &[u8], count: usize, end: &[u8]) -> Result<Vec<u8>
     Ok(octets)
 }
 
-/// A stream of what `long` makes, and how many octets tell it.
+/// A stream that `long` makes, and the number of octets after which it has a frame.
 #[derive(Clone, Copy)]
 struct Row<'a> {
     front: &'a [u8],
@@ -298,9 +306,34 @@ fn octets_are_made_of_a_list(rt: HostRuntime) -> Result<(), Fail> {
 
 #[test]
 fn tags_are_kept(rt: HostRuntime) -> Result<(), Fail> {
-    let tag = Tag::from_slice(rt.alloc(), b"a1")?;
+    let tag = Tag::read(rt.alloc(), b"a1")?.ok_or("no tag")?;
     let copy = tag.try_copy(rt.alloc())?;
     assert_eq!(rt; copy.as_slice(), b"a1".as_slice());
+    Ok(())
+}
+
+#[test]
+fn what_is_no_tag(rt: HostRuntime) -> Result<(), Fail> {
+    for octets in [b"".as_slice(), b"a+", b"a b", b"a\r\n", b"{"] {
+        assert!(rt; Tag::read(rt.alloc(), octets)?.is_none(), "{octets:?}");
+    }
+    Ok(())
+}
+
+#[test]
+fn a_command_begins_with_its_tag(rt: HostRuntime) -> Result<(), Fail> {
+    const ROWS: [(&[u8], Option<&[u8]>); 5] = [
+        (b"a1 NOOP\r\n", Some(b"a1")),
+        (b"a1\r\n", Some(b"a1")),
+        (b"a1\n", None),
+        (b"a+ NOOP\r\n", None),
+        (b" NOOP\r\n", None),
+    ];
+    for &(command, wanted) in &ROWS {
+        let tag = Tag::of_command(rt.alloc(), command)?;
+        let found = tag.as_ref().map(|tag| tag.as_slice());
+        assert!(rt; found == wanted, "{command:?}");
+    }
     Ok(())
 }
 

@@ -1,7 +1,9 @@
 //! Frames that are read, and requests that are written.
 //!
-//! A request that is let go at the end of a function makes the function's proof long. `drop` is generic, and doesn't.
+//! A request that goes out of scope at the end of a function makes the function's proof long. One that is handed to
+//! `drop` doesn't, since `drop` is generic.
 
+mod generator;
 mod random;
 mod unwritten;
 mod written;
@@ -12,17 +14,17 @@ use std::alloc::{AllocError, Global};
 use std::process::Abort;
 use std::test::Fail;
 
-/// A request as text: the tag, and what is asked for; `BAD`, and the tag where there is one.
+/// A request as text: the tag and what is asked for, or `BAD` and the tag if there is one.
 fn show(alloc: Global, request: &Request) -> Result<Vec<u8>, AllocError> {
     let mut out = Vec::new(alloc);
     match request {
         Request::Command { tag, body } => {
             out.extend_from_slice(tag.as_slice())?;
             match body {
-                Body::Capability => out.extend_from_slice(b" capability")?,
-                Body::Noop => out.extend_from_slice(b" noop")?,
-                Body::Logout => out.extend_from_slice(b" logout")?,
-                Body::MyRights { mailbox } => {
+                Command::Capability => out.extend_from_slice(b" capability")?,
+                Command::Noop => out.extend_from_slice(b" noop")?,
+                Command::Logout => out.extend_from_slice(b" logout")?,
+                Command::MyRights { mailbox } => {
                     out.extend_from_slice(b" rights on ")?;
                     out.extend_from_slice(mailbox.as_slice())?;
                 }
@@ -39,7 +41,7 @@ fn show(alloc: Global, request: &Request) -> Result<Vec<u8>, AllocError> {
     Ok(out)
 }
 
-/// What the frame is read as, as text.
+/// Reads the frame and shows its request as text.
 fn shown(alloc: Global, frame: &[u8]) -> Result<Vec<u8>, AllocError> {
     let request = parse(alloc, &Octets::from_slice(alloc, frame)?)?;
     let text = show(alloc, &request);
@@ -47,7 +49,7 @@ fn shown(alloc: Global, frame: &[u8]) -> Result<Vec<u8>, AllocError> {
     text
 }
 
-/// Each frame beside what it is to be read as.
+/// Frames, each with its request as text.
 fn check(rt: &impl Abort, alloc: Global, rows: &[(&[u8], &[u8])]) -> Result<(), AllocError> {
     for (frame, wanted) in rows {
         let shown = shown(alloc, frame)?;
@@ -456,7 +458,7 @@ fn search(rt: HostRuntime) -> Result<(), Fail> {
     Ok(())
 }
 
-/// `NOT` so many times before `ALL`.
+/// `NOT` `count` times before `ALL`.
 fn nested(alloc: Global, depth: u64) -> Result<Vec<u8>, AllocError> {
     let mut frame = Vec::from_slice(alloc, b"a SEARCH ")?;
     for _ in 0..depth {
@@ -471,5 +473,23 @@ fn nesting(rt: HostRuntime) -> Result<(), Fail> {
     let alloc = rt.alloc();
     check_read(&rt, alloc, &[nested(alloc, 64)?.as_slice()], true)?;
     check_read(&rt, alloc, &[nested(alloc, 65)?.as_slice()], false)?;
+    Ok(())
+}
+
+/// A LOGIN line with `count` empty literals.
+fn with_empty_literals(alloc: Global, count: u32) -> Result<Vec<u8>, AllocError> {
+    let mut frame = Vec::from_slice(alloc, b"a LOGIN ")?;
+    for _ in 0..count {
+        frame.extend_from_slice(b"{0}\r\n")?;
+    }
+    frame.extend_from_slice(b"\r\n")?;
+    Ok(frame)
+}
+
+#[test]
+fn a_million_empty_literals(rt: HostRuntime) -> Result<(), Fail> {
+    let alloc = rt.alloc();
+    let frame = with_empty_literals(alloc, 1_000_000)?;
+    assert_eq!(rt; shown(alloc, &frame)?.as_slice(), b"a other".as_slice());
     Ok(())
 }

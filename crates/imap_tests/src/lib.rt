@@ -1,6 +1,6 @@
 //! Tests of the library crates.
 //!
-//! They stand in a crate of their own, as a crate that has tests is proved twice: once without and once with them.
+//! They stand in a crate of their own, since a crate that has tests is proved twice: once without and once with them.
 #![tactic(auto)]
 
 #[cfg(test)]
@@ -10,8 +10,16 @@ mod grammar;
 #[cfg(test)]
 mod machine;
 #[cfg(test)]
+mod modseq;
+#[cfg(test)]
+mod name_map;
+#[cfg(test)]
 mod names;
 #[cfg(test)]
 mod printing;
 #[cfg(test)]
 mod rights;
+#[cfg(test)]
+mod text;
+#[cfg(test)]
+mod world;

@@ -1,6 +1,6 @@
-//! The calls of the machine, on their happy paths and at their refusals.
+//! The calls of the machine, where they succeed and where they are refused.
 
-use imap_core::{Act, Core, Limits, SessionId, Step, World, WorldError};
+use imap_core::{Act, Core, Limits, Moment, SessionId, SessionNumber, Step, World, WorldError};
 use imap_grammar::parse;
 use imap_lex::Octets;
 use imap_names::{Name, UserName, read_full};
@@ -31,16 +31,30 @@ fn rights(text: &[u8]) -> Result<RightsChange, Fail> {
 fn session(alloc: Global) -> Result<SessionId, Fail> {
     Ok(SessionId {
         user: user(alloc, "root")?,
-        number: 1,
+        number: SessionNumber::new(1).ok_or("no number")?,
     })
 }
 
 fn step(who: SessionId, act: Act) -> Step {
-    Step { who, at: 0, act }
+    Step {
+        who,
+        at: Moment::epoch(),
+        act,
+    }
 }
 
 fn command(alloc: Global, octets: &[u8]) -> Result<Act, Fail> {
     Ok(Act::Do(parse(alloc, &Octets::from_slice(alloc, octets)?)?))
+}
+
+#[test]
+fn moments_and_session_numbers_have_ranges(rt: HostRuntime) {
+    let last = Moment::from_seconds(253_402_300_799);
+    assert_eq!(rt; last.map(Moment::seconds), Some(253_402_300_799));
+    assert_eq!(rt; Moment::from_seconds(253_402_300_800), None);
+    assert_eq!(rt; SessionNumber::new(0), None);
+    let greatest = SessionNumber::new(u32::MAX);
+    assert_eq!(rt; greatest.map(SessionNumber::get), Some(4_294_967_295));
 }
 
 fn place(alloc: Global, world: &mut World, text: &[u8]) -> Result<Result<(), WorldError>, Fail> {
@@ -126,7 +140,7 @@ fn opening(alloc: Global) -> Result<Vec<Step>, Fail> {
     Ok(steps)
 }
 
-/// How many replies and effects are prepared for the step, and what is told once it is made.
+/// The numbers of replies and of effects that are prepared for the step, and the octets of its replies.
 fn made(alloc: Global, core: &mut Core, step: &Step) -> Result<(usize, usize, Vec<u8>), Fail> {
     let prepared = core.prepare(alloc, step)?;
     let replies = prepared.replies().len();
@@ -149,7 +163,7 @@ fn a_step_is_prepared_and_committed(rt: HostRuntime) -> Result<(), Fail> {
     Ok(())
 }
 
-/// A session that root opens, asks and leaves, and a command that comes too late.
+/// Root's first session opens, asks and leaves, and then comes a late command.
 fn visit(alloc: Global) -> Result<Vec<Step>, Fail> {
     let mut steps = Vec::new(alloc);
     steps.push(step(session(alloc)?, Act::Open))?;

@@ -2,6 +2,7 @@ use imap_names::{
     Name, NameError, Tree, UserName, inbox, is_above, read_full, read_name, show_name,
 };
 use std::alloc::Global;
+use std::cmp::Ordering;
 use std::process::Abort;
 use std::test::Fail;
 
@@ -14,14 +15,14 @@ fn owner_of(name: &Name) -> &str {
     name.owner().map_or("", UserName::as_str)
 }
 
-/// What the reader is shown of the name, and whether that is read as the name.
+/// The name as the reader sees it, and whether that text is read as the name.
 fn shown_again(alloc: Global, reader: &UserName, name: &Name) -> Result<(String, bool), Fail> {
     let shown = show_name(alloc, reader, name)?;
     let is_same = read_name(alloc, reader, shown.as_bytes())?.is_same(name);
     Ok((shown, is_same))
 }
 
-/// Ann reads the text as the owner and the path, and is shown the name so that it is read again.
+/// Asserts that ann reads the text as a name of this owner and path, and that the name as she sees it is read as it.
 fn ann_reads(
     rt: &impl Abort,
     alloc: Global,
@@ -73,7 +74,7 @@ fn reads_names(rt: HostRuntime) -> Result<(), Fail> {
     Ok(())
 }
 
-/// Why the text is no name to the reader.
+/// Why the text is no name for the reader.
 fn refusal(alloc: Global, reader: &UserName, text: &[u8]) -> Option<NameError> {
     read_name(alloc, reader, text).err()
 }
@@ -118,7 +119,7 @@ fn refuses_texts(rt: HostRuntime) -> Result<(), Fail> {
     Ok(())
 }
 
-/// `count` times the text.
+/// The text `count` times.
 fn repeated(alloc: Global, text: &str, count: usize) -> Result<String, Fail> {
     let mut all = String::new(alloc);
     for _ in 0..count {
@@ -220,7 +221,7 @@ fn refuses_in_full(rt: HostRuntime) -> Result<(), Fail> {
 }
 
 #[test]
-fn orders_names(rt: HostRuntime) -> Result<(), Fail> {
+fn names_stand_above_names(rt: HostRuntime) -> Result<(), Fail> {
     const TABLE: [(&str, &str, bool); 7] = [
         ("Shared/a", "Shared/a/b", true),
         ("Shared/a", "Shared/a/b/c", true),
@@ -238,10 +239,108 @@ fn orders_names(rt: HostRuntime) -> Result<(), Fail> {
     Ok(())
 }
 
+/// By tree, and then component by component.
+const ORDER: [&str; 11] = [
+    "Shared/a",
+    "Shared/a/b",
+    "Shared/a/b/c",
+    "Shared/a!",
+    "Shared/a!/b",
+    "Shared/ab",
+    "Shared/b",
+    "Other Users/ann/a",
+    "Other Users/ann/a/b",
+    "Other Users/annie/INBOX",
+    "Other Users/bob/a",
+];
+
+fn order_of(alloc: Global, a: &str, b: &str) -> Result<Ordering, Fail> {
+    let (a, b) = (full(alloc, a)?, full(alloc, b)?);
+    Ok(a.as_ref().compare(&b.as_ref()))
+}
+
+#[test]
+fn orders_names(rt: HostRuntime) -> Result<(), Fail> {
+    for (i, a) in ORDER.iter().enumerate() {
+        for (j, b) in ORDER.iter().enumerate() {
+            assert_eq!(rt; order_of(rt.alloc(), a, b)?, i.cmp(&j), "{a} {b}");
+        }
+    }
+    Ok(())
+}
+
+fn order_to_run(alloc: Global, name: &str, top: &str) -> Result<Ordering, Fail> {
+    let (name, top) = (full(alloc, name)?, full(alloc, top)?);
+    Ok(name.as_ref().compare_to_run(&top.as_ref()))
+}
+
+#[test]
+fn orders_names_to_runs(rt: HostRuntime) -> Result<(), Fail> {
+    const TABLE: [(&str, &str, Ordering); 10] = [
+        ("Shared/a", "Shared/a", Ordering::Equal),
+        ("Shared/a/b", "Shared/a", Ordering::Equal),
+        ("Shared/a/b/c", "Shared/a", Ordering::Equal),
+        ("Shared/a!", "Shared/a", Ordering::Greater),
+        ("Shared/ab", "Shared/a", Ordering::Greater),
+        ("Shared/b", "Shared/a", Ordering::Greater),
+        ("Shared/a", "Shared/a/b", Ordering::Less),
+        ("Shared/a", "Shared/b", Ordering::Less),
+        ("Shared/a/b", "Other Users/ann/a", Ordering::Less),
+        ("Other Users/ann/a/b", "Shared/a", Ordering::Greater),
+    ];
+    for &(name, top, order) in &TABLE {
+        assert_eq!(rt; order_to_run(rt.alloc(), name, top)?, order, "{name} {top}");
+    }
+    Ok(())
+}
+
+/// The superior of the name in full, or no text.
+fn superior_of(alloc: Global, name: &str) -> Result<String, Fail> {
+    let name = full(alloc, name)?;
+    match name.as_ref().superior() {
+        Some(above) => Ok(format!(in alloc; "{}:{}", above.root(), above.path())?),
+        None => Ok(String::new(alloc)),
+    }
+}
+
+#[test]
+fn names_have_superiors(rt: HostRuntime) -> Result<(), Fail> {
+    const TABLE: [(&str, &str); 4] = [
+        ("Shared/a/b/c", ":a/b"),
+        ("Other Users/ann/inbox/x", "ann:INBOX"),
+        ("Shared/a", ""),
+        ("Other Users/ann/a", ""),
+    ];
+    for &(name, superior) in &TABLE {
+        assert_eq!(rt; superior_of(rt.alloc(), name)?.as_str(), superior, "{name}");
+    }
+    Ok(())
+}
+
+#[test]
+fn names_are_borrowed(rt: HostRuntime) -> Result<(), Fail> {
+    let name = full(rt.alloc(), "Other Users/ann/a/b")?;
+    let shared = full(rt.alloc(), "Shared/a/b")?;
+    let inbox = full(rt.alloc(), "Other Users/ann/inbox")?;
+    assert_eq!(rt;
+        (name.as_ref().owner(), name.as_ref().path()),
+        (Some("ann"), "a/b")
+    );
+    assert_eq!(rt;
+        (shared.as_ref().owner(), shared.as_ref().root()),
+        (None, "")
+    );
+    assert_eq!(rt; (name.as_ref().depth(), inbox.as_ref().depth()), (2, 1));
+    assert!(rt; name.as_ref().is_same(&name.as_ref()));
+    assert!(rt; !name.as_ref().is_same(&shared.as_ref()));
+    assert!(rt; inbox.as_ref().is_inbox() && !name.as_ref().is_inbox());
+    Ok(())
+}
+
 #[test]
 fn names_are_copied(rt: HostRuntime) -> Result<(), Fail> {
     let name = full(rt.alloc(), "Other Users/ann/a/b")?;
-    let copy = name.try_copy(rt.alloc())?;
+    let copy = name.try_copy()?;
     assert!(rt; copy.is_same(&name));
     assert_eq!(rt; copy.path(), "a/b");
     assert!(rt; !name.is_same(&full(rt.alloc(), "Shared/a/b")?));
@@ -251,7 +350,7 @@ fn names_are_copied(rt: HostRuntime) -> Result<(), Fail> {
 #[test]
 fn users_are_copied(rt: HostRuntime) -> Result<(), Fail> {
     let ann = user(rt.alloc(), "ann")?;
-    assert!(rt; ann.try_copy(rt.alloc())?.is_same(&ann));
+    assert!(rt; ann.try_copy()?.is_same(&ann));
     assert!(rt; !ann.is_same(&user(rt.alloc(), "bob")?));
     Ok(())
 }
@@ -259,7 +358,7 @@ fn users_are_copied(rt: HostRuntime) -> Result<(), Fail> {
 #[test]
 fn trees_are_copied(rt: HostRuntime) -> Result<(), Fail> {
     let tree = Tree::User(user(rt.alloc(), "ann")?);
-    assert!(rt; tree.try_copy(rt.alloc())?.is_same(&tree));
+    assert!(rt; tree.try_copy()?.is_same(&tree));
     assert!(rt;
         full(rt.alloc(), "Other Users/ann/a/b")?
             .tree()

@@ -14,11 +14,26 @@ fn octets(alloc: Global, text: &str) -> Result<Octets, AllocError> {
 }
 
 fn tag(alloc: Global, text: &str) -> Result<Tag, AllocError> {
-    Tag::from_slice(alloc, text.as_bytes())
+    Tag::read(alloc, text.as_bytes())?.ok_or(AllocError)
 }
 
-fn numbers(alloc: Global, numbers: &[u32]) -> Result<Numbers, AllocError> {
-    Ok(Numbers::from_vec(Vec::from_slice(alloc, numbers)?))
+/// The set of these numbers, which rise.
+fn numbers(alloc: Global, numbers: &[u32]) -> Result<NumberSet, AllocError> {
+    NumberSet::from_rising(Vec::from_slice(alloc, numbers)?).ok_or(AllocError)
+}
+
+fn is_set(alloc: Global, numbers: &[u32]) -> Result<bool, AllocError> {
+    Ok(NumberSet::from_rising(Vec::from_slice(alloc, numbers)?).is_some())
+}
+
+#[test]
+fn sets_rise_from_1(rt: HostRuntime) -> Result<(), Fail> {
+    const NONE: [&[u32]; 4] = [&[], &[0], &[2, 2], &[3, 4, 1]];
+    for &numbers in &NONE {
+        assert!(rt; !is_set(rt.alloc(), numbers)?, "{numbers:?}");
+    }
+    assert!(rt; is_set(rt.alloc(), &[1, 2, 4_294_967_295])?);
+    Ok(())
 }
 
 fn words(alloc: Global, texts: &[&str]) -> Result<Items<Octets>, AllocError> {
@@ -29,13 +44,13 @@ fn words(alloc: Global, texts: &[&str]) -> Result<Items<Octets>, AllocError> {
     Ok(Items::from_vec(words))
 }
 
-/// What is printed of the responses, as text.
+/// Prints the responses.
 fn shown_all(alloc: Global, responses: &[Response]) -> Result<String, AllocError> {
     let printed = print(alloc, responses)?;
     String::from_utf8_lossy(alloc, printed.as_slice())
 }
 
-/// What is printed of one response, which is let go by `drop`, as that is generic: a proof that lets one go is long.
+/// Prints one response. It is handed to `drop`, which is generic: the proof that a response is dropped is long.
 fn shown(alloc: Global, response: Response) -> Result<String, AllocError> {
     let responses = [response];
     let text = shown_all(alloc, &responses);
@@ -43,7 +58,7 @@ fn shown(alloc: Global, response: Response) -> Result<String, AllocError> {
     text
 }
 
-/// That the response is printed as this line.
+/// Asserts that the response is printed as this line.
 fn check(rt: &impl Abort, alloc: Global, response: Response, line: &str) -> Result<(), AllocError> {
     let printed = shown(alloc, response)?;
     assert_eq!(rt; printed.as_str(), line);
@@ -56,7 +71,8 @@ fn lines_without_values(rt: HostRuntime) -> Result<(), Fail> {
     let rows = [
         (
             Response::Greeting,
-            "* PREAUTH [CAPABILITY IMAP4rev2 ACL RIGHTS=texk CONDSTORE ENABLE IDLE QRESYNC] shared mailbox profile ready\r\n",
+            "* PREAUTH [CAPABILITY IMAP4rev2 ACL RIGHTS=texk CONDSTORE ENABLE IDLE QRESYNC] \
+                shared mailbox profile ready\r\n",
         ),
         (
             Response::Capability,
@@ -106,7 +122,7 @@ fn no_response_and_many(rt: HostRuntime) -> Result<(), Fail> {
     Ok(())
 }
 
-/// That a command that was carried out is answered by this line, with this response code.
+/// Asserts that the tagged line of a command with this response code is this line.
 fn check_done(
     rt: &impl Abort,
     alloc: Global,
@@ -117,7 +133,7 @@ fn check_done(
     check(rt, alloc, Response::Done { tag, code }, line)
 }
 
-/// What was made, and the value beside it. It is generic as the proof that a code is let go is long.
+/// What was made, beside `value`. It is generic, since the proof that a code is dropped is long.
 fn beside<A: Drop, B: Drop>(made: Result<A, AllocError>, value: B) -> Result<(A, B), AllocError> {
     Ok((made?, value))
 }
@@ -270,7 +286,7 @@ fn capabilities_enabled(rt: HostRuntime) -> Result<(), Fail> {
     Ok(())
 }
 
-/// That what a search found is told by this line.
+/// Asserts that the results of a search are printed as this line.
 fn check_search(
     rt: &impl Abort,
     alloc: Global,

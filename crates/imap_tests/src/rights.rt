@@ -187,7 +187,7 @@ fn rights_are_those_of_the_entries(rt: HostRuntime) -> Result<(), Fail> {
 
 #[test]
 fn an_owner_keeps_two_rights(rt: HostRuntime) -> Result<(), Fail> {
-    let mut acl = Acl::of_owner(rt.alloc(), "ann")?;
+    let mut acl = Acl::of_owner(rt.alloc(), identifier(rt.alloc(), "ann")?)?;
     let ann = identifier(rt.alloc(), "ann")?;
     assert!(rt; acl.rights_of(&ann) == Rights::ALL);
     assert!(rt; acl.effective("ann", "ann") == Rights::ALL);

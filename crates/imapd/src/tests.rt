@@ -1,20 +1,17 @@
 mod faults;
 mod isolation;
-mod literals;
-mod rows;
 
 use crate::command_line::{CommandLineError, Task, task_of};
 use crate::{misused, script_failed};
 use imap_script::{ScriptError, script};
-use rows::{Row, SCRIPTS, STORED, UNSEEN};
 use std::alloc::{AllocError, Global};
 use std::process::ExitCode;
 use std::test::Fail;
 
-/// The end of the line that a session is greeted with.
+/// The end of the greeting.
 const READY: &[u8] = b"] shared mailbox profile ready\n";
 
-/// What running the script writes.
+/// What the program writes for the script.
 fn transcript<R: AllocGlobal>(rt: &R, text: &[u8]) -> Result<Vec<u8>, ScriptError> {
     let mut written = Vec::new(rt.alloc());
     script(rt, text, &mut written)?;
@@ -31,13 +28,13 @@ fn without_greetings(alloc: Global, transcript: &[u8]) -> Result<Vec<u8>, AllocE
     Ok(others)
 }
 
-/// What running the script writes beside the greetings.
+/// What the program writes for the script, without the greetings.
 fn answers<R: AllocGlobal>(rt: &R, text: &[u8]) -> Result<Vec<u8>, ScriptError> {
     let written = transcript(rt, text)?;
     Ok(without_greetings(rt.alloc(), &written)?)
 }
 
-/// The line at which the script is refused as bad.
+/// The number of the script's first bad line.
 fn bad_line<R: AllocGlobal>(rt: &R, text: &[u8]) -> Option<u64> {
     match transcript(rt, text) {
         Err(ScriptError::Bad { line }) => Some(line),
@@ -45,34 +42,7 @@ fn bad_line<R: AllocGlobal>(rt: &R, text: &[u8]) -> Option<u64> {
     }
 }
 
-#[test]
-fn writes_transcripts(rt: HostRuntime) -> Result<(), Fail> {
-    for Row { script, told } in [STORED, rows::BEGUN_ANEW] {
-        let written = transcript(&rt, script.as_bytes())?;
-        assert_eq!(rt; written.as_slice(), told.as_bytes(), "of {script}");
-    }
-    for &Row { script, told } in &SCRIPTS {
-        let written = answers(&rt, script.as_bytes())?;
-        assert_eq!(rt; written.as_slice(), told.as_bytes(), "of {script}");
-    }
-    Ok(())
-}
-
-#[test]
-fn hidden_absent_and_unknown_are_alike(rt: HostRuntime) -> Result<(), Fail> {
-    for &(head, owner) in &UNSEEN {
-        let text = format!(in rt.alloc();
-            "admin root\nuser ann\nuser bob\n{head}bob.1 open\n\
-            bob.1 < b1 MYRIGHTS \"Other Users/{owner}/Work\"\n"
-        )?;
-        let written = answers(&rt, text.as_bytes())?;
-        let wanted: &[u8] = b"bob.1 > b1 NO [NONEXISTENT] no such mailbox\n";
-        assert_eq!(rt; written.as_slice(), wanted, "of {owner}");
-    }
-    Ok(())
-}
-
-/// A script in which ann sends a line of so many octets, its CRLF among them, and more behind it.
+/// A script in which ann sends a line of `count` octets, its CRLF counted, and then further lines.
 fn with_a_line_of(alloc: Global, count: usize) -> Result<Vec<u8>, AllocError> {
     let mut text = Vec::from_slice(alloc, b"admin root\nuser ann\nann.1 open\nann.1 < ")?;
     for _ in 0..count.saturating_sub(2) {
@@ -105,7 +75,7 @@ fn long_line(alloc: Global, number: u32) -> Result<String, AllocError> {
     format!(in alloc; "ann.{number} < {line}\n")
 }
 
-/// What ends a session, or keeps it from opening, and what it tells then.
+/// Steps that end a session or don't open it, and their transcript.
 const ENDINGS: [(&str, &[u8]); 3] = [
     (
         "ann.1 open\nann.1 < a1 LOGOUT\n",
@@ -122,57 +92,17 @@ fn a_long_line_may_come_too_late(rt: HostRuntime) -> Result<(), Fail> {
         let line = long_line(alloc, 1)?;
         let text = format!(in alloc; "admin root\nuser ann\n{ending}{line}")?;
         let written = answers(&rt, text.as_bytes())?;
-        assert_eq!(rt; written.as_slice(), wanted, "behind {ending}");
+        assert_eq!(rt; written.as_slice(), wanted, "after {ending}");
     }
     Ok(())
 }
 
-/// A script in which ann opens so many sessions.
-fn opening(alloc: Global, count: u32) -> Result<String, AllocError> {
-    let mut text = String::from_str(alloc, "admin root\nuser ann\n")?;
-    for number in 1..=count {
-        write!(text, "ann.{number} open\n")?;
-    }
-    Ok(text)
-}
-
-#[test]
-fn seventeen_sessions(rt: HostRuntime) -> Result<(), Fail> {
-    let alloc = rt.alloc();
-    let mut text = opening(alloc, 17)?;
-    text.push_str(&long_line(alloc, 17)?)?;
-    text.push_str("ann.17 < a1 NOOP\nann.16 < a2 NOOP\nann.1 leave\nann.17 open\n")?;
-    text.push_str("ann.17 < a3 NOOP\n")?;
-    text.push_str(&long_line(alloc, 2)?)?;
-    text.push_str("ann.18 open\nann.18 < a4 NOOP\n")?;
-    let written = answers(&rt, text.as_bytes())?;
-    let wanted: &[u8] = b"ann.17 > * BYE limit reached\nann.16 > a2 OK done\nann.17 > a3 OK done\n\
-        ann.2 > * BYE limit reached\nann.18 > a4 OK done\n";
-    assert_eq!(rt; written.as_slice(), wanted);
-    Ok(())
-}
-
-/// A script whose head sets so many entries of one list.
-fn setting_entries(alloc: Global, count: u32) -> Result<String, AllocError> {
-    let mut text = String::from_str(alloc, "admin root\nmailbox Shared/News\n")?;
-    for number in 1..=count {
-        write!(text, "acl reader{number} l\n")?;
-    }
-    Ok(text)
-}
-
-#[test]
-fn a_head_fills_an_access_control_list(rt: HostRuntime) -> Result<(), Fail> {
-    let full = setting_entries(rt.alloc(), 64)?;
-    assert!(rt; transcript(&rt, full.as_bytes())?.is_empty());
-    let over = setting_entries(rt.alloc(), 65)?;
-    assert_eq!(rt; bad_line(&rt, over.as_bytes()), Some(67));
-    Ok(())
-}
+/// Scripts with a line that is no UTF-8, and the number of that line.
+const NOT_TEXT: [(&[u8], u64); 2] = [(b"# \xff\nadmin root\n", 1), (b"admin root\n#\xc3\n", 2)];
 
 #[test]
 fn finds_the_first_bad_line(rt: HostRuntime) -> Result<(), Fail> {
-    for &(text, wanted) in &rows::BAD {
+    for &(text, wanted) in &NOT_TEXT {
         assert_eq!(rt; bad_line(&rt, text), Some(wanted), "of {text:?}");
     }
     Ok(())
@@ -185,7 +115,7 @@ fn words(alloc: Global, texts: &[&str]) -> Result<Vec<String>, AllocError> {
         .try_collect(alloc)
 }
 
-/// What is told of words that ask for nothing.
+/// Why the words of a command line are refused.
 fn refused(alloc: Global, texts: &[&str]) -> Result<CommandLineError, Fail> {
     Ok(task_of(alloc, &words(alloc, texts)?).err().ok_or("a task")?)
 }

@@ -1,43 +1,13 @@
-//! Random requests written, cut at random, told by a framer, read and written again.
+//! Random requests that are written, cut at random, framed, read, and written again.
 
-ghost use Rattle.std.specs.Prelude.{◌<◌};
-
+use crate::grammar::generator::Random;
 use crate::grammar::written::{shown, text_of};
 use imap_grammar::*;
 use imap_lex::{Frame, Framer, LexError, Octets, Tag};
+use imap_syntax::Month;
 use std::alloc::{AllocError, Global};
 use std::process::Abort;
 use std::test::Fail;
-
-/// Marsaglia's xorshift generator.
-#[derive(Drop)]
-struct Random {
-    state: u64,
-}
-
-impl Random {
-    fn next(&mut self) -> u64 {
-        self.state ^= self.state.wrapping_mul(1 << 13);
-        self.state ^= self.state >> 7;
-        self.state ^= self.state.wrapping_mul(1 << 17);
-        self.state
-    }
-
-    fn below(&mut self, limit: u64) -> u64
-        requires { 0 < limit }
-        ensures { result < limit }
-    {
-        self.next() % limit
-    }
-
-    fn coin(&mut self) -> bool {
-        self.below(2) == 0
-    }
-
-    fn byte(&mut self, low: u8, high: u8) -> u8 {
-        (self.below(256) as u8).clamp(low.min(high), high)
-    }
-}
 
 // ---- values
 
@@ -117,27 +87,23 @@ fn flags(random: &mut Random, alloc: Global) -> Result<Flags, AllocError> {
     Ok(Items::from_vec(all))
 }
 
-fn date(random: &mut Random) -> Date {
-    Date {
-        year: random.below(10_000) as u16,
-        month: random.below(12) as u8 + 1,
-        day: random.below(28) as u8 + 1,
-    }
+const MONTHS: [Month; 4] = [Month::Jan, Month::Feb, Month::May, Month::Dec];
+
+/// A day that each of these months has.
+fn date(random: &mut Random) -> Option<Date> {
+    let year = random.below(10_000) as u16;
+    let month = MONTHS.get(random.below(4) as usize).copied()?;
+    Date::new(year, month, random.below(28) as u8 + 1)
 }
 
-fn moment(random: &mut Random) -> DateTime {
-    let zone = Zone {
-        west: random.coin(),
-        hours: random.below(24) as u8,
-        minutes: random.below(60) as u8,
-    };
-    DateTime {
-        date: date(random),
-        hour: random.below(24) as u8,
-        minute: random.below(60) as u8,
-        second: random.below(60) as u8,
-        zone,
-    }
+fn moment(random: &mut Random) -> Option<DateTime> {
+    let hours = random.below(24) as u8;
+    let minutes = random.below(60) as u8;
+    let zone = Zone::new(random.coin(), hours, minutes)?;
+    let hour = random.below(24) as u8;
+    let minute = random.below(60) as u8;
+    let second = random.below(60) as u8;
+    DateTime::new(date(random)?, hour, minute, second, zone)
 }
 
 fn size(random: &mut Random) -> u64 {
@@ -216,10 +182,7 @@ fn plain_key(random: &mut Random, alloc: Global) -> Result<SearchKey, AllocError
             field: atom(random, alloc)?,
             text: text(random, alloc)?,
         },
-        4 => SearchKey::Date {
-            relation: SearchDate::On,
-            date: date(random),
-        },
+        4 => dated_key(random),
         5 => SearchKey::Larger(size(random)),
         6 => SearchKey::ModSeq(size(random)),
         7 => SearchKey::Numbers(messages(random, alloc)?),
@@ -228,7 +191,17 @@ fn plain_key(random: &mut Random, alloc: Global) -> Result<SearchKey, AllocError
     })
 }
 
-/// A value and the one that was made. It is generic, as are the next two, as the proof that a key is let go is long.
+fn dated_key(random: &mut Random) -> SearchKey {
+    match date(random) {
+        Some(date) => SearchKey::Date {
+            relation: SearchDate::On,
+            date,
+        },
+        None => SearchKey::All,
+    }
+}
+
+/// `value` beside that of `made`. This and the next two are generic, since the proof that a key is dropped is long.
 fn joined<T: Drop>(value: T, made: Result<T, AllocError>) -> Result<(T, T), AllocError> {
     Ok((value, made?))
 }
@@ -279,7 +252,7 @@ fn keys(random: &mut Random, alloc: Global) -> Result<SearchKeys, AllocError> {
 
 // ---- commands
 
-fn search(random: &mut Random, alloc: Global) -> Result<Body, AllocError> {
+fn search(random: &mut Random, alloc: Global) -> Result<Command, AllocError> {
     let mut returns = Vec::new(alloc);
     if random.coin() {
         returns.push(SearchReturn::Count)?;
@@ -290,7 +263,7 @@ fn search(random: &mut Random, alloc: Global) -> Result<Body, AllocError> {
     } else {
         None
     };
-    Ok(Body::Search {
+    Ok(Command::Search {
         numbering: numbering(random),
         returns: Items::from_vec(returns),
         charset,
@@ -298,9 +271,9 @@ fn search(random: &mut Random, alloc: Global) -> Result<Body, AllocError> {
     })
 }
 
-fn fetch(random: &mut Random, alloc: Global) -> Result<Body, AllocError> {
+fn fetch(random: &mut Random, alloc: Global) -> Result<Command, AllocError> {
     let since = size(random) / 2 + 1;
-    Ok(Body::Fetch {
+    Ok(Command::Fetch {
         numbering: numbering(random),
         messages: messages(random, alloc)?,
         items: items(random, alloc)?,
@@ -309,19 +282,22 @@ fn fetch(random: &mut Random, alloc: Global) -> Result<Body, AllocError> {
     })
 }
 
-fn store(random: &mut Random, alloc: Global) -> Result<Body, AllocError> {
+fn store(random: &mut Random, alloc: Global) -> Result<Command, AllocError> {
     let since = size(random);
-    Ok(Body::Store {
-        numbering: numbering(random),
-        messages: messages(random, alloc)?,
+    let store = StoreSpec {
         unchanged_since: random.coin().then_some(since),
         change: StoreChange::Remove,
         silent: random.coin(),
         flags: flags(random, alloc)?,
+    };
+    Ok(Command::Store {
+        numbering: numbering(random),
+        messages: messages(random, alloc)?,
+        store,
     })
 }
 
-fn select(random: &mut Random, alloc: Global) -> Result<Body, AllocError> {
+fn select(random: &mut Random, alloc: Global) -> Result<Command, AllocError> {
     let known_uids = if random.coin() {
         Some(ranges(random, alloc, false)?)
     } else {
@@ -332,7 +308,7 @@ fn select(random: &mut Random, alloc: Global) -> Result<Body, AllocError> {
         mod_seq: size(random) / 2 + 1,
         known_uids,
     };
-    Ok(Body::Select {
+    Ok(Command::Select {
         mailbox: text(random, alloc)?,
         parameters: SelectParameters {
             condstore: random.coin(),
@@ -341,14 +317,14 @@ fn select(random: &mut Random, alloc: Global) -> Result<Body, AllocError> {
     })
 }
 
-fn list(random: &mut Random, alloc: Global) -> Result<Body, AllocError> {
+fn list(random: &mut Random, alloc: Global) -> Result<Command, AllocError> {
     let mut patterns = Vec::new(alloc);
     patterns.push(text(random, alloc)?)?;
     patterns.push(text(random, alloc)?)?;
     let mut returns = Vec::new(alloc);
     returns.push(ListReturn::Children)?;
     returns.push(ListReturn::Status(statuses(random, alloc)?))?;
-    Ok(Body::List {
+    Ok(Command::List {
         selection: None,
         reference: text(random, alloc)?,
         patterns: Patterns::Many(Items::from_vec(patterns)),
@@ -356,45 +332,44 @@ fn list(random: &mut Random, alloc: Global) -> Result<Body, AllocError> {
     })
 }
 
-fn append(random: &mut Random, alloc: Global) -> Result<Body, AllocError> {
+fn append(random: &mut Random, alloc: Global) -> Result<Command, AllocError> {
     let mut message = Vec::new(alloc);
     for _ in 0..random.below(40) {
         message.push(random.byte(0, 255))?;
     }
-    let date = moment(random);
-    Ok(Body::Append {
+    Ok(Command::Append {
         mailbox: text(random, alloc)?,
         flags: flags(random, alloc)?,
-        date: random.coin().then_some(date),
+        date: moment(random),
         message: Octets::from_vec(message)?,
     })
 }
 
-fn named(random: &mut Random, alloc: Global) -> Result<Body, AllocError> {
+fn named(random: &mut Random, alloc: Global) -> Result<Command, AllocError> {
     let name = text(random, alloc)?;
     let other = text(random, alloc)?;
     Ok(match random.below(4) {
-        0 => Body::Create { mailbox: name },
-        1 => Body::Rename {
+        0 => Command::Create { mailbox: name },
+        1 => Command::Rename {
             from: name,
             to: other,
         },
-        2 => Body::SetAcl {
+        2 => Command::SetAcl {
             mailbox: name,
             identifier: other,
             rights: atom(random, alloc)?,
         },
-        _ => Body::Status {
+        _ => Command::Status {
             mailbox: name,
             items: statuses(random, alloc)?,
         },
     })
 }
 
-fn body(random: &mut Random, alloc: Global) -> Result<Body, AllocError> {
+fn body(random: &mut Random, alloc: Global) -> Result<Command, AllocError> {
     match random.below(9) {
-        0 => Ok(Body::Idle),
-        1 => Ok(Body::Move {
+        0 => Ok(Command::Idle),
+        1 => Ok(Command::Move {
             numbering: numbering(random),
             messages: messages(random, alloc)?,
             mailbox: text(random, alloc)?,
@@ -409,9 +384,14 @@ fn body(random: &mut Random, alloc: Global) -> Result<Body, AllocError> {
     }
 }
 
+/// The random atom as a tag: none of them has a `+`.
+fn tag_of(alloc: Global, atom: &Octets) -> Result<Tag, AllocError> {
+    Tag::read(alloc, atom.as_slice())?.ok_or(AllocError)
+}
+
 fn request(random: &mut Random, alloc: Global) -> Result<Request, AllocError> {
     let name = atom(random, alloc)?;
-    let tag = Tag::from_slice(alloc, name.as_slice())?;
+    let tag = tag_of(alloc, &name)?;
     let body = body(random, alloc)?;
     Ok(Request::Command { tag, body })
 }
@@ -420,7 +400,7 @@ fn random_text(random: &mut Random, alloc: Global) -> Result<Option<Vec<u8>>, Al
     text_of(alloc, request(random, alloc)?)
 }
 
-/// That this text is read, and written as it is.
+/// Asserts that the text is read and written again unchanged.
 fn check_again(rt: &impl Abort, alloc: Global, text: &[u8]) -> Result<(), AllocError> {
     match shown(alloc, text)? {
         Some(again) => assert_eq!(rt; again.as_slice(), text),
@@ -429,7 +409,7 @@ fn check_again(rt: &impl Abort, alloc: Global, text: &[u8]) -> Result<(), AllocE
     Ok(())
 }
 
-/// That the frames are this text, and that the client is to go on. The count of whole ones.
+/// Asserts that each frame is a `Continue` or the whole text. Returns the number of the latter.
 fn check_frames(
     rt: &impl Abort,
     alloc: Global,
@@ -469,7 +449,7 @@ fn check_text(
     Ok(())
 }
 
-/// One request; each is to fit.
+/// Makes one request, for which a frame is to be written.
 fn round(
     rt: &impl Abort,
     alloc: Global,
@@ -483,7 +463,7 @@ fn round(
 }
 
 fn rounds(rt: &impl Abort, alloc: Global, seed: u64) -> Result<(), LexError> {
-    let mut random = Random { state: seed };
+    let mut random = Random::new(seed);
     let mut framer = Framer::new(alloc, 1 << 20);
     for _ in 0..400u32 {
         round(rt, alloc, &mut random, &mut framer)?;

@@ -68,7 +68,13 @@ fn attributes(rt: HostRuntime) -> Result<(), Fail> {
             true,
             "(\\NonExistent \\HasChildren \\Subscribed) \"/\" P",
         ),
-        ("a", false, Children::Untold, true, "(\\Subscribed) \"/\" a"),
+        (
+            "a",
+            false,
+            Children::Omitted,
+            true,
+            "(\\Subscribed) \"/\" a",
+        ),
     ];
     for &(name, non_existent, children, subscribed, printed) in &ROWS {
         let line = listed(rt.alloc(), name, non_existent, children, subscribed)?;
@@ -91,14 +97,14 @@ fn names(rt: HostRuntime) -> Result<(), Fail> {
         ("\u{e9}t\u{e9}", "\"\u{e9}t\u{e9}\""),
     ];
     for &(name, printed) in &ROWS {
-        let line = listed(rt.alloc(), name, false, Children::Untold, false)?;
+        let line = listed(rt.alloc(), name, false, Children::Omitted, false)?;
         let wanted = format!(in rt.alloc(); "* LIST () \"/\" {printed}\r\n")?;
         assert_eq!(rt; line.as_str(), wanted.as_str());
     }
     Ok(())
 }
 
-/// That these values of the mailbox are told by this line.
+/// Asserts that these values of the mailbox are printed as this line.
 fn check_status(
     rt: &impl Abort,
     alloc: Global,

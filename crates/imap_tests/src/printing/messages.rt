@@ -1,7 +1,7 @@
 use super::{check, numbers, octets, shown, words};
 use imap_print::*;
 use imap_query::Section;
-use imap_syntax::{Date, DateTime, Items, Zone};
+use imap_syntax::{Date, DateTime, Items, Month, Zone};
 use std::alloc::{AllocError, Global};
 use std::process::Abort;
 use std::test::Fail;
@@ -98,7 +98,7 @@ fn flags_of_a_mailbox(rt: HostRuntime) -> Result<(), Fail> {
     Ok(())
 }
 
-/// That these flags are told so as those that may be changed.
+/// Asserts that these flags, which may be changed, are printed as this line.
 fn check_permanent(
     rt: &impl Abort,
     alloc: Global,
@@ -187,7 +187,7 @@ fn a_mod_sequence_alone(rt: HostRuntime) -> Result<(), Fail> {
     Ok(())
 }
 
-/// That these octets of the section are told by this line.
+/// Asserts that these octets of the section are printed as this line.
 fn check_section(
     rt: &impl Abort,
     alloc: Global,
@@ -248,7 +248,7 @@ fn every_item(rt: HostRuntime) -> Result<(), Fail> {
     let alloc = rt.alloc();
     let mut seen = no_flags(alloc);
     seen.seen = true;
-    let mut items = dated(alloc, 1996, 7, 17);
+    let mut items = dated(alloc, Date::new(1996, Month::Jul, 17));
     items.uid = Some(9);
     items.flags = Some(seen);
     items.size = Some(16);
@@ -262,7 +262,8 @@ fn every_item(rt: HostRuntime) -> Result<(), Fail> {
         &rt,
         alloc,
         fetch(12, items),
-        "* 12 FETCH (UID 9 FLAGS (\\Seen) INTERNALDATE \"17-Jul-1996 02:44:25 -0700\" RFC822.SIZE 16 MODSEQ (65402) BODY[TEXT] {2}\r\nhi BODY[HEADER] {0}\r\n)\r\n",
+        "* 12 FETCH (UID 9 FLAGS (\\Seen) INTERNALDATE \"17-Jul-1996 02:44:25 -0700\" \
+            RFC822.SIZE 16 MODSEQ (65402) BODY[TEXT] {2}\r\nhi BODY[HEADER] {0}\r\n)\r\n",
     )?;
     Ok(())
 }
@@ -275,40 +276,36 @@ fn part(alloc: Global, section: Section, text: &str) -> Result<FetchedSection, A
     })
 }
 
-fn dated(alloc: Global, year: u16, month: u8, day: u8) -> FetchedItems {
+/// 02:44:25 on this day, seven hours west of Greenwich.
+fn morning(date: Option<Date>) -> Option<DateTime> {
+    DateTime::new(date?, 2, 44, 25, Zone::new(true, 7, 0)?)
+}
+
+fn dated(alloc: Global, date: Option<Date>) -> FetchedItems {
     let mut items = nothing(alloc);
-    items.internal_date = Some(DateTime {
-        date: Date { year, month, day },
-        hour: 2,
-        minute: 44,
-        second: 25,
-        zone: Zone {
-            west: true,
-            hours: 7,
-            minutes: 0,
-        },
-    });
+    items.internal_date = morning(date);
     items
 }
 
 #[test]
 fn dates(rt: HostRuntime) -> Result<(), Fail> {
-    const ROWS: [(u16, u8, u8, &str); 12] = [
-        (1996, 7, 17, "17-Jul-1996"),
-        (2024, 2, 9, " 9-Feb-2024"),
-        (1, 1, 10, "10-Jan-0001"),
-        (9999, 12, 31, "31-Dec-9999"),
-        (2000, 3, 1, " 1-Mar-2000"),
-        (2000, 4, 1, " 1-Apr-2000"),
-        (2000, 5, 1, " 1-May-2000"),
-        (2000, 6, 1, " 1-Jun-2000"),
-        (2000, 8, 1, " 1-Aug-2000"),
-        (2000, 9, 1, " 1-Sep-2000"),
-        (2000, 10, 1, " 1-Oct-2000"),
-        (2000, 11, 1, " 1-Nov-2000"),
+    const ROWS: [(u16, Month, u8, &str); 12] = [
+        (1996, Month::Jul, 17, "17-Jul-1996"),
+        (2024, Month::Feb, 9, " 9-Feb-2024"),
+        (1, Month::Jan, 10, "10-Jan-0001"),
+        (9999, Month::Dec, 31, "31-Dec-9999"),
+        (2000, Month::Mar, 1, " 1-Mar-2000"),
+        (2000, Month::Apr, 1, " 1-Apr-2000"),
+        (2000, Month::May, 1, " 1-May-2000"),
+        (2000, Month::Jun, 1, " 1-Jun-2000"),
+        (2000, Month::Aug, 1, " 1-Aug-2000"),
+        (2000, Month::Sep, 1, " 1-Sep-2000"),
+        (2000, Month::Oct, 1, " 1-Oct-2000"),
+        (2000, Month::Nov, 1, " 1-Nov-2000"),
     ];
     for &(year, month, day, date) in &ROWS {
-        let line = shown(rt.alloc(), fetch(1, dated(rt.alloc(), year, month, day)))?;
+        let moment = Date::new(year, month, day);
+        let line = shown(rt.alloc(), fetch(1, dated(rt.alloc(), moment)))?;
         let wanted = format!(in rt.alloc();
             "* 1 FETCH (INTERNALDATE \"{date} 02:44:25 -0700\")\r\n"
         )?;
@@ -317,19 +314,14 @@ fn dates(rt: HostRuntime) -> Result<(), Fail> {
     Ok(())
 }
 
-fn dated_in(alloc: Global, zone: Zone) -> FetchedItems {
+/// An evening in this zone.
+fn evening(zone: Option<Zone>) -> Option<DateTime> {
+    DateTime::new(Date::new(1994, Month::Feb, 1)?, 21, 5, 9, zone?)
+}
+
+fn dated_in(alloc: Global, zone: Option<Zone>) -> FetchedItems {
     let mut items = nothing(alloc);
-    items.internal_date = Some(DateTime {
-        date: Date {
-            year: 1994,
-            month: 2,
-            day: 1,
-        },
-        hour: 21,
-        minute: 5,
-        second: 9,
-        zone,
-    });
+    items.internal_date = evening(zone);
     items
 }
 
@@ -342,11 +334,7 @@ fn zones(rt: HostRuntime) -> Result<(), Fail> {
         (true, 3, 30, "-0330"),
     ];
     for &(west, hours, minutes, printed) in &ROWS {
-        let zone = Zone {
-            west,
-            hours,
-            minutes,
-        };
+        let zone = Zone::new(west, hours, minutes);
         let line = shown(rt.alloc(), fetch(1, dated_in(rt.alloc(), zone)))?;
         let wanted = format!(in rt.alloc();
             "* 1 FETCH (INTERNALDATE \" 1-Feb-1994 21:05:09 {printed}\")\r\n"

@@ -12,8 +12,7 @@ fn vanished(alloc: Global, earlier: bool, uids: &[u32]) -> Result<Response, Allo
 
 #[test]
 fn sets(rt: HostRuntime) -> Result<(), Fail> {
-    const ROWS: [(&[u32], &str); 9] = [
-        (&[], "* VANISHED \r\n"),
+    const ROWS: [(&[u32], &str); 6] = [
         (&[7], "* VANISHED 7\r\n"),
         (&[1, 3], "* VANISHED 1,3\r\n"),
         (&[1, 2, 3, 5, 7, 8], "* VANISHED 1:3,5,7:8\r\n"),
@@ -24,11 +23,9 @@ fn sets(rt: HostRuntime) -> Result<(), Fail> {
             ],
             "* VANISHED 300:310,405,411\r\n",
         ),
-        (&[3, 2, 1], "* VANISHED 3,2,1\r\n"),
-        (&[2, 2, 3], "* VANISHED 2,2:3\r\n"),
         (
-            &[4_294_967_294, 4_294_967_295, 0],
-            "* VANISHED 4294967294:4294967295,0\r\n",
+            &[4_294_967_294, 4_294_967_295],
+            "* VANISHED 4294967294:4294967295\r\n",
         ),
     ];
     for &(uids, line) in &ROWS {
@@ -49,7 +46,8 @@ fn lists_give_their_items_back(rt: HostRuntime) -> Result<(), Fail> {
     let alloc = rt.alloc();
     let set = numbers(alloc, &[5, 9])?;
     assert_eq!(rt; set.as_slice(), [5u32, 9].as_slice());
-    assert_eq!(rt; set.into_vec().as_slice(), [5u32, 9].as_slice());
+    let copy = set.try_copy(alloc)?;
+    assert_eq!(rt; copy.as_slice(), [5u32, 9].as_slice());
     let pair = words(alloc, &["a", "b"])?;
     assert_eq!(rt; pair.as_slice().len(), 2);
     Ok(())

@@ -1,13 +1,29 @@
-//! Streams that fail.
+//! Inputs and outputs that fail.
 
-use super::rows::STORED;
 use imap_script::{ScriptError, read_all, script};
 use std::alloc::Global;
 use std::io::{self, ErrorKind, Read, Write};
 use std::test::Fail;
 
-/// Gives a text in pieces of 16 octets at most. The read before which `reads` were made is answered by this error, and
-/// so is each one behind it that `is_lasting` says.
+/// The run that is stored beside `src/`.
+const SCRIPT: &str = "admin root
+user ann
+ann.1 open
+ann.1 < a1 MYRIGHTS INBOX
+ann.1 < a2 LOGOUT
+";
+
+const TRANSCRIPT: &str =
+    "ann.1 > * PREAUTH [CAPABILITY IMAP4rev2 ACL RIGHTS=texk CONDSTORE ENABLE IDLE QRESYNC] \
+    shared mailbox profile ready
+ann.1 > * MYRIGHTS INBOX lrswipkxtea
+ann.1 > a1 OK done
+ann.1 > * BYE logging out
+ann.1 > a2 OK done
+";
+
+/// Gives a text in pieces of at most 16 octets. The read after the first `reads` fails with `error`, and all later ones
+/// too if `is_lasting`.
 #[derive(Drop)]
 struct Source<'a> {
     text: &'a [u8],
@@ -32,7 +48,7 @@ impl<'a> Read for Source<'a> {
     }
 }
 
-/// What a sink does once it has taken as many writes as it takes.
+/// What a sink does after its last good write.
 #[derive(Clone, Copy, Debug, PartialEq, Eq)]
 enum Trouble {
     Fails,
@@ -40,7 +56,7 @@ enum Trouble {
     FailsToFlush,
 }
 
-/// Takes 16 octets at most of each of so many writes.
+/// Takes at most 16 octets of each of its first `writes` writes.
 #[derive(Drop)]
 struct Sink {
     taken: Vec<u8>,
@@ -72,7 +88,7 @@ impl Write for Sink {
 
 fn stored(reads: u32, error: ErrorKind, is_lasting: bool) -> Source<'static> {
     Source {
-        text: STORED.script.as_bytes(),
+        text: SCRIPT.as_bytes(),
         reads,
         error,
         is_lasting,
@@ -104,11 +120,11 @@ fn a_read_fails(rt: HostRuntime) -> Result<(), Fail> {
             stored(reads, ErrorKind::Interrupted, false),
             &mut written,
         )?;
-        assert_eq!(rt; written.as_slice(), STORED.told.as_bytes(), "read {reads}");
+        assert_eq!(rt; written.as_slice(), TRANSCRIPT.as_bytes(), "read {reads}");
     }
     let mut written = Vec::new(rt.alloc());
     script(&rt, stored(6, ErrorKind::BrokenPipe, true), &mut written)?;
-    assert_eq!(rt; written.as_slice(), STORED.told.as_bytes());
+    assert_eq!(rt; written.as_slice(), TRANSCRIPT.as_bytes());
     Ok(())
 }
 
@@ -123,7 +139,7 @@ fn reads_are_counted(rt: HostRuntime) -> Result<(), Fail> {
         let cut = read_all(alloc, stored(reads, error, is_lasting), too_few);
         assert!(rt; matches!(&cut, Err(ScriptError::Io)));
         let whole = read_all(alloc, stored(reads, error, is_lasting), enough)?;
-        assert_eq!(rt; whole.as_slice(), STORED.script.as_bytes());
+        assert_eq!(rt; whole.as_slice(), SCRIPT.as_bytes());
     }
     let endless = read_all(alloc, stored(2, ErrorKind::Interrupted, true), 1000);
     assert!(rt; matches!(&endless, Err(ScriptError::Io)));
@@ -133,11 +149,11 @@ fn reads_are_counted(rt: HostRuntime) -> Result<(), Fail> {
 /// The stored transcript has 217 octets, which are 14 writes.
 #[test]
 fn a_write_fails(rt: HostRuntime) -> Result<(), Fail> {
-    let told = STORED.told.as_bytes();
+    let told = TRANSCRIPT.as_bytes();
     for writes in 0..15 {
         for trouble in [Trouble::Fails, Trouble::TakesNothing, Trouble::FailsToFlush] {
             let mut output = failing_sink(rt.alloc(), writes, trouble);
-            let ran = script(&rt, STORED.script.as_bytes(), &mut output);
+            let ran = script(&rt, SCRIPT.as_bytes(), &mut output);
             let is_taken = writes == 14 && trouble != Trouble::FailsToFlush;
             assert_eq!(rt; ran.is_ok(), is_taken, "write {writes}, {trouble:?}");
             assert!(rt; matches!(&ran, Ok(()) | Err(ScriptError::Io)));

@@ -1,10 +1,10 @@
-//! Two runs of the program, compared by the octets that one user gets.
+//! Two runs of the program, compared by the octets that one user receives.
 
 use super::transcript;
 use std::alloc::{AllocError, Global};
 use std::test::Fail;
 
-/// The lines of a transcript that tell what bob's sessions got.
+/// The lines of a transcript that bob's sessions received.
 fn told_to_bob(alloc: Global, transcript: &[u8]) -> Result<Vec<u8>, AllocError> {
     let mut told = Vec::new(alloc);
     for line in transcript.split_inclusive(|octet| *octet == b'\n') {

@@ -1,6 +1,6 @@
 use Rattle.std.proofs.Common.{◌≡◌, drop}
 use Rattle.std.specs.FinMap as map
-use Rattle.imap_names.specs.Name.{name_cmp}
+use Rattle.imap_names.specs.Order.{name_cmp}
 use Rattle.imap_core.specs.World.{superior_of}
 use Rattle.imap_core.proofs.world.holds_superior.Given as goal
 

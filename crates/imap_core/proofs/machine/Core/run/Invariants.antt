@@ -1,14 +1,16 @@
 use Rattle.std.proofs.Common.{◌≡◌, ◌++◌, ◌≤◌, drop, take, map, vec_len, length}
 use Rattle.std.specs.Vec.{vec_capacity}
+use Rattle.std.specs.List.{AllByRecursion}
 use Rattle.imap_core.specs.Machine.{answers, after_steps}
-use Rattle.imap_core.specs.Planned.{state_of}
+use Rattle.imap_core.specs.Planned.{ArePrintable}
 use Rattle.imap_core.proofs.machine.Core.run.Given as goal
 
 abbrev pub invariant-loop-step : goal.invariant-loop-step
 invariant-loop-step l = record {
-  told : map (λ replies. replies.items) l.said.items ++ answers (state_of l.self) (drop l.step-index l.steps) ≡ answers (state_of l.fn.self) l.steps;
-  rest : after_steps (state_of l.self) (drop l.step-index l.steps) ≡ after_steps (state_of l.fn.self) l.steps;
-  made : state_of l.self ≡ after_steps (state_of l.fn.self) (take l.step-index l.steps);
+  told : map (λ replies. replies.items) l.said.items ++ answers l.self (drop l.step-index l.steps) ≡ answers l.fn.self l.steps;
+  rest : after_steps l.self (drop l.step-index l.steps) ≡ after_steps l.fn.self l.steps;
+  made : l.self ≡ after_steps l.fn.self (take l.step-index l.steps);
+  printable : AllByRecursion ArePrintable l.said.items;
   count : vec_len l.said ≡ l.step-index;
   room : length l.steps ≤ vec_capacity l.said;
 }

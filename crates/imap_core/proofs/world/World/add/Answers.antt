@@ -1,7 +1,7 @@
 use Rattle.std.proofs.Common.{◌≡◌, None, ap, sym, ◌∙◌}
 use Rattle.std.specs.FinMap as map
 use Rattle.imap_names.proofs.NameLaws.{get_listed, from_entries_push_name}
-use Rattle.imap_names.specs.Name.{name_cmp}
+use Rattle.imap_names.specs.Order.{name_cmp}
 use Rattle.imap_core.specs.World.{World, listed, with_mailbox, first_validity}
 use Rattle.imap_core.specs.declared.world.Mailbox.{Mailbox}
 use Rattle.imap_core.proofs.world.World.add.Goals as goal

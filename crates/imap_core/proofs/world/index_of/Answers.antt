@@ -1,7 +1,7 @@
 use Rattle.std.proofs.Common.{rules, sym, ap, ◌∙◌}
 use Rattle.std.proofs.lemmas.List.{get_or_default}
 use Rattle.imap_core.proofs.Listed.{none_yet, none_at_all}
-use Rattle.imap_core.proofs.world.place_of.Goals as goal
+use Rattle.imap_core.proofs.world.index_of.Goals as goal
 
 pub loop-i-preserved : goal.loop-i-preserved
 loop-i-preserved c = none_yet c.args.entries.now c.loop-i.i c.args.name.now c.index-entries-i.result c.loop-i-test.true c.index-entries-i.is (λ same. let none = c.if-is_same.ensures.1 same in search rules) c.loop-i.invariant

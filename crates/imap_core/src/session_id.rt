@@ -1,0 +1,62 @@
+//! The names of sessions.
+
+ghost use Rattle.std.specs.Prelude.{◌≡◌, ◌≤◌, IfOk, MatchOption};
+
+use imap_names::UserName;
+use std::alloc::AllocError;
+use std::marker::Model;
+
+/// The number of a session, from 1. Each user's sessions have numbers of their own.
+#[derive(Clone, Copy, Debug, PartialEq, Eq)]
+pub struct SessionNumber {
+    number: u32,
+}
+
+impl Model for SessionNumber {
+    ghost use Rattle.std.specs.Prelude.{ℕ, ◌≤◌};
+
+    ghost Value = { ℕ };
+
+    ghost view = { λ n. n.number };
+
+    ghost invariant = { λ n. 1 ≤ n.number };
+
+    ghost inverse = { λ n. record { number = n } };
+}
+
+impl SessionNumber {
+    /// `None` for 0.
+    pub fn new(number: u32) -> Option<SessionNumber>
+        ensures { MatchOption result (number ≡ 0) (λ session. session ≡ number) }
+    {
+        if number == 0 {
+            return None;
+        }
+        Some(SessionNumber { number })
+    }
+
+    pub fn get(self) -> u32
+        ensures value { result ≡ self }
+        ensures from_one { 1 ≤ self }
+    {
+        self.number
+    }
+}
+
+/// A session of a user.
+#[derive(Debug, Drop)]
+pub struct SessionId {
+    pub user: UserName,
+    pub number: SessionNumber,
+}
+
+impl SessionId {
+    pub fn try_copy(&self) -> Result<SessionId, AllocError>
+        ensures { IfOk result (λ copy. copy ≡ self.now) }
+    {
+        Ok(SessionId {
+            user: self.user.try_copy()?,
+            number: self.number,
+        })
+    }
+}

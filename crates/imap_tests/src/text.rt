@@ -1,0 +1,485 @@
+use imap_lex::Octets;
+use imap_text::{
+    Folded, InternalDate, contains_fold, field_texts, fields, header, header_length, laws, partial,
+    text,
+};
+use std::alloc::{AllocError, Global};
+use std::test::Fail;
+
+/// The header of RFC 9051, section 8, of which the RFC says that it has 342 octets.
+const SUMMARY: &[u8] = b"Date: Wed, 17 Jul 1996 02:23:25 -0700 (PDT)\r\n\
+    From: Terry Gray <gray@cac.washington.edu>\r\n\
+    Subject: IMAP4rev2 WG mtg summary and minutes\r\n\
+    To: imap@cac.washington.edu\r\n\
+    cc: minutes@CNRI.Reston.VA.US, John Klensin <KLENSIN@MIT.EDU>\r\n\
+    Message-Id: <B27397-0100000@cac.washington.edu>\r\n\
+    MIME-Version: 1.0\r\n\
+    Content-Type: TEXT/PLAIN; CHARSET=US-ASCII\r\n\
+    \r\n";
+
+/// Fields of every kind: folded, without a name, with a space before the colon, one name twice, and a first line that
+/// begins with a space.
+const ODD: &[u8] = b" early: 0\r\n\tmore\r\n\
+    Subject: one\r\n\
+    \x20two: x\r\n\
+    \tthree\r\n\
+    no name\r\n\
+    \x20but: this\r\n\
+    Subject : x\r\n\
+    :empty\r\n\
+    subject:four\r\n\
+    \r\n\
+    Subject: body\r\n";
+
+fn octets(alloc: Global, text: &[u8]) -> Result<Octets, AllocError> {
+    Octets::from_slice(alloc, text)
+}
+
+/// Each row has a header and the text after it.
+#[test]
+fn headers_and_texts(rt: HostRuntime) -> Result<(), Fail> {
+    const ROWS: [(&[u8], &[u8]); 17] = [
+        (SUMMARY, b"Hello\r\n\r\nJoe"),
+        (b"Subject: x\r\n\r\n", b"hi"),
+        (b"\r\n", b""),
+        (b"\r\n", b"body\r\n\r\n"),
+        (b"\r\n", b"\r\n"),
+        (b"", b""),
+        (b"a: b\r\n\r\n", b""),
+        (b"a: b\r\n", b""),
+        (b"a: b\r\nc", b""),
+        (b"a: b\n\nc\r\n", b""),
+        (b"a: b\r\n\n\r\nc", b""),
+        (b"\n\r\n", b""),
+        (b"\r\r\n", b""),
+        (b"a: b\r\r\n\r\n", b"c"),
+        (b"a\r\n\r\n", b"\r\nb"),
+        (b"a\r\n \r\n\r\n", b"x"),
+        (b"a: b\r\n\r", b""),
+    ];
+    for &(front, back) in &ROWS {
+        let message = Vec::from_slice(rt.alloc(), front)?;
+        let message = joined_with(message, back)?;
+        assert_eq!(rt; header_length(message.as_slice()), front.len());
+        let message = Octets::from_vec(message)?;
+        assert_eq!(rt; header(&message)?.as_slice(), front);
+        assert_eq!(rt; text(&message)?.as_slice(), back);
+    }
+    assert_eq!(rt; header_length(SUMMARY), 342);
+    Ok(())
+}
+
+fn joined_with(mut front: Vec<u8>, back: &[u8]) -> Result<Vec<u8>, AllocError> {
+    front.extend_from_slice(back)?;
+    Ok(front)
+}
+
+/// The octets of the fields, and the number of parts.
+fn fields_of(
+    alloc: Global,
+    message: &[u8],
+    names: &[&str],
+    not: bool,
+) -> Result<(Vec<u8>, usize), AllocError> {
+    let message = octets(alloc, message)?;
+    let names = octets_of(alloc, names)?;
+    let parts = fields(alloc, &message, names.as_slice(), not)?;
+    let mut out = Vec::new(alloc);
+    for part in parts.as_slice() {
+        out.extend_from_slice(part.as_slice())?;
+    }
+    Ok((out, parts.as_slice().len()))
+}
+
+fn octets_of(alloc: Global, names: &[&str]) -> Result<Vec<Octets>, AllocError> {
+    let mut made = Vec::new(alloc);
+    for name in names {
+        made.push(octets(alloc, name.as_bytes())?)?;
+    }
+    Ok(made)
+}
+
+/// Messages, names of fields, the fields of these names, and in how many parts they come.
+const FIELDS: [(&[u8], &[&str], &[u8], usize); 15] = [
+    (
+        SUMMARY,
+        &["DATE", "FROM"],
+        b"Date: Wed, 17 Jul 1996 02:23:25 -0700 (PDT)\r\n\
+            From: Terry Gray <gray@cac.washington.edu>\r\n\r\n",
+        2,
+    ),
+    (
+        SUMMARY,
+        &["CC", "to"],
+        b"To: imap@cac.washington.edu\r\n\
+            cc: minutes@CNRI.Reston.VA.US, John Klensin <KLENSIN@MIT.EDU>\r\n\r\n",
+        2,
+    ),
+    (
+        SUMMARY,
+        &["content-TYPE"],
+        b"Content-Type: TEXT/PLAIN; CHARSET=US-ASCII\r\n\r\n",
+        1,
+    ),
+    (SUMMARY, &["Reply-To"], b"\r\n", 1),
+    (
+        b"Subject: x\r\n\r\nhi",
+        &["subject"],
+        b"Subject: x\r\n\r\n",
+        1,
+    ),
+    (b"Subject: x\r\nA: b", &["subject"], b"Subject: x\r\n", 1),
+    (b"Subject: x\r\nA: b", &["a"], b"A: b", 1),
+    (b"Subject: x", &["to"], b"", 0),
+    (b"\r\nSubject: x\r\n", &["subject"], b"\r\n", 1),
+    (b"", &["subject"], b"", 0),
+    (
+        ODD,
+        &["SUBJECT"],
+        b"Subject: one\r\n two: x\r\n\tthree\r\nsubject:four\r\n\r\n",
+        2,
+    ),
+    (ODD, &["subject "], b"Subject : x\r\n\r\n", 2),
+    (
+        ODD,
+        &[" EARLY", "no name", "but"],
+        b" early: 0\r\n\tmore\r\n\r\n",
+        2,
+    ),
+    (ODD, &[""], b":empty\r\n\r\n", 2),
+    (
+        ODD,
+        &["subject: one", "no name\r\n but", "Subjec", "subjectt"],
+        b"\r\n",
+        1,
+    ),
+];
+
+#[test]
+fn fields_by_name(rt: HostRuntime) -> Result<(), Fail> {
+    for &(message, names, wanted, parts) in &FIELDS {
+        let (found, count) = fields_of(rt.alloc(), message, names, false)?;
+        assert_eq!(rt; found.as_slice(), wanted);
+        assert_eq!(rt; count, parts);
+    }
+    Ok(())
+}
+
+#[test]
+fn other_fields(rt: HostRuntime) -> Result<(), Fail> {
+    const ROWS: [(&[u8], &[&str], &[u8], usize); 7] = [
+        (
+            SUMMARY,
+            &[
+                "date",
+                "Message-ID",
+                "content-type",
+                "mime-version",
+                "cc",
+                "from",
+            ],
+            b"Subject: IMAP4rev2 WG mtg summary and minutes\r\nTo: imap@cac.washington.edu\r\n\r\n",
+            2,
+        ),
+        (SUMMARY, &["Reply-To"], SUMMARY, 1),
+        (b"Subject: x\r\nA: b", &["subject"], b"A: b", 1),
+        (b"Subject: x\r\n\r\nhi", &["subject"], b"\r\n", 1),
+        (b"\r\nhi", &["subject"], b"\r\n", 1),
+        (
+            ODD,
+            &["subject", " early", ""],
+            b"no name\r\n but: this\r\nSubject : x\r\n\r\n",
+            2,
+        ),
+        (
+            ODD,
+            &["no name", "subject "],
+            b" early: 0\r\n\tmore\r\nSubject: one\r\n two: x\r\n\tthree\r\n\
+                no name\r\n but: this\r\n:empty\r\nsubject:four\r\n\r\n",
+            2,
+        ),
+    ];
+    for &(message, names, wanted, parts) in &ROWS {
+        let (found, count) = fields_of(rt.alloc(), message, names, true)?;
+        assert_eq!(rt; found.as_slice(), wanted);
+        assert_eq!(rt; count, parts);
+    }
+    Ok(())
+}
+
+#[test]
+fn parts_of_octets(rt: HostRuntime) -> Result<(), Fail> {
+    const ROWS: [(u64, u64, &[u8]); 9] = [
+        (0, 5, b"hello"),
+        (0, 6, b"hello"),
+        (1, 3, b"ell"),
+        (3, 9, b"lo"),
+        (4, u64::MAX, b"o"),
+        (5, 1, b""),
+        (6, 1, b""),
+        (u64::MAX, u64::MAX, b""),
+        (2, 0, b""),
+    ];
+    let hello = octets(rt.alloc(), b"hello")?;
+    for &(origin, count, wanted) in &ROWS {
+        assert_eq!(rt; partial(&hello, origin, count)?.as_slice(), wanted);
+    }
+    Ok(())
+}
+
+/// The texts of the fields of a name, each with `|` after it.
+fn texts_of(alloc: Global, message: &[u8], name: &str) -> Result<Vec<u8>, Fail> {
+    let mut out = Vec::new(alloc);
+    let texts = field_texts(alloc, message, name.as_bytes())?;
+    for text in &texts {
+        out.extend_from_slice(text)?;
+        out.push(b'|')?;
+    }
+    Ok(out)
+}
+
+#[test]
+fn texts_of_fields(rt: HostRuntime) -> Result<(), Fail> {
+    const ROWS: [(&[u8], &str, &[u8]); 7] = [
+        (SUMMARY, "to", b" imap@cac.washington.edu\r\n|"),
+        (ODD, "SUBJECT", b" one\r\n two: x\r\n\tthree\r\n|four\r\n|"),
+        (ODD, "subject ", b" x\r\n|"),
+        (ODD, " Early", b" 0\r\n\tmore\r\n|"),
+        (ODD, "", b"empty\r\n|"),
+        (ODD, "but", b""),
+        (b"Subject:", "subject", b"|"),
+    ];
+    for &(message, name, wanted) in &ROWS {
+        let found = texts_of(rt.alloc(), message, name)?;
+        assert_eq!(rt; found.as_slice(), wanted);
+    }
+    Ok(())
+}
+
+#[test]
+fn folded_text_is_found(rt: HostRuntime) -> Result<(), Fail> {
+    const ROWS: [(&str, &str, bool); 23] = [
+        ("Hello", "ELL", true),
+        ("Hello", "elo", false),
+        ("Hello", "", true),
+        ("", "", true),
+        ("", "a", false),
+        (" x\r\n", "X\r\n", true),
+        ("aab", "ab", true),
+        // U+00DF and U+1E9E fold to two letters.
+        ("Stra\u{df}e", "STRASSE", true),
+        ("strasse", "STRA\u{df}E", true),
+        ("stra\u{df}e", "as", true),
+        ("Stra\u{1e9e}e", "asse", true),
+        // U+0130 folds to i and a dot above.
+        ("\u{130}stanbul", "i", true),
+        ("\u{130}stanbul", "istanbul", false),
+        ("\u{130}stanbul", "i\u{307}STANBUL", true),
+        ("I\u{307}stanbul", "\u{130}s", true),
+        // A letter with its accent is one letter, in either form.
+        ("caf\u{e9}", "CAFE\u{301}", true),
+        ("cafe\u{301}", "CAF\u{c9}", true),
+        ("cafe\u{301}", "cafe", false),
+        ("q\u{307}\u{323}", "Q\u{323}\u{307}", true),
+        // U+01F0 folds to j and a caron, which are not joined again.
+        ("\u{1f0}", "J", true),
+        ("\u{1f0}", "J\u{30c}", true),
+        ("\u{3c3}\u{3c2}", "\u{3a3}\u{3a3}", true),
+        ("\u{e9}", "e", false),
+    ];
+    for &(whole, wanted, is_found) in &ROWS {
+        let found = contains_fold(rt.alloc(), whole.as_bytes(), wanted.as_bytes())?;
+        assert_eq!(rt; found, is_found, "{wanted:?} in {whole:?}");
+    }
+    Ok(())
+}
+
+/// Each maximal part that is no UTF-8 counts as one U+FFFD, `EF BF BD` in UTF-8.
+#[test]
+fn text_that_is_no_utf8(rt: HostRuntime) -> Result<(), Fail> {
+    const ROWS: [(&[u8], &[u8], bool); 8] = [
+        (b"a\xffb", b"A\xef\xbf\xbdB", true),
+        (b"\xe2\x82b", b"\xef\xbf\xbdb", true),
+        (b"\xe2\x82b", b"\xef\xbf\xbd\xef\xbf\xbd", false),
+        (
+            b"\xf0\x80\x80",
+            b"\xef\xbf\xbd\xef\xbf\xbd\xef\xbf\xbd",
+            true,
+        ),
+        (b"\xed\xa0\x80", b"\xff\xfe\xfd", true),
+        (b"\xef\xbf\xbd", b"\xc3", true),
+        (b"\xc3\xa9", b"\xa9", false),
+        (b"\xc3\xa9", b"\xc3", false),
+    ];
+    for &(whole, wanted, is_found) in &ROWS {
+        let found = contains_fold(rt.alloc(), whole, wanted)?;
+        assert_eq!(rt; found, is_found, "{wanted:?} in {whole:?}");
+    }
+    Ok(())
+}
+
+#[test]
+fn one_fold_for_several_texts(rt: HostRuntime) -> Result<(), Fail> {
+    let whole = Folded::new(rt.alloc(), b"Gr\xc3\xbc\xc3\x9fe")?;
+    assert!(rt; whole.contains(&Folded::new(rt.alloc(), b"SSE")?));
+    assert!(rt; !whole.contains(&Folded::new(rt.alloc(), b"u")?));
+    Ok(())
+}
+
+/// What is read of a text of `date-time` without quotes, printed, and its day.
+fn printed(alloc: Global, text: &[u8]) -> Result<Option<(Vec<u8>, i64)>, AllocError> {
+    let Some(date) = InternalDate::read(text) else {
+        return Ok(None);
+    };
+    let mut out = Vec::new(alloc);
+    date.print(&mut out)?;
+    Ok(Some((out, date.day())))
+}
+
+/// Texts, how the date that they spell is printed, and its day.
+const DATES: [(&[u8], &[u8], i64); 15] = [
+    (
+        b"17-Jul-1996 02:44:25 -0700",
+        b"17-Jul-1996 02:44:25 -0700",
+        9694,
+    ),
+    (
+        b" 7-Feb-1994 21:52:25 -0800",
+        b" 7-Feb-1994 21:52:25 -0800",
+        8803,
+    ),
+    (
+        b"07-FEB-1994 21:52:25 -0800",
+        b" 7-Feb-1994 21:52:25 -0800",
+        8803,
+    ),
+    (
+        b"01-jan-1970 00:00:00 +0000",
+        b" 1-Jan-1970 00:00:00 +0000",
+        0,
+    ),
+    (
+        b"01-Jan-1970 00:00:00 +2359",
+        b" 1-Jan-1970 00:00:00 +2359",
+        0,
+    ),
+    (
+        b"01-Jan-1970 23:59:59 -2359",
+        b" 1-Jan-1970 23:59:59 -2359",
+        0,
+    ),
+    (
+        b"31-Dec-1969 23:59:59 -0000",
+        b"31-Dec-1969 23:59:59 -0000",
+        -1,
+    ),
+    (
+        b"28-Feb-2023 00:00:00 +0100",
+        b"28-Feb-2023 00:00:00 +0100",
+        19416,
+    ),
+    (
+        b"28-Feb-2000 00:00:00 +0000",
+        b"28-Feb-2000 00:00:00 +0000",
+        11015,
+    ),
+    (
+        b"29-Feb-2000 00:00:00 +0000",
+        b"29-Feb-2000 00:00:00 +0000",
+        11016,
+    ),
+    (
+        b" 1-Mar-2000 00:00:00 +0000",
+        b" 1-Mar-2000 00:00:00 +0000",
+        11017,
+    ),
+    (
+        b"29-Feb-2024 12:00:00 +0000",
+        b"29-Feb-2024 12:00:00 +0000",
+        19782,
+    ),
+    (
+        b"10-Oct-2010 10:10:10 +1010",
+        b"10-Oct-2010 10:10:10 +1010",
+        14892,
+    ),
+    (
+        b"31-Dec-9999 23:59:59 +0000",
+        b"31-Dec-9999 23:59:59 +0000",
+        2932896,
+    ),
+    (
+        b" 1-Jan-0000 00:00:00 -0000",
+        b" 1-Jan-0000 00:00:00 -0000",
+        -719528,
+    ),
+];
+
+/// Days are counted from 1-Jan-1970, whatever the zone.
+#[test]
+fn dates_are_read_and_printed(rt: HostRuntime) -> Result<(), Fail> {
+    for &(text, wanted, day) in &DATES {
+        let (out, found) = printed(rt.alloc(), text)?.ok_or("a date")?;
+        assert_eq!(rt; out.as_slice(), wanted);
+        assert_eq!(rt; found, day);
+    }
+    Ok(())
+}
+
+#[test]
+fn texts_that_are_no_date(rt: HostRuntime) {
+    const ROWS: [&[u8]; 18] = [
+        b"",
+        b"17-Jul-1996",
+        b"7-Jul-1996 02:44:25 -0700",
+        b" 17-Jul-1996 02:44:25 -0700",
+        b"  7-Jul-1996 02:44:25 -0700",
+        b"00-Jul-1996 02:44:25 -0700",
+        b"32-Jul-1996 02:44:25 -0700",
+        b"31-Jun-1996 02:44:25 -0700",
+        b"29-Feb-2023 00:00:00 +0000",
+        b"29-Feb-1900 00:00:00 +0000",
+        b"17-July-1996 02:44:25 -0700",
+        b"17-Jul-96 02:44:25 -0700",
+        b"17-Jul-1996 24:00:00 -0700",
+        b"17-Jul-1996 02:60:25 -0700",
+        b"17-Jul-1996 02:44:60 -0700",
+        b"17-Jul-1996 02:44:25 0700",
+        b"17-Jul-1996 02:44:25 -0700 ",
+        b"17-Jul-1996 02:44:25 -0700\"",
+    ];
+    for &text in &ROWS {
+        assert!(rt; InternalDate::read(text).is_none(), "{text:?}");
+    }
+}
+
+#[test]
+fn dates_of_moments(rt: HostRuntime) -> Result<(), Fail> {
+    const ROWS: [(u64, &[u8]); 8] = [
+        (0, b" 1-Jan-1970 00:00:00 +0000"),
+        (1, b" 1-Jan-1970 00:00:01 +0000"),
+        (86_399, b" 1-Jan-1970 23:59:59 +0000"),
+        (86_400, b" 2-Jan-1970 00:00:00 +0000"),
+        (951_782_400, b"29-Feb-2000 00:00:00 +0000"),
+        (1_234_567_890, b"13-Feb-2009 23:31:30 +0000"),
+        (4_107_542_400, b" 1-Mar-2100 00:00:00 +0000"),
+        (253_402_300_799, b"31-Dec-9999 23:59:59 +0000"),
+    ];
+    for &(seconds, wanted) in &ROWS {
+        let date = InternalDate::of_moment(seconds).ok_or("a moment")?;
+        let mut out = Vec::new(rt.alloc());
+        date.print(&mut out)?;
+        assert_eq!(rt; out.as_slice(), wanted);
+        laws::dates_are_read_back(&date);
+    }
+    assert!(rt; InternalDate::of_moment(253_402_300_800).is_none());
+    assert!(rt; InternalDate::of_moment(u64::MAX).is_none());
+    Ok(())
+}
+
+#[test]
+fn text_laws() {
+    laws::header_and_text();
+    laws::headers_are_shortest();
+    laws::each_line_once();
+}
