@@ -41,6 +41,13 @@ impl<'a> View<'a> {
         View { world, site, user }
     }
 
+    /// The user whose view it is.
+    pub fn user(&self) -> &'a UserName
+        ensures { result.now ≡ self.now.user }
+    {
+        self.user
+    }
+
     /// The mailbox of this name, if the user sees it.
     pub fn seen(&self, name: &NameRef<'_>) -> Option<Seen<'a>>
         ensures { option_map shown result ≡ map.get self.now.seen name.now }
@@ -120,6 +127,26 @@ impl<'a> View<'a> {
         ensures { names_in (option_copied result) ≡ self.now.subscribed }
     {
         self.world.subscriptions(self.user.as_str())
+    }
+
+    /// Whether the user subscribed to the name.
+    pub fn is_subscribed(&self, name: &NameRef<'_>) -> bool
+        ensures { result ≡ map.contains_key self.now.subscribed name.now }
+    {
+        match self.subscribed() {
+            Some(names) => names.get(name).is_some(),
+            None => false,
+        }
+    }
+
+    /// How many names the user subscribed to.
+    pub fn count_subscribed(&self) -> usize
+        ensures { result ≡ map.len self.now.subscribed }
+    {
+        match self.subscribed() {
+            Some(names) => names.len(),
+            None => 0,
+        }
     }
 }
 

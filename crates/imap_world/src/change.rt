@@ -1,11 +1,10 @@
 //! What a change writes.
 
-ghost use Rattle.std.specs.Prelude.{◌≡◌, ◌↔◌, [], length, IsTrue};
+ghost use Rattle.std.specs.Prelude.{◌≡◌, ◌↔◌, [], length, IfOk, IsTrue};
 
 use crate::mailbox::Mailbox;
 use imap_names::{Name, UserName};
-use std::alloc::Global;
-use std::collections::VecDeque;
+use std::alloc::{AllocError, Global};
 use std::marker::Model;
 
 /// A mailbox that is made, with its name.
@@ -42,6 +41,17 @@ impl Row {
     {
         &self.mailbox
     }
+
+    /// Returns an equal copy.
+    pub fn try_copy(&self, alloc: Global) -> Result<Row, AllocError>
+        ensures { IfOk result (λ copy. copy ≡ self.now) }
+    {
+        Ok(Row {
+            name: self.name.try_copy()?,
+            again: self.again.try_copy()?,
+            mailbox: self.mailbox.try_copy(alloc)?,
+        })
+    }
 }
 
 /// One value that is written.
@@ -53,10 +63,27 @@ pub enum Write {
     Unsubscribe(UserName, Name),
 }
 
+impl Write {
+    /// Returns an equal copy.
+    pub fn try_copy(&self, alloc: Global) -> Result<Write, AllocError>
+        ensures { IfOk result (λ copy. copy ≡ self.now) }
+    {
+        match self {
+            Write::Put(row) => Ok(Write::Put(row.try_copy(alloc)?)),
+            Write::Subscribe(user, name) => {
+                Ok(Write::Subscribe(user.try_copy()?, name.try_copy()?))
+            }
+            Write::Unsubscribe(user, name) => {
+                Ok(Write::Unsubscribe(user.try_copy()?, name.try_copy()?))
+            }
+        }
+    }
+}
+
 /// What is written, in order. Contracts see the list.
 #[derive(Debug, Drop)]
 pub struct Change {
-    pub(crate) writes: VecDeque<Write>,
+    pub(crate) writes: Vec<Write>,
 }
 
 impl Model for Change {
@@ -78,8 +105,23 @@ impl Change {
         ensures { result ≡ [] }
     {
         Change {
-            writes: VecDeque::new(alloc),
+            writes: Vec::new(alloc),
         }
+    }
+
+    /// The values that are written.
+    pub fn writes(&self) -> &[Write]
+        ensures { result.now ≡ self.now }
+    {
+        self.writes.as_slice()
+    }
+
+    /// Returns an equal copy.
+    pub fn try_copy(&self, alloc: Global) -> Result<Change, AllocError>
+        ensures { IfOk result (λ copy. copy ≡ self.now) }
+    {
+        let writes = copy_writes(alloc, self.writes.as_slice())?;
+        Ok(Change { writes })
     }
 
     /// How many values are written.
@@ -95,4 +137,15 @@ impl Change {
     {
         self.writes.is_empty()
     }
+}
+
+fn copy_writes(alloc: Global, writes: &[Write]) -> Result<Vec<Write>, AllocError>
+    ensures { IfOk result (λ copy. copy.items ≡ writes.now) }
+{
+    let mut copy = Vec::with_capacity(alloc, writes.len())?;
+    for write in writes {
+        let write = write.try_copy(alloc)?;
+        copy.push(write)?;
+    }
+    Ok(copy)
 }

@@ -146,12 +146,12 @@ impl World {
         ensures ready { IfOk result (λ change. IsReady change self.new) }
     {
         let more = effects.len();
-        let mut writes = VecDeque::new(alloc);
+        let mut writes = Vec::new(alloc);
         self.mailboxes.reserve(more)?;
         self.epochs.reserve(more)?;
         for effect in effects {
             match self.resolve(alloc, effect, more) {
-                Ok(write) => writes.push_back(write)?,
+                Ok(write) => writes.push(write)?,
                 Err(error) => return Err(error),
             }
         }
@@ -193,7 +193,7 @@ impl World {
         requires { IsReady change self.old }
         ensures { world_of self.new ≡ after_writes change (world_of self.old) }
     {
-        let mut writes = change.writes;
+        let mut writes = VecDeque::from_vec(change.writes);
         while let Some(write) = writes.pop_front() {
             self.write(write);
         }

@@ -7,8 +7,8 @@ use Rattle.imap_world.proofs.world.World.commit.Goals as goal
 
 pub loop-write-init : goal.loop-write-init
 loop-write-init c = record {
-  rest = ap (λ ws. after_writes ws (world_of c.args.self.now)) c.change.view_is;
-  ready = subst (λ ws. IsReady ws c.args.self.now) (sym c.change.view_is) c.requires;
+  rest = ap (λ ws. after_writes ws (world_of c.args.self.now)) (c.from_vec-writes.ensures.items ∙ c.change.view_is);
+  ready = subst (λ ws. IsReady ws c.args.self.now) (sym (c.from_vec-writes.ensures.items ∙ c.change.view_is)) c.requires;
 }
 
 pub write-requires : goal.write-requires
