@@ -1,14 +1,10 @@
-pub mod AclSet
-pub mod Entries
-pub mod Kept
+pub mod Admitted
+pub mod Fitting
 pub mod Lent
-pub mod Listed
 pub mod Numbered
-pub mod Owners
 pub mod Printable
 pub mod Replay
 pub mod Runs
 pub mod Sameness
+pub mod StepLaws
 pub mod Steps
-pub mod Superiors
-pub mod Views

@@ -3,19 +3,23 @@ use Rattle.std.proofs.Common.{◌≡◌, ℕ, Bool, true, false, cond, List, [],
 use Rattle.std.specs.Str.{bytes_eq}
 use Rattle.std.proofs.lemmas.Slice.Eq.{bytes_eq-Decides}
 use Rattle.imap_print.specs.declared.response.Response.{Response}
+use Rattle.std.specs.FinMap as map
+use Rattle.imap_core.specs.declared.sessions.SessionChange.TheVariants as session
 use Rattle.imap_core.specs.declared.step.Act.{Act}
 use Rattle.imap_core.specs.declared.step.Act.TheVariants as act
 use Rattle.imap_core.specs.declared.step.Step.{Step}
-use Rattle.imap_core.specs.Machine.{State, outcome_for, answer, next, view_of, own_of}
+use Rattle.imap_core.specs.Machine.{State, outcome_for, answer, next, view_in, own_in}
+use Rattle.imap_core.specs.Outcome.{replies_alone}
 use Rattle.imap_core.specs.Sessions.{Own}
-use Rattle.imap_core.specs.Trace.{Event, Acts, Sees, is_quiet, with_replies, trace, transcript, same_view, view_code, EqualViewsAreSame, Isolation}
-use Rattle.imap_core.specs.View.{View}
+use Rattle.imap_core.specs.Trace.{Event, Acts, Sees, is_quiet, with_replies, trace, transcript, same_view, EqualViewsAreSame, Isolation}
+use Rattle.imap_view.specs.View.{View, view_code}
+use Rattle.imap_core.proofs.Fitting.{IsIdle}
 use Rattle.imap_core.proofs.Sameness.{equal_from_same, same_from_itself}
-use Rattle.imap_core.proofs.Steps.{own_after, view_of-next, own_of-next, own_of-other}
+use Rattle.imap_core.proofs.Steps.{own_after, own_after_change, own_in-next, own_in-other, view_after_asking, view_in-next, view_next}
 
 abbrev replay : View → Option Own → List Event → List (ℕ × List ℕ)
 replay view own [] = []
-replay view own (Acts step ∷ events) = with_replies step.who.number (outcome_for view own step).replies (replay view (own_after view own step) events)
+replay view own (Acts step ∷ events) = with_replies step.who.number (outcome_for view own step).replies (replay (view_next view own step) (own_after view own step) events)
 replay view own (Sees other ∷ events) = replay other own events
 
 equal_views : (v w : View) → same_view v w ≡ true → v ≡ w
@@ -36,18 +40,34 @@ quiet_act act.Poll (reply ∷ replies) e = absurd (true≢false (sym e))
 quiet_act act.Done replies e = absurd (true≢false (sym e))
 quiet_act act.Leave replies e = absurd (true≢false (sym e))
 
-quiet_own : (view : View) (own : Option Own) (step : Step) (what : Act) → what ≡ act.Poll → own_after view own (record step { act = what }) ≡ own
-quiet_own view None step what e = refl
-quiet_own view (Some own) step act.Open e = absurd (cc)
-quiet_own view (Some own) step (act.Do request) e = absurd (cc)
-quiet_own view (Some own) step act.Poll e = refl
-quiet_own view (Some own) step act.Done e = absurd (cc)
-quiet_own view (Some own) step act.Leave e = absurd (cc)
+-- a poll asks for nothing and leaves the session
+polled : (view : View) (own : Option Own) (step : Step) (what : Act) → what ≡ act.Poll → IsIdle (outcome_for view own (record step { act = what }))
+polled view None step what e = record { session = refl; effect = refl }
+polled view (Some own) step act.Open e = absurd (cc)
+polled view (Some own) step (act.Do request) e = absurd (cc)
+polled view (Some own) step act.Poll e = by (map.contains_key own step.who.number)
+  where
+    by : (b : Bool) → IsIdle (cond b (replies_alone []) (replies_alone []))
+    by true = record { session = refl; effect = refl }
+    by false = record { session = refl; effect = refl }
+polled view (Some own) step act.Done e = absurd (cc)
+polled view (Some own) step act.Leave e = absurd (cc)
+
+kept_own : (own : Option Own) (number : ℕ) → own_after_change own number session.Keep ≡ own
+kept_own None number = refl
+kept_own (Some own) number = refl
+
+module _ (view : View) (own : Option Own) (step : Step) (quiet : step.act ≡ act.Poll) where
+  quiet_own : own_after view own step ≡ own
+  quiet_own = ap (own_after_change own step.who.number) (polled view own step step.act quiet).session ∙ kept_own own step.who.number
+
+  quiet_view : view_next view own step ≡ view
+  quiet_view = ap (λ asked. view_after_asking asked view) (polled view own step step.act quiet).effect
 
 -- ---- along a run
 
 abbrev Replays : List ℕ → State → List Step → Type 0
-Replays user state steps = transcript user state steps ≡ replay (view_of state user) (own_of state user) (trace user state steps)
+Replays user state steps = transcript user state steps ≡ replay (view_in state user) (own_in state user) (trace user state steps)
 
 module _ (state : State) (step : Step) (steps : List Step) where
   abbrev after : State
@@ -56,29 +76,32 @@ module _ (state : State) (step : Step) (steps : List Step) where
   -- a step of the user
   own_step : Replays step.who.user after steps → (b : Bool) → is_quiet step.act (answer state step) ≡ b
       → with_replies step.who.number (answer state step) (transcript step.who.user after steps)
-      ≡ replay (view_of state step.who.user) (own_of state step.who.user) (cond b (trace step.who.user after steps) (Acts step ∷ trace step.who.user after steps))
+      ≡ replay (view_in state step.who.user) (own_in state step.who.user) (cond b (trace step.who.user after steps) (Acts step ∷ trace step.who.user after steps))
   own_step rest true e =
+      let user = step.who.user in
       let quiet = quiet_act step.act (answer state step) e in
-      ap (λ replies. with_replies step.who.number replies (transcript step.who.user after steps)) quiet.1 ∙ rest
-      ∙ λ i. replay (view_of-next state step step.who.user i) ((own_of-next state step ∙ quiet_own (view_of state step.who.user) (own_of state step.who.user) step step.act quiet.0) i) (trace step.who.user after steps)
+      ap (λ replies. with_replies step.who.number replies (transcript user after steps)) quiet.1 ∙ rest
+      ∙ λ i. replay
+      ((view_in-next state step ∙ quiet_view (view_in state user) (own_in state user) step quiet.0) i)
+      ((own_in-next state step ∙ quiet_own (view_in state user) (own_in state user) step quiet.0) i) (trace user after steps)
   own_step rest false e =
-      ap (with_replies step.who.number (answer state step)) (rest ∙ λ i. replay (view_of-next state step step.who.user i) (own_of-next state step i) (trace step.who.user after steps))
+      ap (with_replies step.who.number (answer state step)) (rest ∙ λ i. replay (view_in-next state step i) (own_in-next state step i) (trace step.who.user after steps))
 
   -- a step of another
-  others_step : (user : List ℕ) → bytes_eq step.who.user user ≡ false → Replays user after steps → (b : Bool) → same_view (view_of state user) (view_of after user) ≡ b
+  others_step : (user : List ℕ) → bytes_eq step.who.user user ≡ false → Replays user after steps → (b : Bool) → same_view (view_in state user) (view_in after user) ≡ b
       → transcript user after steps
-      ≡ replay (view_of state user) (own_of state user) (cond b (trace user after steps) (Sees (view_of after user) ∷ trace user after steps))
-  others_step user apart rest true e = rest ∙ λ i. replay (sym (equal_views _ _ e) i) (own_of-other state step user apart i) (trace user after steps)
-  others_step user apart rest false e = rest ∙ ap (λ own. replay (view_of after user) own (trace user after steps)) (own_of-other state step user apart)
+      ≡ replay (view_in state user) (own_in state user) (cond b (trace user after steps) (Sees (view_in after user) ∷ trace user after steps))
+  others_step user apart rest true e = rest ∙ λ i. replay (sym (equal_views _ _ e) i) (own_in-other state step user apart i) (trace user after steps)
+  others_step user apart rest false e = rest ∙ ap (λ own. replay (view_in after user) own (trace user after steps)) (own_in-other state step user apart)
 
   abbrev OwnStep : List ℕ → Type 0
   OwnStep user = Replays user after steps → with_replies step.who.number (answer state step) (transcript user after steps)
-      ≡ replay (view_of state user) (own_of state user) (cond (is_quiet step.act (answer state step)) (trace user after steps) (Acts step ∷ trace user after steps))
+      ≡ replay (view_in state user) (own_in state user) (cond (is_quiet step.act (answer state step)) (trace user after steps) (Acts step ∷ trace user after steps))
 
   one_step : (user : List ℕ) → Replays user after steps → (b : Bool) → bytes_eq step.who.user user ≡ b
       → cond b (with_replies step.who.number (answer state step) (transcript user after steps)) (transcript user after steps)
-      ≡ replay (view_of state user) (own_of state user) (cond b (cond (is_quiet step.act (answer state step)) (trace user after steps) (Acts step ∷ trace user after steps))
-      (cond (same_view (view_of state user) (view_of after user)) (trace user after steps) (Sees (view_of after user) ∷ trace user after steps)))
+      ≡ replay (view_in state user) (own_in state user) (cond b (cond (is_quiet step.act (answer state step)) (trace user after steps) (Acts step ∷ trace user after steps))
+      (cond (same_view (view_in state user) (view_in after user)) (trace user after steps) (Sees (view_in after user) ∷ trace user after steps)))
   one_step user rest true e = subst OwnStep ((bytes_eq-Decides step.who.user user).0 e) (λ rest. own_step rest _ refl) rest
   one_step user rest false e = others_step user e rest _ refl
 

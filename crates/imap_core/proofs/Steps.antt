@@ -1,74 +1,46 @@
 -- What one step leaves of the mailboxes and of each user's sessions.
-use Rattle.std.proofs.Common.{◌≡◌, ℕ, Bool, true, false, cond, List, [], Option, Some, None, Result, Ok, Err, refl, ap, ◌∙◌}
+use Rattle.std.proofs.Common.{◌≡◌, ℕ, true, false, cond, List, Option, Some, None, refl, ap, ◌∙◌}
 use Rattle.std.specs.Str.{bytes_eq}
 use Rattle.std.specs.Cmp.Lexicographic.{nat_list_cmp_total, nat_list_eq_equiv}
 use Rattle.std.proofs.lemmas.Map.Text.{is_eq-slice_cmp}
 use Rattle.std.proofs.lemmas.Slice.Eq.{bytes_eq-Decides}
 use Rattle.std.specs.FinMap as map
 use Rattle.std.specs.FinMap.{get-insert}
-use Rattle.imap_grammar.specs.declared.request.Request.{Request}
-use Rattle.imap_grammar.specs.declared.request.Request.TheVariants as request
-use Rattle.imap_grammar.specs.declared.command.Command.{Command}
-use Rattle.imap_grammar.specs.declared.command.Command.TheVariants as command
-use Rattle.imap_names.specs.Name.{Name}
-use Rattle.imap_names.specs.Reading.{name_read}
-use Rattle.imap_names.specs.declared.error.NameError.{NameError}
+use Rattle.imap_view.proofs.Afters.{own_effects}
+use Rattle.imap_view.specs.After.{view_after}
+use Rattle.imap_view.specs.View.{View, view_of}
+use Rattle.imap_world.specs.declared.effect.Effect.{Effect}
+use Rattle.imap_world.specs.Effects.{after_all}
+use Rattle.imap_world.specs.World.{World}
 use Rattle.imap_core.specs.declared.sessions.SessionChange.{SessionChange}
 use Rattle.imap_core.specs.declared.sessions.SessionChange.TheVariants as session
-use Rattle.imap_core.specs.declared.step.Act.{Act}
-use Rattle.imap_core.specs.declared.step.Act.TheVariants as act
 use Rattle.imap_core.specs.declared.session_id.SessionId.{SessionId}
 use Rattle.imap_core.specs.declared.step.Step.{Step}
 use Rattle.imap_core.specs.Accounts.{Accounts}
-use Rattle.imap_core.specs.Effects.{after_all}
-use Rattle.imap_core.specs.Machine.{State, outcome_for, outcome, next, view_of, own_of, with_own, accounts_after}
-use Rattle.imap_core.specs.Commands.Acl.{my_rights_of_seen, my_rights_of_read}
-use Rattle.imap_core.specs.Outcome.{Outcome, replies_alone}
-use Rattle.imap_core.specs.Reply.{reply, command_outcome, request_outcome}
+use Rattle.imap_core.specs.Machine.{State, outcome_for, outcome, next, view_in, own_in, effects_of, with_own, accounts_after}
 use Rattle.imap_core.specs.Sessions.{Own}
-use Rattle.imap_core.specs.View.{View, Seen}
+use Rattle.imap_core.proofs.Fitting.{MayBeAsked, outcome_fits}
 
--- ---- no command that is built changes a mailbox
+-- ---- the view
 
-neither_changes : (b : Bool) (x y : Outcome) → x.effects ≡ [] → y.effects ≡ [] → (cond b x y).effects ≡ []
-neither_changes true x y h k = h
-neither_changes false x y h k = k
+-- what a step of the user's makes of the view
+abbrev pub view_after_asking : Option Effect → View → View
+view_after_asking None view = view
+view_after_asking (Some effect) view = view_after effect view
 
-my_rights_of_seen_changes : (user tag : List ℕ) (name : Name) (seen : Option Seen) → (my_rights_of_seen user tag name seen).effects ≡ []
-my_rights_of_seen_changes user tag name None = refl
-my_rights_of_seen_changes user tag name (Some seen) = refl
+after_asking : (administrator user : List ℕ) (world : World) (asked : Option Effect) → MayBeAsked (view_of administrator user world) asked
+    → view_of administrator user (after_all (effects_of asked) world) ≡ view_after_asking asked (view_of administrator user world)
+after_asking administrator user world None may = refl
+after_asking administrator user world (Some effect) may = own_effects administrator user world effect may
 
-my_rights_of_read_changes : (user : List ℕ) (view : View) (tag : List ℕ) (name : Result Name NameError) → (my_rights_of_read user view tag name).effects ≡ []
-my_rights_of_read_changes user view tag (Err error) = refl
-my_rights_of_read_changes user view tag (Ok name) = my_rights_of_seen_changes user tag name (map.get view.seen name)
+-- the acting user's view after a step is a function of the view before, the user's sessions and the step
+abbrev pub view_next : View → Option Own → Step → View
+view_next view own step = view_after_asking (outcome_for view own step).effect view
 
-command_changes : (user : List ℕ) (view : View) (tag : List ℕ) (what : Command) → (command_outcome user view tag what).effects ≡ []
-command_changes user view tag command.Capability = refl
-command_changes user view tag command.Noop = refl
-command_changes user view tag command.Logout = refl
-command_changes user view tag (command.MyRights mailbox) = my_rights_of_read_changes user view tag (name_read user mailbox)
-command_changes user view tag _ = refl
-
-request_changes : (user : List ℕ) (view : View) (what : Request) → (request_outcome user view what).effects ≡ []
-request_changes user view (request.Command tag what) = command_changes user view tag what
-request_changes user view (request.Malformed tag) = refl
-request_changes user view (request.TooBig tag) = refl
-
-reply_changes : (user : List ℕ) (view : View) (own : Own) (number : ℕ) (what : Act) → (reply user view own number what).effects ≡ []
-reply_changes user view own number act.Open = neither_changes _ _ _ refl refl
-reply_changes user view own number (act.Do what) = neither_changes (map.contains_key own number) (request_outcome user view what) (replies_alone []) (request_changes user view what) refl
-reply_changes user view own number act.Poll = refl
-reply_changes user view own number act.Done = neither_changes _ _ _ refl refl
-reply_changes user view own number act.Leave = neither_changes _ _ _ refl refl
-
-changes_nothing : (view : View) (own : Option Own) (step : Step) → (outcome_for view own step).effects ≡ []
-changes_nothing view None step = refl
-changes_nothing view (Some own) step = reply_changes step.who.user view own step.who.number step.act
-
--- so no view changes
-pub view_of-next : (state : State) (step : Step) (user : List ℕ) → view_of (next state step) user ≡ view_of state user
-view_of-next state step user =
-    ap (λ effects. view_of (record state { world = after_all effects state.world }) user) (changes_nothing (view_of state step.who.user) (own_of state step.who.user) step)
+pub view_in-next : (state : State) (step : Step) → view_in (next state step) step.who.user ≡ view_next (view_in state step.who.user) (own_in state step.who.user) step
+view_in-next state step =
+    after_asking state.site.administrator step.who.user state.world (outcome state step).effect
+    (outcome_fits (view_in state step.who.user) (own_in state step.who.user) step).asks
 
 -- ---- sessions
 
@@ -112,9 +84,9 @@ accounts_after_there accounts who other session.End apart = with_own_there accou
 abbrev pub own_after : View → Option Own → Step → Option Own
 own_after view own step = own_after_change own step.who.number (outcome_for view own step).session
 
-pub own_of-next : (state : State) (step : Step) → own_of (next state step) step.who.user ≡ own_after (view_of state step.who.user) (own_of state step.who.user) step
-own_of-next state step = accounts_after_here state.accounts step.who (outcome state step).session (own_of state step.who.user) refl
+pub own_in-next : (state : State) (step : Step) → own_in (next state step) step.who.user ≡ own_after (view_in state step.who.user) (own_in state step.who.user) step
+own_in-next state step = accounts_after_here state.accounts step.who (outcome state step).session (own_in state step.who.user) refl
 
 -- and another's are as they were
-pub own_of-other : (state : State) (step : Step) (user : List ℕ) → bytes_eq step.who.user user ≡ false → own_of (next state step) user ≡ own_of state user
-own_of-other state step user apart = accounts_after_there state.accounts step.who user (outcome state step).session (nat_list_eq_equiv.symm user step.who.user ∙ apart)
+pub own_in-other : (state : State) (step : Step) (user : List ℕ) → bytes_eq step.who.user user ≡ false → own_in (next state step) user ≡ own_in state user
+own_in-other state step user apart = accounts_after_there state.accounts step.who user (outcome state step).session (nat_list_eq_equiv.symm user step.who.user ∙ apart)

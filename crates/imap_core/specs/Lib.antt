@@ -1,7 +1,7 @@
 pub mod Accounts
 pub mod Commands
-pub mod Effects
-pub mod Finite
+pub mod Frames
+pub mod Laws
 pub mod Machine
 pub mod Opening
 pub mod Outcome
@@ -9,8 +9,5 @@ pub mod Planned
 pub mod Reply
 pub mod Same
 pub mod Sessions
-pub mod Shown
 pub mod Step
 pub mod Trace
-pub mod View
-pub mod World

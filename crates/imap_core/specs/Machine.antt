@@ -3,23 +3,30 @@ use Rattle.std.specs.Prelude.{◌≡◌, ℕ, ◌<◌, List, [], ◌∷◌, leng
 use Rattle.std.specs.Coded.{Coded, coded_ℕ, coded_list, coded×, code_by}
 use Rattle.std.specs.FinMap as map
 use Rattle.imap_print.specs.declared.response.Response.{Response}
+use Rattle.imap_view.specs.View.{View, view_of}
+use Rattle.imap_world.specs.declared.effect.Effect.{Effect}
+use Rattle.imap_world.specs.declared.site.Site.{Site}
+use Rattle.imap_world.specs.Effects.{after_all}
+use Rattle.imap_world.specs.Stored.{Stored, stored_code}
+use Rattle.imap_world.specs.World.{World, world_code}
 use Rattle.imap_core.specs.declared.sessions.SessionChange.{SessionChange}
 use Rattle.imap_core.specs.declared.sessions.SessionChange.TheVariants as session
-use Rattle.imap_core.specs.declared.site.Site.{Site}
 use Rattle.imap_core.specs.declared.session_id.SessionId.{SessionId}
 use Rattle.imap_core.specs.declared.step.Step.{Step}
 use Rattle.imap_core.specs.Accounts.{Accounts, accounts_code}
-use Rattle.imap_core.specs.Effects.{after_all}
 use Rattle.imap_core.specs.Outcome.{Outcome, replies_alone}
 use Rattle.imap_core.specs.Reply.{reply}
 use Rattle.imap_core.specs.Sessions.{Own}
-use Rattle.imap_core.specs.View.{View, view}
-use Rattle.imap_core.specs.World.{World, world_code}
 
 pub record State : Type 0 where
   pub site : Site
   pub world : World
   pub accounts : Accounts
+
+-- a state, and its world with the room that it has for more
+pub record Machine : Type 0 where
+  pub state : State
+  pub stored : Stored
 
 abbrev pub site_code : Coded Site
 site_code =
@@ -35,25 +42,34 @@ state_code =
     (λ p. record { site = p.0; world = p.1.0; accounts = p.1.1 })
     (λ _. refl)
 
--- what a user may see, and the user's own sessions, if the user is known
-abbrev pub view_of : State → List ℕ → View
-view_of state user = view state.site.administrator user state.world
+abbrev pub machine_code : Coded Machine
+machine_code =
+    code_by (State × Stored) (coded× state_code stored_code)
+    (λ m. (m.state, m.stored)) (λ p. record { state = p.0; stored = p.1 }) (λ _. refl)
 
-abbrev pub own_of : State → List ℕ → Option Own
-own_of state user = map.get state.accounts user
+-- what a user may see, and the user's own sessions, if the user is known
+abbrev pub view_in : State → List ℕ → View
+view_in state user = view_of state.site.administrator user state.world
+
+abbrev pub own_in : State → List ℕ → Option Own
+own_in state user = map.get state.accounts user
 
 -- a user whom nobody knows is answered nothing
 abbrev pub outcome_for : View → Option Own → Step → Outcome
 outcome_for view None step = replies_alone []
-outcome_for view (Some own) step = reply step.who.user view own step.who.number step.act
+outcome_for view (Some own) step = reply view own step
 
 abbrev pub outcome : State → Step → Outcome
-outcome state step = outcome_for (view_of state step.who.user) (own_of state step.who.user) step
+outcome state step = outcome_for (view_in state step.who.user) (own_in state step.who.user) step
 
 abbrev pub answer : State → Step → List Response
 answer state step = (outcome state step).replies
 
--- ---- sessions after a step
+-- ---- after a step
+
+abbrev pub effects_of : Option Effect → List Effect
+effects_of None = []
+effects_of (Some effect) = effect ∷ []
 
 abbrev pub with_own : Accounts → List ℕ → (Own → Own) → Option Own → Accounts
 with_own accounts user f None = accounts
@@ -69,7 +85,7 @@ accounts_after accounts who session.End =
 abbrev pub next : State → Step → State
 next state step = record {
   site = state.site;
-  world = after_all (outcome state step).effects state.world;
+  world = after_all (effects_of (outcome state step).effect) state.world;
   accounts = accounts_after state.accounts step.who (outcome state step).session;
 }
 

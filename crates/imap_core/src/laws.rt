@@ -1,5 +1,6 @@
-//! What holds of every run.
+//! What holds of every step and of every run.
 
+ghost use Rattle.imap_core.specs.Laws.{NeverUnavailable, OtherSessionsStay, RefusalsChangeNothing, StepsAreAlike};
 ghost use Rattle.imap_core.specs.Trace.{EqualViewsAreSame, Isolation};
 
 /// To each user, any two runs that begin alike and have one trace for that user send the same octets.
@@ -11,4 +12,24 @@ pub fn isolation()
 /// exactly if they are equal.
 pub fn equal_views_are_same()
     ensures { EqualViewsAreSame }
+{}
+
+/// A step in two states that are alike to its user has equal replies, and the states afterwards are alike again.
+pub fn steps_are_alike()
+    ensures { StepsAreAlike }
+{}
+
+/// A step changes no session but its own: neither another user's, nor another one of the same user.
+pub fn other_sessions_stay()
+    ensures { OtherSessionsStay }
+{}
+
+/// A step that is answered by a refusal leaves all mailboxes, subscriptions and sessions as they were.
+pub fn refusals_change_nothing()
+    ensures { RefusalsChangeNothing }
+{}
+
+/// No step is answered UNAVAILABLE (RFC 5530).
+pub fn never_unavailable()
+    ensures { NeverUnavailable }
 {}

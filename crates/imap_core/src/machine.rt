@@ -1,43 +1,54 @@
 //! The machine.
 
-ghost use Rattle.std.specs.Prelude.{◌≡◌, ◌∷◌, IfOk, OnOk, OnErr, map as map_list};
+ghost use Rattle.std.specs.Prelude.{◌≡◌, ℕ, Ok, IfOk, OnOk, OnErr, List};
 ghost use Rattle.std.specs.FinMap as map;
 ghost use Rattle.std.specs.List.{AllByRecursion};
-ghost use Rattle.imap_core.specs.Machine.{answer, answers, next, after_steps, IsPartWay, accounts_after};
-ghost use Rattle.imap_core.specs.Opening.{state_at_start, missing_inboxes};
-ghost use Rattle.imap_core.specs.Planned.{ArePrintable, replies_of, change_of, state_after, IsReady, HasRoom};
+ghost use Rattle.imap_world.specs.Effects.{writes_of};
+ghost use Rattle.imap_world.specs.Ready as world;
+ghost use Rattle.imap_world.specs.Stored.{world_of};
+ghost use Rattle.imap_core.specs.Machine.{IsPartWay, after_steps, answer, answers, effects_of, next, outcome};
+ghost use Rattle.imap_core.specs.Opening.{admission, state_at_start};
+ghost use Rattle.imap_core.specs.Planned.{ArePrintable, HasRoom, IsReady, Plans, change_of, is_end, replies_in, replies_of, state_after};
+ghost use Rattle.imap_core.specs.Trace.{sent_to, transcript};
 
-use crate::accounts::Accounts;
-use crate::effect::Change;
+use crate::accounts::settle;
+use crate::effects::{resolved, with_effects};
 use crate::opening::Opening;
 use crate::plan::Plan;
 use crate::reply::step_plan;
 use crate::session_id::SessionId;
-use crate::sessions::{Session, SessionChange};
-use crate::site::{Limits, Site};
+use crate::sessions::{OwnSessions, SessionChange};
 use crate::step::Step;
-use crate::world::World;
 use imap_names::UserName;
 use imap_print::Response;
+use imap_user_map::UserMap;
+use imap_view::View;
+use imap_world::{Change, Effect, Limits, Site, World};
 use std::alloc::{AllocError, Global};
 use std::marker::Model;
+use std::slice;
 
-/// The mailboxes and the open sessions of all users. In contracts it is the state of the machine.
+/// The mailboxes and the open sessions of all users. Contracts see the state of the machine, and its world with the
+/// room for more.
 #[derive(Drop)]
 pub struct Core {
     site: Site,
     world: World,
-    accounts: Accounts,
+    accounts: UserMap<OwnSessions>,
 }
 
 impl Model for Core {
-    ghost use Rattle.imap_core.specs.Machine.{State, state_code};
+    ghost use Rattle.imap_core.specs.Machine.{Machine, machine_code};
+    ghost use Rattle.imap_world.specs.Stored.{world_of};
 
-    ghost Value = { State };
+    ghost Value = { Machine };
 
-    ghost coded = { state_code };
+    ghost coded = { machine_code };
 
-    ghost view = { λ c. record { site = c.site; world = c.world; accounts = c.accounts } };
+    ghost view = { λ c. record {
+      state = record { site = c.site; world = world_of c.world; accounts = c.accounts.map };
+      stored = c.world;
+    } };
 }
 
 /// A step that is ready to be made: from here on it takes no memory.
@@ -63,11 +74,18 @@ impl Prepared {
     {
         &self.change
     }
+
+    /// Whether the step ends its session.
+    pub fn ends_session(&self) -> bool
+        ensures { result ≡ is_end self.now.session }
+    {
+        matches!(self.session, SessionChange::End)
+    }
 }
 
 impl Core {
-    /// Starts a host with these users, of whom the administrator is one, and makes the INBOX of
-    /// each who has none. The change holds those that were made.
+    /// Starts a host with these users, of whom the administrator is one, and makes the INBOX of each who has none. The
+    /// change holds those that were made. An INBOX that was gone and has no UIDVALIDITY left isn't made.
     pub fn open(
         alloc: Global,
         world: World,
@@ -75,17 +93,16 @@ impl Core {
         users: &[UserName],
         limits: Limits,
     ) -> Result<(Core, Change), AllocError>
-        ensures state { IfOk result (λ made. made.0 ≡ state_at_start world administrator users.now limits) }
-        ensures change { IfOk result (λ made. made.1 ≡ missing_inboxes world (administrator ∷ users.now)) }
+        ensures state { let start = state_at_start (world_of world) administrator users.now limits in
+            IfOk result (λ made. made.0.state ≡ start) }
+        ensures change { let asked = (admission (world_of world) administrator users.now).effects in
+            IfOk result (λ made. writes_of asked (world_of world) ≡ Ok made.1) }
     {
-        let mut opening = Opening::new(alloc, world);
-        opening.admit(alloc, &administrator)?;
-        opening.admit_all(alloc, users)?;
-        let Opening {
-            world,
-            accounts,
-            effects,
-        } = opening;
+        let mut opening = Opening::new(alloc);
+        opening.admit(alloc, &world, &administrator)?;
+        opening.admit_all(alloc, &world, users)?;
+        let Opening { accounts, effects } = opening;
+        let (world, change) = with_effects(alloc, world, effects.as_slice())?;
         let site = Site {
             administrator,
             limits,
@@ -95,37 +112,40 @@ impl Core {
             world,
             accounts,
         };
-        Ok((core, Change { effects }))
+        Ok((core, change))
     }
 
     /// Finds what the step is answered and what it changes, and changes nothing yet.
     pub fn prepare(&mut self, alloc: Global, step: &Step) -> Result<Prepared, AllocError>
-        ensures unchanged { self.new ≡ self.old }
-        ensures replies { IfOk result (λ prepared. replies_of prepared ≡ answer self.old step.now) }
-        ensures next { IfOk result (λ prepared. state_after prepared self.old ≡ next self.old step.now) }
+        ensures unchanged { self.new.state ≡ self.old.state }
+        ensures replies { IfOk result (λ prepared. replies_of prepared ≡ answer self.old.state step.now) }
+        ensures next { IfOk result (λ prepared. state_after prepared self.old.state ≡ next self.old.state step.now) }
         ensures ready { IfOk result (λ prepared. IsReady prepared self.new) }
         ensures printable { IfOk result (λ prepared. ArePrintable prepared.replies) }
     {
-        let plan = match self.accounts.get(step.who.user.as_str()) {
-            Some(own) => step_plan(alloc, &self.world, &self.site, own, step)?,
-            None => Plan::replies_alone(Vec::new(alloc)),
-        };
-        let Plan { replies, session } = plan;
-        Ok(Prepared {
-            who: step.who.try_copy()?,
+        let who = step.who.try_copy()?;
+        let Plan {
             replies,
             session,
-            change: Change::none(alloc),
+            effect,
+        } = self.plan(alloc, step)?;
+        let change = self.resolve(alloc, &effect)?;
+        Ok(Prepared {
+            who,
+            replies,
+            session,
+            change,
         })
     }
 
     /// Makes the steps in their order. After a refusal the steps before the refused one stand.
     pub fn run(&mut self, alloc: Global, steps: &[Step]) -> Result<Vec<Vec<Response>>, AllocError>
-        ensures answers { IfOk result
-            (λ said. map_list (λ replies. replies.items) said.items ≡ answers self.old steps.now) }
-        ensures state { OnOk result (self.new ≡ after_steps self.old steps.now) }
+        ensures answers { IfOk result (λ said. replies_in said ≡ answers self.old.state steps.now) }
+        ensures octets { IfOk result (λ said. (user : List ℕ)
+            → sent_to user steps.now (replies_in said) ≡ transcript user self.old.state steps.now) }
+        ensures state { OnOk result (self.new.state ≡ after_steps self.old.state steps.now) }
         ensures printable { IfOk result (λ said. AllByRecursion ArePrintable said.items) }
-        ensures err { OnErr result (IsPartWay self.old steps.now self.new) }
+        ensures err { OnErr result (IsPartWay self.old.state steps.now self.new.state) }
     {
         let mut said = Vec::with_capacity(alloc, steps.len())?;
         for step in steps {
@@ -135,49 +155,46 @@ impl Core {
         Ok(said)
     }
 
-    /// Makes the step, and gives what its session is told.
+    /// Makes the step, and gives what its session is told. Nothing else may have been committed since it was prepared.
     pub fn commit(&mut self, prepared: Prepared) -> Vec<Response>
         requires { IsReady prepared self.old }
         ensures replies { result.items ≡ replies_of prepared }
-        ensures state { self.new ≡ state_after prepared self.old }
+        ensures state { self.new.state ≡ state_after prepared self.old.state }
     {
         let Prepared {
             who,
             replies,
             session,
-            change: _,
+            change,
         } = prepared;
         settle(&mut self.accounts, &who, session);
+        self.world.commit(change);
         replies
     }
-}
 
-fn settle(accounts: &mut Accounts, who: &SessionId, change: SessionChange)
-    requires { HasRoom (map.get accounts.old who.now.user) who.now.number change }
-    ensures { accounts.new ≡ accounts_after accounts.old who.now change }
-{
-    match change {
-        SessionChange::Keep => {}
-        SessionChange::Put(session) => put_session(accounts, who, session),
-        SessionChange::End => end_session(accounts, who),
+    /// Finds what comes of the step.
+    fn plan(&self, alloc: Global, step: &Step) -> Result<Plan, AllocError>
+        ensures plan { IfOk result (λ plan. Plans plan (outcome self.now.state step.now)) }
+        ensures room { let own = map.get self.now.state.accounts step.now.who.user in
+            IfOk result (λ plan. HasRoom own step.now.who.number plan.session) }
+    {
+        let user = &step.who.user;
+        match self.accounts.get(user.as_str()) {
+            Some(own) => step_plan(alloc, &View::new(&self.world, &self.site, user), own, step),
+            None => Ok(Plan::replies_alone(Vec::new(alloc))),
+        }
     }
-}
 
-fn put_session(accounts: &mut Accounts, who: &SessionId, session: Session)
-    requires { HasRoom (map.get accounts.old who.now.user) who.now.number (SessionChange.Put session) }
-    ensures { accounts.new ≡ accounts_after accounts.old who.now (SessionChange.Put session) }
-{
-    match accounts.get_mut(who.user.as_str()) {
-        Some(own) => own.put(who.number, session),
-        None => {}
-    }
-}
-
-fn end_session(accounts: &mut Accounts, who: &SessionId)
-    ensures { accounts.new ≡ accounts_after accounts.old who.now SessionChange.End }
-{
-    match accounts.get_mut(who.user.as_str()) {
-        Some(own) => own.remove(who.number),
-        None => {}
+    /// Finds the values to be written for what a step asks, and makes room for them.
+    fn resolve(&mut self, alloc: Global, effect: &Option<Effect>) -> Result<Change, AllocError>
+        ensures unchanged { self.new.state ≡ self.old.state }
+        ensures change { let world = self.old.state.world in
+            IfOk result (λ change. writes_of (effects_of effect.now) world ≡ Ok change) }
+        ensures ready { IfOk result (λ change. world.IsReady change self.new.stored) }
+    {
+        match effect {
+            Some(effect) => resolved(alloc, &mut self.world, slice::from_ref(effect)),
+            None => Ok(Change::none(alloc)),
+        }
     }
 }

@@ -1,77 +1,87 @@
 //! What is made when a host starts.
 
-ghost use Rattle.std.specs.Prelude.{◌≡◌, ◌∷◌, [], ◌++◌, IfOk, OnOk};
+ghost use Rattle.std.specs.Prelude.{◌≡◌, IfOk, OnOk};
 ghost use Rattle.std.specs.FinMap as map;
-ghost use Rattle.imap_core.specs.Opening.{known_users, missing_inboxes, world_with_inboxes};
+ghost use Rattle.imap_world.specs.Stored.{world_of};
+ghost use Rattle.imap_core.specs.Opening.{admission_of, needs_inbox, nobody, with_user, with_users};
 
-use crate::accounts::Accounts;
-use crate::effect::Effect;
 use crate::sessions::OwnSessions;
-use crate::world::World;
 use imap_names::{UserName, inbox};
-use imap_rights::{Acl, Identifier, IdentifierError};
+use imap_user_map::UserMap;
+use imap_world::{Effect, World};
 use std::alloc::{AllocError, Global};
 
-/// The state so far, and what was changed to reach it.
+/// The users who are known so far, and the INBOXes that are to be made for them.
 #[derive(Drop)]
 pub(crate) struct Opening {
-    pub(crate) world: World,
-    pub(crate) accounts: Accounts,
+    pub(crate) accounts: UserMap<OwnSessions>,
     pub(crate) effects: Vec<Effect>,
 }
 
 impl Opening {
-    pub(crate) fn new(alloc: Global, world: World) -> Opening
-        ensures world { result.world ≡ world }
-        ensures accounts { result.accounts ≡ map.empty }
-        ensures effects { result.effects.items ≡ [] }
+    pub(crate) fn new(alloc: Global) -> Opening
+        ensures { admission_of result ≡ nobody }
     {
         Opening {
-            world,
-            accounts: Accounts::new(alloc),
+            accounts: UserMap::new(alloc),
             effects: Vec::new(alloc),
         }
     }
 
-    pub(crate) fn admit_all(&mut self, alloc: Global, users: &[UserName]) -> Result<(), AllocError>
-        ensures world { OnOk result (self.new.world ≡ world_with_inboxes self.old.world users.now) }
-        ensures accounts { OnOk result (self.new.accounts ≡ known_users self.old.accounts users.now) }
-        ensures effects { let made = missing_inboxes self.old.world users.now in
-            OnOk result (self.new.effects.items ≡ self.old.effects.items ++ made) }
+    pub(crate) fn admit_all(
+        &mut self,
+        alloc: Global,
+        world: &World,
+        users: &[UserName],
+    ) -> Result<(), AllocError>
+        ensures { let so_far = admission_of self.old in
+            OnOk result (admission_of self.new ≡ with_users (world_of world.now) users.now so_far) }
     {
         for user in users {
-            self.admit(alloc, user)?;
+            self.admit(alloc, world, user)?;
         }
         Ok(())
     }
 
-    /// Makes a user known, and the user's INBOX, if it isn't there.
-    pub(crate) fn admit(&mut self, alloc: Global, user: &UserName) -> Result<(), AllocError>
-        ensures world { OnOk result (self.new.world ≡ world_with_inboxes self.old.world (user.now ∷ [])) }
-        ensures accounts { OnOk result (self.new.accounts ≡ map.insert self.old.accounts user.now map.empty) }
-        ensures effects { let made = missing_inboxes self.old.world (user.now ∷ []) in
-            OnOk result (self.new.effects.items ≡ self.old.effects.items ++ made) }
+    /// Makes a user known who isn't yet, and asks for the user's INBOX, if it isn't there.
+    pub(crate) fn admit(
+        &mut self,
+        alloc: Global,
+        world: &World,
+        user: &UserName,
+    ) -> Result<(), AllocError>
+        ensures { let so_far = admission_of self.old in
+            OnOk result (admission_of self.new ≡ with_user (world_of world.now) user.now so_far) }
     {
-        let text = String::from_str(alloc, user.as_str())?;
-        self.accounts.insert(text, OwnSessions::new(alloc)?)?;
-        let name = inbox(alloc, user)?;
-        if self.world.mailbox(&name).is_none() {
-            let acl = Acl::of_owner(alloc, identifier_of(alloc, user)?)?;
-            self.world.add(name, acl)?;
+        if self.accounts.contains(user.as_str()) {
+            return Ok(());
+        }
+        self.add_account(alloc, user)?;
+        if needs_inbox(alloc, world, user)? {
             self.effects.push(Effect::CreateInbox(user.try_copy()?))?;
         }
         Ok(())
     }
+
+    /// Makes a user known, without sessions.
+    fn add_account(&mut self, alloc: Global, user: &UserName) -> Result<(), AllocError>
+        ensures accounts { let accounts = self.old.accounts.map in
+            OnOk result (self.new.accounts.map ≡ map.insert accounts user.now map.empty) }
+        ensures effects { self.new.effects ≡ self.old.effects }
+    {
+        let key = String::from_str(alloc, user.as_str())?;
+        let own = OwnSessions::new(alloc)?;
+        self.accounts.reserve(1)?;
+        self.accounts.insert_reserved(key, own);
+        Ok(())
+    }
 }
 
-/// The identifier of the user's own entry in an access control list.
-fn identifier_of(alloc: Global, user: &UserName) -> Result<Identifier, AllocError>
-    ensures { IfOk result (λ identifier. identifier ≡ user.now) }
+/// Whether the user has no INBOX, and a UIDVALIDITY is left for one.
+fn needs_inbox(alloc: Global, world: &World, user: &UserName) -> Result<bool, AllocError>
+    ensures { IfOk result (λ needed. needed ≡ needs_inbox (world_of world.now) user.now) }
 {
-    match Identifier::read(alloc, user.as_str().as_bytes()) {
-        Ok(identifier) => Ok(identifier),
-        Err(IdentifierError::Memory) => Err(AllocError),
-        // Each user name is an identifier.
-        Err(IdentifierError::Invalid) => unreachable!(),
-    }
+    let name = inbox(alloc, user)?;
+    let name = name.as_ref();
+    Ok(world.mailbox(&name).is_none() && world.epoch(&name) < u32::MAX)
 }

@@ -3,19 +3,21 @@
 ghost use Rattle.std.specs.Prelude.{◌≡◌, ◌∷◌, [], IfOk};
 ghost use Rattle.std.specs.List.{AllByRecursion};
 ghost use Rattle.imap_print.specs.Lines.{IsPrintable};
-ghost use Rattle.imap_core.specs.Outcome.{replies_alone, last_replies, done_line, refusal_of};
+ghost use Rattle.imap_core.specs.Outcome.{done_alone, done_line, done_with, last_replies, refusal_of, replies_alone};
 ghost use Rattle.imap_core.specs.Planned.{Plans};
 
 use crate::sessions::SessionChange;
 use imap_lex::Tag;
 use imap_print::{Refusal, Response};
+use imap_world::Effect;
 use std::alloc::{AllocError, Global};
 
-/// The responses to a step, and what becomes of its session.
+/// The responses to a step, what becomes of its session, and what it asks of the mailboxes.
 #[derive(Drop)]
 pub(crate) struct Plan {
     pub(crate) replies: Vec<Response>,
     pub(crate) session: SessionChange,
+    pub(crate) effect: Option<Effect>,
 }
 
 impl Plan {
@@ -27,6 +29,7 @@ impl Plan {
         Plan {
             replies,
             session: SessionChange::Keep,
+            effect: None,
         }
     }
 
@@ -38,7 +41,31 @@ impl Plan {
         Plan {
             replies,
             session: SessionChange::End,
+            effect: None,
         }
+    }
+
+    /// The command was carried out, and has no other answer.
+    pub(crate) fn done(alloc: Global, tag: &Tag) -> Result<Plan, AllocError>
+        ensures { IfOk result (λ plan. Plans plan (done_alone tag.now)) }
+    {
+        Ok(Plan::replies_alone(vec![in alloc; done_line(alloc, tag)?]?))
+    }
+
+    /// The same of a command that changes the mailboxes.
+    pub(crate) fn done_with(alloc: Global, tag: &Tag, effect: Effect) -> Result<Plan, AllocError>
+        ensures { IfOk result (λ plan. Plans plan (done_with tag.now effect)) }
+    {
+        let Plan {
+            replies,
+            session,
+            effect: _,
+        } = Plan::done(alloc, tag)?;
+        Ok(Plan {
+            replies,
+            session,
+            effect: Some(effect),
+        })
     }
 
     /// The command was not carried out.

@@ -4,71 +4,83 @@ ghost use Rattle.std.specs.Prelude.{◌≡◌, ◌∷◌, [], IfOk};
 ghost use Rattle.std.specs.List.{AllByRecursion};
 ghost use Rattle.imap_lex.specs.CommandTag.{IsTag};
 ghost use Rattle.imap_print.specs.Lines.{given_tag};
-ghost use Rattle.imap_core.specs.View.{view};
 ghost use Rattle.imap_core.specs.Outcome.{replies_alone};
-ghost use Rattle.imap_core.specs.Reply.{request_outcome, open_outcome, reply};
+ghost use Rattle.imap_core.specs.Reply.{open_outcome, opened, reply, reply_when_closed, reply_when_open, request_outcome};
 ghost use Rattle.imap_core.specs.Planned.{Plans};
 
 use crate::commands::command_plan;
 use crate::plan::Plan;
-use crate::session_id::SessionNumber;
 use crate::sessions::{OwnSessions, Session, SessionChange};
-use crate::site::Site;
 use crate::step::{Act, Step};
-use crate::world::World;
 use imap_grammar::Request;
 use imap_lex::Tag;
-use imap_names::UserName;
 use imap_print::{Farewell, Refusal, Response};
+use imap_view::View;
 use std::alloc::{AllocError, Global};
 
 pub(crate) fn step_plan(
     alloc: Global,
-    world: &World,
-    site: &Site,
+    view: &View<'_>,
     own: &OwnSessions,
     step: &Step,
 ) -> Result<Plan, AllocError>
-    ensures { let who = step.now.who in let seen = view site.now.administrator who.user world.now in
-        IfOk result (λ plan. Plans plan (reply who.user seen own.now who.number step.now.act)) }
+    ensures { IfOk result (λ plan. Plans plan (reply view.now own.now step.now)) }
 {
-    let number = step.who.number;
-    match &step.act {
-        Act::Open => open_plan(alloc, own, number),
+    if own.is_open(step.who.number) {
+        plan_when_open(alloc, view, &step.act)
+    } else {
+        plan_when_closed(alloc, own, &step.act)
+    }
+}
+
+fn plan_when_open(alloc: Global, view: &View<'_>, act: &Act) -> Result<Plan, AllocError>
+    ensures { IfOk result (λ plan. Plans plan (reply_when_open view.now act.now)) }
+{
+    match act {
+        Act::Open => greeting_plan(alloc),
+        Act::Do(request) => request_plan(alloc, view, request),
         Act::Poll => Ok(Plan::replies_alone(Vec::new(alloc))),
-        _ if !own.is_open(number) => Ok(Plan::replies_alone(Vec::new(alloc))),
-        Act::Do(request) => request_plan(alloc, world, site, &step.who.user, request),
         Act::Done => malformed_plan(alloc, &None),
         Act::Leave => Ok(Plan::last_replies(Vec::new(alloc))),
     }
 }
 
-fn open_plan(alloc: Global, own: &OwnSessions, number: SessionNumber) -> Result<Plan, AllocError>
-    ensures { IfOk result (λ plan. Plans plan (open_outcome own.now number)) }
+/// What a client says to a session that isn't open is lost.
+fn plan_when_closed(alloc: Global, own: &OwnSessions, act: &Act) -> Result<Plan, AllocError>
+    ensures { IfOk result (λ plan. Plans plan (reply_when_closed own.now act.now)) }
 {
-    if own.is_full() && !own.is_open(number) {
+    match act {
+        Act::Open => open_plan(alloc, own),
+        _ => Ok(Plan::replies_alone(Vec::new(alloc))),
+    }
+}
+
+fn open_plan(alloc: Global, own: &OwnSessions) -> Result<Plan, AllocError>
+    ensures { IfOk result (λ plan. Plans plan (open_outcome own.now)) }
+{
+    if own.is_full() {
         let replies = vec![in alloc; Response::Bye(Farewell::LimitReached)]?;
         return Ok(Plan::replies_alone(replies));
     }
+    greeting_plan(alloc)
+}
+
+fn greeting_plan(alloc: Global) -> Result<Plan, AllocError>
+    ensures { IfOk result (λ plan. Plans plan opened) }
+{
     let replies = vec![in alloc; Response::Greeting]?;
     Ok(Plan {
         replies,
         session: SessionChange::Put(Session),
+        effect: None,
     })
 }
 
-fn request_plan(
-    alloc: Global,
-    world: &World,
-    site: &Site,
-    user: &UserName,
-    request: &Request,
-) -> Result<Plan, AllocError>
-    ensures { let seen = view site.now.administrator user.now world.now in
-        IfOk result (λ plan. Plans plan (request_outcome user.now seen request.now)) }
+fn request_plan(alloc: Global, view: &View<'_>, request: &Request) -> Result<Plan, AllocError>
+    ensures { IfOk result (λ plan. Plans plan (request_outcome view.now request.now)) }
 {
     match request {
-        Request::Command { tag, body } => command_plan(alloc, world, site, user, tag, body),
+        Request::Command { tag, body } => command_plan(alloc, view, tag, body),
         Request::Malformed { tag } => malformed_plan(alloc, tag),
         Request::TooBig { tag } => Plan::refusal(alloc, tag, Refusal::Limit),
     }

@@ -1,9 +1,10 @@
 //! The head of a script: the users, the limits, and the mailboxes at the start.
 
 use crate::line::{LineError, read_number};
-use imap_core::{Core, Limits, World};
+use imap_core::Core;
 use imap_names::{Name, UserName, read_full};
 use imap_rights::{Acl, Identifier, read_rights};
+use imap_world::{Limits, World};
 use std::alloc::{AllocError, Global};
 use std::collections::HashSet;
 
@@ -139,7 +140,7 @@ impl Head {
         if !self.knows_owner_of(&name) {
             return Err(LineError::Bad);
         }
-        if self.world.mailbox(&name).is_none() {
+        if self.world.mailbox(&name.as_ref()).is_none() {
             self.world.place(name.try_copy()?, Acl::new(alloc))?;
         }
         self.chosen = Some(name);
@@ -160,7 +161,7 @@ impl Head {
         let identifier = Identifier::read(alloc, identifier.as_bytes())?;
         let change = read_rights(rights.as_bytes()).ok_or(LineError::Bad)?;
         let name = self.chosen.as_ref().ok_or(LineError::Bad)?;
-        self.world.set_acl(name, identifier, change)?;
+        self.world.set_acl(&name.as_ref(), identifier, change)?;
         Ok(())
     }
 }

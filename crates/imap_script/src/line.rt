@@ -3,9 +3,9 @@
 ghost use Rattle.std.specs.Prelude.{◌≤◌, IfSome};
 
 use hex::FromHexError;
-use imap_core::WorldError;
 use imap_names::NameError;
 use imap_rights::IdentifierError;
+use imap_world::WorldError;
 use std::alloc::{AllocError, AllocFailed};
 
 /// Why a line of a script was not taken.

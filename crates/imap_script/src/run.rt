@@ -5,8 +5,7 @@ use crate::scenario::Scenario;
 use crate::step::{Event, ScriptStep};
 use crate::transcript::Transcript;
 use imap_core::{Act, Core, SessionId, Step};
-use imap_grammar::{Request, parse};
-use imap_lex::{Frame, Framer, LexError, Octets, Tag};
+use imap_lex::{Frame, Framer, LexError};
 use imap_print::{Farewell, Response};
 use std::alloc::Global;
 use std::collections::HashMap;
@@ -82,10 +81,9 @@ impl<O: Write + Drop> Run<O> {
                 return Ok(());
             }
             match frame {
-                Frame::Whole(command) => self.act(alloc, step, act_of(alloc, &command)?)?,
                 Frame::Continue => self.tell(alloc, step, Response::Ready)?,
-                Frame::Reject(tag) => self.act(alloc, step, Act::Do(rejected(tag)))?,
                 Frame::Hangup => self.hang_up(alloc, step)?,
+                frame => self.act_by(alloc, step, frame)?,
             }
         }
         Ok(())
@@ -126,6 +124,19 @@ impl<O: Write + Drop> Run<O> {
             .tell(alloc, step.label.as_str(), responses.as_slice())
     }
 
+    /// Makes the act of a frame.
+    fn act_by(
+        &mut self,
+        alloc: Global,
+        step: &ScriptStep,
+        frame: Frame,
+    ) -> Result<(), ScriptError> {
+        match Act::of_frame(alloc, frame)? {
+            Some(act) => self.act(alloc, step, act),
+            None => Ok(()),
+        }
+    }
+
     /// Makes an act of an open session.
     fn act(&mut self, alloc: Global, step: &ScriptStep, act: Act) -> Result<(), ScriptError> {
         let replies = self.replies(alloc, step, act)?;
@@ -163,22 +174,6 @@ impl<O: Write + Drop> Run<O> {
 /// A copy of `who` beside `act`. It is generic, since the proof that a request is dropped is long.
 fn named<A: Drop>(who: &SessionId, act: A) -> Result<(SessionId, A), ScriptError> {
     Ok((who.try_copy()?, act))
-}
-
-/// The act of a frame. The line DONE (RFC 2177) is one of its own at any time.
-fn act_of(alloc: Global, frame: &Octets) -> Result<Act, ScriptError> {
-    if frame.as_slice().eq_ignore_ascii_case(b"DONE\r\n") {
-        return Ok(Act::Done);
-    }
-    Ok(Act::Do(parse(alloc, frame)?))
-}
-
-/// The request of a command whose literal was refused before it came.
-fn rejected(tag: Option<Tag>) -> Request {
-    match tag {
-        Some(tag) => Request::TooBig { tag },
-        None => Request::Malformed { tag: None },
-    }
 }
 
 /// Whether the replies open a session.

@@ -1,13 +1,14 @@
 //! The calls of the machine, where they succeed and where they are refused.
 
-use imap_core::{Act, Core, Limits, Moment, SessionId, SessionNumber, Step, World, WorldError};
-use imap_grammar::parse;
-use imap_lex::Octets;
+use imap_core::{Act, Core, Moment, SessionId, SessionNumber, Step};
+use imap_grammar::{Request, parse};
+use imap_lex::{Frame, Octets, Tag};
 use imap_names::{Name, UserName, read_full};
 use imap_print::{Response, print};
-use imap_rights::{Acl, Identifier, RightsChange, read_rights};
+use imap_rights::{Acl, Identifier, read_rights};
+use imap_world::{Effect, Limits, World};
 use std::alloc::Global;
-use std::process::Abort;
+use std::slice;
 use std::test::Fail;
 
 const LIMITS: Limits = Limits {
@@ -21,10 +22,6 @@ fn user(alloc: Global, text: &str) -> Result<UserName, Fail> {
 
 fn name(alloc: Global, text: &[u8]) -> Result<Name, Fail> {
     Ok(read_full(alloc, text)?)
-}
-
-fn rights(text: &[u8]) -> Result<RightsChange, Fail> {
-    Ok(read_rights(text).ok_or("no rights")?)
 }
 
 /// Root's first session.
@@ -57,70 +54,44 @@ fn moments_and_session_numbers_have_ranges(rt: HostRuntime) {
     assert_eq!(rt; greatest.map(SessionNumber::get), Some(4_294_967_295));
 }
 
-fn place(alloc: Global, world: &mut World, text: &[u8]) -> Result<Result<(), WorldError>, Fail> {
-    Ok(world.place(name(alloc, text)?, Acl::new(alloc)))
+/// What the client says with these octets, in a word.
+fn act_word(act: &Option<Act>) -> &'static str {
+    match act {
+        Some(Act::Done) => "done",
+        Some(Act::Do(Request::Command { .. })) => "command",
+        Some(Act::Do(Request::Malformed { .. })) => "malformed",
+        Some(Act::Do(Request::TooBig { .. })) => "too big",
+        Some(_) => "other",
+        None => "nothing",
+    }
 }
 
-fn validity(alloc: Global, world: &World, text: &[u8]) -> Result<Option<u32>, Fail> {
-    let name = name(alloc, text)?;
-    Ok(world.mailbox(&name).map(|mailbox| mailbox.validity))
+fn whole(alloc: Global, octets: &[u8]) -> Result<Frame, Fail> {
+    Ok(Frame::Whole(Octets::from_slice(alloc, octets)?))
 }
 
-fn place_mailboxes(rt: &impl Abort, alloc: Global, world: &mut World) -> Result<(), Fail> {
-    const ROWS: [(&[u8], Result<(), WorldError>); 4] = [
-        (b"Shared/News", Ok(())),
-        (b"Shared/News", Err(WorldError::Taken)),
-        (b"Shared/News/Local", Ok(())),
-        (b"Shared/Gone/Local", Err(WorldError::NoSuch)),
+fn frame_word(alloc: Global, frame: Frame) -> Result<&'static str, Fail> {
+    Ok(act_word(&Act::of_frame(alloc, frame)?))
+}
+
+#[test]
+fn frames_are_acts(rt: HostRuntime) -> Result<(), Fail> {
+    let alloc = rt.alloc();
+    const ROWS: [(&[u8], &str); 4] = [
+        (b"dOnE\r\n", "done"),
+        (b"DONE x\r\n", "malformed"),
+        (b"DONE\n", "malformed"),
+        (b"a1 NOOP\r\n", "command"),
     ];
-    assert_eq!(rt; validity(alloc, world, b"Shared/News")?, None);
-    for &(text, wanted) in &ROWS {
-        assert_eq!(rt; place(alloc, world, text)?, wanted, "{text:?}");
+    for &(octets, wanted) in &ROWS {
+        let frame = whole(alloc, octets)?;
+        assert_eq!(rt; frame_word(alloc, frame)?, wanted, "{octets:?}");
     }
-    assert_eq!(rt; validity(alloc, world, b"Shared/News")?, Some(1));
+    let rejected = Frame::Reject(Tag::read(alloc, b"a1")?);
+    assert_eq!(rt; frame_word(alloc, rejected)?, "too big");
+    assert_eq!(rt; frame_word(alloc, Frame::Reject(None))?, "malformed");
+    assert_eq!(rt; frame_word(alloc, Frame::Continue)?, "nothing");
     Ok(())
-}
-
-#[test]
-fn mailboxes_are_placed(rt: HostRuntime) -> Result<(), Fail> {
-    let mut world = World::new(rt.alloc());
-    place_mailboxes(&rt, rt.alloc(), &mut world)
-}
-
-/// Sets the rights of the identifier on Shared/News.
-fn give(
-    alloc: Global,
-    world: &mut World,
-    identifier: &[u8],
-    letters: &[u8],
-) -> Result<Result<(), WorldError>, Fail> {
-    let identifier = Identifier::read(alloc, identifier)?;
-    let news = name(alloc, b"Shared/News")?;
-    Ok(world.set_acl(&news, identifier, rights(letters)?))
-}
-
-/// Sets 63 entries of the list.
-fn fill_list(rt: &impl Abort, alloc: Global, world: &mut World) -> Result<(), Fail> {
-    for number in 2..=64u8 {
-        let other = [b'u', b'0' + number / 10, b'0' + number % 10];
-        assert_eq!(rt; give(alloc, world, &other, b"+l")?, Ok(()));
-    }
-    Ok(())
-}
-
-fn change_lists(rt: &impl Abort, alloc: Global, world: &mut World) -> Result<(), Fail> {
-    assert_eq!(rt; give(alloc, world, b"bob", b"lr")?, Err(WorldError::NoSuch));
-    assert_eq!(rt; place(alloc, world, b"Shared/News")?, Ok(()));
-    assert_eq!(rt; give(alloc, world, b"bob", b"lr")?, Ok(()));
-    fill_list(rt, alloc, world)?;
-    assert_eq!(rt; give(alloc, world, b"late", b"l")?, Err(WorldError::Limit));
-    Ok(())
-}
-
-#[test]
-fn lists_are_changed(rt: HostRuntime) -> Result<(), Fail> {
-    let mut world = World::new(rt.alloc());
-    change_lists(&rt, rt.alloc(), &mut world)
 }
 
 #[test]
@@ -129,7 +100,8 @@ fn a_host_starts_with_an_inbox_for_each_user(rt: HostRuntime) -> Result<(), Fail
     let root = user(alloc, "root")?;
     let users = vec![in alloc; user(alloc, "ann")?, user(alloc, "ann")?]?;
     let (_core, change) = Core::open(alloc, World::new(alloc), root, &users, LIMITS)?;
-    assert_eq!(rt; change.effects().len(), 2);
+    assert_eq!(rt; change.writes().len(), 2);
+    assert!(rt; !change.is_empty());
     Ok(())
 }
 
@@ -140,13 +112,13 @@ fn opening(alloc: Global) -> Result<Vec<Step>, Fail> {
     Ok(steps)
 }
 
-/// The numbers of replies and of effects that are prepared for the step, and the octets of its replies.
+/// The numbers of replies and of writes that are prepared for the step, and the octets of its replies.
 fn made(alloc: Global, core: &mut Core, step: &Step) -> Result<(usize, usize, Vec<u8>), Fail> {
     let prepared = core.prepare(alloc, step)?;
     let replies = prepared.replies().len();
-    let effects = prepared.change().effects().len();
+    let writes = prepared.change().len();
     let told = core.commit(prepared);
-    Ok((replies, effects, print(alloc, &told)?))
+    Ok((replies, writes, print(alloc, &told)?))
 }
 
 #[test]
@@ -156,8 +128,8 @@ fn a_step_is_prepared_and_committed(rt: HostRuntime) -> Result<(), Fail> {
     let (mut core, _change) = Core::open(alloc, World::new(alloc), root, &[], LIMITS)?;
     let steps = opening(alloc)?;
     for step in steps.iter() {
-        let (replies, effects, octets) = made(alloc, &mut core, step)?;
-        assert_eq!(rt; (replies, effects), (1, 0));
+        let (replies, writes, octets) = made(alloc, &mut core, step)?;
+        assert_eq!(rt; (replies, writes), (1, 0));
         assert!(rt; octets.starts_with(b"* PREAUTH [CAPABILITY IMAP4rev2 "));
     }
     Ok(())
@@ -190,5 +162,79 @@ fn a_run_makes_its_steps_in_order(rt: HostRuntime) -> Result<(), Fail> {
     let said = core.run(alloc, &steps)?;
     let counted = counts(alloc, &said)?;
     assert_eq!(rt; counted.as_slice(), [1, 1, 0, 0].as_slice());
+    Ok(())
+}
+
+/// A world with Shared/News, which all may look up, and with this many names that root subscribed to.
+fn world_with_subscriptions(alloc: Global, count: u32) -> Result<World, Fail> {
+    let mut world = World::new(alloc);
+    let news = name(alloc, b"Shared/News")?;
+    world.place(news.try_copy()?, Acl::new(alloc))?;
+    let rights = read_rights(b"l").ok_or("no rights")?;
+    world.set_acl(&news.as_ref(), Identifier::read(alloc, b"anyone")?, rights)?;
+    for number in 0..count {
+        subscribe(alloc, &mut world, number)?;
+    }
+    Ok(world)
+}
+
+fn subscribe(alloc: Global, world: &mut World, number: u32) -> Result<(), Fail> {
+    let text = format!(in alloc; "Shared/{number}")?;
+    let effect = Effect::Subscribe(user(alloc, "root")?, name(alloc, text.as_bytes())?);
+    let change = world.prepare(alloc, slice::from_ref(&effect))?;
+    world.commit(change);
+    Ok(())
+}
+
+/// What root's open session is answered. A step that is refused for want of memory is made once more.
+fn answered(alloc: Global, core: &mut Core, octets: &[u8]) -> Result<Vec<u8>, Fail> {
+    let step = step(session(alloc)?, command(alloc, octets)?);
+    let replies = match core.prepare(alloc, &step) {
+        Ok(prepared) => core.commit(prepared),
+        Err(_) => {
+            let prepared = core.prepare(alloc, &step)?;
+            core.commit(prepared)
+        }
+    };
+    drop(step);
+    Ok(print(alloc, &replies)?)
+}
+
+/// What root is answered who subscribed to `count` names.
+fn answers_to_subscriber(alloc: Global, count: u32, commands: &[&[u8]]) -> Result<Vec<u8>, Fail> {
+    let world = world_with_subscriptions(alloc, count)?;
+    let root = user(alloc, "root")?;
+    let (mut core, _change) = Core::open(alloc, world, root, &[], LIMITS)?;
+    let _ = core.run(alloc, &opening(alloc)?)?;
+    let mut written = Vec::new(alloc);
+    for octets in commands.iter() {
+        written.extend_from_slice(&answered(alloc, &mut core, *octets)?)?;
+    }
+    Ok(written)
+}
+
+#[test]
+fn a_user_subscribes_to_a_thousand_names(rt: HostRuntime) -> Result<(), Fail> {
+    const COMMANDS: [&[u8]; 5] = [
+        b"a1 SUBSCRIBE Shared/News\r\n",
+        b"a2 SUBSCRIBE Shared/News\r\n",
+        b"a3 SUBSCRIBE INBOX\r\n",
+        b"a4 UNSUBSCRIBE Shared/News\r\n",
+        b"a5 SUBSCRIBE INBOX\r\n",
+    ];
+    const WANTED: [(u32, &[u8]); 2] = [
+        (
+            998,
+            b"a1 OK done\r\na2 OK done\r\na3 OK done\r\na4 OK done\r\na5 OK done\r\n",
+        ),
+        (
+            999,
+            b"a1 OK done\r\na2 OK done\r\na3 NO [LIMIT] limit reached\r\na4 OK done\r\na5 OK done\r\n",
+        ),
+    ];
+    for &(count, wanted) in &WANTED {
+        let written = answers_to_subscriber(rt.alloc(), count, &COMMANDS)?;
+        assert_eq!(rt; written.as_slice(), wanted, "after {count}");
+    }
     Ok(())
 }

@@ -8,8 +8,9 @@ use Rattle.imap_names.specs.Showing.{shown}
 use Rattle.imap_names.specs.declared.error.NameError.{NameError}
 use Rattle.imap_print.specs.declared.response.Response.TheVariants as response
 use Rattle.imap_print.specs.declared.response.Refusal.TheVariants.{NonExistent}
+use Rattle.imap_view.specs.Seen.{Seen}
+use Rattle.imap_view.specs.View.{View}
 use Rattle.imap_core.specs.Outcome.{Outcome, replies_alone, done_line, refusal_of}
-use Rattle.imap_core.specs.View.{View, Seen}
 
 -- MYRIGHTS (section 3.5) of a name, by what the user sees there
 abbrev pub my_rights_of_seen : (user tag : List ℕ) → Name → Option Seen → Outcome
@@ -18,9 +19,9 @@ my_rights_of_seen user tag name (Some seen) =
     replies_alone (response.MyRights (shown user name) (record { 0 = seen.rights }) ∷ done_line tag ∷ [])
 
 -- of a text, by the name that it means to the user
-abbrev pub my_rights_of_read : (user : List ℕ) → View → (tag : List ℕ) → Result Name NameError → Outcome
-my_rights_of_read user view tag (Err error) = refusal_of tag NonExistent
-my_rights_of_read user view tag (Ok name) = my_rights_of_seen user tag name (map.get view.seen name)
+abbrev pub my_rights_of_read : View → (tag : List ℕ) → Result Name NameError → Outcome
+my_rights_of_read view tag (Err error) = refusal_of tag NonExistent
+my_rights_of_read view tag (Ok name) = my_rights_of_seen view.user tag name (map.get view.seen name)
 
-abbrev pub my_rights_outcome : (user : List ℕ) → View → (tag mailbox : List ℕ) → Outcome
-my_rights_outcome user view tag mailbox = my_rights_of_read user view tag (name_read user mailbox)
+abbrev pub my_rights_outcome : View → (tag mailbox : List ℕ) → Outcome
+my_rights_outcome view tag mailbox = my_rights_of_read view tag (name_read view.user mailbox)

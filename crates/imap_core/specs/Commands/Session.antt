@@ -4,7 +4,7 @@ use Rattle.std.specs.Prelude.{ℕ, List, [], ◌∷◌}
 use Rattle.imap_print.specs.declared.response.Response.TheVariants as response
 use Rattle.imap_print.specs.declared.response.Farewell.TheVariants.{LoggingOut}
 use Rattle.imap_print.specs.declared.response.Refusal.TheVariants.{WrongState}
-use Rattle.imap_core.specs.Outcome.{Outcome, replies_alone, last_replies, done_line, refusal_of}
+use Rattle.imap_core.specs.Outcome.{Outcome, replies_alone, last_replies, done_line, done_alone, refusal_of}
 
 -- CAPABILITY
 abbrev pub capability_outcome : (tag : List ℕ) → Outcome
@@ -12,7 +12,7 @@ capability_outcome tag = replies_alone (response.Capability ∷ done_line tag �
 
 -- NOOP
 abbrev pub noop_outcome : (tag : List ℕ) → Outcome
-noop_outcome tag = replies_alone (done_line tag ∷ [])
+noop_outcome tag = done_alone tag
 
 -- LOGOUT
 abbrev pub logout_outcome : (tag : List ℕ) → Outcome

@@ -9,15 +9,15 @@ use Rattle.imap_core.proofs.machine.Core.run.Goals as goal
 
 pub loop-step-preserved : goal.loop-step-preserved
 loop-step-preserved c =
-    let before : State = c.loop-step.self in
-    let after : State = c.commit.new.self in
+    let before : State = c.loop-step.self.state in
+    let after : State = c.commit.new.self.state in
     let made : after ≡ next before c.step-item.result = c.commit.ensures.state ∙ ap (state_after c.in_ok-prepared.prepared) c.prepare.ensures.unchanged ∙ c.in_ok-prepared.ensures.next in
     let cut = this_step c.args.steps.now c.loop-step.step-index c.step-item.result c.loop-step-test.true c.step-item.is in
     let told = told_on before after c.step-item.result made _ (drop (c.loop-step.step-index + 1) c.args.steps.now) cut _ _ _ (c.commit.ensures.replies ∙ c.in_ok-prepared.ensures.replies) c.loop-step.invariant.told in
     record {
       told = ap (λ said. said ++ answers after (drop (c.loop-step.step-index + 1) c.args.steps.now)) (ap (map (λ replies. replies.items)) c.push_reserved.ensures.items ∙ map_push (λ replies. replies.items) c.loop-step.said.items c.commit.result) ∙ told;
       rest = rest_on before after c.step-item.result made _ _ cut _ c.loop-step.invariant.rest;
-      made = made_on c.args.self.now before after c.args.steps.now c.loop-step.step-index c.step-item.result made c.loop-step-test.true c.step-item.is c.loop-step.invariant.made;
+      made = made_on c.args.self.now.state before after c.args.steps.now c.loop-step.step-index c.step-item.result made c.loop-step-test.true c.step-item.is c.loop-step.invariant.made;
       printable = subst (AllByRecursion ArePrintable) (sym c.push_reserved.ensures.items)
           (all-push ArePrintable c.loop-step.said.items c.commit.result c.loop-step.invariant.printable
           (subst (AllByRecursion IsPrintable) (sym c.commit.ensures.replies) c.in_ok-prepared.ensures.printable));

@@ -1,0 +1,81 @@
+-- What holds of one step.
+use Rattle.std.proofs.Common.{◌≡◌, ℕ, Bool, true, false, cond, ◌&&◌, eqb, List, Option, Some, None, refl, sym, ap, subst, ◌∙◌, arith}
+use Rattle.std.specs.Prelude.{option_and_then}
+use Rattle.std.specs.Ordering.{nat_cmp, eq_by_cmp}
+use Rattle.std.specs.Str.{bytes_eq}
+use Rattle.std.proofs.lemmas.Bool.Decides.{nat_tests}
+use Rattle.std.proofs.lemmas.Slice.Eq.{bytes_eq-Decides}
+use Rattle.std.specs.FinMap as map
+use Rattle.std.specs.FinMap.{get-insert, get-remove}
+use Rattle.std.specs.Cmp.{nat_cmp_total}
+use Rattle.imap_world.specs.Effects.{after_all}
+use Rattle.imap_core.specs.declared.sessions.Session.{Session}
+use Rattle.imap_core.specs.declared.sessions.SessionChange.{SessionChange}
+use Rattle.imap_core.specs.declared.sessions.SessionChange.TheVariants as session
+use Rattle.imap_core.specs.Laws.{NeverUnavailable, OtherSessionsStay, RefusalsChangeNothing, StepsAreAlike}
+use Rattle.imap_core.specs.Machine.{accounts_after, effects_of, next, outcome, outcome_for, own_in, view_in}
+use Rattle.imap_core.specs.Sessions.{Own}
+use Rattle.imap_core.proofs.Fitting.{outcome_fits}
+use Rattle.imap_core.proofs.Numbered.{at_number}
+use Rattle.imap_core.proofs.Steps.{own_after, own_after_change, own_in-next, own_in-other, view_in-next, view_next}
+
+pub alike_on : StepsAreAlike
+alike_on s t step alike = (
+  λ i. (outcome_for (alike.views i) (alike.sessions i) step).replies,
+  record {
+    views = view_in-next s step ∙ (λ i. view_next (alike.views i) (alike.sessions i) step) ∙ sym (view_in-next t step);
+    sessions = own_in-next s step ∙ (λ i. own_after (alike.views i) (alike.sessions i) step) ∙ sym (own_in-next t step);
+    sites = alike.sites;
+  },
+)
+
+-- ---- other sessions
+
+abbrev of_number : ℕ → Option Own → Option Session
+of_number number own = option_and_then (λ sessions. map.get sessions number) own
+
+other_way : (m n : ℕ) → eqb m n ≡ eqb n m
+other_way m n = grind (arith, nat_tests)
+
+apart_from : (changed number : ℕ) → eqb changed number ≡ false → eq_by_cmp nat_cmp number changed ≡ false
+apart_from changed number apart = at_number number changed ∙ other_way number changed ∙ apart
+
+other_number : (own : Option Own) (changed number : ℕ) (change : SessionChange) → eqb changed number ≡ false → of_number number (own_after_change own changed change) ≡ of_number number own
+other_number None changed number change apart = refl
+other_number (Some own) changed number session.Keep apart = refl
+other_number (Some own) changed number (session.Put fresh) apart =
+    get-insert nat_cmp_total own changed fresh number ∙ ap (λ b. cond b (Some fresh) (map.get own number)) (apart_from changed number apart)
+other_number (Some own) changed number session.End apart =
+    get-remove nat_cmp_total own changed number ∙ ap (λ b. cond b None (map.get own number)) (apart_from changed number apart)
+
+pub others_stay : OtherSessionsStay
+others_stay state step user number apart = by (bytes_eq step.who.user user) refl
+  where
+    Stays : List ℕ → Type 0
+    Stays user = of_number number (own_in (next state step) user) ≡ of_number number (own_in state user)
+
+    of_same : (b : Bool) → b ≡ true → (b && eqb step.who.number number) ≡ false → eqb step.who.number number ≡ false
+    of_same true e h = h
+    of_same false e h = absurd (cc e)
+
+    same_user : eqb step.who.number number ≡ false → Stays step.who.user
+    same_user other = ap (of_number number) (own_in-next state step)
+        ∙ other_number (own_in state step.who.user) step.who.number number (outcome state step).session other
+
+    by : (b : Bool) → bytes_eq step.who.user user ≡ b → Stays user
+    by true e = subst Stays ((bytes_eq-Decides step.who.user user).0 e) (same_user (of_same (bytes_eq step.who.user user) e apart))
+    by false e = ap (of_number number) (own_in-other state step user e)
+
+-- ---- refusals
+
+pub refusals_change : RefusalsChangeNothing
+refusals_change state step refused =
+    let idle = (outcome_fits (view_in state step.who.user) (own_in state step.who.user) step).refused refused in
+    λ i. record {
+      site = state.site;
+      world = after_all (effects_of (idle.effect i)) state.world;
+      accounts = accounts_after state.accounts step.who (idle.session i);
+    }
+
+pub available : NeverUnavailable
+available state step = (outcome_fits (view_in state step.who.user) (own_in state step.who.user) step).available

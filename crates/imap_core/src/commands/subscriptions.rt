@@ -1,0 +1,89 @@
+//! Subscriptions (RFC 9051, sections 6.3.7 and 6.3.8).
+
+ghost use Rattle.std.specs.Prelude.{◌≡◌, IfOk};
+ghost use Rattle.std.specs.FinMap as map;
+ghost use Rattle.imap_core.specs.Commands.Subscriptions as specs;
+ghost use Rattle.imap_core.specs.Planned.{Plans};
+
+use crate::plan::Plan;
+use imap_lex::{Octets, Tag};
+use imap_names::{Name, NameError, read_name};
+use imap_print::Refusal;
+use imap_rights::Rights;
+use imap_view::View;
+use imap_world::Effect;
+use std::alloc::{AllocError, Global};
+
+/// The most names that a user may have subscribed to.
+const MAX_SUBSCRIPTIONS: usize = 1000;
+
+pub(super) fn subscribe_plan(
+    alloc: Global,
+    view: &View<'_>,
+    tag: &Tag,
+    mailbox: &Octets,
+) -> Result<Plan, AllocError>
+    ensures { IfOk result (λ plan. Plans plan (specs.subscribe_outcome view.now tag.now mailbox.now)) }
+{
+    match read_name(alloc, view.user(), mailbox.as_slice()) {
+        Ok(name) => subscribe_to(alloc, view, tag, name),
+        Err(NameError::Memory) => Err(AllocError),
+        Err(_) => Plan::refusal(alloc, tag, Refusal::NonExistent),
+    }
+}
+
+fn subscribe_to(alloc: Global, view: &View<'_>, tag: &Tag, name: Name) -> Result<Plan, AllocError>
+    ensures { IfOk result (λ plan. Plans plan (specs.subscribe_of_name view.now tag.now name)) }
+{
+    if !is_listed(view, &name) {
+        return Plan::refusal(alloc, tag, Refusal::NonExistent);
+    }
+    if view.is_subscribed(&name.as_ref()) {
+        return Plan::done(alloc, tag);
+    }
+    if view.count_subscribed() >= MAX_SUBSCRIPTIONS {
+        return Plan::refusal(alloc, tag, Refusal::Limit);
+    }
+    let user = view.user().try_copy()?;
+    Plan::done_with(alloc, tag, Effect::Subscribe(user, name))
+}
+
+/// Whether the user holds `l` on the mailbox (RFC 4314, section 4).
+fn is_listed(view: &View<'_>, name: &Name) -> bool
+    ensures { result ≡ specs.is_listed (map.get view.now.seen name.now) }
+{
+    match view.seen(&name.as_ref()) {
+        Some(seen) => seen.rights().has_any(Rights::LOOKUP),
+        None => false,
+    }
+}
+
+pub(super) fn unsubscribe_plan(
+    alloc: Global,
+    view: &View<'_>,
+    tag: &Tag,
+    mailbox: &Octets,
+) -> Result<Plan, AllocError>
+    ensures { IfOk result (λ plan. Plans plan (specs.unsubscribe_outcome view.now tag.now mailbox.now)) }
+{
+    match read_name(alloc, view.user(), mailbox.as_slice()) {
+        Ok(name) => unsubscribe_from(alloc, view, tag, name),
+        Err(NameError::Memory) => Err(AllocError),
+        Err(_) => Plan::refusal(alloc, tag, Refusal::NonExistent),
+    }
+}
+
+fn unsubscribe_from(
+    alloc: Global,
+    view: &View<'_>,
+    tag: &Tag,
+    name: Name,
+) -> Result<Plan, AllocError>
+    ensures { IfOk result (λ plan. Plans plan (specs.unsubscribe_of_name view.now tag.now name)) }
+{
+    if !view.is_subscribed(&name.as_ref()) {
+        return Plan::done(alloc, tag);
+    }
+    let user = view.user().try_copy()?;
+    Plan::done_with(alloc, tag, Effect::Unsubscribe(user, name))
+}

@@ -1,0 +1,42 @@
+//! What steps ask of the mailboxes.
+
+ghost use Rattle.std.specs.Prelude.{◌≡◌, Ok, IfOk};
+ghost use Rattle.imap_world.specs.Effects.{after_all, writes_of};
+ghost use Rattle.imap_world.specs.Ready.{IsReady};
+ghost use Rattle.imap_world.specs.Stored.{world_of};
+
+use imap_world::{Change, Effect, World};
+use std::alloc::{AllocError, Global};
+
+/// Finds the values to be written for the effects, and makes room for them. Each effect can be made as far as the
+/// protocol's limits go, so that only memory can run out.
+pub(crate) fn resolved(
+    alloc: Global,
+    world: &mut World,
+    effects: &[Effect],
+) -> Result<Change, AllocError>
+    ensures unchanged { world_of world.new ≡ world_of world.old }
+    ensures change { IfOk result (λ change. writes_of effects.now (world_of world.old) ≡ Ok change) }
+    ensures ready { IfOk result (λ change. IsReady change world.new) }
+{
+    match world.prepare(alloc, effects) {
+        Ok(change) => Ok(change),
+        Err(_) => Err(AllocError),
+    }
+}
+
+/// Makes the effects, and returns a copy of what was written.
+pub(crate) fn with_effects(
+    alloc: Global,
+    world: World,
+    effects: &[Effect],
+) -> Result<(World, Change), AllocError>
+    ensures world { IfOk result (λ made. world_of made.0 ≡ after_all effects.now (world_of world)) }
+    ensures change { IfOk result (λ made. writes_of effects.now (world_of world) ≡ Ok made.1) }
+{
+    let mut world = world;
+    let change = resolved(alloc, &mut world, effects)?;
+    let copy = change.try_copy(alloc)?;
+    world.commit(change);
+    Ok((world, copy))
+}
