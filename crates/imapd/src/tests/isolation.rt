@@ -21,7 +21,9 @@ fn run_of_bob(alloc: Global, mailboxes: &str, others: &str) -> Result<String, Al
         "admin root\nuser ann\nuser bob\nmailbox Shared/News\nacl anyone lr\n{mailboxes}\
         {others}bob.1 open\nbob.1 < b1 MYRIGHTS Shared/News\n{others}\
         bob.1 < b2 MYRIGHTS \"Other Users/ann/Work\"\nbob.2 open\n{others}\
-        bob.2 < b3 MYRIGHTS Shared/Staff\nbob.1 < b4 LOGOUT\n"
+        bob.2 < b3 MYRIGHTS Shared/Staff\nbob.1 < b4 SUBSCRIBE Shared/Staff\n\
+        {others}bob.1 < b5 SUBSCRIBE Shared/News\nbob.2 < b6 UNSUBSCRIBE Shared/News\n\
+        bob.1 < b7 LOGOUT\n"
     )
 }
 
@@ -29,16 +31,18 @@ fn run_of_bob(alloc: Global, mailboxes: &str, others: &str) -> Result<String, Al
 const HIDDEN: &str = "mailbox Other Users/ann/Work\nacl ann lrswipkxtea\n\
     mailbox Shared/Staff\nacl bob pst\nacl anyone lr\nacl -bob lr\n";
 
-/// Steps of others, which open, ask and leave.
+/// Steps of others, which open, ask, subscribe and leave.
 const OTHERS: &str = "ann.1 open\nann.1 < a1 MYRIGHTS Work\nroot.7 open\n\
-    root.7 < r1 MYRIGHTS Shared/Staff\nann.1 < a2 LOGOUT\nzed.1 open\nroot.7 leave\nann.2 open\n";
+    root.7 < r1 MYRIGHTS Shared/Staff\nroot.7 < r2 SUBSCRIBE Shared/Staff\n\
+    ann.1 < a2 SUBSCRIBE Shared/News\nann.1 < a3 UNSUBSCRIBE Shared/Staff\n\
+    ann.1 < a4 LOGOUT\nzed.1 open\nroot.7 leave\nann.2 open\n";
 
 #[test]
 fn what_is_hidden_leaves_no_trace(rt: HostRuntime) -> Result<(), Fail> {
     let plain = transcript(&rt, run_of_bob(rt.alloc(), "", "")?.as_bytes())?;
     let hidden = transcript(&rt, run_of_bob(rt.alloc(), HIDDEN, "")?.as_bytes())?;
     let told = told_to_bob(rt.alloc(), &plain)?;
-    assert!(rt; told.ends_with(b"bob.1 > b4 OK done\n"));
+    assert!(rt; told.ends_with(b"bob.1 > b7 OK done\n"));
     assert_eq!(rt;
         told_to_bob(rt.alloc(), &hidden)?.as_slice(),
         told.as_slice()
