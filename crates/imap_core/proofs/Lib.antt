@@ -6,5 +6,6 @@ pub mod Printable
 pub mod Replay
 pub mod Runs
 pub mod Sameness
+pub mod Starting
 pub mod StepLaws
 pub mod Steps

@@ -9,5 +9,6 @@ pub mod Planned
 pub mod Reply
 pub mod Same
 pub mod Sessions
+pub mod Starting
 pub mod Step
 pub mod Trace

@@ -1,6 +1,7 @@
-//! What holds of every step and of every run.
+//! What holds at the start, of every step and of every run.
 
 ghost use Rattle.imap_core.specs.Laws.{NeverUnavailable, OtherSessionsStay, RefusalsChangeNothing, StepsAreAlike};
+ghost use Rattle.imap_core.specs.Starting.{StartsWithInboxes};
 ghost use Rattle.imap_core.specs.Trace.{EqualViewsAreSame, Isolation};
 
 /// To each user, any two runs that begin alike and have one trace for that user send the same octets.
@@ -32,4 +33,10 @@ pub fn refusals_change_nothing()
 /// No step is answered UNAVAILABLE (RFC 5530).
 pub fn never_unavailable()
     ensures { NeverUnavailable }
+{}
+
+/// A host starts with the mailboxes and subscriptions that it is given, a new INBOX for each user who lacks one while
+/// a UIDVALIDITY is left (RFC 9051, section 5.1), and no open session. It knows the administrator and the users only.
+pub fn starts_with_inboxes()
+    ensures { StartsWithInboxes }
 {}

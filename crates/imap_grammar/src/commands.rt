@@ -4,6 +4,7 @@ pub(crate) mod append;
 pub(crate) mod argument;
 pub(crate) mod enable;
 pub(crate) mod list;
+mod list_copy;
 pub(crate) mod login;
 pub(crate) mod mailboxes;
 pub(crate) mod messages;

@@ -10,6 +10,8 @@
 #![tactic(auto)]
 
 mod command;
+mod command_copy;
+mod command_same;
 mod commands;
 pub mod laws;
 mod reading;

@@ -3,6 +3,7 @@
 ghost use Rattle.std.specs.Prelude.{◌≡◌, ◌≤◌, length, slice_range, IfOk, IfErr};
 
 use bytes::Bytes;
+use imap_values::{Same, TryCopy};
 use std::alloc::{AllocError, AllocFailed, Global};
 use std::marker::Model;
 
@@ -63,5 +64,18 @@ impl Octets {
         ensures { IfOk result (λ copy. copy ≡ self.now) }
     {
         Ok(Octets(self.0.clone()?))
+    }
+}
+
+impl TryCopy for Octets {
+    /// Returns the same octets, without copying them.
+    fn try_copy(&self, _alloc: Global) -> Result<Octets, AllocError> {
+        self.try_copy()
+    }
+}
+
+impl Same for Octets {
+    fn is_same(&self, other: &Octets) -> bool {
+        self.as_slice() == other.as_slice()
     }
 }

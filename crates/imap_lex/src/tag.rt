@@ -6,13 +6,17 @@ ghost use Rattle.imap_lex.specs.Chars.{is_tag_char};
 ghost use Rattle.imap_lex.specs.CommandTag.{is_tag, IsTag, tag_read, tag_of, ends_word};
 
 use crate::chars::{TagChar, is_tag_char, leading};
+use crate::octets::Octets;
+use imap_values::{Same, TryCopy};
 use std::alloc::{AllocError, Global};
 use std::marker::Model;
 
 /// The word with which a client begins a command and the server its answer (RFC 9051, section 9, `tag`): one tag
 /// character or more.
+///
+/// A copy shares the octets.
 #[derive(Debug, Drop)]
-pub struct Tag(Vec<u8>);
+pub struct Tag(Octets);
 
 impl Model for Tag {
     ghost use Rattle.std.specs.Prelude.{ℕ, List};
@@ -22,9 +26,9 @@ impl Model for Tag {
 
     ghost Value = { List ℕ };
 
-    ghost view = { λ t. t.0.items };
+    ghost view = { λ t. t.0 };
 
-    ghost invariant = { λ t. IsTag t.0.items };
+    ghost invariant = { λ t. IsTag t.0 };
 }
 
 impl Tag {
@@ -36,7 +40,7 @@ impl Tag {
         if !is_tag(octets) {
             return Ok(None);
         }
-        Ok(Some(Tag(Vec::from_slice(alloc, octets)?)))
+        Ok(Some(Tag(Octets::from_slice(alloc, octets)?)))
     }
 
     /// Returns the tag with which the octets of a command begin, a space or CRLF after it, or `None` if there is none.
@@ -48,7 +52,7 @@ impl Tag {
         if tag.is_empty() || !ends_word(rest) {
             return Ok(None);
         }
-        Ok(Some(Tag(Vec::from_slice(alloc, tag)?)))
+        Ok(Some(Tag(Octets::from_slice(alloc, tag)?)))
     }
 
     pub fn as_slice(&self) -> &[u8]
@@ -58,12 +62,24 @@ impl Tag {
         self.0.as_slice()
     }
 
-    /// Returns a copy.
-    pub fn try_copy(&self, alloc: Global) -> Result<Tag, AllocError>
+    /// Returns a copy, without copying the octets. It takes no memory from `alloc`.
+    pub fn try_copy(&self, _alloc: Global) -> Result<Tag, AllocError>
         ensures copy { IfOk result (λ copy. copy ≡ self.now) }
         ensures valid { IsTag self.now }
     {
-        Ok(Tag(Vec::from_slice(alloc, self.as_slice())?))
+        Ok(Tag(self.0.try_copy()?))
+    }
+}
+
+impl TryCopy for Tag {
+    fn try_copy(&self, alloc: Global) -> Result<Tag, AllocError> {
+        self.try_copy(alloc)
+    }
+}
+
+impl Same for Tag {
+    fn is_same(&self, other: &Tag) -> bool {
+        self.0.is_same(&other.0)
     }
 }
 

@@ -1,17 +1,18 @@
 -- The entries of a name and of all names below it.
-use Rattle.std.proofs.Common.{◌≡◌, ℕ, zero, suc, ◌-◌, ◌<◌, ◌≤◌, List, [], ◌∷◌, ◌++◌, Bool, true, false, cond, not, IsTrue, None, length, drop, take, get_or, reverse, Less, refl, sym, ap, subst, ◌∙◌, arith}
+use Rattle.std.proofs.Common.{◌≡◌, ℕ, zero, suc, ◌-◌, ◌<◌, ◌≤◌, List, [], ◌∷◌, ◌++◌, Bool, true, false, cond, not, IsTrue, None, length, drop, take, get_or, reverse, Ordering, Less, Equal, Greater, refl, sym, ap, subst, ◌∙◌, arith}
 use Rattle.std.specs.Prelude.{◌↔◌, ◌||◌, ◌&&◌, nat_lt}
+use Rattle.std.specs.Ordering.{is_lt}
 use Rattle.std.specs.List.{list_any, list_all, Contains}
 use Rattle.std.proofs.lemmas.Bool.{and_parts, and_from, false_from_ne_true}
 use Rattle.std.specs.FinMap as fin
 use Rattle.std.specs.FinMap.{get-entries}
-use Rattle.std.specs.FinMap.Entries.{find, is_sorted, where_key, find-where_key}
+use Rattle.std.specs.FinMap.Entries.{find, below_all, is_sorted, where_key, find-where_key}
 use Rattle.imap_names.specs.Name.{Name, IsAbove}
 use Rattle.imap_names.specs.Order.{Names, path_cmp, name_cmp, run_cmp, is_within, is_below}
 use Rattle.imap_names.proofs.OrderLaws.{name_total, name_antisymmetric, run_apart, below_from_within, is_below-IsAbove, name_cmp-above}
 use Rattle.imap_names.proofs.AboveLaws.{IsAbove-self}
 use Rattle.imap_name_map.specs.Cuts.{before, up_to}
-use Rattle.imap_name_map.specs.Rows.{entries_within, run_of}
+use Rattle.imap_name_map.specs.Rows.{entries_within, entries_below, run_of}
 use Rattle.imap_name_map.proofs.Cuts.{holds, run_is, before-le-up_to, rising}
 
 -- ---- their places
@@ -70,6 +71,15 @@ second_passes : (a b c : Bool) → b ≡ true → (a || (b || c)) ≡ true
 second_passes true b c h = refl
 second_passes false b c h = ap (λ z. z || c) h
 
+less : (r : Ordering) → is_lt r ≡ true → r ≡ Less
+less Less e = refl
+less Equal e = absurd (grind arith)
+less Greater e = absurd (grind arith)
+
+turned : {A : Type 0} (b : Bool) (x y : A) → cond (not b) x y ≡ cond b y x
+turned true x y = refl
+turned false x y = refl
+
 module _ {X : Type 0} (top : Name) where
   abbrev pub any_below : List (Name × X) → Bool
   any_below = list_any (λ e. is_below top e.0)
@@ -116,6 +126,38 @@ module _ {X : Type 0} (top : Name) where
       ∙ later_below top e.0 last.0 first here behind
       ∙ sym (second_passes (is_below top e.0) (is_below top f.0) (any_below more)
       (later_below top e.0 f.0 first next (rising name_cmp (e ∷ f ∷ more) 0 1 last (holds sorted) (omega arith) (omega arith))))
+
+  -- ---- a run without its top
+
+  -- all entries of a run after its first one are below its top
+  later_entries : (e : Name × X) (es : List (Name × X)) → below_all name_cmp e.0 es ≡ true → is_within top e.0 ≡ true → all_within es ≡ true → entries_below top es ≡ es
+  later_entries e [] later first within = refl
+  later_entries e (f ∷ es) later first within =
+      let here : is_below top f.0 ≡ true = later_below top e.0 f.0 first (and_parts _ _ within).0 (less _ (and_parts _ _ later).0) in
+      ap (λ b. cond b (f ∷ entries_below top es) (entries_below top es)) here
+      ∙ ap (λ rest. f ∷ rest) (later_entries e es (and_parts _ _ later).1 first (and_parts _ _ within).1)
+
+  without_first : (e : Name × X) (es : List (Name × X)) (same : Bool) → IsTrue (is_sorted name_cmp (e ∷ es)) → all_within (e ∷ es) ≡ true → (same ≡ true) ↔ (e.0 ≡ top) → entries_below top (e ∷ es) ≡ cond same es (e ∷ es)
+  without_first e es same sorted within decides =
+      let first : is_within top e.0 ≡ true = (and_parts _ _ within).0 in
+      let rest : entries_below top es ≡ es = later_entries e es (and_parts _ _ sorted).0 first (and_parts _ _ within).1 in
+      ap (λ b. cond b (e ∷ entries_below top es) (entries_below top es)) (below_unless_top top e.0 first same decides)
+      ∙ ap (λ l. cond (not same) (e ∷ l) l) rest ∙ turned same (e ∷ es) es
+
+  pub without_split : (es : List (Name × X)) (e : Name × X) (others : List (Name × X)) (n : Name) (same : Bool) → es ≡ e ∷ others → n ≡ e.0 → IsTrue (is_sorted name_cmp es) → all_within es ≡ true → (same ≡ true) ↔ (n ≡ top) → entries_below top es ≡ cond same others es
+  without_split es e others n same is name sorted within decides =
+      ap (entries_below top) is
+      ∙ without_first e others same (subst (λ l. IsTrue (is_sorted name_cmp l)) is sorted) (subst (λ l. all_within l ≡ true) is within) (subst (λ m. (same ≡ true) ↔ (m ≡ top)) name decides)
+      ∙ ap (cond same others) (sym is)
+
+  -- a name below the top is within the run
+  pub below_within : (es : List (Name × X)) → entries_below top (entries_within top es) ≡ entries_below top es
+  below_within [] = refl
+  below_within (e ∷ es) = by (is_within top e.0) refl (below_within es)
+    where
+      by : (b : Bool) → is_within top e.0 ≡ b → entries_below top (entries_within top es) ≡ entries_below top es → entries_below top (cond b (e ∷ entries_within top es) (entries_within top es)) ≡ cond (is_below top e.0) (e ∷ entries_below top es) (entries_below top es)
+      by true h rest = ap (λ l. cond (is_below top e.0) (e ∷ l) l) rest
+      by false h rest = rest ∙ sym (ap (λ b. cond (b && nat_lt (length top) (length e.0)) (e ∷ entries_below top es) (entries_below top es)) h)
 
 -- ---- laws of runs
 

@@ -28,6 +28,14 @@ entries_within top entries = where_key name_cmp (is_within top) entries
 abbrev pub run_of : {X : Type 0} → Name → Names X → List (Name × X)
 run_of top map = entries_within top (fin.entries map)
 
+-- of a list of entries those whose names are below `top`, in their order
+abbrev pub entries_below : {X : Type 0} → Name → List (Name × X) → List (Name × X)
+entries_below top entries = where_key name_cmp (is_below top) entries
+
+-- the entries of all names below `top`, in the order of the names
+abbrev pub below_of : {X : Type 0} → Name → Names X → List (Name × X)
+below_of top map = entries_below top (fin.entries map)
+
 -- whether there is a name below `top`
 abbrev pub has_below : {X : Type 0} → Name → Names X → Bool
 has_below top map = list_any (λ e. is_below top e.0) (fin.entries map)

@@ -1,34 +1,25 @@
-//! Copies of values.
+//! Copies of entries.
+
 ghost use Rattle.std.specs.Prelude.{◌≡◌, IfOk};
+ghost use Rattle.std.specs.Vec.{vec_capacity};
 
 use imap_names::Name;
+use imap_values::TryCopy;
 use std::alloc::{AllocError, Global};
 
-/// A value of which equal copies can be made.
-pub trait TryCopy {
-    /// Returns an equal copy.
-    fn try_copy(&self, alloc: Global) -> Result<Self, AllocError>
-        ensures { IfOk result (λ copy. copy ≡ self.now) };
-}
-
-impl TryCopy for u32 {
-    fn try_copy(&self, _alloc: Global) -> Result<u32, AllocError> {
-        Ok(*self)
-    }
-}
-
-/// Equal copies of the entries. They share the texts of the names.
+/// An equal copy of the entries, with the same capacity. It shares the texts of the names.
 pub(crate) fn copy_entries<V: TryCopy + Drop>(
     alloc: Global,
-    entries: &[(Name, V)],
+    entries: &Vec<(Name, V)>,
 ) -> Result<Vec<(Name, V)>, AllocError>
-    ensures { IfOk result (λ copy. copy.items ≡ entries.now) }
+    ensures items { IfOk result (λ copy. copy.items ≡ entries.now.items) }
+    ensures capacity { IfOk result (λ copy. vec_capacity copy ≡ vec_capacity entries.now) }
 {
-    let mut copy = Vec::new(alloc);
+    let mut copy = Vec::with_capacity(alloc, entries.capacity())?;
     for (name, value) in entries {
         let name = name.try_copy()?;
         let value = value.try_copy(alloc)?;
-        copy.push((name, value))?;
+        copy.push_reserved((name, value));
     }
     Ok(copy)
 }

@@ -9,5 +9,4 @@ mod moves;
 pub mod name_map;
 mod places;
 
-pub use copies::TryCopy;
 pub use name_map::NameMap;

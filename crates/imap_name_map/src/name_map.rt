@@ -4,14 +4,15 @@ ghost use Rattle.std.specs.Borrow.{sem, LendsSo};
 ghost use Rattle.std.specs.FinMap as fin;
 ghost use Rattle.std.specs.Option.{option_copied_mut};
 ghost use Rattle.imap_name_map.specs.Renaming.{moved_names, renamed};
-ghost use Rattle.imap_name_map.specs.Rows.{with_value, run_of, has_below};
+ghost use Rattle.imap_name_map.specs.Rows.{with_value, run_of, below_of, has_below};
 ghost use Rattle.imap_name_map.specs.contracts.name_map.NameMap.{the_row};
 
-use crate::copies::{TryCopy, copy_entries};
+use crate::copies::copy_entries;
 use crate::edits::{put_entry, remove_entry};
 use crate::moves::rename_in;
-use crate::places::{end_of, ends_below, find_in, part_of, place_or_end, start_of};
+use crate::places::{end_of, ends_below, find_in, part_of, place_or_end, start_of, without_top};
 use imap_names::{Name, NameRef};
+use imap_values::TryCopy;
 use std::alloc::{AllocError, Global};
 use std::marker::Model;
 
@@ -132,6 +133,13 @@ impl<V> NameMap<V> {
         part_of(self.entries(), start, end)
     }
 
+    /// The names below `top`, with their values, in the order of the names.
+    pub fn entries_below(&self, top: &NameRef<'_>) -> &[(Name, V)]
+        ensures { result.now ≡ below_of top.now self.now.map }
+    {
+        without_top(self.run_entries(top), top)
+    }
+
     /// Whether there is a name below `top`.
     pub fn has_below(&self, top: &NameRef<'_>) -> bool
         ensures { result ≡ has_below top.now self.now.map }
@@ -176,11 +184,17 @@ impl<V: Drop> NameMap<V> {
 }
 
 impl<V: TryCopy + Drop> NameMap<V> {
-    /// Returns an equal copy.
+    /// Returns an equal copy, with the same room.
     pub fn try_copy(&self, alloc: Global) -> Result<NameMap<V>, AllocError>
-        ensures { IfOk result (λ copy. copy.map ≡ self.now.map) }
+        ensures { IfOk result (λ copy. copy ≡ self.now) }
     {
-        let entries = copy_entries(alloc, self.entries())?;
+        let entries = copy_entries(alloc, &self.entries)?;
         Ok(NameMap { entries })
+    }
+}
+
+impl<V: TryCopy + Drop> TryCopy for NameMap<V> {
+    fn try_copy(&self, alloc: Global) -> Result<NameMap<V>, AllocError> {
+        NameMap::try_copy(self, alloc)
     }
 }

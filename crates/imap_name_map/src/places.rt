@@ -5,6 +5,7 @@ ghost use Rattle.std.specs.List.{list_all, list_any};
 ghost use Rattle.std.specs.Ordering.{is_lt, is_le};
 ghost use Rattle.imap_names.specs.Order.{name_cmp, run_cmp, is_within, is_below};
 ghost use Rattle.imap_name_map.specs.Cuts.{before, up_to, IsAt, IsPlace, IsGap};
+ghost use Rattle.imap_name_map.specs.Rows.{entries_below};
 
 use imap_names::{Name, NameRef};
 
@@ -97,6 +98,24 @@ pub(crate) fn part_of<V>(entries: &[(Name, V)], start: usize, end: usize) -> &[(
     ensures { result.now ≡ drop start (take end entries.now) }
 {
     &entries[start..end]
+}
+
+/// The entries but for that of `top`. All of them are of `top` or of names below it.
+pub(crate) fn without_top<'a, V>(entries: &'a [(Name, V)], top: &NameRef<'_>) -> &'a [(Name, V)]
+    requires sorted { IsTrue (is_sorted name_cmp entries.now) }
+    requires run { list_all (λ e. is_within top.now e.0) entries.now ≡ true }
+    ensures { result.now ≡ entries_below top.now entries.now }
+{
+    match entries.split_first() {
+        Some((first, others)) => {
+            if first.0.as_ref().is_same(top) {
+                others
+            } else {
+                entries
+            }
+        }
+        None => entries,
+    }
 }
 
 /// Whether there is a name below `top`. All the entries are of `top` or of names below it.

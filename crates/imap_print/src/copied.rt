@@ -1,6 +1,8 @@
 //! The UIDs of messages that were copied.
 
 use crate::numbering::NumberSet;
+use imap_values::{Same, TryCopy};
+use std::alloc::{AllocError, Global};
 
 /// The UIDs of messages that were copied or moved (RFC 9051, section 7.1, of COPYUID).
 #[derive(Debug, Drop)]
@@ -11,4 +13,22 @@ pub struct CopiedUids {
     pub source: NumberSet,
     /// The UIDs of the copies, in the same order.
     pub target: NumberSet,
+}
+
+impl TryCopy for CopiedUids {
+    fn try_copy(&self, alloc: Global) -> Result<CopiedUids, AllocError> {
+        Ok(CopiedUids {
+            validity: self.validity,
+            source: self.source.try_copy(alloc)?,
+            target: self.target.try_copy(alloc)?,
+        })
+    }
+}
+
+impl Same for CopiedUids {
+    fn is_same(&self, other: &CopiedUids) -> bool {
+        self.validity == other.validity
+            && self.source.is_same(&other.source)
+            && self.target.is_same(&other.target)
+    }
 }

@@ -4,6 +4,8 @@ use crate::flag::FlagSet;
 use imap_lex::Octets;
 use imap_query::Section;
 use imap_syntax::{DateTime, Items};
+use imap_values::{Same, TryCopy, same_five};
+use std::alloc::{AllocError, Global};
 
 /// The octets of a part of a message.
 #[derive(Debug, Drop)]
@@ -25,4 +27,54 @@ pub struct FetchedItems {
     /// RFC 7162, section 3.1.
     pub mod_seq: Option<u64>,
     pub sections: Items<FetchedSection>,
+}
+
+impl TryCopy for FetchedSection {
+    fn try_copy(&self, alloc: Global) -> Result<FetchedSection, AllocError> {
+        Ok(FetchedSection {
+            section: self.section.try_copy(alloc)?,
+            origin: self.origin,
+            octets: self.octets.try_copy()?,
+        })
+    }
+}
+
+impl Same for FetchedSection {
+    fn is_same(&self, other: &FetchedSection) -> bool {
+        self.section.is_same(&other.section)
+            && self.origin == other.origin
+            && self.octets.is_same(&other.octets)
+    }
+}
+
+impl TryCopy for FetchedItems {
+    fn try_copy(&self, alloc: Global) -> Result<FetchedItems, AllocError> {
+        let flags = self.flags.try_copy(alloc)?;
+        let sections = self.sections.try_copy(alloc)?;
+        Ok(FetchedItems {
+            uid: self.uid,
+            flags,
+            internal_date: self.internal_date,
+            size: self.size,
+            mod_seq: self.mod_seq,
+            sections,
+        })
+    }
+}
+
+impl Same for FetchedItems {
+    fn is_same(&self, other: &FetchedItems) -> bool {
+        same_five(
+            &self.uid,
+            &other.uid,
+            &self.flags,
+            &other.flags,
+            &self.internal_date,
+            &other.internal_date,
+            &self.size,
+            &other.size,
+            &self.mod_seq,
+            &other.mod_seq,
+        ) && self.sections.is_same(&other.sections)
+    }
 }

@@ -15,6 +15,8 @@ mod list;
 mod numbering;
 mod printing;
 mod response;
+mod response_copy;
+mod response_same;
 mod search;
 mod status;
 

@@ -1,5 +1,7 @@
 //! The attributes of a mailbox name.
 
+use imap_values::Same;
+
 /// Whether there are names below a name.
 #[derive(Clone, Copy, Debug, PartialEq, Eq)]
 pub enum Children {
@@ -15,4 +17,10 @@ pub struct ListAttributes {
     pub non_existent: bool,
     pub children: Children,
     pub subscribed: bool,
+}
+
+impl Same for ListAttributes {
+    fn is_same(&self, other: &ListAttributes) -> bool {
+        self == other
+    }
 }

@@ -3,6 +3,7 @@
 ghost use Rattle.std.specs.Prelude.{◌≡◌, true, false, IfOk};
 ghost use Rattle.imap_print.specs.Sets.{IsNumberSet, rise_above, set_of};
 
+use imap_values::{Same, TryCopy};
 use std::alloc::{AllocError, Global};
 use std::marker::Model;
 
@@ -50,6 +51,18 @@ impl NumberSet {
     {
         let numbers = Vec::from_slice(alloc, self.numbers.as_slice())?;
         Ok(NumberSet { numbers })
+    }
+}
+
+impl TryCopy for NumberSet {
+    fn try_copy(&self, alloc: Global) -> Result<NumberSet, AllocError> {
+        self.try_copy(alloc)
+    }
+}
+
+impl Same for NumberSet {
+    fn is_same(&self, other: &NumberSet) -> bool {
+        self.as_slice() == other.as_slice()
     }
 }
 

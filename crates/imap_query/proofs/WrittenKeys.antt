@@ -1,5 +1,5 @@
 -- Tokens and the keys that they are; keys as contracts see them, and as code holds them.
-use Rattle.std.proofs.Common.{rules, Vec, Global, ◌≡◌, Bool, false, not, eqb, ◌&&◌, List, [], ◌∷◌, length, map, Option, Some, None, refl, ap, ◌∙◌, arith}
+use Rattle.std.proofs.Common.{rules, Vec, Global, ◌≡◌, Bool, false, not, eqb, ◌&&◌, List, [], ◌∷◌, length, map, Option, Some, None, refl, sym, ap, ◌∙◌, arith}
 use Rattle.std.specs.List.{list_all}
 use Rattle.std.specs.Option.{option_and_then}
 use Rattle.std.proofs.lemmas.Option.{same_Some}
@@ -27,6 +27,9 @@ mutual
 pub keys_from-all : (ks : List Key) → keys_from (all_tokens ks) ≡ Some ks
 keys_from-all [] = refl
 keys_from-all (k ∷ ks) = from-key k (all_tokens ks) ks (keys_from-all ks)
+
+pub same_tokens : (ks ls : List Key) → all_tokens ks ≡ all_tokens ls → ks ≡ ls
+same_tokens ks ls e = same_Some _ _ (sym (keys_from-all ks) ∙ ap keys_from e ∙ keys_from-all ls)
 
 -- ---- what is read as keys are their tokens
 
@@ -73,3 +76,22 @@ group-all f (k ∷ ks) = rw (row-all f ks) (let filled : eqb (length (k ∷ ks))
 
 pub key_of-Group : (keys : Vec SearchKey Global) → key_of (Group keys) ≡ group (keys_of (map key_of keys.items))
 key_of-Group keys = ap group (search (rules, the_lemmas, same_keys))
+
+-- ---- equal rows of keys are of equal lists
+
+abbrev others_of : Keys → List Key
+others_of end = []
+others_of (more k others) = k ∷ others_of others
+
+abbrev row_of : Key → Keys
+row_of (plain key) = end
+row_of (negated key) = end
+row_of (either left right) = end
+row_of (group others) = others
+
+others_of-keys : (ks : List Key) → others_of (keys_of ks) ≡ ks
+others_of-keys [] = refl
+others_of-keys (k ∷ ks) = ap (λ (rest : List Key). k ∷ rest) (others_of-keys ks)
+
+pub same_group : (ks ls : List Key) → group (keys_of ks) ≡ group (keys_of ls) → ks ≡ ls
+same_group ks ls e = sym (others_of-keys ks) ∙ ap (λ k. others_of (row_of k)) e ∙ others_of-keys ls

@@ -8,6 +8,7 @@ mod fetch;
 mod fetch_items;
 mod fetch_word;
 mod search;
+mod search_copy;
 mod search_keys;
 mod search_plain;
 mod search_word;

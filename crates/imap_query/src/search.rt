@@ -5,6 +5,8 @@ ghost use Rattle.imap_query.specs.Keys.{key_of, all_tokens};
 
 use imap_lex::{AstringChar, Octets};
 use imap_syntax::{Date, Flag, Keyword, MessageSet};
+use imap_values::{Same, TryCopy};
+use std::alloc::{AllocError, Global};
 use std::marker::Model;
 
 /// A result option: what the response says of the messages found.
@@ -35,6 +37,30 @@ pub enum SearchDate {
     Before,
     On,
     Since,
+}
+
+impl TryCopy for SearchReturn {
+    fn try_copy(&self, _alloc: Global) -> Result<SearchReturn, AllocError> {
+        Ok(*self)
+    }
+}
+
+impl Same for SearchReturn {
+    fn is_same(&self, other: &SearchReturn) -> bool {
+        *self == *other
+    }
+}
+
+impl Same for SearchIn {
+    fn is_same(&self, other: &SearchIn) -> bool {
+        self == other
+    }
+}
+
+impl Same for SearchDate {
+    fn is_same(&self, other: &SearchDate) -> bool {
+        other == self
+    }
 }
 
 /// A key of SEARCH (RFC 9051, section 6.4.4).

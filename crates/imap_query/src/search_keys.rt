@@ -18,7 +18,7 @@ use std::alloc::Global;
 /// The most levels of keys: a depth of 64, and the keys within which there are none.
 pub(crate) const MAX_KEY_LEVELS: u8 = 65;
 
-fn group(keys: Vec<SearchKey>) -> SearchKey
+pub(crate) fn group(keys: Vec<SearchKey>) -> SearchKey
     ensures { key_of result ≡ group (keys_of (map key_of keys.items)) }
 {
     SearchKey::Group(keys)

@@ -2,6 +2,8 @@
 
 use imap_lex::AstringChar;
 use imap_syntax::Keyword;
+use imap_values::{Same, TryCopy};
+use std::alloc::{AllocError, Global};
 
 /// An item of STATUS.
 #[derive(Clone, Copy, Debug, PartialEq, Eq)]
@@ -13,6 +15,18 @@ pub enum StatusItem {
     Deleted,
     Size,
     HighestModSeq,
+}
+
+impl TryCopy for StatusItem {
+    fn try_copy(&self, _alloc: Global) -> Result<StatusItem, AllocError> {
+        Ok(*self)
+    }
+}
+
+impl Same for StatusItem {
+    fn is_same(&self, other: &StatusItem) -> bool {
+        self == other
+    }
 }
 
 pub(crate) const STATUS_ITEMS: [StatusItem; 7] = [

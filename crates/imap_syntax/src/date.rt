@@ -9,6 +9,7 @@ ghost use Rattle.imap_syntax.specs.WrittenDates.{day_of, offset_of, moment_of, d
 use crate::cursor::Cursor;
 use crate::month::Month;
 use crate::write_dates::push_date_time_text;
+use imap_values::Same;
 use jiff::civil;
 use std::alloc::AllocError;
 use std::marker::Model;
@@ -90,6 +91,12 @@ impl Date {
             Month::of_number(day.month)?,
             day.day,
         )
+    }
+}
+
+impl Same for Date {
+    fn is_same(&self, other: &Date) -> bool {
+        self == other
     }
 }
 
@@ -274,6 +281,12 @@ impl DateTime {
                 minutes: 0,
             },
         })
+    }
+}
+
+impl Same for DateTime {
+    fn is_same(&self, other: &DateTime) -> bool {
+        *self == *other
     }
 }
 

@@ -9,6 +9,7 @@ use crate::error::ReadError;
 use crate::items::Items;
 use crate::lexical::AtomChar;
 use imap_lex::Octets;
+use imap_values::{Same, TryCopy};
 use std::alloc::{AllocError, Global};
 
 /// A flag of a command. The five of RFC 9051, section 2.3.2 are read in any case.
@@ -25,6 +26,35 @@ pub enum Flag {
 }
 
 pub type Flags = Items<Flag>;
+
+impl TryCopy for Flag {
+    fn try_copy(&self, _alloc: Global) -> Result<Flag, AllocError> {
+        match self {
+            Flag::Answered => Ok(Flag::Answered),
+            Flag::Deleted => Ok(Flag::Deleted),
+            Flag::Draft => Ok(Flag::Draft),
+            Flag::Flagged => Ok(Flag::Flagged),
+            Flag::Seen => Ok(Flag::Seen),
+            Flag::Other(word) => Ok(Flag::Other(word.try_copy()?)),
+            Flag::Keyword(word) => Ok(Flag::Keyword(word.try_copy()?)),
+        }
+    }
+}
+
+impl Same for Flag {
+    fn is_same(&self, other: &Flag) -> bool {
+        match (self, other) {
+            (Flag::Answered, Flag::Answered)
+            | (Flag::Deleted, Flag::Deleted)
+            | (Flag::Draft, Flag::Draft)
+            | (Flag::Flagged, Flag::Flagged)
+            | (Flag::Seen, Flag::Seen) => true,
+            (Flag::Other(word), Flag::Other(other)) | (Flag::Keyword(word), Flag::Keyword(other)) =>
+                word.is_same(other),
+            _ => false,
+        }
+    }
+}
 
 /// The flags of RFC 9051, section 2.3.2.
 #[derive(Clone, Copy)]

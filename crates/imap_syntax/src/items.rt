@@ -1,7 +1,9 @@
 //! Lists in requests.
 
-ghost use Rattle.std.specs.Prelude.{◌≡◌};
+ghost use Rattle.std.specs.Prelude.{◌≡◌, ◌↔◌, IfOk, IsTrue};
 
+use imap_values::{Same, TryCopy};
+use std::alloc::{AllocError, Global};
 use std::marker::Model;
 
 /// Values in the order of the command.
@@ -35,4 +37,45 @@ impl<T> Items<T> {
         let Items(items) = self;
         items
     }
+}
+
+impl<T: TryCopy + Drop> TryCopy for Items<T> {
+    fn try_copy(&self, alloc: Global) -> Result<Items<T>, AllocError> {
+        Ok(Items(copy_each(self.as_slice(), alloc)?))
+    }
+}
+
+impl<T: Same> Same for Items<T> {
+    fn is_same(&self, other: &Items<T>) -> bool {
+        are_same(self.as_slice(), other.as_slice())
+    }
+}
+
+fn copy_each<T: TryCopy + Drop>(items: &[T], alloc: Global) -> Result<Vec<T>, AllocError>
+    ensures { IfOk result (λ copies. copies.items ≡ items.now) }
+{
+    let mut copies = Vec::new(alloc);
+    for item in items {
+        let copy = item.try_copy(alloc)?;
+        copies.push(copy)?;
+    }
+    Ok(copies)
+}
+
+fn are_same<T: Same>(items: &[T], others: &[T]) -> bool
+    ensures { IsTrue result ↔ (items.now ≡ others.now) }
+{
+    let mut rest = others;
+    for item in items {
+        match rest {
+            [] => return false,
+            [other, later @ ..] => {
+                if !item.is_same(other) {
+                    return false;
+                }
+                rest = later;
+            }
+        }
+    }
+    rest.is_empty()
 }

@@ -7,7 +7,8 @@ ghost use Rattle.imap_syntax.specs.Sets.{seq_number, seq_range, seq_set, message
 use crate::cursor::{Cursor, Item};
 use crate::error::ReadError;
 use crate::items::Items;
-use std::alloc::Global;
+use imap_values::{Same, TryCopy};
+use std::alloc::{AllocError, Global};
 
 /// The number or UID of a message, from 1, or `*` for the greatest in the mailbox.
 #[derive(Clone, Copy, Debug, PartialEq, Eq)]
@@ -39,6 +40,43 @@ pub enum MessageSet {
 pub enum Numbering {
     Sequence,
     Uid,
+}
+
+impl TryCopy for SeqRange {
+    fn try_copy(&self, _alloc: Global) -> Result<SeqRange, AllocError> {
+        Ok(*self)
+    }
+}
+
+impl Same for SeqRange {
+    fn is_same(&self, other: &SeqRange) -> bool {
+        *self == *other
+    }
+}
+
+impl TryCopy for MessageSet {
+    fn try_copy(&self, alloc: Global) -> Result<MessageSet, AllocError> {
+        match self {
+            MessageSet::Saved => Ok(MessageSet::Saved),
+            MessageSet::Numbers(ranges) => Ok(MessageSet::Numbers(ranges.try_copy(alloc)?)),
+        }
+    }
+}
+
+impl Same for MessageSet {
+    fn is_same(&self, other: &MessageSet) -> bool {
+        match (self, other) {
+            (MessageSet::Saved, MessageSet::Saved) => true,
+            (MessageSet::Numbers(ranges), MessageSet::Numbers(others)) => ranges.is_same(others),
+            _ => false,
+        }
+    }
+}
+
+impl Same for Numbering {
+    fn is_same(&self, other: &Numbering) -> bool {
+        self == other
+    }
 }
 
 impl Item for SeqRange {

@@ -3,6 +3,7 @@
 //! A request that goes out of scope at the end of a function makes the function's proof long. One that is handed to
 //! `drop` doesn't, since `drop` is generic.
 
+mod copies;
 mod generator;
 mod random;
 mod unwritten;

@@ -22,4 +22,6 @@ mod rights;
 #[cfg(test)]
 mod text;
 #[cfg(test)]
+mod view;
+#[cfg(test)]
 mod world;

@@ -1,3 +1,4 @@
+mod copies;
 mod mailboxes;
 mod messages;
 mod values;
@@ -5,6 +6,7 @@ mod values;
 use imap_lex::{Octets, Tag};
 use imap_print::*;
 use imap_syntax::Items;
+use imap_values::{Same, TryCopy};
 use std::alloc::{AllocError, Global};
 use std::process::Abort;
 use std::test::Fail;
@@ -50,11 +52,22 @@ fn shown_all(alloc: Global, responses: &[Response]) -> Result<String, AllocError
     String::from_utf8_lossy(alloc, printed.as_slice())
 }
 
-/// Prints one response. It is handed to `drop`, which is generic: the proof that a response is dropped is long.
+/// Prints a copy of one response, which says that it is the same. It is handed to `drop`, which is generic: the proof
+/// that a response is dropped is long.
 fn shown(alloc: Global, response: Response) -> Result<String, AllocError> {
-    let responses = [response];
-    let text = shown_all(alloc, &responses);
-    drop(responses);
+    let text = shown_copy(alloc, &response);
+    drop(response);
+    text
+}
+
+fn shown_copy(alloc: Global, response: &Response) -> Result<String, AllocError> {
+    let copy = [response.try_copy(alloc)?];
+    let text = if copy[0].is_same(response) {
+        shown_all(alloc, &copy)
+    } else {
+        String::from_str(alloc, "the copy is another")
+    };
+    drop(copy);
     text
 }
 

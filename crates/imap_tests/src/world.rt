@@ -9,15 +9,15 @@ use std::alloc::Global;
 use std::process::Abort;
 use std::test::Fail;
 
-fn user(alloc: Global, text: &str) -> Result<UserName, Fail> {
+pub(crate) fn user(alloc: Global, text: &str) -> Result<UserName, Fail> {
     Ok(UserName::read(alloc, text)?.ok_or("no user name")?)
 }
 
-fn name(alloc: Global, text: &[u8]) -> Result<Name, Fail> {
+pub(crate) fn name(alloc: Global, text: &[u8]) -> Result<Name, Fail> {
     Ok(read_full(alloc, text)?)
 }
 
-fn site(alloc: Global) -> Result<Site, Fail> {
+pub(crate) fn site(alloc: Global) -> Result<Site, Fail> {
     Ok(Site {
         administrator: user(alloc, "root")?,
         limits: Limits {
@@ -27,12 +27,16 @@ fn site(alloc: Global) -> Result<Site, Fail> {
     })
 }
 
-fn place(alloc: Global, world: &mut World, text: &[u8]) -> Result<Result<(), WorldError>, Fail> {
+pub(crate) fn place(
+    alloc: Global,
+    world: &mut World,
+    text: &[u8],
+) -> Result<Result<(), WorldError>, Fail> {
     Ok(world.place(name(alloc, text)?, Acl::new(alloc)))
 }
 
 /// Gives rights on a mailbox.
-fn give(
+pub(crate) fn give(
     alloc: Global,
     world: &mut World,
     text: &[u8],
@@ -100,6 +104,18 @@ fn set_rights(rt: &impl Abort, alloc: Global, world: &mut World) -> Result<(), F
     assert_eq!(rt; absent, Err(WorldError::NoSuch));
     assert_eq!(rt; place(alloc, world, b"Shared/News")?, Ok(()));
     assert_eq!(rt; give(alloc, world, b"Shared/News", b"bob", b"lr")?, Ok(()));
+    fill_list(rt, alloc, world)?;
+    let late = give(alloc, world, b"Shared/News", b"late", b"l")?;
+    assert_eq!(rt; late, Err(WorldError::Limit));
+    Ok(())
+}
+
+/// Sets 63 more entries of the list, which then has 64.
+fn fill_list(rt: &impl Abort, alloc: Global, world: &mut World) -> Result<(), Fail> {
+    for number in 2..=64u8 {
+        let other = [b'u', b'0' + number / 10, b'0' + number % 10];
+        assert_eq!(rt; give(alloc, world, b"Shared/News", &other, b"+l")?, Ok(()));
+    }
     Ok(())
 }
 
@@ -124,6 +140,24 @@ fn change_subscriptions(rt: &impl Abort, alloc: Global, world: &mut World) -> Re
 fn names_are_subscribed(rt: HostRuntime) -> Result<(), Fail> {
     let mut world = World::new(rt.alloc());
     change_subscriptions(&rt, rt.alloc(), &mut world)
+}
+
+fn compare_copy(rt: &impl Abort, alloc: Global, world: &World) -> Result<(), Fail> {
+    let copy = world.try_copy(alloc)?;
+    let news = name(alloc, b"Shared/News")?;
+    assert_eq!(rt; copy.mailbox(&news.as_ref()).map(|m| m.validity), Some(1));
+    assert_eq!(rt; copy.epoch(&news.as_ref()), 1);
+    assert_eq!(rt; count(copy.subscriptions("bob")), 1);
+    assert_eq!(rt; count(copy.subscriptions("ann")), 0);
+    Ok(())
+}
+
+#[test]
+fn a_world_is_copied(rt: HostRuntime) -> Result<(), Fail> {
+    let mut world = World::new(rt.alloc());
+    place(rt.alloc(), &mut world, b"Shared/News")?.map_err(|_| "not placed")?;
+    subscribe(rt.alloc(), &mut world, "bob", b"Shared/News")?;
+    compare_copy(&rt, rt.alloc(), &world)
 }
 
 #[test]

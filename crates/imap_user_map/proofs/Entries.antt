@@ -12,7 +12,9 @@ use Rattle.std.specs.declared.string.String.{String}
 use Rattle.std.proofs.lemmas.Bool.{cases_Bool, cond-true, cond-false}
 use Rattle.std.proofs.lemmas.Map.Text.{is_eq-slice_cmp}
 use Rattle.std.proofs.lemmas.Slice.Eq.{bytes_eq-Decides}
-use Rattle.std.specs.Option.{option_copied_mut, OnSome}
+use Rattle.std.specs.List.{All}
+use Rattle.std.proofs.lemmas.List.Elements.{All-head, All-tail}
+use Rattle.std.specs.Option.{option_copied_mut, option_or, OnSome}
 use Rattle.std.specs.Borrow.{MutBor}
 use Rattle.imap_user_map.specs.Rows.{Users, by_octets, rows_of, with_value}
 
@@ -88,3 +90,50 @@ module _ {X Z S : Type 0} (m n : HashMap (String Z) X S) where
   written bs w (Some x) e h =
       let found : IsSome (get_by (is_at bs) m) = subst IsSome e refl in
       λ i. record { map = inserted bs w (h.3 found) i; spare = h.6 i }
+
+-- ---- a map that is copied entry by entry
+
+or_none : {X : Type 0} (o : Option X) → option_or o None ≡ o
+or_none None = refl
+or_none (Some x) = refl
+
+module _ {X Z S : Type 0} (all : HashMap (String Z) X S) where
+  -- the entry is what the map has at its key
+  abbrev pub IsEntry : String Z × X → Type 0
+  IsEntry e = lookup (is_at (string_bytes e.0)) all.entries ≡ Some e.1
+
+  -- what isn't copied yet is found in what is left
+  pub record IsCopying (rest : List (String Z × X)) (copy : HashMap (String Z) X S) : Type 0 where
+    pub entries : All IsEntry rest
+    pub whole : (q : List ℕ) → option_or (get (by_octets copy.entries) q) (lookup (is_at q) rest) ≡ lookup (is_at q) all.entries
+
+  pub copying_all : (copy : HashMap (String Z) X S) → copy.entries ≡ [] → All IsEntry all.entries → IsCopying all.entries copy
+  copying_all copy empty each = record {
+    entries = each;
+    whole = λ q. ap (λ o. option_or o (lookup (is_at q) all.entries)) (ap (λ es. get (by_octets es) q) empty ∙ get-by_octets {Z = Z} [] q);
+  }
+
+  module _ (e : String Z × X) (next : List (String Z × X)) (copy new : HashMap (String Z) X S) (puts : UpdatesBy string_eq (is_at (string_bytes e.0)) copy new (Some e.1)) (h : IsCopying (e ∷ next) copy) where
+    by_test : (q : List ℕ) (b : Bool) → bytes_eq (string_bytes e.0) q ≡ b → option_or (cond b (Some e.1) (get (by_octets copy.entries) q)) (lookup (is_at q) next) ≡ lookup (is_at q) all.entries
+    by_test q true here =
+        sym (All-head IsEntry e next h.entries) ∙ ap (λ k. lookup (is_at k) all.entries) ((bytes_eq-Decides (string_bytes e.0) q).0 here)
+    by_test q false here =
+        ap (λ b. option_or (get (by_octets copy.entries) q) (cond b (Some e.1) (lookup (is_at q) next))) (sym (nat_list_eq_equiv.symm q (string_bytes e.0) ∙ here)) ∙ h.whole q
+
+    copying_more : IsCopying next new
+    copying_more = record {
+      entries = All-tail IsEntry e next h.entries;
+      whole = λ q. ap (λ o. option_or o (lookup (is_at q) next)) (found_after copy new (string_bytes e.0) (Some e.1) puts q) ∙ by_test q (bytes_eq (string_bytes e.0) q) refl;
+    }
+
+  -- the same of a copy of the next entry
+  pub copying_put : (rest next : List (String Z × X)) (user name : String Z) (value copied : X) (copy new : HashMap (String Z) X S)
+      → rest ≡ (user, value) ∷ next → string_bytes name ≡ string_bytes user → copied ≡ value → UpdatesBy string_eq (is_at (string_bytes name)) copy new (Some copied)
+      → IsCopying rest copy → IsCopying next new
+  copying_put rest next user name value copied copy new here named same puts h =
+      copying_more (user, value) next copy new
+      (subst (λ v. UpdatesBy string_eq (is_at (string_bytes user)) copy new (Some v)) same (subst (λ bs. UpdatesBy string_eq (is_at bs) copy new (Some copied)) named puts))
+      (subst (λ r. IsCopying r copy) here h)
+
+  pub copying_none : (copy : HashMap (String Z) X S) → IsCopying [] copy → by_octets copy.entries ≡ by_octets all.entries
+  copying_none copy h = same_answers _ _ (λ q. sym (or_none (get (by_octets copy.entries) q)) ∙ h.whole q ∙ sym (get-by_octets all.entries q))

@@ -1,13 +1,14 @@
 //! The map.
 
-ghost use Rattle.std.specs.Prelude.{◌≡◌, ◌+◌, ◌<◌, ◌≤◌, is_some, OnOk, OnSome, option_copied};
+ghost use Rattle.std.specs.Prelude.{◌≡◌, ◌+◌, ◌<◌, ◌≤◌, is_some, IfOk, OnOk, OnSome, option_copied};
 ghost use Rattle.std.specs.Option.{option_copied_mut};
 ghost use Rattle.std.specs.Borrow.{sem, LendsSo};
 ghost use Rattle.std.specs.FinMap as map;
 ghost use Rattle.std.specs.String.{string_bytes};
 ghost use Rattle.imap_user_map.specs.contracts.user_map.UserMap.{the_row};
-ghost use Rattle.imap_user_map.specs.Rows.{with_value};
+ghost use Rattle.imap_user_map.specs.Rows.{by_octets, with_value};
 
+use imap_values::TryCopy;
 use std::alloc::{AllocError, Global};
 use std::collections::HashMap;
 use std::marker::Model;
@@ -77,4 +78,30 @@ impl<V: Drop> UserMap<V> {
     {
         let _inserted = self.entries.insert(user, value);
     }
+}
+
+impl<V: TryCopy + Drop> UserMap<V> {
+    /// Returns an equal copy.
+    pub fn try_copy(&self, alloc: Global) -> Result<UserMap<V>, AllocError>
+        ensures { IfOk result (λ copy. copy.map ≡ self.now.map) }
+    {
+        let entries = copy_entries(alloc, &self.entries)?;
+        Ok(UserMap { entries })
+    }
+}
+
+/// An equal copy of the entries.
+fn copy_entries<V: TryCopy + Drop>(
+    alloc: Global,
+    entries: &HashMap<String, V>,
+) -> Result<HashMap<String, V>, AllocError>
+    ensures { IfOk result (λ copy. by_octets copy.entries ≡ by_octets entries.now.entries) }
+{
+    let mut copy = HashMap::new(alloc);
+    for (user, value) in entries.iter() {
+        let user = String::from_str(alloc, user.as_str())?;
+        let value = value.try_copy(alloc)?;
+        copy.insert(user, value)?;
+    }
+    Ok(copy)
 }

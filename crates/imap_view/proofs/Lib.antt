@@ -1,2 +1,4 @@
 pub mod Afters
+pub mod Inboxes
+pub mod Listings
 pub mod Views

@@ -83,16 +83,30 @@ module _ (administrator user : List ℕ) (world : World) where
   pub absent_is_unseen : (q : Name) → map.get world.mailboxes q ≡ None → map.get (view_of administrator user world).seen q ≡ None
   absent_is_unseen q absent = get_seen q ∙ ap (option_and_then (seen_at administrator user q)) absent
 
-  module _ (q : Name) (named : is_root q ≡ false) where
-    module _ (mailbox : Mailbox) (rights : ℕ) (there : map.get world.mailboxes q ≡ Some mailbox) (held : rights ≡ effective user (owner_of administrator q) mailbox.acl) where
-      found : map.get (view_of administrator user world).seen q ≡ seen_with rights mailbox.acl
-      found = get_seen q ∙ ap (option_and_then (seen_at administrator user q)) there ∙ ap (λ b. cond b None (seen_with (effective user (owner_of administrator q) mailbox.acl) mailbox.acl)) named ∙ ap (λ r. seen_with r mailbox.acl) (sym held)
+  module _ (view : View) (is : view_of administrator user world ≡ view) (q : Name) (mailbox : Mailbox) where
+    administrator_there : administrator ≡ view.administrator
+    administrator_there = sym administrator_of ∙ ap (λ (v : View). v.administrator) is
 
-      pub visible_is_seen : has_any rights visible_rights ≡ true → map.get (view_of administrator user world).seen q ≡ Some (record { rights = rights; acl = cond (has_any rights administer) (Some mailbox.acl) None })
-      visible_is_seen visible = found ∙ ap (λ b. cond b (Some (record { rights = rights; acl = cond (has_any rights administer) (Some mailbox.acl) None })) None) visible
+    user_there : user ≡ view.user
+    user_there = sym user_of ∙ ap (λ (v : View). v.user) is
 
-      pub hidden_is_unseen : has_any rights visible_rights ≡ false → map.get (view_of administrator user world).seen q ≡ None
-      hidden_is_unseen hidden = found ∙ ap (λ b. cond b (Some (record { rights = rights; acl = cond (has_any rights administer) (Some mailbox.acl) None })) None) hidden
+    pub seen_there : map.get world.mailboxes q ≡ Some mailbox → seen_at view.administrator view.user q mailbox ≡ map.get view.seen q
+    seen_there there =
+        (λ i. seen_at (sym administrator_there i) (sym user_there i) q mailbox) ∙ sym (get_seen q ∙ ap (option_and_then (seen_at administrator user q)) there)
+        ∙ ap (λ (v : View). map.get v.seen q) is
+
+    -- with the rights that the user holds
+    module _ (named : is_root q ≡ false) (rights : ℕ) (held : rights ≡ effective user (owner_of administrator q) mailbox.acl) where
+      by_rights : seen_at view.administrator view.user q mailbox ≡ seen_with rights mailbox.acl
+      by_rights =
+          (λ i. seen_at (sym administrator_there i) (sym user_there i) q mailbox)
+          ∙ ap (λ b. cond b None (seen_with (effective user (owner_of administrator q) mailbox.acl) mailbox.acl)) named ∙ ap (λ r. seen_with r mailbox.acl) (sym held)
+
+      pub visible_is_seen : has_any rights visible_rights ≡ true → seen_at view.administrator view.user q mailbox ≡ Some (record { rights = rights; acl = cond (has_any rights administer) (Some mailbox.acl) None })
+      visible_is_seen visible = by_rights ∙ ap (λ b. cond b (Some (record { rights = rights; acl = cond (has_any rights administer) (Some mailbox.acl) None })) None) visible
+
+      pub hidden_is_unseen : has_any rights visible_rights ≡ false → seen_at view.administrator view.user q mailbox ≡ None
+      hidden_is_unseen hidden = by_rights ∙ ap (λ b. cond b (Some (record { rights = rights; acl = cond (has_any rights administer) (Some mailbox.acl) None })) None) hidden
 
 -- ---- superiors
 

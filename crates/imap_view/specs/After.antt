@@ -1,11 +1,12 @@
 -- What the view of a user becomes when the world changes.
-use Rattle.std.specs.Prelude.{◌≡◌, ◌≢◌, ℕ, Bool, false, List, [], ◌∷◌, None}
+use Rattle.std.specs.Prelude.{◌≡◌, ◌≢◌, ℕ, Bool, true, false, List, [], ◌∷◌, None}
 use Rattle.std.specs.FinMap as map
 use Rattle.imap_names.specs.Name.{Name}
+use Rattle.imap_names.specs.UserName.{is_user_name}
 use Rattle.imap_world.specs.declared.effect.Effect.{Effect}
 use Rattle.imap_world.specs.declared.effect.Effect.TheVariants as effect
 use Rattle.imap_world.specs.Effects.{after_all}
-use Rattle.imap_world.specs.World.{World}
+use Rattle.imap_world.specs.World.{World, inbox}
 use Rattle.imap_view.specs.View.{View, view_of, is_below_place_in}
 
 -- the user of the view may ask for it, from a session
@@ -32,6 +33,12 @@ OthersSubscriptionsAreHidden = (administrator user other : List ℕ) (world : Wo
     let view = view_of administrator user world in
     (view_of administrator user (after_all (effect.Subscribe other name ∷ []) world) ≡ view)
     × (view_of administrator user (after_all (effect.Unsubscribe other name ∷ []) world) ≡ view)
+
+-- the INBOX that is made for another user is not in the view
+abbrev pub OthersInboxesAreHidden : Type 0
+OthersInboxesAreHidden = (administrator user other : List ℕ) (world : World) →
+    is_user_name other ≡ true → other ≢ user → map.contains_key world.mailboxes (inbox other) ≡ false →
+    view_of administrator user (after_all (effect.CreateInbox other ∷ []) world) ≡ view_of administrator user world
 
 -- Mailboxes that the user doesn't see, and whose names lie below no place, can go and come, and the view stays.
 abbrev pub HiddenIsAbsent : Type 0

@@ -1,3 +1,4 @@
 pub mod After
+pub mod Listing
 pub mod Seen
 pub mod View

@@ -6,7 +6,11 @@
 
 pub mod laws;
 mod seen;
+mod seen_names;
+mod taken_names;
 mod view;
 
 pub use seen::Seen;
+pub use seen_names::SeenNames;
+pub use taken_names::TakenNames;
 pub use view::View;

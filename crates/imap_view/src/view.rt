@@ -4,15 +4,19 @@ ghost use Rattle.std.specs.Prelude.{◌≡◌, false, option_copied, option_map}
 ghost use Rattle.std.specs.FinMap as map;
 ghost use Rattle.imap_names.specs.Name.{root_of};
 ghost use Rattle.imap_names.specs.Valid.{IsName};
-ghost use Rattle.imap_view.specs.Seen.{is_root, owner_by_root, shown};
+ghost use Rattle.imap_name_map.specs.Rows.{has_below};
+ghost use Rattle.imap_view.specs.Listing.{names_below};
+ghost use Rattle.imap_view.specs.Seen.{is_root, owner_by_root, seen_at, shown};
 ghost use Rattle.imap_view.specs.View.{epoch_in, is_below_place_in, is_own_root, is_place, may_create, view_of};
 ghost use Rattle.imap_world.specs.Stored.{names_in, world_of};
 
 use crate::seen::Seen;
+use crate::seen_names::SeenNames;
+use crate::taken_names::TakenNames;
 use imap_name_map::NameMap;
 use imap_names::{NameRef, UserName};
 use imap_rights::Rights;
-use imap_world::{Site, World};
+use imap_world::{Mailbox, Site, World};
 use std::marker::Model;
 
 /// What a user may see of a world.
@@ -52,13 +56,29 @@ impl<'a> View<'a> {
     pub fn seen(&self, name: &NameRef<'_>) -> Option<Seen<'a>>
         ensures { option_map shown result ≡ map.get self.now.seen name.now }
     {
-        let mailbox = self.world.mailbox(name)?;
+        self.seen_of(name, self.world.mailbox(name)?)
+    }
+
+    /// A mailbox of this name as the user sees it, if the user does.
+    pub(crate) fn seen_of(&self, name: &NameRef<'_>, mailbox: &'a Mailbox) -> Option<Seen<'a>>
+        ensures { option_map shown result ≡ seen_at self.now.administrator self.now.user name.now mailbox.now }
+    {
         let owner = owner_by_root(self.site, name.root());
         let rights = mailbox.acl.effective(self.user.as_str(), owner);
         if rights.show_mailbox() {
             Some(Seen { rights, mailbox })
         } else {
             None
+        }
+    }
+
+    /// All mailboxes that the user sees, in the order of their names.
+    pub fn seen_names(&self) -> SeenNames<'a>
+        ensures { result ≡ map.entries self.now.seen }
+    {
+        SeenNames {
+            from: View::new(self.world, self.site, self.user),
+            mailboxes: self.world.mailboxes().entries(),
         }
     }
 
@@ -96,6 +116,23 @@ impl<'a> View<'a> {
         ensures { result ≡ map.contains_key self.now.taken name.now }
     {
         self.world.mailbox(name).is_some() && self.is_below_place(name)
+    }
+
+    /// Whether a name below `name` is in use, as far as the user may know.
+    pub fn taken_below(&self, name: &NameRef<'_>) -> bool
+        ensures { result ≡ has_below name.now self.now.taken }
+    {
+        self.taken_names(name).next().is_some()
+    }
+
+    /// The names in use below `name`, as far as the user may know, in the order of names.
+    pub fn taken_names(&self, name: &NameRef<'_>) -> TakenNames<'a>
+        ensures { result ≡ names_below name.now self.now.taken }
+    {
+        TakenNames {
+            from: View::new(self.world, self.site, self.user),
+            mailboxes: self.world.mailboxes().entries_below(name),
+        }
     }
 
     /// The greatest UIDVALIDITY that was used under the name, and 0 if none was. `None` if the user may not know.

@@ -3,7 +3,7 @@ use Rattle.std.proofs.Common.{◌≡◌, Bool, true, false, cond, ◌&&◌, List
 use Rattle.std.specs.Prelude.{T, option_map, option_and_then, is_some}
 use Rattle.std.specs.Ordering.{eq_by_cmp, is_eq, is_lt}
 use Rattle.std.specs.List.{filter_map, cons_option}
-use Rattle.std.specs.FinMap.{FinMap, get, entries, entries_sorted, find, is_sorted, IsAntisymmetric, get-entries, get-from_sorted}
+use Rattle.std.specs.FinMap.{FinMap, get, entries, entries_sorted, find, is_sorted, IsAntisymmetric, get-entries, get-from_sorted, entries-from_sorted}
 use Rattle.std.specs.FinMap.Entries.{below_all}
 use Rattle.imap_world.specs.Finite.{keep, kept_entry}
 
@@ -45,6 +45,11 @@ module _ {K X Y : Type 0} (R : K → K → Ordering) (f : K → X → Option Y) 
   sorted_kept : (es : List (K × X)) → T (is_sorted R es) → T (is_sorted R (filter_map (kept_entry f) es))
   sorted_kept [] h = tt
   sorted_kept (e ∷ es) h = sorted_cons e.0 (f e.0 e.1) _ (below_kept e.0 es (first _ _ h)) (sorted_kept es (second _ _ h))
+
+  -- what is kept, in order
+  pub entries-keep : (m : FinMap R X) → entries (keep f m) ≡ filter_map (kept_entry f) (entries m)
+  unfolding keep
+  entries-keep m = entries-from_sorted R (filter_map (kept_entry f) (entries m)) (sorted_kept (entries m) (entries_sorted m))
 
   -- a key below all others is found in none
   find_below : {Z : Type 0} (q : K) (es : List (K × Z)) → T (below_all R q es) → find R q es ≡ None

@@ -1,5 +1,6 @@
 pub mod Changed
 pub mod Finding
+pub mod Histories
 pub mod Owners
 pub mod Resolved
 pub mod Room

@@ -81,3 +81,8 @@ after_result (Ok writes) world = after_writes writes world
 
 abbrev pub after_all : List Effect → World → World
 after_all effects world = after_result (writes_of effects world) world
+
+-- after one list after another, each by the world that those before it left
+abbrev pub after_steps : List (List Effect) → World → World
+after_steps [] world = world
+after_steps (effects ∷ steps) world = after_steps steps (after_all effects world)

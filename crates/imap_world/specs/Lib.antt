@@ -2,6 +2,7 @@ pub mod Changing
 pub mod Effects
 pub mod Finite
 pub mod Kept
+pub mod Laws
 pub mod Ready
 pub mod Row
 pub mod Stored

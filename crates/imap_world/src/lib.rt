@@ -7,6 +7,7 @@
 mod change;
 mod effect;
 mod error;
+pub mod laws;
 mod mailbox;
 mod owner;
 mod placing;

@@ -3,6 +3,7 @@
 ghost use Rattle.std.specs.Prelude.{◌≡◌, IfOk};
 
 use imap_rights::Acl;
+use imap_values::TryCopy;
 use std::alloc::{AllocError, Global};
 
 /// A mailbox, apart from its name.
@@ -22,5 +23,11 @@ impl Mailbox {
             validity: self.validity,
             acl: self.acl.try_copy(alloc)?,
         })
+    }
+}
+
+impl TryCopy for Mailbox {
+    fn try_copy(&self, alloc: Global) -> Result<Mailbox, AllocError> {
+        Mailbox::try_copy(self, alloc)
     }
 }

@@ -65,6 +65,17 @@ impl World {
         }
     }
 
+    /// Returns an equal copy.
+    pub fn try_copy(&self, alloc: Global) -> Result<World, AllocError>
+        ensures { IfOk result (λ copy. world_of copy ≡ world_of self.now) }
+    {
+        Ok(World {
+            mailboxes: self.mailboxes.try_copy(alloc)?,
+            epochs: self.epochs.try_copy(alloc)?,
+            subscriptions: self.subscriptions.try_copy(alloc)?,
+        })
+    }
+
     pub fn mailbox(&self, name: &NameRef<'_>) -> Option<&Mailbox>
         ensures there { option_copied result ≡ map.get (world_of self.now).mailboxes name.now }
         ensures valid { IsSound (world_of self.now) }

@@ -11,6 +11,7 @@ use imap_syntax::{
     Cursor, Keyword, ReadError, SeqNumber, SeqRange, SeqSet, mod_sequence_fits, push_between,
     push_separated, some_fit, string_fits,
 };
+use imap_values::{Same, TryCopy};
 use std::alloc::{AllocError, Global};
 
 /// The state of the mailbox that the client knows, as QRESYNC sends it.
@@ -28,6 +29,39 @@ pub struct QresyncArg {
 pub struct SelectParameters {
     pub condstore: bool,
     pub qresync: Option<QresyncArg>,
+}
+
+impl TryCopy for QresyncArg {
+    fn try_copy(&self, alloc: Global) -> Result<QresyncArg, AllocError> {
+        Ok(QresyncArg {
+            validity: self.validity,
+            mod_seq: self.mod_seq,
+            known_uids: self.known_uids.try_copy(alloc)?,
+        })
+    }
+}
+
+impl Same for QresyncArg {
+    fn is_same(&self, other: &QresyncArg) -> bool {
+        self.validity == other.validity
+            && self.mod_seq == other.mod_seq
+            && self.known_uids.is_same(&other.known_uids)
+    }
+}
+
+impl TryCopy for SelectParameters {
+    fn try_copy(&self, alloc: Global) -> Result<SelectParameters, AllocError> {
+        Ok(SelectParameters {
+            condstore: self.condstore,
+            qresync: self.qresync.try_copy(alloc)?,
+        })
+    }
+}
+
+impl Same for SelectParameters {
+    fn is_same(&self, other: &SelectParameters) -> bool {
+        self.condstore == other.condstore && self.qresync.is_same(&other.qresync)
+    }
 }
 
 /// The first word of a parameter.

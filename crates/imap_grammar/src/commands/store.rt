@@ -8,6 +8,7 @@ use imap_lex::AstringChar;
 use imap_syntax::{
     Cursor, Flag, Flags, Keyword, ReadError, all_fit, number64_fits, push_between, push_separated,
 };
+use imap_values::{Same, TryCopy};
 use std::alloc::{AllocError, Global};
 
 /// How the flags of a message change.
@@ -27,6 +28,26 @@ pub struct StoreSpec {
     /// Whether the new flags are not to be answered.
     pub silent: bool,
     pub flags: Flags,
+}
+
+impl TryCopy for StoreSpec {
+    fn try_copy(&self, alloc: Global) -> Result<StoreSpec, AllocError> {
+        Ok(StoreSpec {
+            unchanged_since: self.unchanged_since,
+            change: self.change,
+            silent: self.silent,
+            flags: self.flags.try_copy(alloc)?,
+        })
+    }
+}
+
+impl Same for StoreSpec {
+    fn is_same(&self, other: &StoreSpec) -> bool {
+        self.unchanged_since == other.unchanged_since
+            && self.change == other.change
+            && self.silent == other.silent
+            && self.flags.is_same(&other.flags)
+    }
 }
 
 /// The word that says the change and whether it is silent.

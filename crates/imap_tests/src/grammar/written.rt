@@ -14,9 +14,14 @@ pub(crate) fn text_of(alloc: Global, request: Request) -> Result<Option<Vec<u8>>
     text
 }
 
+/// Reads the frame. The tests need no clause of `parse`, and have none by this.
+pub(crate) fn read(alloc: Global, frame: &[u8]) -> Result<Request, AllocError> {
+    parse(alloc, &Octets::from_slice(alloc, frame)?)
+}
+
 /// Reads the frame and writes its request.
 pub(crate) fn shown(alloc: Global, frame: &[u8]) -> Result<Option<Vec<u8>>, AllocError> {
-    text_of(alloc, parse(alloc, &Octets::from_slice(alloc, frame)?)?)
+    text_of(alloc, read(alloc, frame)?)
 }
 
 /// Frames, each with the text that is to be written for it.
@@ -32,7 +37,7 @@ fn check(rt: &impl Abort, alloc: Global, rows: &[(&[u8], &[u8])]) -> Result<(), 
 
 /// What `Debug` says of the frame's request.
 fn debug_of(alloc: Global, frame: &[u8]) -> Result<String, AllocError> {
-    let request = parse(alloc, &Octets::from_slice(alloc, frame)?)?;
+    let request = read(alloc, frame)?;
     let text = format!(in alloc; "{request:?}");
     drop(request);
     text

@@ -1,0 +1,11 @@
+//! Copies and equality of values.
+//!
+//! A copy may want memory, and is equal. An equality says exactly whether two values are the same, as contracts see
+//! them: the `==` of a derived `PartialEq` has no clause that does.
+#![tactic(auto)]
+
+mod copy;
+mod same;
+
+pub use copy::TryCopy;
+pub use same::{Same, same_five, same_four, same_three, same_two};

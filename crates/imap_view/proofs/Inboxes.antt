@@ -1,0 +1,125 @@
+-- The view when a mailbox is made that the user may not know of.
+use Rattle.std.proofs.Common.{◌≡◌, ◌≢◌, ℕ, ◌+◌, ◌<◌, Bool, true, false, cond, not, ◌||◌, List, [], ◌∷◌, length, Option, Some, None, Ok, Err, is_some, refl, sym, ap, ◌∙◌, arith}
+use Rattle.std.specs.Prelude.{◌==◌, option_and_then, unwrap_or, bytes_eq}
+use Rattle.std.specs.Int.RustNames.{bit_xor}
+use Rattle.std.specs.Int.Bits.{and_zero_l, or_zero_r, xor_zero_r}
+use Rattle.std.specs.Ordering.{nat_cmp}
+use Rattle.std.specs.Cmp.Lexicographic.{slice_cmp, nat_list_cmp_total}
+use Rattle.std.specs.FinMap as map
+use Rattle.std.specs.FinMap.{get-insert, get-empty}
+use Rattle.std.proofs.lemmas.Bool.{or_parts, false_from_ne_true}
+use Rattle.std.proofs.lemmas.Slice.Eq.{bytes_eq-Decides}
+use Rattle.imap_names.specs.Name.{Name}
+use Rattle.imap_names.specs.Order.{Names, name_cmp}
+use Rattle.imap_names.specs.UserName.{is_user_name}
+use Rattle.imap_names.proofs.NameLaws.{is_name_at, equal_names, same_names, get_put}
+use Rattle.imap_names.proofs.OrderLaws.{name_antisymmetric}
+use Rattle.imap_names.proofs.UserLaws.{user_name_facts}
+use Rattle.imap_rights.specs.Acl.{AclMap, owner_acl}
+use Rattle.imap_rights.specs.Effective.{anyone, negative, entry, granted, effective, owner_rights}
+use Rattle.imap_rights.specs.Rights.{no_rights, all_rights, union, less, visible_rights, administer, has_any}
+use Rattle.imap_world.specs.declared.mailbox.Mailbox.{Mailbox}
+use Rattle.imap_world.specs.declared.error.WorldError.TheVariants.{Limit}
+use Rattle.imap_world.specs.Effects.{with_row, put_of, write_then, after_result}
+use Rattle.imap_world.specs.Finite.{keep}
+use Rattle.imap_world.specs.Row.{Row}
+use Rattle.imap_world.specs.World.{World, epoch, inbox, max_validity}
+use Rattle.imap_world.proofs.Finding.{get-keep}
+use Rattle.imap_world.proofs.Sets.{is_user, equal_users}
+use Rattle.imap_view.specs.After.{OthersInboxesAreHidden}
+use Rattle.imap_view.specs.Seen.{seen_at, seen_with, owner_by_root}
+use Rattle.imap_view.specs.View.{view_of, view_by, seen_in, if_true, is_below_place}
+
+-- ---- a mailbox of which nothing is seen
+
+-- an entry of which nothing is kept, in place of one of which nothing was kept
+kept_same : {X Y : Type 0} (f : Name → X → Option Y) (m : Names X) (k : Name) (x : X) → f k x ≡ None → option_and_then (f k) (map.get m k) ≡ None → keep f (map.insert m k x) ≡ keep f m
+kept_same f m k x new old = same_names _ _ (λ q. get-keep name_cmp f name_antisymmetric (map.insert m k x) q ∙ ap (option_and_then (f q)) (get_put m k x q)
+    ∙ by q (is_name_at q k) refl ∙ sym (get-keep name_cmp f name_antisymmetric m q))
+  where
+    by : (q : Name) (b : Bool) → is_name_at q k ≡ b → option_and_then (f q) (cond b (Some x) (map.get m q)) ≡ option_and_then (f q) (map.get m q)
+    by q true at = ap (λ n. f n x) (equal_names q k at) ∙ new ∙ sym (ap (λ n. option_and_then (f n) (map.get m n)) (equal_names q k at) ∙ old)
+    by q false at = refl
+
+module _ (administrator user : List ℕ) (world : World) (row : Row) where
+  module _ (absent : map.get world.mailboxes row.name ≡ None) (unseen : seen_at administrator user row.name row.mailbox ≡ None) (unknown : is_below_place administrator user (seen_in administrator user world) row.name ≡ false) where
+    seen_same : seen_in administrator user (with_row world row) ≡ seen_in administrator user world
+    seen_same = kept_same (seen_at administrator user) world.mailboxes row.name row.mailbox unseen (ap (option_and_then (seen_at administrator user row.name)) absent)
+
+    abbrev if_known : {X Y : Type 0} → (X → Y) → Name → X → Option Y
+    if_known f name x = if_true (is_below_place administrator user (seen_in administrator user world) name) (f x)
+
+    nothing_known : {X Y : Type 0} (f : X → Y) (o : Option X) → option_and_then (if_known f row.name) o ≡ None
+    nothing_known f None = refl
+    nothing_known f (Some x) = ap (λ b. if_true b (f x)) unknown
+
+    taken_same : keep (if_known {X = Mailbox} {Y = Unit {0}} (λ mailbox. tt)) (with_row world row).mailboxes ≡ keep (if_known {X = Mailbox} {Y = Unit {0}} (λ mailbox. tt)) world.mailboxes
+    taken_same = kept_same (if_known (λ mailbox. tt)) world.mailboxes row.name row.mailbox (ap (λ b. if_true b tt) unknown) (nothing_known (λ mailbox. tt) (map.get world.mailboxes row.name))
+
+    epochs_same : keep (if_known {X = ℕ} {Y = ℕ} (λ validity. validity)) (with_row world row).epochs ≡ keep (if_known {X = ℕ} {Y = ℕ} (λ validity. validity)) world.epochs
+    epochs_same = kept_same (if_known (λ validity. validity)) world.epochs row.name row.mailbox.validity (ap (λ b. if_true b row.mailbox.validity) unknown) (nothing_known (λ validity. validity) (map.get world.epochs row.name))
+
+    -- the view stays
+    pub put_is_hidden : view_of administrator user (with_row world row) ≡ view_of administrator user world
+    unfolding view_of
+    put_is_hidden =
+        ap (λ seen. view_by administrator user seen (with_row world row)) seen_same
+        ∙ (λ i. record (view_by administrator user (seen_in administrator user world) world) { taken = taken_same i; epochs = epochs_same i })
+
+-- ---- the INBOX of another user
+
+none_of : {X : Type 0} (o : Option X) → is_some o ≡ false → o ≡ None
+none_of None e = refl
+none_of (Some x) e = cc
+
+not_bytes : (a b : List ℕ) → (a ≡ b → ⊥) → bytes_eq a b ≡ false
+not_bytes a b differ = false_from_ne_true _ (λ e. differ ((bytes_eq-Decides a b).0 e))
+
+own_root : (administrator other : List ℕ) → 0 < length other → owner_by_root administrator other ≡ other
+own_root administrator [] some = absurd (omega (arith, some))
+own_root administrator (octet ∷ octets) some = refl
+
+module _ (other : List ℕ) where
+  entry_of_another : (q : List ℕ) → other ≢ q → entry (owner_acl other) q ≡ no_rights
+  entry_of_another q differ = ap (λ o. unwrap_or o no_rights) (get-insert nat_list_cmp_total map.empty other all_rights q ∙ by (is_user q other) refl)
+    where
+      by : (b : Bool) → is_user q other ≡ b → cond b (Some all_rights) (map.get (map.empty {X = ℕ} {R = slice_cmp nat_cmp}) q) ≡ None
+      by true e = absurd (differ (sym (equal_users q other e)))
+      by false e = get-empty (slice_cmp nat_cmp) q
+
+  nothing_granted : (user : List ℕ) → other ≢ user → other ≢ anyone → granted user (owner_acl other) ≡ no_rights
+  nothing_granted user differ someone =
+      let taken = union (entry (owner_acl other) (negative user)) (entry (owner_acl other) (negative anyone)) in
+      (λ i. less (union (entry_of_another user differ i) (entry_of_another anyone someone i)) taken)
+      ∙ ap (λ n. less n taken) (or_zero_r no_rights) ∙ ap (bit_xor no_rights) (and_zero_l taken) ∙ xor_zero_r no_rights
+
+  seen_without : (acl : AclMap) → seen_with no_rights acl ≡ None
+  seen_without acl = ap (λ n. cond (not (n == 0)) (Some (record { rights = no_rights; acl = cond (has_any no_rights administer) (Some acl) None })) None) (and_zero_l visible_rights)
+
+  module _ (administrator user : List ℕ) (some : 0 < length other) (someone : other ≢ anyone) (differ : other ≢ user) where
+    inbox_unseen : (validity : ℕ) → seen_at administrator user (inbox other) (record { validity = validity; acl = owner_acl other }) ≡ None
+    inbox_unseen validity =
+        ap (λ o. seen_with (effective user o (owner_acl other)) (owner_acl other)) (own_root administrator other some)
+        ∙ ap (λ b. seen_with (cond b (union (granted user (owner_acl other)) owner_rights) (granted user (owner_acl other))) (owner_acl other)) (not_bytes user other (λ e. differ (sym e)))
+        ∙ ap (λ r. seen_with r (owner_acl other)) (nothing_granted user differ someone) ∙ seen_without (owner_acl other)
+
+    inbox_unknown : (world : World) → is_below_place administrator user (seen_in administrator user world) (inbox other) ≡ false
+    inbox_unknown world =
+        ap (λ o. bytes_eq o user || (false || false)) (own_root administrator other some)
+        ∙ ap (λ b. b || (false || false)) (not_bytes other user differ)
+
+    inbox_hidden : (world : World) → map.get world.mailboxes (inbox other) ≡ None → (b : Bool)
+        → view_of administrator user (after_result (write_then (put_of (cond b (Err Limit) (Ok (record { name = inbox other; mailbox = record { validity = epoch world.epochs (inbox other) + 1; acl = owner_acl other } })))) (Ok [])) world) ≡ view_of administrator user world
+    inbox_hidden world absent true = refl
+    inbox_hidden world absent false =
+        put_is_hidden administrator user world (record { name = inbox other; mailbox = record { validity = epoch world.epochs (inbox other) + 1; acl = owner_acl other } }) absent (inbox_unseen (epoch world.epochs (inbox other) + 1)) (inbox_unknown world)
+
+not_anyone : (other : List ℕ) → is_user_name other ≡ true → other ≢ anyone
+not_anyone other valid e =
+    let named = or_parts _ _ (user_name_facts other valid).user in
+    let word = or_parts (bytes_eq other anyone) _ named.0 in
+    absurd (cc (sym word.0 ∙ (bytes_eq-Decides other anyone).1 e))
+
+pub others_inboxes : OthersInboxesAreHidden
+others_inboxes administrator user other world valid differ absent =
+    inbox_hidden other administrator user (user_name_facts other valid).some (not_anyone other valid) differ world (none_of (map.get world.mailboxes (inbox other)) absent) (epoch world.epochs (inbox other) == max_validity)

@@ -1,0 +1,89 @@
+-- What a view has, one after another.
+use Rattle.std.proofs.Common.{◌≡◌, ℕ, Bool, true, false, cond, ◌||◌, List, [], ◌∷◌, map, Option, Some, None, is_some, refl, sym, ap, subst, ◌∙◌}
+use Rattle.std.specs.List.{filter_map, cons_option, list_any}
+use Rattle.std.specs.Prelude.{option_map}
+use Rattle.std.specs.Borrow.{Bor}
+use Rattle.std.specs.Iterator.{YieldsFirstRef}
+use Rattle.std.specs.FinMap as fin
+use Rattle.imap_names.specs.Name.{Name}
+use Rattle.imap_names.specs.Order.{name_cmp, is_below}
+use Rattle.imap_name_map.specs.Rows.{entries_below, below_of, has_below}
+use Rattle.imap_world.specs.declared.mailbox.Mailbox.{Mailbox}
+use Rattle.imap_world.specs.Finite.{kept_entry}
+use Rattle.imap_world.specs.World.{World, NameSet}
+use Rattle.imap_world.proofs.Finding.{entries-keep}
+use Rattle.imap_view.specs.Listing.{names_below, known_among, seen_among}
+use Rattle.imap_view.specs.Seen.{seen_at}
+use Rattle.imap_view.specs.View.{View, view_of, is_below_place_in, if_true}
+
+abbrev known_entry : View → Name → Mailbox → Option (Unit {0})
+known_entry view name mailbox = if_true (is_below_place_in view name) tt
+
+module _ (administrator user : List ℕ) (world : World) where
+  entries_taken : fin.entries (view_of administrator user world).taken ≡ filter_map (kept_entry (known_entry (view_of administrator user world))) (fin.entries world.mailboxes)
+  unfolding view_of
+  entries_taken = entries-keep name_cmp (known_entry (view_of administrator user world)) world.mailboxes
+
+  entries_seen : seen_among (view_of administrator user world) (fin.entries world.mailboxes) ≡ fin.entries (view_of administrator user world).seen
+  unfolding view_of
+  entries_seen = sym (entries-keep name_cmp (seen_at administrator user) world.mailboxes)
+
+module _ (view : View) (top : Name) where
+  known_below : (es : List (Name × Mailbox)) → known_among view (entries_below top es) ≡ map (λ e. e.0) (entries_below top (filter_map (kept_entry (known_entry view)) es))
+  known_below [] = refl
+  known_below (e ∷ es) =
+      known_first (is_below top e.0)
+      ∙ both (is_below_place_in view e.0) (is_below top e.0) (known_below es)
+      ∙ sym (kept_first (is_below_place_in view e.0))
+    where
+      kept : List (Name × Unit {0})
+      kept = filter_map (kept_entry (known_entry view)) es
+
+      known_first : (below : Bool) → known_among view (cond below (e ∷ entries_below top es) (entries_below top es))
+          ≡ cond below (cond (is_below_place_in view e.0) (e.0 ∷ known_among view (entries_below top es)) (known_among view (entries_below top es))) (known_among view (entries_below top es))
+      known_first true = refl
+      known_first false = refl
+
+      kept_first : (known : Bool) → map (λ f. f.0) (entries_below top (cons_option (option_map (λ y. (e.0, y)) (if_true known tt)) kept))
+          ≡ map (λ f. f.0) (cond known (cond (is_below top e.0) ((e.0, tt) ∷ entries_below top kept) (entries_below top kept)) (entries_below top kept))
+      kept_first true = refl
+      kept_first false = refl
+
+      both : (known below : Bool) → known_among view (entries_below top es) ≡ map (λ f. f.0) (entries_below top kept)
+          → cond below (cond known (e.0 ∷ known_among view (entries_below top es)) (known_among view (entries_below top es))) (known_among view (entries_below top es))
+          ≡ map (λ f. f.0) (cond known (cond below ((e.0, tt) ∷ entries_below top kept) (entries_below top kept)) (entries_below top kept))
+      both true true rest = ap (λ names. e.0 ∷ names) rest
+      both true false rest = rest
+      both false true rest = rest
+      both false false rest = rest
+
+module _ (administrator user : List ℕ) (world : World) (view : View) (is : view_of administrator user world ≡ view) where
+  pub names_taken : (top : Name) → known_among view (below_of top world.mailboxes) ≡ names_below top view.taken
+  names_taken top =
+      known_below view top (fin.entries world.mailboxes)
+      ∙ ap (λ es. map (λ e. e.0) (entries_below top es)) (sym (subst (λ v. fin.entries v.taken ≡ filter_map (kept_entry (known_entry v)) (fin.entries world.mailboxes)) is (entries_taken administrator user world)))
+
+  pub names_seen : seen_among view (fin.entries world.mailboxes) ≡ fin.entries view.seen
+  names_seen = subst (λ v. seen_among v (fin.entries world.mailboxes) ≡ fin.entries v.seen) is (entries_seen administrator user world)
+
+-- ---- whether there is one
+
+abbrev is_filled : List Name → Bool
+is_filled [] = false
+is_filled (name ∷ names) = true
+
+any_below : (top : Name) (es : List (Name × Unit {0})) → is_filled (map (λ e. e.0) (entries_below top es)) ≡ list_any (λ e. is_below top e.0) es
+any_below top [] = refl
+any_below top (e ∷ es) = by (is_below top e.0) (any_below top es)
+  where
+    by : (b : Bool) → is_filled (map (λ f. f.0) (entries_below top es)) ≡ list_any (λ f. is_below top f.0) es
+        → is_filled (map (λ f. f.0) (cond b (e ∷ entries_below top es) (entries_below top es))) ≡ (b || list_any (λ f. is_below top f.0) es)
+    by true rest = refl
+    by false rest = rest
+
+first_tells : (names later : List Name) (r : Option (Bor Name)) → YieldsFirstRef (λ left. left) names r later → is_some r ≡ is_filled names
+first_tells names later None steps = ap is_filled (sym steps.0)
+first_tells names later (Some name) steps = ap is_filled (sym steps)
+
+pub first_taken : (top : Name) (taken : NameSet) (names later : List Name) (r : Option (Bor Name)) → names ≡ names_below top taken → YieldsFirstRef (λ left. left) names r later → is_some r ≡ has_below top taken
+first_taken top taken names later r are steps = first_tells names later r steps ∙ ap is_filled are ∙ any_below top (fin.entries taken)
