@@ -115,6 +115,21 @@ impl Core {
         Ok((core, change))
     }
 
+    /// Returns an equal copy. It shares the texts of names.
+    pub fn try_copy(&self, alloc: Global) -> Result<Core, AllocError>
+        ensures { IfOk result (λ copy. copy.state ≡ self.now.state) }
+    {
+        let site = Site {
+            administrator: self.site.administrator.try_copy()?,
+            limits: self.site.limits,
+        };
+        Ok(Core {
+            site,
+            world: self.world.try_copy(alloc)?,
+            accounts: self.accounts.try_copy(alloc)?,
+        })
+    }
+
     /// Finds what the step is answered and what it changes, and changes nothing yet.
     pub fn prepare(&mut self, alloc: Global, step: &Step) -> Result<Prepared, AllocError>
         ensures unchanged { self.new.state ≡ self.old.state }

@@ -1,6 +1,6 @@
 //! The names of sessions.
 
-ghost use Rattle.std.specs.Prelude.{◌≡◌, ◌≤◌, IfOk, MatchOption};
+ghost use Rattle.std.specs.Prelude.{◌≡◌, ◌≤◌, ◌↔◌, IfOk, IsTrue, MatchOption};
 
 use imap_names::UserName;
 use std::alloc::AllocError;
@@ -58,5 +58,12 @@ impl SessionId {
             user: self.user.try_copy()?,
             number: self.number,
         })
+    }
+
+    /// Whether both are the same session.
+    pub fn is_same(&self, other: &SessionId) -> bool
+        ensures { IsTrue result ↔ (self.now ≡ other.now) }
+    {
+        self.user.is_same(&other.user) && self.number.get() == other.number.get()
     }
 }

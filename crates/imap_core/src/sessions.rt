@@ -7,6 +7,7 @@ ghost use Rattle.std.specs.FinMap as map;
 ghost use Rattle.imap_core.specs.Sessions.{max_sessions};
 
 use crate::session_id::SessionNumber;
+use imap_values::TryCopy;
 use std::alloc::{AllocError, Global};
 use std::marker::Model;
 
@@ -82,6 +83,26 @@ impl OwnSessions {
     {
         take_out(&mut self.entries, number);
     }
+}
+
+impl TryCopy for OwnSessions {
+    fn try_copy(&self, alloc: Global) -> Result<OwnSessions, AllocError> {
+        let entries = copy_entries(alloc, self.entries.as_slice())?;
+        Ok(OwnSessions { entries })
+    }
+}
+
+/// An equal copy, with room for as many sessions as may be open.
+fn copy_entries(
+    alloc: Global,
+    entries: &[(SessionNumber, Session)],
+) -> Result<Vec<(SessionNumber, Session)>, AllocError>
+    ensures items { IfOk result (λ copy. copy.items ≡ entries.now) }
+    ensures room { IfOk result (λ copy. max_sessions ≤ vec_capacity copy) }
+{
+    let mut copy = Vec::with_capacity(alloc, MAX_SESSIONS)?;
+    copy.extend_from_slice(entries)?;
+    Ok(copy)
 }
 
 fn stands_in(entries: &[(SessionNumber, Session)], number: SessionNumber) -> bool

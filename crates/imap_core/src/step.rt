@@ -1,8 +1,12 @@
 //! What a session may do.
 
+ghost use Rattle.std.specs.Prelude.{◌≡◌, ◌↔◌, IfOk, IsTrue};
+
 use crate::moment::Moment;
 use crate::session_id::SessionId;
 use imap_grammar::Request;
+use imap_values::{Same, TryCopy};
+use std::alloc::{AllocError, Global};
 
 #[derive(Debug, Drop)]
 pub enum Act {
@@ -18,10 +22,59 @@ pub enum Act {
     Leave,
 }
 
+impl TryCopy for Act {
+    fn try_copy(&self, alloc: Global) -> Result<Act, AllocError> {
+        match self {
+            Act::Open => Ok(Act::Open),
+            Act::Do(request) => Ok(Act::Do(request.try_copy(alloc)?)),
+            Act::Poll => Ok(Act::Poll),
+            Act::Done => Ok(Act::Done),
+            Act::Leave => Ok(Act::Leave),
+        }
+    }
+}
+
+impl Same for Act {
+    fn is_same(&self, other: &Act) -> bool {
+        match (self, other) {
+            (Act::Open, Act::Open)
+            | (Act::Poll, Act::Poll)
+            | (Act::Done, Act::Done)
+            | (Act::Leave, Act::Leave) => true,
+            (Act::Do(request), Act::Do(other)) => request.is_same(other),
+            _ => false,
+        }
+    }
+}
+
 /// One act of one session.
 #[derive(Debug, Drop)]
 pub struct Step {
     pub who: SessionId,
     pub at: Moment,
     pub act: Act,
+}
+
+impl Step {
+    /// Returns an equal copy. It shares the texts of names and the octets of the request.
+    pub fn try_copy(&self, alloc: Global) -> Result<Step, AllocError>
+        ensures { IfOk result (λ copy. copy ≡ self.now) }
+    {
+        let who = self.who.try_copy()?;
+        let act = self.act.try_copy(alloc)?;
+        Ok(Step {
+            who,
+            at: self.at,
+            act,
+        })
+    }
+
+    /// Whether both are the same step.
+    pub fn is_same(&self, other: &Step) -> bool
+        ensures { IsTrue result ↔ (self.now ≡ other.now) }
+    {
+        self.who.is_same(&other.who)
+            && self.at.seconds() == other.at.seconds()
+            && self.act.is_same(&other.act)
+    }
 }

@@ -238,3 +238,33 @@ fn a_user_subscribes_to_a_thousand_names(rt: HostRuntime) -> Result<(), Fail> {
     }
     Ok(())
 }
+
+/// Whether a copy of the step is the same step.
+fn is_copied(alloc: Global, step: &Step) -> Result<bool, Fail> {
+    let copy = step.try_copy(alloc)?;
+    let same = copy.is_same(step);
+    drop(copy);
+    Ok(same)
+}
+
+#[test]
+fn steps_are_copied(rt: HostRuntime) -> Result<(), Fail> {
+    let alloc = rt.alloc();
+    for step in visit(alloc)?.iter() {
+        assert!(rt; is_copied(alloc, step)?);
+    }
+    Ok(())
+}
+
+#[test]
+fn a_copy_of_the_machine_answers_alike(rt: HostRuntime) -> Result<(), Fail> {
+    let alloc = rt.alloc();
+    let root = user(alloc, "root")?;
+    let (mut core, _change) = Core::open(alloc, World::new(alloc), root, &[], LIMITS)?;
+    let _ = core.run(alloc, &opening(alloc)?)?;
+    let mut copy = core.try_copy(alloc)?;
+    let written = answered(alloc, &mut copy, b"a1 MYRIGHTS INBOX\r\n")?;
+    let wanted: &[u8] = b"* MYRIGHTS INBOX lrswipkxtea\r\na1 OK done\r\n";
+    assert_eq!(rt; written.as_slice(), wanted);
+    Ok(())
+}
