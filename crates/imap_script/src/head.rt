@@ -1,9 +1,10 @@
 //! The head of a script: the users, the limits, and the mailboxes at the start.
 
 use crate::line::{LineError, read_number};
+use crate::mailboxes::Mailboxes;
 use imap_core::Core;
 use imap_names::{Name, UserName, read_full};
-use imap_rights::{Acl, Identifier, read_rights};
+use imap_rights::{Identifier, read_rights};
 use imap_world::{Limits, World};
 use std::alloc::{AllocError, Global};
 use std::collections::HashSet;
@@ -45,16 +46,42 @@ impl HeadWord {
 
 /// What a host starts with.
 #[derive(Drop)]
-pub(crate) struct Head {
+pub(crate) struct Start {
     administrator: UserName,
     /// The other users, each once.
     users: Vec<UserName>,
     limits: Limits,
     world: World,
+}
+
+impl Start {
+    pub(crate) fn max_octets(&self) -> u64 {
+        self.limits.max_octets
+    }
+
+    /// Starts the host.
+    pub(crate) fn open(self, alloc: Global) -> Result<Core, AllocError> {
+        let Start {
+            administrator,
+            users,
+            limits,
+            world,
+        } = self;
+        let (core, _) = Core::open(alloc, world, administrator, users.as_slice(), limits)?;
+        Ok(core)
+    }
+}
+
+/// The head lines that have been read.
+#[derive(Drop)]
+pub(crate) struct Head {
+    administrator: UserName,
+    /// The other users, each once.
+    users: Vec<UserName>,
+    limits: Limits,
+    mailboxes: Mailboxes,
     /// The names of all users, the administrator among them.
     known: HashSet<String>,
-    /// The mailbox that the last `mailbox` line named.
-    chosen: Option<Name>,
 }
 
 impl Head {
@@ -70,9 +97,8 @@ impl Head {
                 max_messages: DEFAULT_MESSAGES,
                 max_octets: DEFAULT_OCTETS,
             },
-            world: World::new(alloc),
+            mailboxes: Mailboxes::new(alloc),
             known,
-            chosen: None,
         })
     }
 
@@ -92,22 +118,21 @@ impl Head {
         }
     }
 
-    pub(crate) fn max_octets(&self) -> u64 {
-        self.limits.max_octets
-    }
-
-    /// Starts the host.
-    pub(crate) fn open(self, alloc: Global) -> Result<Core, AllocError> {
+    /// What the host starts with after all lines of the head.
+    pub(crate) fn finish(self, alloc: Global) -> Result<Start, LineError> {
         let Head {
             administrator,
             users,
             limits,
-            world,
+            mailboxes,
             known: _,
-            chosen: _,
         } = self;
-        let (core, _) = Core::open(alloc, world, administrator, users.as_slice(), limits)?;
-        Ok(core)
+        Ok(Start {
+            administrator,
+            users,
+            limits,
+            world: mailboxes.into_world(alloc)?,
+        })
     }
 
     fn add_user(&mut self, alloc: Global, name: &str) -> Result<(), LineError> {
@@ -140,11 +165,7 @@ impl Head {
         if !self.knows_owner_of(&name) {
             return Err(LineError::Bad);
         }
-        if self.world.mailbox(&name.as_ref()).is_none() {
-            self.world.place(name.try_copy()?, Acl::new(alloc))?;
-        }
-        self.chosen = Some(name);
-        Ok(())
+        self.mailboxes.choose(alloc, &self.administrator, name)
     }
 
     /// Whether `name` lies in the tree of a known user or in the Shared tree.
@@ -160,9 +181,7 @@ impl Head {
         let (identifier, rights) = text.rsplit_once(' ').ok_or(LineError::Bad)?;
         let identifier = Identifier::read(alloc, identifier.as_bytes())?;
         let change = read_rights(rights.as_bytes()).ok_or(LineError::Bad)?;
-        let name = self.chosen.as_ref().ok_or(LineError::Bad)?;
-        self.world.set_acl(&name.as_ref(), identifier, change)?;
-        Ok(())
+        self.mailboxes.set_entry(identifier, change)
     }
 }
 

@@ -5,6 +5,7 @@ mod error;
 mod head;
 mod input;
 mod line;
+mod mailboxes;
 mod run;
 mod scenario;
 mod step;

@@ -2,9 +2,10 @@
 
 ghost use Rattle.std.specs.Prelude.{◌≤◌, IfSome};
 
+use crate::error::ScriptError;
 use hex::FromHexError;
 use imap_names::NameError;
-use imap_rights::IdentifierError;
+use imap_rights::{AclError, IdentifierError};
 use imap_world::WorldError;
 use std::alloc::{AllocError, AllocFailed};
 
@@ -14,6 +15,16 @@ pub(crate) enum LineError {
     /// It is no line of a script, or can't stand where it stands.
     Bad,
     Memory,
+}
+
+impl LineError {
+    /// The error of a script that ends with this error of the line that is counted so.
+    pub(crate) fn at(self, line: u64) -> ScriptError {
+        match self {
+            LineError::Bad => ScriptError::Bad { line },
+            LineError::Memory => ScriptError::Memory,
+        }
+    }
 }
 
 impl From<AllocError> for LineError {
@@ -42,6 +53,15 @@ impl From<IdentifierError> for LineError {
         match error {
             IdentifierError::Memory => LineError::Memory,
             IdentifierError::Invalid => LineError::Bad,
+        }
+    }
+}
+
+impl From<AclError> for LineError {
+    fn from(error: AclError) -> LineError {
+        match error {
+            AclError::Memory => LineError::Memory,
+            AclError::Full => LineError::Bad,
         }
     }
 }

@@ -17,10 +17,10 @@ pub(crate) fn run_scenario<O: Write + Drop>(
     scenario: Scenario,
     output: O,
 ) -> Result<(), ScriptError> {
-    let Scenario { head, steps } = scenario;
-    let max_octets = head.max_octets();
+    let Scenario { start, steps } = scenario;
+    let max_octets = start.max_octets();
     let mut run = Run {
-        core: head.open(alloc)?,
+        core: start.open(alloc)?,
         max_octets,
         framers: HashMap::new(alloc),
         transcript: Transcript::new(alloc, output)?,

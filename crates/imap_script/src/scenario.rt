@@ -1,17 +1,17 @@
 //! A whole script, read.
 
 use crate::error::ScriptError;
-use crate::head::{Head, HeadWord};
+use crate::head::{Head, HeadWord, Start};
 use crate::line::{LineError, read_number};
 use crate::step::ScriptStep;
 use imap_core::Moment;
 use std::alloc::Global;
 use std::str;
 
-/// A whole script: its head and its steps.
+/// A whole script: what the host starts with, and the steps.
 #[derive(Drop)]
 pub(crate) struct Scenario {
-    pub(crate) head: Head,
+    pub(crate) start: Start,
     pub(crate) steps: Vec<ScriptStep>,
 }
 
@@ -22,21 +22,12 @@ impl Scenario {
         let mut draft = Draft::new(alloc);
         let mut line = 1u64;
         for octets in text.split_inclusive(|octet| *octet == b'\n') {
-            match draft.take_line(alloc, octets) {
-                Ok(()) => line = line.saturating_add(1),
-                Err(LineError::Bad) => return Err(ScriptError::Bad { line }),
-                Err(LineError::Memory) => return Err(ScriptError::Memory),
-            }
+            draft
+                .take_line(alloc, octets)
+                .map_err(|error| error.at(line))?;
+            line = line.saturating_add(1);
         }
-        let Draft {
-            head,
-            clock: _,
-            steps,
-        } = draft;
-        match head {
-            Some(head) => Ok(Scenario { head, steps }),
-            None => Err(ScriptError::Bad { line }),
-        }
+        draft.finish(alloc).map_err(|error| error.at(line))
     }
 }
 
@@ -56,6 +47,20 @@ impl Draft {
             clock: None,
             steps: Vec::new(alloc),
         }
+    }
+
+    /// The whole script. It is bad without an administrator.
+    fn finish(self, alloc: Global) -> Result<Scenario, LineError> {
+        let Draft {
+            head,
+            clock: _,
+            steps,
+        } = self;
+        let head = head.ok_or(LineError::Bad)?;
+        Ok(Scenario {
+            start: head.finish(alloc)?,
+            steps,
+        })
     }
 
     /// Takes a line, with or without the LF that ends it.
