@@ -13,3 +13,10 @@ pub mod SuperiorLaws
 pub mod InboxWord
 pub mod ReadLaws
 pub mod ShownLaws
+pub mod Spelling
+pub mod Walks
+pub mod LetterLaws
+pub mod MatchLaws
+pub mod PatternLaws
+pub mod ShownLetters
+pub mod CaseLaws

@@ -85,11 +85,11 @@ reads_other user name valid owned other =
     refl
     (cond-false _ _ _ (or_from _ _ other (ap not owned)))
 
-empty_is : (text : List ℕ) → is_empty text ≡ true → text ≡ []
+pub empty_is : (text : List ℕ) → is_empty text ≡ true → text ≡ []
 empty_is [] h = refl
 empty_is (c ∷ cs) h = let none : length (c ∷ cs) ≡ 0 = eqb-true (length (c ∷ cs)) 0 h in absurd (omega arith)
 
-owned_root : (root : List ℕ) → is_root root ≡ true → is_empty root ≡ false → is_user_name root ≡ true
+pub owned_root : (root : List ℕ) → is_root root ≡ true → is_empty root ≡ false → is_user_name root ≡ true
 owned_root root h owned = sym (ap (λ b. b || is_user_name root) owned) ∙ h
 
 pub shown_reads_back : (user : List ℕ) (name : List (List ℕ)) → IsName name → name_read user (shown user name) ≡ Ok name

@@ -7,3 +7,8 @@ pub mod Answer
 pub mod Reading
 pub mod Showing
 pub mod Tree
+pub mod Letters
+pub mod Pattern
+pub mod MatchTest
+pub mod Namespace
+pub mod Walk

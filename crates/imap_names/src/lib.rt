@@ -2,20 +2,27 @@
 //!
 //! A name lies in a user's tree or in the tree that all share, and has a path of components there.
 //! A user writes a name in his own tree without a prefix, one in another's tree as `Other Users/NAME/PATH`, and one in
-//! the tree that all share as `Shared/PATH`.
+//! the tree that all share as `Shared/PATH`. A [`Pattern`] of LIST is compared with these texts.
 #![tactic(auto)]
 
 pub mod error;
 pub mod laws;
+pub mod letters;
 pub mod name;
 pub mod name_ref;
+pub mod namespace;
+pub mod pattern;
 pub mod read;
 pub mod show;
+pub mod token;
 pub mod user_name;
+mod wildcards;
 
 pub use error::NameError;
 pub use name::{MAX_DEPTH, MAX_PATH_OCTETS, Name, Tree, inbox, is_above};
 pub use name_ref::NameRef;
+pub use namespace::{NamespacePrefixes, namespaces};
+pub use pattern::Pattern;
 pub use read::{read_full, read_name};
 pub use show::show_name;
 pub use user_name::{MAX_USER_NAME_OCTETS, UserName};

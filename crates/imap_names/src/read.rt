@@ -30,10 +30,10 @@ pub(crate) enum Namespace {
 
 /// A text by the parts of a name, as they are written: its namespace, the owner that it names there, and its path.
 #[derive(Clone, Copy)]
-struct NameParts<'a> {
-    namespace: Namespace,
-    owner: &'a str,
-    path: &'a str,
+pub(crate) struct NameParts<'a> {
+    pub(crate) namespace: Namespace,
+    pub(crate) owner: &'a str,
+    pub(crate) path: &'a str,
 }
 
 /// The name that a text means for `user`.
@@ -99,7 +99,7 @@ fn name_at(
 }
 
 /// The parts of a text that is no prefix alone.
-fn parts_of(text: &str) -> NameParts<'_>
+pub(crate) fn parts_of(text: &str) -> NameParts<'_>
     requires { is_prefix_word text.now ≡ false }
     ensures namespace { result.namespace ≡ (parts_of text.now).namespace }
     ensures owner { result.owner.now ≡ (parts_of text.now).owner }
@@ -143,7 +143,7 @@ fn other_parts(rest: &str) -> NameParts<'_>
 }
 
 /// Whether the text is the first component of a prefix.
-fn is_prefix_word(text: &str) -> bool
+pub(crate) fn is_prefix_word(text: &str) -> bool
     ensures { result ≡ is_prefix_word text.now }
 {
     text == "Other Users" || text == "Shared"
@@ -247,7 +247,7 @@ fn is_reserved(tree: &Tree, path: &str) -> bool
     !tree.root().is_empty() && is_prefix_word(first_component(path))
 }
 
-fn first_component(path: &str) -> &str
+pub(crate) fn first_component(path: &str) -> &str
     ensures { (more : List (List ℕ)) × (components_of path.now ≡ result.now ∷ more) }
 {
     match path.split_once('/') {
@@ -291,7 +291,7 @@ fn with_inbox(alloc: Global, path: String) -> Result<String, AllocError>
     }
 }
 
-fn spells_inbox(component: &str) -> bool
+pub(crate) fn spells_inbox(component: &str) -> bool
     ensures { result ≡ is_inbox_word component.now }
 {
     component.eq_ignore_ascii_case("INBOX")
