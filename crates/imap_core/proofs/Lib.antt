@@ -2,7 +2,6 @@ pub mod Admitted
 pub mod Fitting
 pub mod Lent
 pub mod Numbered
-pub mod Printable
 pub mod Replay
 pub mod Runs
 pub mod Sameness

@@ -9,7 +9,7 @@ use Rattle.imap_core.specs.declared.step.Act.{Act}
 use Rattle.imap_core.specs.declared.step.Act.TheVariants as act
 use Rattle.imap_core.specs.declared.step.Step.{Step}
 use Rattle.imap_core.specs.Machine.{State, outcome_for, answer, next, view_in, own_in}
-use Rattle.imap_core.specs.Outcome.{replies_alone}
+use Rattle.imap_core.specs.Outcome.{silence}
 use Rattle.imap_core.specs.Sessions.{Own}
 use Rattle.imap_core.specs.Trace.{Event, Acts, Sees, is_quiet, with_replies, trace, transcript, same_view, EqualViewsAreSame, Isolation}
 use Rattle.imap_view.specs.View.{View, view_code}
@@ -19,7 +19,7 @@ use Rattle.imap_core.proofs.Steps.{own_after, own_after_change, own_in-next, own
 
 abbrev replay : View → Option Own → List Event → List (ℕ × List ℕ)
 replay view own [] = []
-replay view own (Acts step ∷ events) = with_replies step.who.number (outcome_for view own step).replies (replay (view_next view own step) (own_after view own step) events)
+replay view own (Acts step ∷ events) = with_replies step.who.number (outcome_for view own step).answer.replies (replay (view_next view own step) (own_after view own step) events)
 replay view own (Sees other ∷ events) = replay other own events
 
 equal_views : (v w : View) → same_view v w ≡ true → v ≡ w
@@ -47,7 +47,7 @@ polled view (Some own) step act.Open e = absurd (cc)
 polled view (Some own) step (act.Do request) e = absurd (cc)
 polled view (Some own) step act.Poll e = by (map.contains_key own step.who.number)
   where
-    by : (b : Bool) → IsIdle (cond b (replies_alone []) (replies_alone []))
+    by : (b : Bool) → IsIdle (cond b silence silence)
     by true = record { session = refl; effect = refl }
     by false = record { session = refl; effect = refl }
 polled view (Some own) step act.Done e = absurd (cc)

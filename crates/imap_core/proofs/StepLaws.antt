@@ -21,7 +21,7 @@ use Rattle.imap_core.proofs.Steps.{own_after, own_after_change, own_in-next, own
 
 pub alike_on : StepsAreAlike
 alike_on s t step alike = (
-  λ i. (outcome_for (alike.views i) (alike.sessions i) step).replies,
+  λ i. (outcome_for (alike.views i) (alike.sessions i) step).answer.replies,
   record {
     views = view_in-next s step ∙ (λ i. view_next (alike.views i) (alike.sessions i) step) ∙ sym (view_in-next t step);
     sessions = own_in-next s step ∙ (λ i. own_after (alike.views i) (alike.sessions i) step) ∙ sym (own_in-next t step);

@@ -6,6 +6,7 @@ use Rattle.std.proofs.lemmas.Map.Text.{is_eq-slice_cmp}
 use Rattle.std.proofs.lemmas.Slice.Eq.{bytes_eq-Decides}
 use Rattle.std.specs.FinMap as map
 use Rattle.std.specs.FinMap.{get-insert}
+use Rattle.imap_answer.specs.Fit.{MayBeAsked}
 use Rattle.imap_view.proofs.Afters.{own_effects}
 use Rattle.imap_view.specs.After.{view_after}
 use Rattle.imap_view.specs.View.{View, view_of}
@@ -19,7 +20,7 @@ use Rattle.imap_core.specs.declared.step.Step.{Step}
 use Rattle.imap_core.specs.Accounts.{Accounts}
 use Rattle.imap_core.specs.Machine.{State, outcome_for, outcome, next, view_in, own_in, effects_of, with_own, accounts_after}
 use Rattle.imap_core.specs.Sessions.{Own}
-use Rattle.imap_core.proofs.Fitting.{MayBeAsked, outcome_fits}
+use Rattle.imap_core.proofs.Fitting.{outcome_fits}
 
 -- ---- the view
 
@@ -35,11 +36,11 @@ after_asking administrator user world (Some effect) may = own_effects administra
 
 -- the acting user's view after a step is a function of the view before, the user's sessions and the step
 abbrev pub view_next : View → Option Own → Step → View
-view_next view own step = view_after_asking (outcome_for view own step).effect view
+view_next view own step = view_after_asking (outcome_for view own step).answer.effect view
 
 pub view_in-next : (state : State) (step : Step) → view_in (next state step) step.who.user ≡ view_next (view_in state step.who.user) (own_in state step.who.user) step
 view_in-next state step =
-    after_asking state.site.administrator step.who.user state.world (outcome state step).effect
+    after_asking state.site.administrator step.who.user state.world (outcome state step).answer.effect
     (outcome_fits (view_in state step.who.user) (own_in state step.who.user) step).asks
 
 -- ---- sessions

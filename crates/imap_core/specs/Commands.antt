@@ -1,4 +1,3 @@
 -- What each command is answered, one file a group of commands.
 pub mod Acl
 pub mod Session
-pub mod Subscriptions

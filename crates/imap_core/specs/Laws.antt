@@ -2,9 +2,7 @@
 use Rattle.std.specs.Prelude.{◌≡◌, ℕ, Bool, true, false, ◌==◌, ◌&&◌, List, Option, bytes_eq, option_and_then}
 use Rattle.std.specs.List.{list_any}
 use Rattle.std.specs.FinMap as map
-use Rattle.imap_print.specs.declared.response.Refusal.TheVariants.{Unavailable}
-use Rattle.imap_print.specs.declared.response.Response.{Response}
-use Rattle.imap_print.specs.declared.response.Response.TheVariants as response
+use Rattle.imap_answer.specs.Fit.{is_refusal, is_unavailable}
 use Rattle.imap_core.specs.declared.sessions.Session.{Session}
 use Rattle.imap_core.specs.declared.step.Step.{Step}
 use Rattle.imap_core.specs.Machine.{State, answer, next, own_in}
@@ -25,18 +23,10 @@ OtherSessionsStay = (state : State) (step : Step) (user : List ℕ) (number : �
     → (bytes_eq step.who.user user && (step.who.number == number)) ≡ false
     → session_in (next state step) user number ≡ session_in state user number
 
-abbrev pub is_refusal : Response → Bool
-is_refusal (response.Refused tag refusal) = true
-is_refusal _ = false
-
 -- A step that is answered by a refusal changes nothing.
 abbrev pub RefusalsChangeNothing : Type 0
 RefusalsChangeNothing = (state : State) (step : Step)
     → list_any is_refusal (answer state step) ≡ true → next state step ≡ state
-
-abbrev pub is_unavailable : Response → Bool
-is_unavailable (response.Refused tag Unavailable) = true
-is_unavailable _ = false
 
 -- UNAVAILABLE (RFC 5530) is for a host to say, when it can't save a change.
 abbrev pub NeverUnavailable : Type 0

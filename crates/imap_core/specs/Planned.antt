@@ -10,22 +10,13 @@ use Rattle.imap_world.specs.Effects.{after_writes}
 use Rattle.imap_world.specs.Ready as world
 use Rattle.imap_core.specs.declared.sessions.SessionChange.{SessionChange}
 use Rattle.imap_core.specs.declared.sessions.SessionChange.TheVariants as session
-use Rattle.imap_core.specs.declared.plan.Plan.{Plan}
 use Rattle.imap_core.specs.declared.machine.Prepared.{Prepared}
 use Rattle.imap_core.specs.Machine.{State, Machine, accounts_after}
-use Rattle.imap_core.specs.Outcome.{Outcome}
 use Rattle.imap_core.specs.Sessions.{Own, max_sessions}
 
 -- A client reads each reply as one line.
 abbrev pub ArePrintable : {Z : Type 0} → Vec Response Z → Type 0
 ArePrintable replies = AllByRecursion IsPrintable replies.items
-
--- The plan is the outcome, and each reply is one line to a client.
-pub record Plans (plan : Plan) (outcome : Outcome) : Type 0 where
-  pub replies : plan.replies.items ≡ outcome.replies
-  pub session : plan.session ≡ outcome.session
-  pub effect : plan.effect ≡ outcome.effect
-  pub printable : AllByRecursion IsPrintable outcome.replies
 
 -- the replies to each of several steps
 abbrev pub replies_in : {Y Z : Type 0} → Vec (Vec Response Y) Z → List (List Response)

@@ -1,40 +1,68 @@
 //! What each command is answered.
 
-ghost use Rattle.std.specs.Prelude.{IfOk};
-ghost use Rattle.imap_core.specs.Reply.{command_outcome};
-ghost use Rattle.imap_core.specs.Planned.{Plans};
+ghost use Rattle.std.specs.Prelude.{◌≡◌, IfOk};
+ghost use Rattle.imap_core.specs.Reply.{command_answer, command_outcome};
 
 mod acl;
 mod session;
-mod subscriptions;
 
-use crate::plan::Plan;
-use acl::my_rights_plan;
+use crate::outcome::Outcome;
+use acl::my_rights_answer;
+use imap_answer::Answer;
 use imap_grammar::Command;
 use imap_lex::Tag;
+use imap_list::{Query, list_answer, namespace_answer, subscribe_answer, unsubscribe_answer};
 use imap_print::Refusal;
 use imap_view::View;
-use session::{capability_plan, logout_plan};
+use session::{capability_answer, logout_answer};
 use std::alloc::{AllocError, Global};
-use subscriptions::{subscribe_plan, unsubscribe_plan};
 
-pub(crate) fn command_plan(
+pub(crate) fn command_outcome(
     alloc: Global,
     view: &View<'_>,
     tag: &Tag,
     command: &Command,
-) -> Result<Plan, AllocError>
-    ensures { IfOk result (λ plan. Plans plan (command_outcome view.now tag.now command.now)) }
+) -> Result<Outcome, AllocError>
+    ensures { IfOk result (λ outcome. outcome ≡ command_outcome view.now tag.now command.now) }
 {
     match command {
-        Command::Capability => capability_plan(alloc, tag),
-        Command::Noop => Plan::done(alloc, tag),
-        Command::Logout => logout_plan(alloc, tag),
-        Command::Authenticate => Plan::refusal(alloc, tag, Refusal::WrongState),
-        Command::Subscribe { mailbox } => subscribe_plan(alloc, view, tag, mailbox),
-        Command::Unsubscribe { mailbox } => unsubscribe_plan(alloc, view, tag, mailbox),
-        Command::MyRights { mailbox } => my_rights_plan(alloc, view, tag, mailbox),
+        Command::Logout => Ok(Outcome::ending(logout_answer(alloc, tag)?)),
+        _ => Ok(Outcome::staying(command_answer(alloc, view, tag, command)?)),
+    }
+}
+
+fn command_answer(
+    alloc: Global,
+    view: &View<'_>,
+    tag: &Tag,
+    command: &Command,
+) -> Result<Answer, AllocError>
+    ensures { IfOk result (λ answer. answer ≡ command_answer view.now tag.now command.now) }
+{
+    match command {
+        Command::Capability => capability_answer(alloc, tag),
+        Command::Noop => Answer::done(alloc, tag),
+        Command::Logout => logout_answer(alloc, tag),
+        Command::Authenticate => Answer::refusal(alloc, tag, Refusal::WrongState),
+        Command::Namespace => namespace_answer(alloc, tag),
+        Command::List {
+            selection,
+            reference,
+            patterns,
+            returns,
+        } => {
+            let query = Query {
+                selection,
+                reference,
+                patterns,
+                returns,
+            };
+            list_answer(alloc, view, tag, &query)
+        }
+        Command::Subscribe { mailbox } => subscribe_answer(alloc, view, tag, mailbox),
+        Command::Unsubscribe { mailbox } => unsubscribe_answer(alloc, view, tag, mailbox),
+        Command::MyRights { mailbox } => my_rights_answer(alloc, view, tag, mailbox),
         // What isn't built yet can't be done.
-        _ => Plan::refusal(alloc, tag, Refusal::Cannot),
+        _ => Answer::refusal(alloc, tag, Refusal::Cannot),
     }
 }

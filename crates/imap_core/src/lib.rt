@@ -15,7 +15,7 @@ pub mod laws;
 mod machine;
 mod moment;
 mod opening;
-mod plan;
+mod outcome;
 mod reply;
 mod session_id;
 mod sessions;

@@ -6,16 +6,17 @@ ghost use Rattle.std.specs.List.{AllByRecursion};
 ghost use Rattle.imap_world.specs.Effects.{writes_of};
 ghost use Rattle.imap_world.specs.Ready as world;
 ghost use Rattle.imap_world.specs.Stored.{world_of};
-ghost use Rattle.imap_core.specs.Machine.{IsPartWay, after_steps, answer, answers, effects_of, next, outcome};
+ghost use Rattle.imap_core.specs.Machine as specs;
+ghost use Rattle.imap_core.specs.Machine.{IsPartWay, after_steps, answer, answers, effects_of, next};
 ghost use Rattle.imap_core.specs.Opening.{admission, state_at_start};
-ghost use Rattle.imap_core.specs.Planned.{ArePrintable, HasRoom, IsReady, Plans, change_of, is_end, replies_in, replies_of, state_after};
+ghost use Rattle.imap_core.specs.Planned.{ArePrintable, HasRoom, IsReady, change_of, is_end, replies_in, replies_of, state_after};
 ghost use Rattle.imap_core.specs.Trace.{sent_to, transcript};
 
 use crate::accounts::settle;
 use crate::effects::{resolved, with_effects};
 use crate::opening::Opening;
-use crate::plan::Plan;
-use crate::reply::step_plan;
+use crate::outcome::Outcome;
+use crate::reply::step_outcome;
 use crate::session_id::SessionId;
 use crate::sessions::{OwnSessions, SessionChange};
 use crate::step::Step;
@@ -139,11 +140,8 @@ impl Core {
         ensures printable { IfOk result (λ prepared. ArePrintable prepared.replies) }
     {
         let who = step.who.try_copy()?;
-        let Plan {
-            replies,
-            session,
-            effect,
-        } = self.plan(alloc, step)?;
+        let Outcome { answer, session } = self.outcome_of(alloc, step)?;
+        let (replies, effect) = answer.into_parts();
         let change = self.resolve(alloc, &effect)?;
         Ok(Prepared {
             who,
@@ -188,15 +186,15 @@ impl Core {
     }
 
     /// Finds what comes of the step.
-    fn plan(&self, alloc: Global, step: &Step) -> Result<Plan, AllocError>
-        ensures plan { IfOk result (λ plan. Plans plan (outcome self.now.state step.now)) }
+    fn outcome_of(&self, alloc: Global, step: &Step) -> Result<Outcome, AllocError>
+        ensures outcome { IfOk result (λ outcome. outcome ≡ specs.outcome self.now.state step.now) }
         ensures room { let own = map.get self.now.state.accounts step.now.who.user in
-            IfOk result (λ plan. HasRoom own step.now.who.number plan.session) }
+            IfOk result (λ outcome. HasRoom own step.now.who.number outcome.session) }
     {
         let user = &step.who.user;
         match self.accounts.get(user.as_str()) {
-            Some(own) => step_plan(alloc, &View::new(&self.world, &self.site, user), own, step),
-            None => Ok(Plan::replies_alone(Vec::new(alloc))),
+            Some(own) => step_outcome(alloc, &View::new(&self.world, &self.site, user), own, step),
+            None => Ok(Outcome::silence(alloc)),
         }
     }
 

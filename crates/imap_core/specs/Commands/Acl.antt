@@ -1,27 +1,26 @@
 -- Commands on access control lists (RFC 4314, section 3). A mailbox that isn't there and one that isn't seen are
 -- answered alike (section 6).
-use Rattle.std.specs.Prelude.{ℕ, List, [], ◌∷◌, Option, Some, None, Result, Ok, Err}
+use Rattle.std.specs.Prelude.{ℕ, List, [], ◌∷◌, Option, Some, None}
 use Rattle.std.specs.FinMap as map
+use Rattle.imap_answer.specs.Answer.{Answer, done_after, refusal}
+use Rattle.imap_answer.specs.Name.{named}
 use Rattle.imap_names.specs.Name.{Name}
-use Rattle.imap_names.specs.Reading.{name_read}
 use Rattle.imap_names.specs.Showing.{shown}
-use Rattle.imap_names.specs.declared.error.NameError.{NameError}
 use Rattle.imap_print.specs.declared.response.Response.TheVariants as response
 use Rattle.imap_print.specs.declared.response.Refusal.TheVariants.{NonExistent}
 use Rattle.imap_view.specs.Seen.{Seen}
 use Rattle.imap_view.specs.View.{View}
-use Rattle.imap_core.specs.Outcome.{Outcome, replies_alone, done_line, refusal_of}
 
 -- MYRIGHTS (section 3.5) of a name, by what the user sees there
-abbrev pub my_rights_of_seen : (user tag : List ℕ) → Name → Option Seen → Outcome
-my_rights_of_seen user tag name None = refusal_of tag NonExistent
+abbrev pub my_rights_of_seen : (user tag : List ℕ) → Name → Option Seen → Answer
+my_rights_of_seen user tag name None = refusal tag NonExistent
 my_rights_of_seen user tag name (Some seen) =
-    replies_alone (response.MyRights (shown user name) (record { 0 = seen.rights }) ∷ done_line tag ∷ [])
+    done_after (response.MyRights (shown user name) (record { 0 = seen.rights }) ∷ []) tag
 
--- of a text, by the name that it means to the user
-abbrev pub my_rights_of_read : View → (tag : List ℕ) → Result Name NameError → Outcome
-my_rights_of_read view tag (Err error) = refusal_of tag NonExistent
-my_rights_of_read view tag (Ok name) = my_rights_of_seen view.user tag name (map.get view.seen name)
+-- of the name that a text means to the user, if it means one
+abbrev pub my_rights_of : View → (tag : List ℕ) → Option Name → Answer
+my_rights_of view tag None = refusal tag NonExistent
+my_rights_of view tag (Some name) = my_rights_of_seen view.user tag name (map.get view.seen name)
 
-abbrev pub my_rights_outcome : View → (tag mailbox : List ℕ) → Outcome
-my_rights_outcome view tag mailbox = my_rights_of_read view tag (name_read view.user mailbox)
+abbrev pub my_rights_answer : View → (tag mailbox : List ℕ) → Answer
+my_rights_answer view tag mailbox = my_rights_of view tag (named view mailbox)

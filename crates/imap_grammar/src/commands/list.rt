@@ -135,13 +135,15 @@ impl Keyword for ReturnWord {
 }
 
 impl Selection {
-    fn is_subscribed(self) -> bool
+    /// Whether it selects the names that the user subscribed to.
+    pub fn is_subscribed(self) -> bool
         ensures { result ≡ is_subscribed self }
     {
         matches!(self, Selection::Subscribed)
     }
 
-    fn is_recursive(self) -> bool
+    /// Whether it is RECURSIVEMATCH.
+    pub fn is_recursive(self) -> bool
         ensures { result ≡ is_recursive self }
     {
         matches!(self, Selection::RecursiveMatch)

@@ -1,0 +1,29 @@
+-- What holds of each answer to a command: its user may ask for the effect, a refusal asks for nothing, and none is
+-- UNAVAILABLE (RFC 5530), which is for a host to say, when it can't save a change.
+use Rattle.std.specs.Prelude.{◌≡◌, Bool, true, false, Option, Some, None}
+use Rattle.std.specs.List.{list_any}
+use Rattle.imap_print.specs.declared.response.Refusal.TheVariants.{Unavailable}
+use Rattle.imap_print.specs.declared.response.Response.{Response}
+use Rattle.imap_print.specs.declared.response.Response.TheVariants as response
+use Rattle.imap_view.specs.After.{MayAsk}
+use Rattle.imap_view.specs.View.{View}
+use Rattle.imap_world.specs.declared.effect.Effect.{Effect}
+use Rattle.imap_answer.specs.Answer.{Answer}
+
+abbrev pub is_refusal : Response → Bool
+is_refusal (response.Refused tag refusal) = true
+is_refusal _ = false
+
+abbrev pub is_unavailable : Response → Bool
+is_unavailable (response.Refused tag Unavailable) = true
+is_unavailable _ = false
+
+-- the user of the view may ask for it, if it is anything
+abbrev pub MayBeAsked : View → Option Effect → Type 0
+MayBeAsked view None = Unit {0}
+MayBeAsked view (Some effect) = MayAsk view effect
+
+pub record IsFit (view : View) (answer : Answer) : Type 0 where
+  pub asks : MayBeAsked view answer.effect
+  pub refused : list_any is_refusal answer.replies ≡ true → answer.effect ≡ None
+  pub available : list_any is_unavailable answer.replies ≡ false

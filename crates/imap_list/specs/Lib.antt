@@ -1,0 +1,10 @@
+pub mod IsListing
+pub mod Laws
+pub mod Lines
+pub mod ListCommand
+pub mod Listing
+pub mod Matching
+pub mod Namespaces
+pub mod Subscriptions
+pub mod Texts
+pub mod ViewNames

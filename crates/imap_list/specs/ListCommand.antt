@@ -1,0 +1,115 @@
+-- LIST and NAMESPACE (RFC 9051, sections 6.3.9 and 6.3.10).
+use Rattle.std.specs.Prelude.{ℕ, Bool, true, false, not, ◌&&◌, ◌||◌, List, [], ◌∷◌, map, flat_map, Option, Some, None, if◌then◌else◌}
+use Rattle.std.specs.List.{list_any}
+use Rattle.imap_answer.specs.Answer.{Answer, done_after, refusal}
+use Rattle.imap_grammar.specs.commands.List.{is_recursive, is_subscribed}
+use Rattle.imap_grammar.specs.declared.commands.list.ListReturn.{ListReturn}
+use Rattle.imap_grammar.specs.declared.commands.list.ListReturn.TheVariants as option
+use Rattle.imap_grammar.specs.declared.commands.list.Patterns.{Patterns}
+use Rattle.imap_grammar.specs.declared.commands.list.Patterns.TheVariants.{One, Many}
+use Rattle.imap_grammar.specs.declared.commands.list.Selection.{Selection}
+use Rattle.imap_names.specs.Name.{is_empty}
+use Rattle.imap_names.specs.Pattern.{pattern_read}
+use Rattle.imap_names.specs.declared.token.Token.{Token}
+use Rattle.imap_print.specs.declared.list.Children.{Children}
+use Rattle.imap_print.specs.declared.list.Children.TheVariants.{Has, HasNo}
+use Rattle.imap_print.specs.declared.response.Refusal.TheVariants.{Cannot}
+use Rattle.imap_print.specs.declared.response.Response.{Response}
+use Rattle.imap_print.specs.declared.response.Response.TheVariants as response
+use Rattle.imap_view.specs.View.{View}
+use Rattle.imap_list.specs.declared.line.Line.{Line}
+use Rattle.imap_list.specs.Listing.{listing, subscribed_listing}
+
+-- the arguments of LIST
+pub record Query : Type 0 where
+  pub selection : Option (List Selection)
+  pub reference : List ℕ
+  pub patterns : Patterns
+  pub returns : Option (List ListReturn)
+
+-- what is given, or nothing
+abbrev pub given : {X : Type 0} → Option (List X) → List X
+given None = []
+given (Some items) = items
+
+abbrev pub is_given : {X : Type 0} → Option X → Bool
+is_given None = false
+is_given (Some x) = true
+
+abbrev pub are_many : Patterns → Bool
+are_many (One pattern) = false
+are_many (Many patterns) = true
+
+abbrev pub texts_of : Patterns → List (List ℕ)
+texts_of (One pattern) = pattern ∷ []
+texts_of (Many patterns) = patterns
+
+-- ---- options
+
+abbrev pub returns_subscribed : ListReturn → Bool
+returns_subscribed option.Subscribed = true
+returns_subscribed option.Children = false
+returns_subscribed (option.Status items) = false
+
+abbrev pub returns_status : ListReturn → Bool
+returns_status option.Subscribed = false
+returns_status option.Children = false
+returns_status (option.Status items) = true
+
+-- subscribed names are listed in place of mailboxes
+abbrev pub selects_subscribed : Query → Bool
+selects_subscribed query = list_any is_subscribed (given query.selection)
+
+-- the attribute \Subscribed is shown
+abbrev pub shows_subscribed : Query → Bool
+shows_subscribed query = selects_subscribed query || list_any returns_subscribed (given query.returns)
+
+-- the selection RECURSIVEMATCH and the option STATUS (RFC 5819) are not built
+abbrev pub is_unbuilt : Query → Bool
+is_unbuilt query = list_any is_recursive (given query.selection) || list_any returns_status (given query.returns)
+
+-- the form of LIST with more than a reference and one pattern
+abbrev pub is_extended : Query → Bool
+is_extended query = is_given query.selection || are_many query.patterns || is_given query.returns
+
+-- an empty pattern asks for the delimiter and the root
+abbrev pub asks_for_root : Query → Bool
+asks_for_root query = not (is_extended query) && list_any is_empty (texts_of query.patterns)
+
+-- ---- lines
+
+abbrev pub given_pattern : Option (List Token) → List (List Token)
+given_pattern None = []
+given_pattern (Some pattern) = pattern ∷ []
+
+-- the pattern that a text is after the reference. An empty one, and one that isn't UTF-8, match nothing
+abbrev pub pattern_of : (reference text : List ℕ) → List (List Token)
+pattern_of reference text = if is_empty text then [] else given_pattern (pattern_read reference text)
+
+abbrev pub patterns_of : Query → List (List Token)
+patterns_of query = flat_map (pattern_of query.reference) (texts_of query.patterns)
+
+abbrev pub lines_of : View → Query → List Line
+lines_of view query =
+    if selects_subscribed query then subscribed_listing view (patterns_of query) else listing view (patterns_of query)
+
+abbrev pub children_of : Bool → Children
+children_of true = Has
+children_of false = HasNo
+
+abbrev pub list_line : (with_subscribed : Bool) → Line → Response
+list_line with_subscribed line = response.List (record {
+  non_existent = not line.is_there;
+  children = children_of line.has_children;
+  subscribed = with_subscribed && line.is_subscribed;
+}) line.name
+
+abbrev pub list_answer : View → (tag : List ℕ) → Query → Answer
+list_answer view tag query =
+    if is_unbuilt query then refusal tag Cannot
+    else if asks_for_root query then done_after (response.ListRoot ∷ []) tag
+    else done_after (map (list_line (shows_subscribed query)) (lines_of view query)) tag
+
+-- NAMESPACE
+abbrev pub namespace_answer : (tag : List ℕ) → Answer
+namespace_answer tag = done_after (response.Namespace ∷ []) tag

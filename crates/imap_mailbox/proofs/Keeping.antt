@@ -1,0 +1,113 @@
+-- What the type of a mailbox keeps, after each change.
+use Rattle.std.proofs.Common.{◌≡◌, ℕ, zero, suc, ◌+◌, ◌<◌, ◌≤◌, Bool, true, false, cond, List, [], ◌∷◌, ◌++◌, length, map, get_or, Option, Some, None, unwrap_or, refl, sym, ap, subst, ◌∙◌, arith}
+use Rattle.std.proofs.lemmas.List.{length_push}
+use Rattle.std.specs.Option.{option_map, option_copied}
+use Rattle.std.specs.Borrow.{Bor}
+use Rattle.std.specs.FinMap as fin
+use Rattle.std.specs.Cmp.Lexicographic.{nat_list_cmp_total}
+use Rattle.imap_user_map.specs.Rows as table
+use Rattle.imap_user_map.specs.Rows.{Users}
+use Rattle.imap_mailbox.proofs.Values.{get-map_values, map_values-empty, same_bytes}
+use Rattle.imap_modseq.specs.Merge.{befores, AreInOrder}
+use Rattle.imap_modseq.specs.Numbers.{max_events}
+use Rattle.imap_mailbox.specs.declared.own.SeenChange.{SeenChange}
+use Rattle.imap_mailbox.specs.declared.message.Message.{Message}
+use Rattle.imap_mailbox.specs.Owned.{Owned}
+use Rattle.imap_mailbox.specs.Rows.{Event, Shared, Row, IsGiven, IsPresent}
+use Rattle.imap_mailbox.specs.History.{own_at, own_entry}
+use Rattle.imap_mailbox.specs.Summary.{Summary, step, with_seen, new_summary, rows_of, row_in, uids_in, ArePlacesBelow, Fits}
+use Rattle.imap_mailbox.specs.Held.{list_at, summary_with, IsKept}
+use Rattle.imap_mailbox.proofs.Accounts.{none_given}
+use Rattle.imap_mailbox.proofs.Fitting.{shared_after, own_after, sound_step, sound_marked}
+
+pub kept_step : (e : Event) (s : Summary) → IsGiven s.next (Shared e) → IsPresent (uids_in s.messages) e → s.shared < max_events → IsKept s → IsKept (step e s)
+kept_step e s given present lt h = record {
+  sound = sound_step e s given present h.sound;
+  few = omega (arith, shared_after e s);
+  own_few = λ user. subst (λ own. length (own_at own user) ≤ max_events) (sym (own_after e s)) (h.own_few user);
+}
+
+own_put : (own : Users (List SeenChange)) (user other : List ℕ) (list : List SeenChange) → own_at (fin.insert own user list) other ≡ cond (same_bytes other user) list (own_at own other)
+own_put own user other list = ap (λ o. unwrap_or o []) (fin.get-insert nat_list_cmp_total own user list other) ∙ moved (same_bytes other user)
+  where
+    moved : (b : Bool) → unwrap_or (cond b (Some list) (fin.get own other)) [] ≡ cond b list (own_at own other)
+    moved true = refl
+    moved false = refl
+
+pub kept_marked : (user : List ℕ) (uid : ℕ) (seen : Bool) (s : Summary) → uid < s.next → length (own_at s.own user) < max_events → IsKept s → IsKept (with_seen user uid seen s)
+kept_marked user uid seen s known lt h = record {
+  sound = sound_marked user uid seen s known h.sound;
+  few = h.few;
+  own_few = λ other. subst (λ (l : List SeenChange). length l ≤ max_events) (sym (own_put s.own user other more)) (most other (same_bytes other user));
+}
+  where
+    more : List SeenChange
+    more = own_at s.own user ++ record { before = s.shared; uid = uid; seen = seen } ∷ []
+
+    len : length more ≡ length (own_at s.own user) + 1
+    len = length_push (own_at s.own user) (record { before = s.shared; uid = uid; seen = seen })
+
+    most : (other : List ℕ) (b : Bool) → length (cond b more (own_at s.own other)) ≤ max_events
+    most other true = omega (arith, len)
+    most other false = h.own_few other
+
+pub nobody : (own : table.Rows Owned) → own.map ≡ fin.empty → (user : List ℕ) → list_at own user ≡ []
+nobody own empty user = ap (λ m. unwrap_or (fin.get m user) []) (map_values-empty (λ (o : Owned). o.list) own.map empty) ∙ ap (λ o. unwrap_or o []) (fin.get-empty _ user)
+
+pub kept_fresh : (own : table.Rows Owned) → own.map ≡ fin.empty → IsKept (summary_with [] [] 1 0 own)
+kept_fresh own empty = record {
+  sound = record {
+    uids = omega arith;
+    gone = λ uid. none_given uid;
+    apart = λ place. omega arith;
+    place = tt;
+    places = omega arith;
+    fits = λ user. subst (Fits 0 1) (sym (nobody own empty user)) (record { order = tt; known = tt });
+  };
+  few = omega arith;
+  own_few = λ user. omega (arith, ap length (nobody own empty user));
+}
+
+pub summed_fresh : (own : table.Rows Owned) → own.map ≡ fin.empty → summary_with [] [] 1 0 own ≡ new_summary fin.empty
+summed_fresh own empty = ap new_summary (map_values-empty (λ (o : Owned). o.list) own.map empty)
+
+-- ---- what is read
+
+wider : (low high more : ℕ) (bs : List ℕ) → high ≤ more → AreInOrder low high bs → AreInOrder low more bs
+wider low high more [] le h = tt
+wider low high more (b ∷ bs) le h = let here : b ≤ high = h.1 in (h.0, omega arith, wider b high more bs le h.2)
+
+pub last_in : (n : ℕ) (messages : List Message) (i : ℕ) (x : Message) → ArePlacesBelow n messages → i < length messages → (get_or messages i x).place < n
+last_in n [] i x h lt = absurd (omega arith)
+last_in n (c ∷ messages) zero x h lt = h.0
+last_in n (c ∷ messages) (suc i) x h lt = last_in n messages i x h.1 (omega arith)
+
+get_mapped : {A B : Type 0} (f : A → B) (xs : List A) (i : ℕ) (x : A) (d : B) → i < length xs → get_or (map f xs) i d ≡ f (get_or xs i x)
+get_mapped f [] i x d lt = absurd (omega arith)
+get_mapped f (y ∷ xs) zero x d lt = refl
+get_mapped f (y ∷ xs) (suc i) x d lt = get_mapped f xs i x d (omega arith)
+
+pub own_in : (own : table.Rows Owned) (user : List ℕ) → list_at own user ≡ unwrap_or (option_map (λ (o : Owned). o.list) (fin.get own.map user)) []
+own_in own user = ap (λ o. unwrap_or o []) (get-map_values (λ (o : Owned). o.list) own.map user)
+
+pub found_is : (own : table.Rows Owned) (user : List ℕ) (r : Option (Bor Owned)) (found : Bor Owned) → r ≡ Some found → option_copied r ≡ fin.get own.map user → list_at own user ≡ found.now.list
+found_is own user r found is value = own_in own user ∙ ap (λ o. unwrap_or (option_map (λ (o : Owned). o.list) o) []) (sym value ∙ ap option_copied is)
+
+pub absent_is : (own : table.Rows Owned) (user : List ℕ) (r : Option (Bor Owned)) → r ≡ None → option_copied r ≡ fin.get own.map user → list_at own user ≡ []
+absent_is own user r is value = own_in own user ∙ ap (λ o. unwrap_or (option_map (λ (o : Owned). o.list) o) []) (sym value ∙ ap option_copied is)
+
+module _ (s : Summary) (h : IsKept s) (user : List ℕ) where
+  pub order_of : (list : List SeenChange) → own_at s.own user ≡ list → AreInOrder 0 max_events (befores (map own_entry list))
+  order_of list e = subst (λ (l : List SeenChange). AreInOrder 0 max_events (befores (map own_entry l))) e (wider 0 s.shared max_events (befores (map own_entry (own_at s.own user))) h.few (h.sound.fits user).order)
+
+  pub few_of : (list : List SeenChange) → own_at s.own user ≡ list → length list ≤ max_events
+  few_of list e = subst (λ (l : List SeenChange). length l ≤ max_events) e (h.own_few user)
+
+  pub last_of : (i : ℕ) (x : Message) → i < length s.messages → x ≡ get_or s.messages i x → x.place ≤ max_events
+  last_of i x lt is =
+      let below = last_in s.shared s.messages i x h.sound.place lt in
+      let some = h.few in
+      subst (λ (k : Message). k.place ≤ max_events) (sym is) (omega (arith, below, some))
+
+  pub row_read : (i : ℕ) (x : Message) (list : List SeenChange) (row : Row) → i < length s.messages → x ≡ get_or s.messages i x → own_at s.own user ≡ list → row ≡ row_in list x → row ≡ get_or (rows_of s user) i row
+  row_read i x list row lt is e made = made ∙ (λ j. row_in (sym e j) (is j)) ∙ sym (get_mapped (row_in (own_at s.own user)) s.messages i x row lt)

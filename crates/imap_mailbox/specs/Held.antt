@@ -1,0 +1,63 @@
+-- A mailbox with its room.
+use Rattle.std.specs.Prelude.{ℕ, ◌≤◌, List, [], length, Option, Some, None, unwrap_or, refl}
+use Rattle.std.specs.Coded.{Coded, code_by, coded×, coded_ℕ, coded_list}
+use Rattle.std.specs.FinMap as fin
+use Rattle.imap_user_map.specs.Rows as users
+use Rattle.imap_modseq.specs.Numbers.{max_events}
+use Rattle.imap_mailbox.specs.contracts.message.Message as message
+use Rattle.imap_mailbox.specs.contracts.message.GoneMessage as gone_message
+use Rattle.imap_mailbox.specs.declared.own.SeenChange.{SeenChange}
+use Rattle.imap_mailbox.specs.declared.message.Message.{Message}
+use Rattle.imap_mailbox.specs.declared.message.GoneMessage.{GoneMessage}
+use Rattle.imap_mailbox.specs.Owned.{Owned, owned_code, map_values}
+use Rattle.imap_mailbox.specs.History.{own_at}
+use Rattle.imap_mailbox.specs.Summary.{Summary, IsSound}
+
+-- the room is the number of messages that may be added, and of messages that may be expunged, without memory
+pub record Held : Type 0 where
+  pub messages : List Message
+  pub gone : List GoneMessage
+  pub next : ℕ
+  pub shared : ℕ
+  pub own : users.Rows Owned
+  pub room : ℕ
+
+abbrev pub held_code : Coded Held
+held_code =
+    code_by (List Message × (List GoneMessage × (ℕ × (ℕ × (users.Rows Owned × ℕ)))))
+    (coded× (coded_list message.the_row.coded) (coded× (coded_list gone_message.the_row.coded)
+    (coded× coded_ℕ (coded× coded_ℕ (coded× (users.rows_code owned_code) coded_ℕ)))))
+    (λ h. (h.messages, (h.gone, (h.next, (h.shared, (h.own, h.room))))))
+    (λ t. record {
+      messages = t.0;
+      gone = t.1.0;
+      next = t.1.1.0;
+      shared = t.1.1.1.0;
+      own = t.1.1.1.1.0;
+      room = t.1.1.1.1.1;
+    }) (λ _. refl)
+
+-- each user's own changes
+abbrev pub lists : users.Rows Owned → users.Users (List SeenChange)
+lists own = map_values (λ o. o.list) own.map
+
+abbrev pub list_at : users.Rows Owned → List ℕ → List SeenChange
+list_at own user = unwrap_or (fin.get (lists own) user) []
+
+-- room for n more own changes of a user who has some
+abbrev pub HasOwnRoom : ℕ → Option Owned → Type 0
+HasOwnRoom n None = Unit {0}
+HasOwnRoom n (Some o) = n ≤ o.room
+
+abbrev pub summary_with : List Message → List GoneMessage → ℕ → ℕ → users.Rows Owned → Summary
+summary_with messages gone next shared own =
+    record { messages = messages; gone = gone; next = next; shared = shared; own = lists own }
+
+-- the mailbox, whatever its room
+abbrev pub summary_in : Held → Summary
+summary_in h = summary_with h.messages h.gone h.next h.shared h.own
+
+pub record IsKept (s : Summary) : Type 0 where
+  pub sound : IsSound s
+  pub few : s.shared ≤ max_events
+  pub own_few : (user : List ℕ) → length (own_at s.own user) ≤ max_events

@@ -1,0 +1,12 @@
+pub mod Words
+pub mod Flags
+pub mod Rows
+pub mod History
+pub mod Summary
+pub mod Bridge
+pub mod Owned
+pub mod Held
+pub mod Calls
+pub mod Lent
+pub mod Client
+pub mod Shown

@@ -1,0 +1,28 @@
+-- One user's own changes of \Seen, with their room.
+use Rattle.std.specs.Prelude.{◌≡◌, ℕ, eqb, Bool, List, map, refl}
+use Rattle.std.specs.FinMap.{from_entries}
+use Rattle.std.specs.FinMap as fin
+use Rattle.std.specs.HashMap.{HashMap, get}
+use Rattle.std.specs.Coded.{Coded, code_by, coded×, coded_ℕ, coded_list}
+use Rattle.imap_user_map.specs.Rows.{Users}
+use Rattle.imap_mailbox.specs.contracts.own.SeenChange as change
+use Rattle.imap_mailbox.specs.declared.own.SeenChange.{SeenChange}
+use Rattle.imap_mailbox.specs.Summary.{latest}
+
+-- the room is the number of changes that need no memory
+pub record Owned : Type 0 where
+  pub list : List SeenChange
+  pub room : ℕ
+
+abbrev pub owned_code : Coded Owned
+owned_code =
+    code_by (List SeenChange × ℕ) (coded× (coded_list change.the_row.coded) coded_ℕ)
+    (λ o. (o.list, o.room)) (λ t. record { list = t.0; room = t.1 }) (λ _. refl)
+
+-- the table has the last change of each UID
+abbrev pub AreLatest : {S : Type 0} → HashMap ℕ (ℕ × Bool) S → List SeenChange → Type 0
+AreLatest table own = (uid : ℕ) → get eqb table uid ≡ latest uid own
+
+-- the map with f of each value
+abbrev pub map_values : {X Y : Type 0} → (X → Y) → Users X → Users Y
+map_values f m = from_entries (map (λ e. (e.0, f e.1)) (fin.entries m))

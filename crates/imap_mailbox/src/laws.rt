@@ -1,0 +1,70 @@
+//! What the summary of a mailbox says of the events that happened, of a client that was away, and of what each change
+//! shows to a user.
+//!
+//! The events of a mailbox are one list of shared events, and for each user a list of own changes of `\Seen`. Their
+//! summary is what a [`Mailbox`](crate::Mailbox) keeps. The functions do nothing: their contracts are the laws.
+ghost use Rattle.imap_mailbox.specs.Bridge.{RowsAreThoseOfEvents, GoneAreThoseOfEvents, CountsAreThoseOfEvents};
+ghost use Rattle.imap_mailbox.specs.Bridge.{EventsAreSteps, ChangesAreSteps, LawfulStays, SummariesAreAdmitted};
+ghost use Rattle.imap_mailbox.specs.Client.{ClientIsBroughtUp};
+ghost use Rattle.imap_mailbox.specs.Shown.{AnothersSeenIsHidden, AddIsSeenAsRoom, EventIsSeen, OwnSeenIsSeen};
+
+/// The messages of the summary, as a user has them, are those that the user's events give, with flags and numbers.
+pub fn rows_are_those_of_events()
+    ensures { RowsAreThoseOfEvents }
+{}
+
+/// The gone UIDs of the summary, with their numbers, are those of the user's events.
+pub fn gone_are_those_of_events()
+    ensures { GoneAreThoseOfEvents }
+{}
+
+/// UIDNEXT, the number of shared events, HIGHESTMODSEQ and the room of the summary are those of the events.
+pub fn counts_are_those_of_events()
+    ensures { CountsAreThoseOfEvents }
+{}
+
+/// One shared event more is a step of the summary.
+pub fn events_are_steps()
+    ensures { EventsAreSteps }
+{}
+
+/// One own change more is a step of the summary.
+pub fn changes_are_steps()
+    ensures { ChangesAreSteps }
+{}
+
+/// A client that held what the first events gave, and follows VANISHED and FETCH of what came later, holds what a fetch
+/// of all messages gives (RFC 7162, section 3.2.5).
+pub fn client_is_brought_up()
+    ensures { ClientIsBroughtUp }
+{}
+
+/// What another user marks as seen shows nothing.
+pub fn another_seen_is_hidden()
+    ensures { AnothersSeenIsHidden }
+{}
+
+/// To a user who may not read, an added message is one less of room and nothing else.
+pub fn add_is_seen_as_room()
+    ensures { AddIsSeenAsRoom }
+{}
+
+/// What a reader sees after a shared event is a function of what was seen before and of the event.
+pub fn event_is_seen()
+    ensures { EventIsSeen }
+{}
+
+/// What a user sees after a change of the user's own `\Seen` is a function of what was seen before and of the change.
+pub fn own_seen_is_seen()
+    ensures { OwnSeenIsSeen }
+{}
+
+/// What the laws ask of events holds of a mailbox without events, and is kept by each event that a mailbox takes.
+pub fn lawful_stays()
+    ensures { LawfulStays }
+{}
+
+/// The summary of events is one that a mailbox may have.
+pub fn summaries_are_admitted()
+    ensures { SummariesAreAdmitted }
+{}

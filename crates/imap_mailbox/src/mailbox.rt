@@ -1,0 +1,350 @@
+//! One mailbox.
+
+ghost use Rattle.std.specs.Prelude.{◌≡◌, ℕ, ◌+◌, ◌<◌, ◌≤◌, List, [], true, length, option_copied, IsTrue, OnSome, OnOk, IfOk};
+ghost use Rattle.std.specs.FinMap as map;
+ghost use Rattle.std.specs.String.{string_bytes};
+ghost use Rattle.imap_modseq.specs.Numbers.{max_events, max_number};
+ghost use Rattle.imap_mailbox.specs.History.{own_at, end_uid};
+ghost use Rattle.imap_mailbox.specs.Summary.{new_summary, with_arrival, with_flags, with_expunge, with_seen};
+ghost use Rattle.imap_mailbox.specs.Summary.{rows_of, gone_of, highest_of, room_of, is_there, latest, latest_seen};
+ghost use Rattle.imap_mailbox.specs.Held.{summary_in, HasOwnRoom};
+ghost use Rattle.imap_mailbox.specs.Calls.{message_at, arrival, if_there};
+ghost use Rattle.imap_mailbox.specs.Lent.{gone_after_number};
+
+use crate::flags::SharedFlags;
+use crate::gone::GoneUids;
+use crate::marks::{mark_own, reserve_own};
+use crate::message::{GoneMessage, Message, find_message, remove_message, set_message_flags};
+use crate::own::{FIRST_NUMBER, OwnSeen, SeenChange};
+use crate::rows::Rows;
+use imap_lex::Octets;
+use imap_modseq::MAX_EVENTS;
+use imap_syntax::DateTime;
+use imap_user_map::UserMap;
+use std::alloc::{AllocError, Global};
+use std::marker::Model;
+
+/// The messages of a mailbox, what each user changed of `\Seen`, and what was expunged.
+///
+/// Contracts see its [summary](crate::laws) with its room. Methods that end in `_reserved` take no memory: they commit
+/// what was decided, in room that was made before.
+#[derive(Drop)]
+pub struct Mailbox {
+    messages: Vec<Message>,
+    gone: Vec<GoneMessage>,
+    next: u32,
+    shared: u64,
+    own: UserMap<OwnSeen>,
+}
+
+impl Model for Mailbox {
+    ghost use Rattle.std.specs.Prelude.{◌-◌, min, vec_len};
+    ghost use Rattle.std.specs.Vec.{vec_capacity};
+    ghost use Rattle.imap_mailbox.specs.Held.{Held, held_code, summary_with, IsKept};
+
+    ghost Value = { Held };
+
+    ghost coded = { held_code };
+
+    ghost view = { λ m. record {
+      messages = m.messages.items;
+      gone = m.gone.items;
+      next = m.next;
+      shared = m.shared;
+      own = m.own;
+      room = min (vec_capacity m.messages - vec_len m.messages) (vec_capacity m.gone - vec_len m.gone);
+    } };
+
+    ghost invariant = { λ m. IsKept (summary_with m.messages.items m.gone.items m.next m.shared m.own) };
+}
+
+impl Mailbox {
+    /// A mailbox without messages, whose first UID is 1.
+    pub fn new(alloc: Global) -> Self
+        ensures { summary_in result ≡ new_summary map.empty }
+    {
+        Mailbox {
+            messages: Vec::new(alloc),
+            gone: Vec::new(alloc),
+            next: 1,
+            shared: 0,
+            own: UserMap::new(alloc),
+        }
+    }
+
+    /// Makes room for `more` messages to be added and for `more` to be expunged.
+    pub fn reserve(&mut self, more: usize) -> Result<(), AllocError>
+        ensures contents { summary_in self.new ≡ summary_in self.old }
+        ensures own { self.new.own ≡ self.old.own }
+        ensures ok { OnOk result (more ≤ self.new.room) }
+        ensures room { self.old.room ≤ self.new.room }
+    {
+        self.messages.reserve(more)?;
+        self.gone.reserve(more)
+    }
+
+    /// Makes room for own changes of `more` users who have none.
+    pub fn reserve_users(&mut self, more: usize) -> Result<(), AllocError>
+        ensures contents { summary_in self.new ≡ summary_in self.old }
+        ensures own { self.new.own.map ≡ self.old.own.map }
+        ensures ok { OnOk result (more ≤ self.new.own.spare) }
+        ensures room { self.new.room ≡ self.old.room }
+    {
+        self.own.reserve(more)
+    }
+
+    /// Adds a message, in room that is there, and returns its UID.
+    pub fn add_reserved(&mut self, date: DateTime, octets: Octets, flags: SharedFlags) -> u32
+        requires room { 0 < self.old.room }
+        requires uids { self.old.next < end_uid }
+        requires few { self.old.shared < max_events }
+        ensures contents { summary_in self.new
+            ≡ with_arrival (arrival self.old.next date octets flags) (summary_in self.old) }
+        ensures own { self.new.own ≡ self.old.own }
+        ensures room { self.old.room ≤ self.new.room + 1 }
+        ensures uid { result ≡ self.old.next }
+    {
+        let uid = self.next;
+        let place = self.shared;
+        self.messages.push_reserved(Message {
+            uid,
+            date,
+            octets,
+            flags,
+            place,
+        });
+        self.next = uid + 1;
+        self.shared = place + 1;
+        uid
+    }
+
+    /// Sets the shared flags of a message. It takes no room.
+    pub fn set_flags_reserved(&mut self, uid: u32, flags: SharedFlags)
+        requires few { self.old.shared < max_events }
+        ensures contents { summary_in self.new
+            ≡ if_there uid (with_flags uid flags (summary_in self.old)) (summary_in self.old) }
+        ensures own { self.new.own ≡ self.old.own }
+        ensures room { self.new.room ≡ self.old.room }
+    {
+        if self.contains(uid) {
+            self.put_flags(uid, flags);
+        }
+    }
+
+    /// Expunges a message, in room that is there.
+    pub fn expunge_reserved(&mut self, uid: u32)
+        requires room { 0 < self.old.room }
+        requires few { self.old.shared < max_events }
+        ensures contents { summary_in self.new
+            ≡ if_there uid (with_expunge uid (summary_in self.old)) (summary_in self.old) }
+        ensures own { self.new.own ≡ self.old.own }
+        ensures room { self.old.room ≤ self.new.room + 1 }
+    {
+        if self.contains(uid) {
+            self.remove(uid);
+        }
+    }
+
+    /// Sets a user's own `\Seen` of a message or takes it away, in room that is there. `first` is the empty list for a
+    /// user without own changes.
+    pub fn mark_seen_reserved(&mut self, user: String, first: OwnSeen, uid: u32, seen: bool)
+        requires first { first.list ≡ [] }
+        requires first_room { 0 < first.room }
+        requires spare { 0 < self.old.own.spare }
+        requires room { HasOwnRoom 1 (map.get self.old.own.map (string_bytes user)) }
+        requires few { length (own_at (summary_in self.old).own (string_bytes user)) < max_events }
+        ensures contents { summary_in self.new ≡ if_there uid
+            (with_seen (string_bytes user) uid seen (summary_in self.old)) (summary_in self.old) }
+        ensures room { self.new.room ≡ self.old.room }
+        ensures spare { self.old.own.spare ≤ self.new.own.spare + 1 }
+    {
+        if self.contains(uid) {
+            self.put_seen(user, first, uid, seen);
+        }
+    }
+
+    pub(crate) fn put_flags(&mut self, uid: u32, flags: SharedFlags)
+        requires few { self.old.shared < max_events }
+        ensures contents { summary_in self.new ≡ with_flags uid flags (summary_in self.old) }
+        ensures own { self.new.own ≡ self.old.own }
+        ensures room { self.new.room ≡ self.old.room }
+    {
+        let place = self.shared;
+        set_message_flags(&mut self.messages, uid, flags, place);
+        self.shared = place + 1;
+    }
+
+    pub(crate) fn remove(&mut self, uid: u32)
+        requires there { is_there uid (summary_in self.old) ≡ true }
+        requires room { 0 < self.old.room }
+        requires few { self.old.shared < max_events }
+        ensures contents { summary_in self.new ≡ with_expunge uid (summary_in self.old) }
+        ensures own { self.new.own ≡ self.old.own }
+        ensures room { self.old.room ≤ self.new.room + 1 }
+    {
+        let place = self.shared;
+        remove_message(&mut self.messages, uid);
+        self.gone.push_reserved(GoneMessage { uid, place });
+        self.shared = place + 1;
+    }
+
+    pub(crate) fn put_seen(&mut self, user: String, first: OwnSeen, uid: u32, seen: bool)
+        requires first { first.list ≡ [] }
+        requires first_room { 0 < first.room }
+        requires spare { 0 < self.old.own.spare }
+        requires room { HasOwnRoom 1 (map.get self.old.own.map (string_bytes user)) }
+        requires known { uid < self.old.next }
+        requires few { length (own_at (summary_in self.old).own (string_bytes user)) < max_events }
+        ensures contents { summary_in self.new ≡ with_seen (string_bytes user) uid seen (summary_in self.old) }
+        ensures room { self.new.room ≡ self.old.room }
+        ensures spare { self.old.own.spare ≤ self.new.own.spare + 1 }
+    {
+        let before = self.shared;
+        mark_own(&mut self.own, user, first, SeenChange { before, uid, seen });
+    }
+
+    fn reserve_own(&mut self, user: &str) -> Result<(), AllocError>
+        ensures contents { summary_in self.new ≡ summary_in self.old }
+        ensures room { self.new.room ≡ self.old.room }
+        ensures ok { OnOk result ((0 < self.new.own.spare) × HasOwnRoom 1 (map.get self.new.own.map user.now)) }
+    {
+        self.own.reserve(1)?;
+        reserve_own(&mut self.own, user)
+    }
+
+    /// Makes room for an own change of a user. Returns the user's name and an empty list, as
+    /// [`mark_seen_reserved`](Mailbox::mark_seen_reserved) takes them.
+    pub fn reserve_seen(
+        &mut self,
+        alloc: Global,
+        user: &str,
+    ) -> Result<(String, OwnSeen), AllocError>
+        ensures contents { summary_in self.new ≡ summary_in self.old }
+        ensures room { self.new.room ≡ self.old.room }
+        ensures ok { OnOk result ((0 < self.new.own.spare) × HasOwnRoom 1 (map.get self.new.own.map user.now)) }
+        ensures parts { IfOk result (λ p. (string_bytes p.0 ≡ user.now) × (p.1.list ≡ []) × (0 < p.1.room)) }
+    {
+        self.reserve_own(user)?;
+        let mut first = OwnSeen::new(alloc);
+        first.reserve(1)?;
+        let name = String::from_str(alloc, user)?;
+        Ok((name, first))
+    }
+}
+
+impl Mailbox {
+    /// Whether the user's own `\Seen` of the UID is set.
+    pub(crate) fn seen_of(&self, user: &str, uid: u32) -> bool
+        ensures { result ≡ latest_seen (latest uid (own_at (summary_in self.now).own user.now)) }
+    {
+        match self.own.get(user) {
+            Some(own) => own.latest(uid).unwrap_or((0, false)).1,
+            None => false,
+        }
+    }
+
+    /// The number of own changes of the user.
+    pub fn own_len(&self, user: &str) -> u64
+        ensures few { result ≤ max_events }
+        ensures events { result ≡ length (own_at (summary_in self.now).own user.now) }
+    {
+        match self.own.get(user) {
+            Some(own) => own.len() as u64,
+            None => 0,
+        }
+    }
+
+    /// The number of shared events.
+    pub fn shared_len(&self) -> u64
+        ensures events { result ≡ self.now.shared }
+        ensures few { self.now.shared ≤ max_events }
+    {
+        self.shared
+    }
+
+    /// HIGHESTMODSEQ for the user (RFC 7162, section 3.1.2.1).
+    pub fn highest(&self, user: &str) -> u64
+        ensures number { result ≡ highest_of (summary_in self.now) user.now }
+        ensures bounded { result ≤ max_number }
+    {
+        let own = self.own_len(user);
+        FIRST_NUMBER - 1 + (self.shared_len() + own)
+    }
+
+    /// The number of messages that may be added, if there may be `max_messages` messages: the least of the messages,
+    /// the UIDs and the shared events that are left.
+    pub fn room(&self, max_messages: u64) -> u64
+        ensures { result ≡ room_of max_messages (summary_in self.now) }
+    {
+        let messages = max_messages.saturating_sub(self.messages.len() as u64);
+        let uids = (u32::MAX - self.next) as u64;
+        let events = MAX_EVENTS - self.shared;
+        messages.min(uids.min(events))
+    }
+
+    /// UIDNEXT (RFC 9051, section 2.3.1.1).
+    pub fn next_uid(&self) -> u32
+        ensures { result ≡ self.now.next }
+    {
+        self.next
+    }
+
+    /// The number of messages.
+    pub fn len(&self) -> usize
+        ensures { result ≡ length self.now.messages }
+    {
+        self.messages.len()
+    }
+
+    /// The message with the UID, by a search that halves.
+    pub fn find(&self, uid: u32) -> Option<&Message>
+        ensures message { option_copied result ≡ message_at uid self.now.messages }
+        ensures known { OnSome result (uid < self.now.next) }
+        ensures there { OnSome result (is_there uid (summary_in self.now) ≡ true) }
+    {
+        match find_message(&self.messages, uid) {
+            Some(place) => Some(&self.messages[place]),
+            None => None,
+        }
+    }
+
+    /// Whether a message has the UID, by a search that halves.
+    pub fn contains(&self, uid: u32) -> bool
+        ensures there { result ≡ is_there uid (summary_in self.now) }
+        ensures known { IsTrue result → uid < self.now.next }
+    {
+        match find_message(&self.messages, uid) {
+            Some(_) => true,
+            None => false,
+        }
+    }
+
+    /// The messages as the user has them.
+    pub fn rows(&self, user: &str) -> Rows<'_>
+        ensures { result ≡ rows_of (summary_in self.now) user.now }
+    {
+        Rows {
+            messages: &self.messages,
+            own: self.own.get(user),
+        }
+    }
+
+    /// The messages that went with a mod-sequence greater than `number` for the user, as VANISHED (EARLIER) tells them
+    /// (RFC 7162, section 3.2.10), by a search that halves.
+    pub fn gone_since(&self, user: &str, number: u64) -> GoneUids<'_>
+        ensures { result ≡ gone_after_number number (gone_of (summary_in self.now) user.now) }
+    {
+        self.gone(user).since(number)
+    }
+
+    /// All messages that were expunged, with their mod-sequences for the user.
+    pub fn gone(&self, user: &str) -> GoneUids<'_>
+        ensures { result ≡ gone_of (summary_in self.now) user.now }
+    {
+        GoneUids {
+            gone: &self.gone,
+            first: 0,
+            own: self.own.get(user),
+        }
+    }
+}

@@ -1,0 +1,90 @@
+//! Messages as a mailbox keeps them.
+
+ghost use Rattle.std.specs.Prelude.{◌≡◌, ◌≤◌, ◌==◌, ℕ, not, map, nat_lt, vec_len};
+ghost use Rattle.std.specs.Vec.{vec_capacity};
+ghost use Rattle.imap_mailbox.specs.Summary.{Rises, uids_in, without, flags_in};
+ghost use Rattle.imap_mailbox.specs.Lent.{place_in};
+
+use crate::flags::SharedFlags;
+use imap_lex::Octets;
+use imap_syntax::DateTime;
+
+/// A message that is there.
+#[derive(Drop)]
+pub struct Message {
+    pub uid: u32,
+    pub date: DateTime,
+    pub octets: Octets,
+    pub flags: SharedFlags,
+    /// The place of its last shared event among those of the mailbox, from 0.
+    pub place: u64,
+}
+
+/// A message that was expunged.
+#[derive(Drop)]
+pub struct GoneMessage {
+    pub uid: u32,
+    /// The place of the event by which it went.
+    pub place: u64,
+}
+
+/// Returns the place of the message with the UID, by a search that halves.
+pub(crate) fn find_message(messages: &[Message], uid: u32) -> Option<usize>
+    requires { (low high : ℕ) × Rises low high (uids_in messages.now) }
+    ensures { result ≡ place_in uid (uids_in messages.now) }
+{
+    let place = messages.partition_point(
+        |message: &Message| -> bool
+            ensures { result ≡ nat_lt message.now.uid uid }
+        { message.uid < uid },
+    );
+    if place < messages.len() && messages[place].uid == uid {
+        Some(place)
+    } else {
+        None
+    }
+}
+
+fn put_flags(message: &mut Message, flags: SharedFlags, place: u64)
+    ensures { message.new ≡ record {
+      uid = message.old.uid;
+      date = message.old.date;
+      octets = message.old.octets;
+      flags = flags;
+      place = place;
+    } }
+{
+    message.flags = flags;
+    message.place = place;
+}
+
+/// Sets the flags of the message with the UID, by the shared event at `place`.
+pub(crate) fn set_message_flags(
+    messages: &mut Vec<Message>,
+    uid: u32,
+    flags: SharedFlags,
+    place: u64,
+)
+    requires { (low high : ℕ) × Rises low high (uids_in messages.old.items) }
+    ensures items { messages.new.items ≡ map (flags_in uid flags place) messages.old.items }
+    ensures len { vec_len messages.new ≡ vec_len messages.old }
+    ensures capacity { vec_capacity messages.new ≡ vec_capacity messages.old }
+{
+    match find_message(messages, uid) {
+        Some(found) => put_flags(&mut messages[found], flags, place),
+        None => {}
+    }
+}
+
+/// Removes the message with the UID.
+pub(crate) fn remove_message(messages: &mut Vec<Message>, uid: u32)
+    ensures items { messages.new.items ≡ without uid messages.old.items }
+    ensures len { vec_len messages.new ≤ vec_len messages.old }
+    ensures capacity { vec_capacity messages.new ≡ vec_capacity messages.old }
+{
+    messages.retain(
+        |message: &Message| -> bool
+            ensures { result ≡ not (message.now.uid == uid) }
+        { message.uid != uid },
+    );
+}

@@ -1,0 +1,61 @@
+//! A message as a user has it.
+
+ghost use Rattle.std.specs.Prelude.{◌≡◌, ◌≤◌, [], length, map};
+ghost use Rattle.imap_modseq.specs.Merge.{befores, AreInOrder};
+ghost use Rattle.imap_modseq.specs.Numbers.{max_events};
+ghost use Rattle.imap_mailbox.specs.History.{own_entry};
+ghost use Rattle.imap_mailbox.specs.Summary.{row_in};
+ghost use Rattle.imap_mailbox.specs.Lent.{row_shown};
+
+use crate::flags::SharedFlags;
+use crate::message::Message;
+use crate::own::{FIRST_NUMBER, OwnSeen};
+use imap_lex::Octets;
+use imap_syntax::DateTime;
+
+/// A message as a user has it, lent from the mailbox.
+#[derive(Drop)]
+pub struct Row<'a> {
+    pub uid: u32,
+    pub date: DateTime,
+    pub octets: &'a Octets,
+    pub flags: &'a SharedFlags,
+    /// The user's own `\Seen`.
+    pub seen: bool,
+    /// The mod-sequence (RFC 7162, section 3.1).
+    pub number: u64,
+}
+
+/// The message for a user without own changes.
+pub(crate) fn plain_row<'a>(message: &'a Message) -> Row<'a>
+    requires { message.now.place ≤ max_events }
+    ensures { row_shown result ≡ row_in [] message.now }
+{
+    Row {
+        uid: message.uid,
+        date: message.date,
+        octets: &message.octets,
+        flags: &message.flags,
+        seen: false,
+        number: FIRST_NUMBER + message.place,
+    }
+}
+
+/// The message for a user with own changes.
+pub(crate) fn own_row<'a>(message: &'a Message, own: &OwnSeen) -> Row<'a>
+    requires place { message.now.place ≤ max_events }
+    requires order { AreInOrder 0 max_events (befores (map own_entry own.now.list)) }
+    requires few { length own.now.list ≤ max_events }
+    ensures { row_shown result ≡ row_in own.now.list message.now }
+{
+    let (latest, seen) = own.latest(message.uid).unwrap_or((0, false));
+    let shared = FIRST_NUMBER + (message.place + own.count_before(message.place) as u64);
+    Row {
+        uid: message.uid,
+        date: message.date,
+        octets: &message.octets,
+        flags: &message.flags,
+        seen,
+        number: shared.max(latest),
+    }
+}
