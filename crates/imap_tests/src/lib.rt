@@ -8,13 +8,19 @@ mod framing;
 #[cfg(test)]
 mod grammar;
 #[cfg(test)]
+mod listing;
+#[cfg(test)]
 mod machine;
+#[cfg(test)]
+mod mailbox;
 #[cfg(test)]
 mod modseq;
 #[cfg(test)]
 mod name_map;
 #[cfg(test)]
 mod names;
+#[cfg(test)]
+mod patterns;
 #[cfg(test)]
 mod printing;
 #[cfg(test)]

@@ -49,7 +49,7 @@ pub(crate) fn give(
 }
 
 /// Prepares and commits one effect, and returns how many values were written.
-fn make(alloc: Global, world: &mut World, effect: Effect) -> Result<usize, Fail> {
+pub(crate) fn make(alloc: Global, world: &mut World, effect: Effect) -> Result<usize, Fail> {
     let effects = vec![in alloc; effect]?;
     let change = world.prepare(alloc, &effects)?;
     let written = change.len();
@@ -57,7 +57,12 @@ fn make(alloc: Global, world: &mut World, effect: Effect) -> Result<usize, Fail>
     Ok(written)
 }
 
-fn subscribe(alloc: Global, world: &mut World, who: &str, text: &[u8]) -> Result<usize, Fail> {
+pub(crate) fn subscribe(
+    alloc: Global,
+    world: &mut World,
+    who: &str,
+    text: &[u8],
+) -> Result<usize, Fail> {
     let effect = Effect::Subscribe(user(alloc, who)?, name(alloc, text)?);
     make(alloc, world, effect)
 }
