@@ -74,4 +74,5 @@ def main():
             print(f"| {size:,} {word} | " + " | ".join(f"{it:.3f}" for it in times) + " |", flush=True)
 
 
-main()
+if __name__ == "__main__":
+    main()

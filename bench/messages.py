@@ -1,0 +1,71 @@
+#!/usr/bin/env python3
+"""Times the calls of one mailbox, and the search of a text.
+
+    python3 bench/messages.py [FOLDER]     run at the top of the repository
+
+It builds the program in `bench/messages.txt` as a crate of its own in FOLDER, or in a new folder that it removes, beside copies of
+the crates that it stands on; what these have in `out/` is used again. Each time is of one call in microseconds: the
+difference of a run that makes it many times and one that makes it never, the best of five.
+"""
+
+import os
+import shutil
+import subprocess
+import sys
+import tempfile
+import time
+
+USES = "imap_lex imap_mailbox imap_modseq imap_syntax imap_text imap_user_map imap_values"
+RUNS = 5
+
+
+def build(folder):
+    """Builds the program in the folder, and returns its path."""
+    with open("crates.txt", encoding="utf-8") as file:
+        lines = file.read()
+    with open(f"{folder}/crates.txt", "w", encoding="utf-8") as file:
+        file.write("".join(line + "\n" for line in lines.splitlines() if line.split(":")[0] in USES.split()))
+        file.write("imap_bench: imap_lex imap_mailbox imap_syntax imap_text\n")
+    for crate in USES.split():
+        shutil.copytree(f"crates/{crate}", f"{folder}/crates/{crate}", dirs_exist_ok=True)
+    os.makedirs(f"{folder}/crates/imap_bench/src", exist_ok=True)
+    shutil.copy("bench/messages.txt", f"{folder}/crates/imap_bench/src/main.rt")
+    subprocess.run(["git", "init", "-q", folder], check=True)
+    with open(os.devnull) as nothing:
+        subprocess.run(["rt", "run"], cwd=f"{folder}/crates/imap_bench", stdin=nothing, check=True)
+    return f"{folder}/crates/imap_bench/out/imap_bench"
+
+
+def seconds(program, kind, size, times):
+    best = float("inf")
+    for _ in range(RUNS):
+        start = time.perf_counter()
+        subprocess.run([program], input=f"{kind} {size} {times}", text=True, stdout=subprocess.DEVNULL, check=True)
+        best = min(best, time.perf_counter() - start)
+    return best
+
+
+def microseconds(program, kind, size, times):
+    return max(0.0, seconds(program, kind, size, times) - seconds(program, kind, size, 0)) / times * 1e6
+
+
+def tell(program):
+    print("| Messages | add | set_flags | mark_seen | row by place | place by UID | all rows |\n|---|---|---|---|---|---|---|")
+    for size in (200, 2_000, 20_000):
+        kinds = (("add", 20_000), ("flag", 20_000), ("mark", 20_000), ("row", 200_000), ("uid", 200_000), ("walk", 2_000_000 // size))
+        print(f"| {size:,} | " + " | ".join(f"{microseconds(program, kind, size, times):.3f}" for kind, times in kinds) + " |", flush=True)
+    print("\n| Octets of text | search |\n|---|---|")
+    for size in (10_000, 100_000, 1_000_000):
+        print(f"| {size:,} | {microseconds(program, 'search', size, 10_000_000 // size):.0f} |", flush=True)
+
+
+def main():
+    if len(sys.argv) > 1:
+        os.makedirs(sys.argv[1], exist_ok=True)
+        tell(build(sys.argv[1]))
+    else:
+        with tempfile.TemporaryDirectory() as folder:
+            tell(build(folder))
+
+
+main()
