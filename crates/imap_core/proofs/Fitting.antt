@@ -7,27 +7,24 @@ use Rattle.std.specs.List.{list_any}
 use Rattle.std.specs.FinMap as map
 use Rattle.imap_answer.specs.Answer.{Answer, answer_of}
 use Rattle.imap_answer.specs.Fit.{IsFit, MayBeAsked, is_refusal, is_unavailable}
-use Rattle.imap_answer.specs.Name.{named}
 use Rattle.imap_answer.proofs.Fits.{fits_alone}
 use Rattle.imap_grammar.specs.declared.request.Request.{Request}
 use Rattle.imap_grammar.specs.declared.request.Request.TheVariants as request
 use Rattle.imap_grammar.specs.declared.command.Command.{Command}
 use Rattle.imap_grammar.specs.declared.command.Command.TheVariants as command
 use Rattle.imap_list.proofs.Fitting as list
-use Rattle.imap_names.specs.Name.{Name}
 use Rattle.imap_print.specs.declared.response.Farewell.TheVariants.{LimitReached}
 use Rattle.imap_print.specs.declared.response.Response.{Response}
 use Rattle.imap_print.specs.declared.response.Response.TheVariants as response
-use Rattle.imap_view.specs.Seen.{Seen}
+use Rattle.imap_tree.proofs.Fitting as tree
 use Rattle.imap_view.specs.View.{View}
 use Rattle.imap_core.specs.declared.outcome.Outcome.{Outcome}
 use Rattle.imap_core.specs.declared.sessions.SessionChange.TheVariants as session
 use Rattle.imap_core.specs.declared.step.Act.{Act}
 use Rattle.imap_core.specs.declared.step.Act.TheVariants as act
 use Rattle.imap_core.specs.declared.step.Step.{Step}
-use Rattle.imap_core.specs.Commands.Acl.{my_rights_of, my_rights_of_seen}
 use Rattle.imap_core.specs.Machine.{outcome_for}
-use Rattle.imap_core.specs.Outcome.{ending, silence, staying}
+use Rattle.imap_core.specs.Outcome.{ending, staying}
 use Rattle.imap_core.specs.Planned.{HasRoom}
 use Rattle.imap_core.specs.Reply.{command_answer, command_outcome, opened, reply_when_closed, reply_when_open, request_outcome}
 use Rattle.imap_core.specs.Sessions.{Own, max_sessions}
@@ -73,14 +70,6 @@ module _ (view : View) (own : Option Own) (number : ℕ) where
 
   -- ---- commands
 
-  my_rights_fits : (tag : List ℕ) (name : Option Name) → IsFit view (my_rights_of view tag name)
-  my_rights_fits tag None = fits_alone view _ refl
-  my_rights_fits tag (Some name) = by_seen (map.get view.seen name)
-    where
-      by_seen : (seen : Option Seen) → IsFit view (my_rights_of_seen view.user tag name seen)
-      by_seen None = fits_alone view _ refl
-      by_seen (Some seen) = fits_alone view _ refl
-
   answer_fits : (tag : List ℕ) (what : Command) → IsFit view (command_answer view tag what)
   answer_fits tag command.Capability = fits_alone view _ refl
   answer_fits tag command.Noop = fits_alone view _ refl
@@ -91,7 +80,13 @@ module _ (view : View) (own : Option Own) (number : ℕ) where
       list.list_fits view tag (record { selection = selection; reference = reference; patterns = patterns; returns = returns })
   answer_fits tag (command.Subscribe mailbox) = list.subscribe_fits view tag mailbox
   answer_fits tag (command.Unsubscribe mailbox) = list.unsubscribe_fits view tag mailbox
-  answer_fits tag (command.MyRights mailbox) = my_rights_fits tag (named view mailbox)
+  answer_fits tag (command.Create mailbox) = tree.create_fits view tag mailbox
+  answer_fits tag (command.Delete mailbox) = tree.delete_fits view tag mailbox
+  answer_fits tag (command.SetAcl mailbox identifier rights) = tree.set_acl_fits view tag mailbox identifier rights
+  answer_fits tag (command.DeleteAcl mailbox identifier) = tree.delete_acl_fits view tag mailbox identifier
+  answer_fits tag (command.GetAcl mailbox) = tree.get_acl_fits view tag mailbox
+  answer_fits tag (command.ListRights mailbox identifier) = tree.list_rights_fits view tag mailbox identifier
+  answer_fits tag (command.MyRights mailbox) = tree.my_rights_fits view tag mailbox
   answer_fits tag _ = fits_alone view _ refl
 
   command_fits : (tag : List ℕ) (what : Command) → Fits view own number (command_outcome view tag what)

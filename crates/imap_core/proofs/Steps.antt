@@ -7,7 +7,7 @@ use Rattle.std.proofs.lemmas.Slice.Eq.{bytes_eq-Decides}
 use Rattle.std.specs.FinMap as map
 use Rattle.std.specs.FinMap.{get-insert}
 use Rattle.imap_answer.specs.Fit.{MayBeAsked}
-use Rattle.imap_view.proofs.Afters.{own_effects}
+use Rattle.imap_view.proofs.Asked.{own_effects}
 use Rattle.imap_view.specs.After.{view_after}
 use Rattle.imap_view.specs.View.{View, view_of}
 use Rattle.imap_world.specs.declared.effect.Effect.{Effect}

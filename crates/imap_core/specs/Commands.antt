@@ -1,3 +1,2 @@
 -- What each command is answered, one file a group of commands.
-pub mod Acl
 pub mod Session

@@ -1,5 +1,5 @@
 -- What holds of every step.
-use Rattle.std.specs.Prelude.{◌≡◌, ℕ, Bool, true, false, ◌==◌, ◌&&◌, List, Option, bytes_eq, option_and_then}
+use Rattle.std.specs.Prelude.{◌≡◌, ℕ, true, false, ◌==◌, ◌&&◌, List, Option, bytes_eq, option_and_then}
 use Rattle.std.specs.List.{list_any}
 use Rattle.std.specs.FinMap as map
 use Rattle.imap_answer.specs.Fit.{is_refusal, is_unavailable}

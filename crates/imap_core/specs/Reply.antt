@@ -12,13 +12,18 @@ use Rattle.imap_list.specs.Subscriptions.{subscribe_answer, unsubscribe_answer}
 use Rattle.imap_print.specs.declared.response.Response.TheVariants as response
 use Rattle.imap_print.specs.declared.response.Farewell.TheVariants.{LimitReached}
 use Rattle.imap_print.specs.declared.response.Refusal.TheVariants.{Cannot, Limit, Malformed}
+use Rattle.imap_tree.specs.Create.{create_answer}
+use Rattle.imap_tree.specs.Delete.{delete_answer}
+use Rattle.imap_tree.specs.GetAcl.{get_acl_answer}
+use Rattle.imap_tree.specs.ListRights.{list_rights_answer}
+use Rattle.imap_tree.specs.MyRights.{my_rights_answer}
+use Rattle.imap_tree.specs.SetAcl.{delete_acl_answer, set_acl_answer}
 use Rattle.imap_view.specs.View.{View}
 use Rattle.imap_core.specs.declared.outcome.Outcome.{Outcome}
 use Rattle.imap_core.specs.declared.sessions.SessionChange.TheVariants as session
 use Rattle.imap_core.specs.declared.step.Act.{Act}
 use Rattle.imap_core.specs.declared.step.Act.TheVariants as act
 use Rattle.imap_core.specs.declared.step.Step.{Step}
-use Rattle.imap_core.specs.Commands.Acl.{my_rights_answer}
 use Rattle.imap_core.specs.Commands.Session.{capability_answer, noop_answer, logout_answer, authenticate_answer}
 use Rattle.imap_core.specs.Outcome.{staying, ending, silence}
 use Rattle.imap_core.specs.Sessions.{Own, max_sessions}
@@ -38,6 +43,13 @@ command_answer view tag (command.List selection reference patterns returns) = li
 })
 command_answer view tag (command.Subscribe mailbox) = subscribe_answer view tag mailbox
 command_answer view tag (command.Unsubscribe mailbox) = unsubscribe_answer view tag mailbox
+command_answer view tag (command.Create mailbox) = create_answer view tag mailbox
+command_answer view tag (command.Delete mailbox) = delete_answer view tag mailbox
+command_answer view tag (command.SetAcl mailbox identifier rights) =
+    set_acl_answer view tag mailbox identifier rights
+command_answer view tag (command.DeleteAcl mailbox identifier) = delete_acl_answer view tag mailbox identifier
+command_answer view tag (command.GetAcl mailbox) = get_acl_answer view tag mailbox
+command_answer view tag (command.ListRights mailbox identifier) = list_rights_answer view tag mailbox identifier
 command_answer view tag (command.MyRights mailbox) = my_rights_answer view tag mailbox
 command_answer view tag _ = refusal tag Cannot
 

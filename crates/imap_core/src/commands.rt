@@ -3,16 +3,18 @@
 ghost use Rattle.std.specs.Prelude.{◌≡◌, IfOk};
 ghost use Rattle.imap_core.specs.Reply.{command_answer, command_outcome};
 
-mod acl;
 mod session;
 
 use crate::outcome::Outcome;
-use acl::my_rights_answer;
 use imap_answer::Answer;
 use imap_grammar::Command;
 use imap_lex::Tag;
 use imap_list::{Query, list_answer, namespace_answer, subscribe_answer, unsubscribe_answer};
 use imap_print::Refusal;
+use imap_tree::{
+    create_answer, delete_acl_answer, delete_answer, get_acl_answer, list_rights_answer,
+    my_rights_answer, set_acl_answer,
+};
 use imap_view::View;
 use session::{capability_answer, logout_answer};
 use std::alloc::{AllocError, Global};
@@ -61,6 +63,22 @@ fn command_answer(
         }
         Command::Subscribe { mailbox } => subscribe_answer(alloc, view, tag, mailbox),
         Command::Unsubscribe { mailbox } => unsubscribe_answer(alloc, view, tag, mailbox),
+        Command::Create { mailbox } => create_answer(alloc, view, tag, mailbox),
+        Command::Delete { mailbox } => delete_answer(alloc, view, tag, mailbox),
+        Command::SetAcl {
+            mailbox,
+            identifier,
+            rights,
+        } => set_acl_answer(alloc, view, tag, mailbox, identifier, rights),
+        Command::DeleteAcl {
+            mailbox,
+            identifier,
+        } => delete_acl_answer(alloc, view, tag, mailbox, identifier),
+        Command::GetAcl { mailbox } => get_acl_answer(alloc, view, tag, mailbox),
+        Command::ListRights {
+            mailbox,
+            identifier,
+        } => list_rights_answer(alloc, view, tag, mailbox, identifier),
         Command::MyRights { mailbox } => my_rights_answer(alloc, view, tag, mailbox),
         // What isn't built yet can't be done.
         _ => Answer::refusal(alloc, tag, Refusal::Cannot),

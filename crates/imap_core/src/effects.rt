@@ -2,7 +2,7 @@
 
 ghost use Rattle.std.specs.Prelude.{◌≡◌, Ok, IfOk};
 ghost use Rattle.imap_world.specs.Effects.{after_all, writes_of};
-ghost use Rattle.imap_world.specs.Ready.{IsReady};
+ghost use Rattle.imap_world.specs.Ready.{AreApart, IsReady};
 ghost use Rattle.imap_world.specs.Stored.{world_of};
 
 use imap_world::{Change, Effect, World};
@@ -15,6 +15,7 @@ pub(crate) fn resolved(
     world: &mut World,
     effects: &[Effect],
 ) -> Result<Change, AllocError>
+    requires { AreApart effects.now }
     ensures unchanged { world_of world.new ≡ world_of world.old }
     ensures change { IfOk result (λ change. writes_of effects.now (world_of world.old) ≡ Ok change) }
     ensures ready { IfOk result (λ change. IsReady change world.new) }
@@ -31,6 +32,7 @@ pub(crate) fn with_effects(
     world: World,
     effects: &[Effect],
 ) -> Result<(World, Change), AllocError>
+    requires { AreApart effects.now }
     ensures world { IfOk result (λ made. world_of made.0 ≡ after_all effects.now (world_of world)) }
     ensures change { IfOk result (λ made. writes_of effects.now (world_of world) ≡ Ok made.1) }
 {

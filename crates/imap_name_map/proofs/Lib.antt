@@ -4,3 +4,6 @@ pub mod Runs
 pub mod Blocks
 pub mod Turns
 pub mod RenameLaws
+pub mod LookUp
+pub mod ClosedLaws
+pub mod RunInserts

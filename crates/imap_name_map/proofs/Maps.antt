@@ -19,7 +19,7 @@ use Rattle.imap_name_map.proofs.Cuts.{holds, is_true, find_there, find_gap, put_
 abbrev pub other_than : Name → Name → Bool
 other_than k x = not (eq_by_cmp name_cmp k x)
 
-turned : {A : Type 0} (b : Bool) (x y : A) → cond (not b) x y ≡ cond b y x
+pub turned : {A : Type 0} (b : Bool) (x y : A) → cond (not b) x y ≡ cond b y x
 turned true x y = refl
 turned false x y = refl
 

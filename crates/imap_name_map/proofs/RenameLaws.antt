@@ -135,7 +135,7 @@ module _ {X : Type 0} where
       ] refl
 
   -- the entries under their names afterwards, in the order that they had
-  find_moved : (old new q : Name) (es : List (Name × X)) → entries_within new es ≡ [] → find name_cmp q (map (moved_entry old new) es) ≡ cond (is_within new q) (find name_cmp q (moved_run old new es)) (find name_cmp q (entries_apart old es))
+  pub find_moved : (old new q : Name) (es : List (Name × X)) → entries_within new es ≡ [] → find name_cmp q (map (moved_entry old new) es) ≡ cond (is_within new q) (find name_cmp q (moved_run old new es)) (find name_cmp q (entries_apart old es))
   find_moved old new q [] h = elim (is_within new q) as (λ b. ◌≡◌ {A = Option X} None (cond b None None)) [ true ↦ refl | false ↦ refl ]
   find_moved old new q (e ∷ es) h =
       let (here, later) = nothing new e es h in

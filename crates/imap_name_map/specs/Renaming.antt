@@ -1,5 +1,5 @@
 -- RENAME of a name with all names below it (RFC 9051, section 6.3.6): they move, under new names, to another place.
-use Rattle.std.specs.Prelude.{List, [], ◌∷◌, ◌++◌, not, map, take, drop, if◌then◌else◌}
+use Rattle.std.specs.Prelude.{◌≡◌, List, [], ◌∷◌, ◌++◌, Option, None, not, map, take, drop, if◌then◌else◌}
 use Rattle.std.specs.declared.cmp.Ordering.{Ordering}
 use Rattle.std.specs.FinMap as fin
 use Rattle.std.specs.FinMap.Entries.{where_key}
@@ -14,6 +14,16 @@ moved_entry old new e = if is_within old e.0 then (moved old new e.0, e.1) else 
 -- the map in which `old` and all names below it are moved to `new`
 abbrev pub renamed : {X : Type 0} → Name → Name → Names X → Names X
 renamed old new m = fin.from_entries (map (moved_entry old new) (fin.entries m))
+
+-- what stands at the name once `old` and all names below it are moved to `new`
+abbrev pub value_after : {X : Type 0} → Name → Name → Names X → Name → Option X
+value_after old new m name =
+    if is_within new name then fin.get m (moved new old name)
+    else if is_within old name then None else fin.get m name
+
+-- `after` has at each name what stands there once `old` and all names below it are moved to `new` in `before`
+abbrev pub IsRenamed : {X : Type 0} → Name → Name → Names X → Names X → Type 0
+IsRenamed old new before after = (name : Name) → fin.get after name ≡ value_after old new before name
 
 -- the names to which `old` and all names below it move, in their order
 abbrev pub moved_names : {X : Type 0} → Name → Name → Names X → List Name

@@ -1,8 +1,8 @@
 -- A map from names, with the room that it has for more of them.
-use Rattle.std.specs.Prelude.{ℕ, Bool, List, refl}
+use Rattle.std.specs.Prelude.{ℕ, Bool, List, [], ◌∷◌, refl}
 use Rattle.std.specs.List.{list_any}
 use Rattle.std.specs.FinMap as fin
-use Rattle.std.specs.FinMap.Entries.{where_key}
+use Rattle.std.specs.FinMap.Entries.{put, where_key}
 use Rattle.std.specs.Coded.{Coded, code_by, coded×, coded_ℕ, coded_list}
 use Rattle.imap_names.specs.Name.{Name}
 use Rattle.imap_names.specs.Order.{Names, name_cmp, is_within, is_below}
@@ -19,6 +19,16 @@ rows_code {X} x =
 
 abbrev pub with_value : {X : Type 0} → Rows X → Name → X → Rows X
 with_value rows name value = record { map = fin.insert rows.map name value; spare = rows.spare }
+
+-- the map in which these entries are set, one after the other
+abbrev pub inserted_all : {X : Type 0} → Names X → List (Name × X) → Names X
+inserted_all map [] = map
+inserted_all map (e ∷ more) = inserted_all (fin.insert map e.0 e.1) more
+
+-- the list of entries in which these are set, one after the other
+abbrev pub put_all : {X : Type 0} → List (Name × X) → List (Name × X) → List (Name × X)
+put_all entries [] = entries
+put_all entries (e ∷ more) = put_all (put name_cmp e.0 e.1 entries) more
 
 -- of a list of entries those whose names are `top` or below it, in their order
 abbrev pub entries_within : {X : Type 0} → Name → List (Name × X) → List (Name × X)

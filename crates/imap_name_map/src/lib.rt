@@ -8,5 +8,6 @@ mod edits;
 mod moves;
 pub mod name_map;
 mod places;
+mod run_edits;
 
 pub use name_map::NameMap;

@@ -22,7 +22,7 @@ fn to_back<V>(entries: &mut [(Name, V)], start: usize, end: usize)
 }
 
 /// Moves the last `count` entries to `place`.
-fn from_back<V>(entries: &mut [(Name, V)], place: usize, count: usize)
+pub(crate) fn from_back<V>(entries: &mut [(Name, V)], place: usize, count: usize)
     requires { place + count ≤ length entries.old }
     ensures items { let others = length entries.old - count in
         entries.new ≡ take place entries.old ++ (drop others entries.old ++ drop place (take others entries.old)) }
@@ -51,7 +51,7 @@ fn put_names_from<V>(entries: &mut [(Name, V)], place: usize, names: Vec<Name>)
 }
 
 /// Moves the entries of `top` and all names below it to the end. Returns how many they are.
-fn run_to_back<V>(entries: &mut [(Name, V)], top: &NameRef<'_>) -> usize
+pub(crate) fn run_to_back<V>(entries: &mut [(Name, V)], top: &NameRef<'_>) -> usize
     requires { IsTrue (is_sorted name_cmp entries.old) }
     ensures items { entries.new ≡ entries_apart top.now entries.old ++ entries_within top.now entries.old }
     ensures len { length entries.new ≡ length entries.old }
@@ -64,7 +64,7 @@ fn run_to_back<V>(entries: &mut [(Name, V)], top: &NameRef<'_>) -> usize
 }
 
 /// How many of the first `count` entries stand before `top` and all names below it.
-fn start_among<V>(entries: &[(Name, V)], count: usize, top: &NameRef<'_>) -> usize
+pub(crate) fn start_among<V>(entries: &[(Name, V)], count: usize, top: &NameRef<'_>) -> usize
     requires within { count ≤ length entries.now }
     requires sorted { IsTrue (is_sorted name_cmp (take count entries.now)) }
     ensures place { result ≡ before (λ x. run_cmp x top.now) (take count entries.now) }

@@ -1,16 +1,19 @@
 //! Maps from names.
-ghost use Rattle.std.specs.Prelude.{◌≡◌, ◌↔◌, ◌+◌, ◌<◌, ◌≤◌, [], drop, take, slice_index_or, IsTrue, IfOk, OnOk, OnSome, option_copied};
+ghost use Rattle.std.specs.Prelude.{◌≡◌, ◌↔◌, ◌+◌, ◌<◌, ◌≤◌, [], true, length, drop, take, slice_index_or, IsTrue, IfOk, OnOk, OnSome, option_copied};
 ghost use Rattle.std.specs.Borrow.{sem, LendsSo};
 ghost use Rattle.std.specs.FinMap as fin;
+ghost use Rattle.std.specs.List.{list_all};
 ghost use Rattle.std.specs.Option.{option_copied_mut};
-ghost use Rattle.imap_name_map.specs.Renaming.{moved_names, renamed};
-ghost use Rattle.imap_name_map.specs.Rows.{with_value, run_of, below_of, has_below};
+ghost use Rattle.imap_names.specs.Order.{is_within};
+ghost use Rattle.imap_name_map.specs.Renaming.{moved_names, renamed, IsRenamed};
+ghost use Rattle.imap_name_map.specs.Rows.{inserted_all, with_value, run_of, below_of, has_below};
 ghost use Rattle.imap_name_map.specs.contracts.name_map.NameMap.{the_row};
 
 use crate::copies::copy_entries;
 use crate::edits::{put_entry, remove_entry};
 use crate::moves::rename_in;
 use crate::places::{end_of, ends_below, find_in, part_of, place_or_end, start_of, without_top};
+use crate::run_edits::put_run;
 use imap_names::{Name, NameRef};
 use imap_values::TryCopy;
 use std::alloc::{AllocError, Global};
@@ -165,6 +168,19 @@ impl<V: Drop> NameMap<V> {
         put_entry(&mut self.entries, name, value);
     }
 
+    /// Sets the values of many names, all of them `top` or below it, in the room that there is.
+    ///
+    /// What comes after them in the order moves once. Where they come in their order, and none of the run was there,
+    /// each takes one comparison.
+    pub fn insert_run(&mut self, top: &NameRef<'_>, entries: Vec<(Name, V)>)
+        requires room { length entries.items ≤ self.old.spare }
+        requires within { list_all (λ e. is_within top.now e.0) entries.items ≡ true }
+        ensures map { self.new.map ≡ inserted_all self.old.map entries.items }
+        ensures spare { self.old.spare ≤ self.new.spare + length entries.items }
+    {
+        put_run(&mut self.entries, top, entries);
+    }
+
     /// Removes `name`, if it is there.
     pub fn remove(&mut self, name: &NameRef<'_>)
         ensures map { self.new.map ≡ fin.remove self.old.map name.now }
@@ -177,6 +193,7 @@ impl<V: Drop> NameMap<V> {
         requires names { names.items ≡ moved_names old.now new.now self.old.map }
         requires free { run_of new.now self.old.map ≡ [] }
         ensures map { self.new.map ≡ renamed old.now new.now self.old.map }
+        ensures values { IsRenamed old.now new.now self.old.map self.new.map }
         ensures spare { self.new.spare ≡ self.old.spare }
     {
         rename_in(&mut self.entries, old, new, names);

@@ -10,6 +10,7 @@ pub mod AboveLaws
 pub mod ViewLaws
 pub mod PathLaws
 pub mod SuperiorLaws
+pub mod MovedLaws
 pub mod InboxWord
 pub mod ReadLaws
 pub mod ShownLaws

@@ -27,10 +27,11 @@ pub struct Acl {
     entries: Vec<Entry>,
 }
 
+/// An identifier with its rights.
 #[derive(Drop, Debug)]
-struct Entry {
-    identifier: Identifier,
-    rights: Rights,
+pub struct Entry {
+    pub identifier: Identifier,
+    pub rights: Rights,
 }
 
 impl Model for Acl {
@@ -98,11 +99,34 @@ impl Acl {
         self.entries.is_empty()
     }
 
+    /// The entries, in the byte order of their identifiers.
+    pub fn entries(&self) -> &[Entry]
+        ensures { pairs_of result.now ≡ finite.entries self.now }
+    {
+        self.entries.as_slice()
+    }
+
     /// The rights of the entry of `identifier`, and no rights if there is no entry.
     pub fn rights_of(&self, identifier: &Identifier) -> Rights
         ensures { bits result ≡ entry self.now identifier.now }
     {
         self.rights_at(identifier.as_bytes())
+    }
+
+    /// Whether `identifier` would need an entry to have these rights, and there is no room for one.
+    pub fn is_full_for(&self, identifier: &Identifier, rights: Rights) -> bool
+        ensures { result ≡ is_full_for self.now identifier.now (bits rights) }
+    {
+        if rights.known().is_empty() {
+            return false;
+        }
+        !self.has_entry(identifier.as_bytes()) && self.len() >= MAX_ENTRIES
+    }
+
+    fn has_entry(&self, identifier: &[u8]) -> bool
+        ensures { result ≡ finite.contains_key self.now identifier.now }
+    {
+        position_of(self.entries.as_slice(), identifier).is_ok()
     }
 
     /// A list by which the owner alone has rights, and all of them.

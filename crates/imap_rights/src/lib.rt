@@ -7,7 +7,7 @@ mod identifier;
 pub mod laws;
 mod rights;
 
-pub use acl::{Acl, AclError, MAX_ENTRIES};
+pub use acl::{Acl, AclError, Entry, MAX_ENTRIES};
 pub use change::{RightsChange, read_rights};
 pub use identifier::{Identifier, IdentifierError, MAX_IDENTIFIER_OCTETS};
 pub use rights::Rights;

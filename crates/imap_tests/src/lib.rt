@@ -28,6 +28,8 @@ mod rights;
 #[cfg(test)]
 mod text;
 #[cfg(test)]
+mod trees;
+#[cfg(test)]
 mod view;
 #[cfg(test)]
 mod world;

@@ -12,7 +12,7 @@ use Rattle.imap_world.specs.Effects.{if_filled, with_subscribed}
 use Rattle.imap_world.specs.World.{World, NameSet, set_of, subscribed_by}
 use Rattle.imap_world.proofs.Finding.{get-keep}
 use Rattle.imap_world.proofs.Sets.{is_user, equal_users, user_itself, get_with_option, set_of-if_filled}
-use Rattle.imap_view.specs.After.{OwnEffectsAreSeen, OthersSubscriptionsAreHidden, HiddenIsAbsent}
+use Rattle.imap_view.specs.After.{OthersSubscriptionsAreHidden, HiddenIsAbsent}
 use Rattle.imap_view.specs.Seen.{Seen, seen_at}
 use Rattle.imap_view.specs.View.{view_of, view_by, seen_in, if_true, is_below_place}
 
@@ -51,7 +51,7 @@ unfolding view_of
 subscribed_is administrator user world = refl
 
 module _ (administrator user : List ℕ) (world : World) (f : NameSet → NameSet) where
-  changed : (asker : List ℕ) → asker ≡ (view_of administrator user world).user
+  pub changed : (asker : List ℕ) → asker ≡ (view_of administrator user world).user
       → view_of administrator user (with_subscribed world asker (f (subscribed_by world asker))) ≡ record (view_of administrator user world) { subscribed = f (view_of administrator user world).subscribed }
   changed asker is =
       ap (λ u. view_of administrator user (with_subscribed world u (f (subscribed_by world u)))) (is ∙ user_is administrator user world)
@@ -63,11 +63,6 @@ module _ (administrator user : List ℕ) (world : World) (f : NameSet → NameSe
       view_with administrator user world other (f (subscribed_by world other))
       ∙ ap (λ names. record (view_of administrator user world) { subscribed = names }) (subscribed_still world user other (f (subscribed_by world other)) differ)
       ∙ same_subscribed administrator user world
-
-pub own_effects : OwnEffectsAreSeen
-own_effects administrator user world (effect.CreateInbox owner) may = absurd may
-own_effects administrator user world (effect.Subscribe asker name) may = changed administrator user world (λ names. map.insert names name tt) asker may
-own_effects administrator user world (effect.Unsubscribe asker name) may = changed administrator user world (λ names. map.remove names name) asker may
 
 pub others_subscriptions : OthersSubscriptionsAreHidden
 others_subscriptions administrator user other world name differ =

@@ -20,7 +20,7 @@ use Rattle.imap_rights.specs.Effective.{anyone, negative, entry, granted, effect
 use Rattle.imap_rights.specs.Rights.{no_rights, all_rights, union, less, visible_rights, administer, has_any}
 use Rattle.imap_world.specs.declared.mailbox.Mailbox.{Mailbox}
 use Rattle.imap_world.specs.declared.error.WorldError.TheVariants.{Limit}
-use Rattle.imap_world.specs.Effects.{with_row, put_of, write_then, after_result}
+use Rattle.imap_world.specs.Effects.{with_row, put_of, writes_then, after_result}
 use Rattle.imap_world.specs.Finite.{keep}
 use Rattle.imap_world.specs.Row.{Row}
 use Rattle.imap_world.specs.World.{World, epoch, inbox, max_validity}
@@ -109,7 +109,7 @@ module _ (other : List ℕ) where
         ∙ ap (λ b. b || (false || false)) (not_bytes other user differ)
 
     inbox_hidden : (world : World) → map.get world.mailboxes (inbox other) ≡ None → (b : Bool)
-        → view_of administrator user (after_result (write_then (put_of (cond b (Err Limit) (Ok (record { name = inbox other; mailbox = record { validity = epoch world.epochs (inbox other) + 1; acl = owner_acl other } })))) (Ok [])) world) ≡ view_of administrator user world
+        → view_of administrator user (after_result (writes_then (put_of (cond b (Err Limit) (Ok (record { name = inbox other; mailbox = record { validity = epoch world.epochs (inbox other) + 1; acl = owner_acl other } })))) (Ok [])) world) ≡ view_of administrator user world
     inbox_hidden world absent true = refl
     inbox_hidden world absent false =
         put_is_hidden administrator user world (record { name = inbox other; mailbox = record { validity = epoch world.epochs (inbox other) + 1; acl = owner_acl other } }) absent (inbox_unseen (epoch world.epochs (inbox other) + 1)) (inbox_unknown world)

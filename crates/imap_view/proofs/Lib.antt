@@ -1,4 +1,14 @@
 pub mod Afters
+pub mod ArrivalsKnown
+pub mod Arriving
+pub mod Asked
+pub mod Creating
+pub mod Deleting
 pub mod Inboxes
 pub mod Listings
+pub mod Moving
+pub mod Narrowing
+pub mod Placed
+pub mod SettingRights
+pub mod Unknown
 pub mod Views

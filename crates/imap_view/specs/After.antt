@@ -1,23 +1,33 @@
 -- What the view of a user becomes when the world changes.
-use Rattle.std.specs.Prelude.{◌≡◌, ◌≢◌, ℕ, Bool, true, false, List, [], ◌∷◌, None}
+use Rattle.std.specs.Prelude.{◌≡◌, ◌≢◌, ℕ, Bool, true, false, List, [], ◌∷◌, None, Ok}
 use Rattle.std.specs.FinMap as map
 use Rattle.imap_names.specs.Name.{Name}
 use Rattle.imap_names.specs.UserName.{is_user_name}
+use Rattle.imap_world.specs.declared.change.Write.{Write}
 use Rattle.imap_world.specs.declared.effect.Effect.{Effect}
 use Rattle.imap_world.specs.declared.effect.Effect.TheVariants as effect
-use Rattle.imap_world.specs.Effects.{after_all}
+use Rattle.imap_world.specs.Effects.{after_all, writes_for}
 use Rattle.imap_world.specs.World.{World, inbox}
+use Rattle.imap_view.specs.Seen.{owner_of}
+use Rattle.imap_view.specs.TreeAfter.{may_delete, may_make, may_set_rights, view_with, view_with_rights, view_without}
 use Rattle.imap_view.specs.View.{View, view_of, is_below_place_in}
 
 -- the user of the view may ask for it, from a session
 abbrev pub MayAsk : View → Effect → Type 0
 MayAsk view (effect.CreateInbox owner) = ⊥
+MayAsk view (effect.Create owner name) =
+    (owner ≡ owner_of view.administrator name) × (may_make view name ≡ true)
+MayAsk view (effect.Delete name) = may_delete view name ≡ true
+MayAsk view (effect.SetRights name identifier change) = may_set_rights view name identifier change ≡ true
 MayAsk view (effect.Subscribe user name) = user ≡ view.user
 MayAsk view (effect.Unsubscribe user name) = user ≡ view.user
 
 -- the view once the user's own effect is made
 abbrev pub view_after : Effect → View → View
 view_after (effect.CreateInbox owner) view = view
+view_after (effect.Create owner name) view = view_with view name
+view_after (effect.Delete name) view = view_without view name
+view_after (effect.SetRights name identifier change) view = view_with_rights view name identifier change
 view_after (effect.Subscribe user name) view = record view { subscribed = map.insert view.subscribed name tt }
 view_after (effect.Unsubscribe user name) view = record view { subscribed = map.remove view.subscribed name }
 
@@ -26,6 +36,16 @@ abbrev pub OwnEffectsAreSeen : Type 0
 OwnEffectsAreSeen = (administrator user : List ℕ) (world : World) (asked : Effect) →
     let view = view_of administrator user world in
     MayAsk view asked → view_of administrator user (after_all (asked ∷ []) world) ≡ view_after asked view
+
+-- Values are found that it writes.
+pub record IsMade (asked : Effect) (world : World) : Type 0 where
+  pub writes : List Write
+  pub made : writes_for asked world ≡ Ok writes
+
+-- An effect that the user may ask for can be made.
+abbrev pub OwnEffectsAreMade : Type 0
+OwnEffectsAreMade = (administrator user : List ℕ) (world : World) (asked : Effect)
+    → MayAsk (view_of administrator user world) asked → IsMade asked world
 
 -- another user's subscriptions are not in the view
 abbrev pub OthersSubscriptionsAreHidden : Type 0

@@ -1,4 +1,6 @@
 pub mod After
 pub mod Listing
+pub mod RenameAfter
 pub mod Seen
+pub mod TreeAfter
 pub mod View

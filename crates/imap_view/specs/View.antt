@@ -4,7 +4,8 @@ use Rattle.std.specs.FinMap as map
 use Rattle.std.specs.Coded.{Coded, coded_ℕ, coded_list, coded×, code_by}
 use Rattle.imap_names.specs.Name.{Name}
 use Rattle.imap_names.specs.Order.{Names}
-use Rattle.imap_rights.specs.Rights.{has_any, create, place_rights}
+use Rattle.imap_rights.specs.Acl.{AclMap}
+use Rattle.imap_rights.specs.Rights.{has_any, create, no_rights, place_rights}
 use Rattle.imap_world.specs.Finite.{keep}
 use Rattle.imap_world.specs.World.{World, NameSet, epoch, name_code, name_set_code, subscribed_by}
 use Rattle.imap_view.specs.Seen.{Seen, seen_at, seen_code, owner_by_root}
@@ -78,6 +79,22 @@ view_of administrator user world = view_by administrator user (seen_in administr
 
 abbrev pub is_below_place_in : View → Name → Bool
 is_below_place_in view name = is_below_place view.administrator view.user view.seen name
+
+abbrev pub rights_of : Option Seen → ℕ
+rights_of None = no_rights
+rights_of (Some seen) = seen.rights
+
+-- the user's rights on the mailbox of this name
+abbrev pub rights_in : View → Name → ℕ
+rights_in view name = rights_of (map.get view.seen name)
+
+abbrev pub acl_of : Option Seen → Option AclMap
+acl_of None = None
+acl_of (Some seen) = seen.acl
+
+-- its list, if the user holds a on it
+abbrev pub acl_in : View → Name → Option AclMap
+acl_in view name = acl_of (map.get view.seen name)
 
 -- the greatest UIDVALIDITY that was used under a name, if the user may know of it
 abbrev pub epoch_in : View → Name → Option ℕ

@@ -1,11 +1,18 @@
 //! What holds of every view.
 
 ghost use Rattle.imap_view.specs.After.{HiddenIsAbsent, OthersInboxesAreHidden};
-ghost use Rattle.imap_view.specs.After.{OthersSubscriptionsAreHidden, OwnEffectsAreSeen};
+ghost use Rattle.imap_view.specs.After.{OthersSubscriptionsAreHidden, OwnEffectsAreMade, OwnEffectsAreSeen};
+ghost use Rattle.imap_view.specs.RenameAfter.{ArrivalsAreSeen, MovingIsSeen};
+ghost use Rattle.imap_view.specs.TreeAfter.{CreatingIsSeen, DeletingIsSeen, SettingRightsIsSeen};
 
 /// The view after an effect that the user may ask for is found from the view before alone.
 pub fn own_effects_are_seen()
     ensures { OwnEffectsAreSeen }
+{}
+
+/// An effect that the user may ask for can be made.
+pub fn own_effects_are_made()
+    ensures { OwnEffectsAreMade }
 {}
 
 /// Another user's subscriptions are not in the view.
@@ -21,4 +28,29 @@ pub fn others_inboxes_are_hidden()
 /// Mailboxes that the user doesn't see, and whose names lie below no place, can go and come, and the view stays.
 pub fn hidden_is_absent()
     ensures { HiddenIsAbsent }
+{}
+
+/// Whether the user may delete a mailbox, and the view after it, are found from the view before alone.
+pub fn deleting_is_seen()
+    ensures { DeletingIsSeen }
+{}
+
+/// Whether the user may set rights on a mailbox, and the view after it, are found from the view before alone.
+pub fn setting_rights_is_seen()
+    ensures { SettingRightsIsSeen }
+{}
+
+/// Whether the user may create a mailbox, and the view after it, are found from the view before alone.
+pub fn creating_is_seen()
+    ensures { CreatingIsSeen }
+{}
+
+/// The view after a mailbox and all below it moved is found from the view before and the validities that they get.
+pub fn moving_is_seen()
+    ensures { MovingIsSeen }
+{}
+
+/// The validities that they get are found from the view before alone, though mailboxes that aren't seen move, too.
+pub fn arrivals_are_seen()
+    ensures { ArrivalsAreSeen }
 {}

@@ -1,21 +1,25 @@
 //! The view.
 
-ghost use Rattle.std.specs.Prelude.{◌≡◌, false, option_copied, option_map};
+ghost use Rattle.std.specs.Prelude.{◌≡◌, false, nat_lt, option_copied, option_map};
 ghost use Rattle.std.specs.FinMap as map;
 ghost use Rattle.imap_names.specs.Name.{root_of};
 ghost use Rattle.imap_names.specs.Valid.{IsName};
 ghost use Rattle.imap_name_map.specs.Rows.{has_below};
+ghost use Rattle.imap_rights.specs.Rights.{bits};
 ghost use Rattle.imap_view.specs.Listing.{names_below};
-ghost use Rattle.imap_view.specs.Seen.{is_root, owner_by_root, seen_at, shown};
-ghost use Rattle.imap_view.specs.View.{epoch_in, is_below_place_in, is_own_root, is_place, may_create, view_of};
+ghost use Rattle.imap_view.specs.Seen.{is_root, owner_by_root, owner_of, seen_at, shown};
+ghost use Rattle.imap_view.specs.View.{acl_in, epoch_in, rights_in, is_below_place_in, is_own_root, is_place, may_create, view_of};
+ghost use Rattle.imap_view.specs.TreeAfter.{is_known};
 ghost use Rattle.imap_world.specs.Stored.{names_in, world_of};
+ghost use Rattle.imap_world.specs.World.{epoch, max_validity};
 
 use crate::seen::Seen;
 use crate::seen_names::SeenNames;
 use crate::taken_names::TakenNames;
+use bitflags::Flags;
 use imap_name_map::NameMap;
-use imap_names::{NameRef, UserName};
-use imap_rights::Rights;
+use imap_names::{Name, NameRef, UserName};
+use imap_rights::{Acl, Rights};
 use imap_world::{Mailbox, Site, World};
 use std::marker::Model;
 
@@ -52,6 +56,17 @@ impl<'a> View<'a> {
         self.user
     }
 
+    /// The owner of the tree that the name lies in.
+    pub fn owner<'b>(&'b self, name: &'b Name) -> &'b UserName
+        ensures { result.now ≡ owner_of self.now.administrator name.now }
+    {
+        match name.owner() {
+            Some(owner) if !owner.as_str().is_empty() => owner,
+            Some(_) => &self.site.administrator,
+            None => &self.site.administrator,
+        }
+    }
+
     /// The mailbox of this name, if the user sees it.
     pub fn seen(&self, name: &NameRef<'_>) -> Option<Seen<'a>>
         ensures { option_map shown result ≡ map.get self.now.seen name.now }
@@ -69,6 +84,26 @@ impl<'a> View<'a> {
             Some(Seen { rights, mailbox })
         } else {
             None
+        }
+    }
+
+    /// The user's rights on the mailbox of this name, and none if the user doesn't see it.
+    pub fn rights(&self, name: &NameRef<'_>) -> Rights
+        ensures { bits result ≡ rights_in self.now name.now }
+    {
+        match self.seen(name) {
+            Some(seen) => seen.rights(),
+            None => Rights::empty(),
+        }
+    }
+
+    /// The access control list of the mailbox of this name, if the user holds `a` on it.
+    pub fn acl(&self, name: &NameRef<'_>) -> Option<&'a Acl>
+        ensures { option_copied result ≡ acl_in self.now name.now }
+    {
+        match self.seen(name) {
+            Some(seen) => seen.acl(),
+            None => None,
         }
     }
 
@@ -144,6 +179,20 @@ impl<'a> View<'a> {
         } else {
             None
         }
+    }
+
+    /// Whether a UIDVALIDITY is left under the name, as far as the user may know.
+    pub fn is_validity_left(&self, name: &NameRef<'_>) -> bool
+        ensures { result ≡ nat_lt (epoch self.now.epochs name.now) max_validity }
+    {
+        !self.is_below_place(name) || self.world.epoch(name) < u32::MAX
+    }
+
+    /// Whether the user knows that the name is in use.
+    pub fn is_known(&self, name: &NameRef<'_>) -> bool
+        ensures { result ≡ is_known self.now name.now }
+    {
+        self.seen(name).is_some() || self.is_taken(name)
     }
 
     /// Whether the user may create a mailbox of this name, as far as rights go (RFC 4314, section 4).

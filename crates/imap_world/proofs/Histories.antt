@@ -1,110 +1,113 @@
 -- Worlds after effects.
 use Rattle.std.proofs.Common.{◌≡◌, inl, inr, ℕ, ◌+◌, ◌≤◌, Bool, true, false, cond, List, [], ◌∷◌, Option, Some, None, Result, Ok, Err, refl, sym, ap, subst, ◌∙◌, arith}
-use Rattle.std.specs.Prelude.{◌==◌, option_map, unwrap_or}
+use Rattle.std.specs.List.{AllByRecursion}
+use Rattle.std.specs.Prelude.{option_map, unwrap_or}
 use Rattle.std.specs.FinMap as map
 use Rattle.imap_names.specs.Name.{Name}
 use Rattle.imap_names.specs.Order.{Names}
 use Rattle.imap_names.proofs.NameLaws.{is_name_at, equal_names, get_put}
-use Rattle.imap_rights.specs.Acl.{owner_acl}
+use Rattle.imap_rights.specs.Acl.{AclMap}
 use Rattle.imap_world.specs.declared.change.Write.{Write}
 use Rattle.imap_world.specs.declared.change.Write.TheVariants as write
 use Rattle.imap_world.specs.declared.effect.Effect.{Effect}
-use Rattle.imap_world.specs.declared.effect.Effect.TheVariants as effect
 use Rattle.imap_world.specs.declared.error.WorldError.{WorldError}
-use Rattle.imap_world.specs.declared.error.WorldError.TheVariants.{Limit}
 use Rattle.imap_world.specs.declared.mailbox.Mailbox.{Mailbox}
-use Rattle.imap_world.specs.Effects.{with_row, put_of, write_of, write_then, writes_of, after_write, after_result, after_all, after_steps}
+use Rattle.imap_world.specs.Effects.{writes_of, after_write, after_writes, after_result, after_all, after_steps}
 use Rattle.imap_world.specs.Kept.{IsSound}
 use Rattle.imap_world.specs.Laws.{IsKeptOrNew, KeepsValidities, WorldsStaySound, ValiditiesAreUsedOnce}
+use Rattle.imap_world.specs.Ready.{AreApart}
 use Rattle.imap_world.specs.Row.{Row}
-use Rattle.imap_world.specs.World.{World, epoch, inbox, max_validity}
-use Rattle.imap_world.proofs.Sound.{put_is_sound, same_is_sound}
-
--- ---- what is made of one world by several writes
-
--- the second world was made of the first
-record IsMade (old world : World) : Type 0 where
-  sound : IsSound old → IsSound world
-  keeps : KeepsValidities old world
+use Rattle.imap_world.specs.Tree.{mailboxes_with_list, with_acl, with_row, without}
+use Rattle.imap_world.specs.World.{World, epoch}
+use Rattle.imap_world.proofs.Fitting.{IsNext, all_are_next, apart_may, writes_are_sound}
+use Rattle.imap_world.proofs.Sound.{found_before}
 
 there : (o : Option Mailbox) (mailbox : Mailbox) → o ≡ Some mailbox → option_map (λ (m : Mailbox). m.validity) o ≡ Some mailbox.validity
 there o mailbox is = ap (option_map (λ (m : Mailbox). m.validity)) is
 
-made_of_itself : (old : World) → IsMade old old
-made_of_itself old = record {
-  sound = λ sound. sound;
-  keeps = record {
-    epochs = λ name. omega arith;
-    mailboxes = λ name mailbox is. inl (there (map.get old.mailboxes name) mailbox is);
-  };
+keeps_itself : (old : World) → KeepsValidities old old
+keeps_itself old = record {
+  epochs = λ name. omega arith;
+  mailboxes = λ name mailbox is. inl (there (map.get old.mailboxes name) mailbox is);
 }
 
-module _ (old world : World) (made : IsMade old world) where
+-- ---- one write more
+
+module _ (old world : World) (keeps : KeepsValidities old world) where
   -- the mailboxes stay
-  same_made : (new : World) → new.mailboxes ≡ world.mailboxes → new.epochs ≡ world.epochs → IsMade old new
-  same_made new is counted = record {
-    sound = λ sound. same_is_sound world new is counted (made.sound sound);
-    keeps = record {
-      epochs = λ name. subst (λ (m : Names ℕ). epoch old.epochs name ≤ epoch m name) (sym counted) (made.keeps.epochs name);
-      mailboxes = λ name mailbox e. made.keeps.mailboxes name mailbox (ap (λ (m : Names Mailbox). map.get m name) (sym is) ∙ e);
-    };
+  same_kept : (new : World) → new.mailboxes ≡ world.mailboxes → new.epochs ≡ world.epochs → KeepsValidities old new
+  same_kept new is counted = record {
+    epochs = λ name. subst (λ (m : Names ℕ). epoch old.epochs name ≤ epoch m name) (sym counted) (keeps.epochs name);
+    mailboxes = λ name mailbox e. keeps.mailboxes name mailbox (ap (λ (m : Names Mailbox). map.get m name) (sym is) ∙ e);
   }
 
-  -- an INBOX is put under the next validity
-  module _ (user : List ℕ) (mailbox : Mailbox) (next : mailbox.validity ≡ epoch old.epochs (inbox user) + 1) where
-    abbrev row : Row
-    row = record { name = inbox user; mailbox = mailbox }
+  -- a mailbox is put under the next validity
+  module _ (row : Row) (next : row.mailbox.validity ≡ epoch old.epochs row.name + 1) where
+    epoch_at : (name : Name) (b : Bool) → is_name_at name row.name ≡ b → epoch old.epochs name ≤ unwrap_or (cond b (Some row.mailbox.validity) (map.get world.epochs name)) 0
+    epoch_at name true at = omega (arith, next, ap (epoch old.epochs) (equal_names name row.name at))
+    epoch_at name false at = keeps.epochs name
 
-    epoch_at : (name : Name) (b : Bool) → is_name_at name (inbox user) ≡ b → epoch old.epochs name ≤ unwrap_or (cond b (Some mailbox.validity) (map.get world.epochs name)) 0
-    epoch_at name true at = omega (arith, next, ap (epoch old.epochs) (equal_names name (inbox user) at))
-    epoch_at name false at = made.keeps.epochs name
-
-    mailbox_at : (name : Name) (other : Mailbox) (b : Bool) → is_name_at name (inbox user) ≡ b → cond b (Some mailbox) (map.get world.mailboxes name) ≡ Some other → IsKeptOrNew old name other.validity
+    mailbox_at : (name : Name) (other : Mailbox) (b : Bool) → is_name_at name row.name ≡ b → cond b (Some row.mailbox) (map.get world.mailboxes name) ≡ Some other → IsKeptOrNew old name other.validity
     mailbox_at name other true at e =
-        let same : other.validity ≡ mailbox.validity = ap (λ (o : Option Mailbox). (unwrap_or o mailbox).validity) (sym e) in
-        inr (omega (arith, next, same, ap (epoch old.epochs) (equal_names name (inbox user) at)))
-    mailbox_at name other false at e = made.keeps.mailboxes name other e
+        let same : other.validity ≡ row.mailbox.validity = ap (λ (o : Option Mailbox). (unwrap_or o row.mailbox).validity) (sym e) in
+        inr (omega (arith, next, same, ap (epoch old.epochs) (equal_names name row.name at)))
+    mailbox_at name other false at e = keeps.mailboxes name other e
 
-    row_made : IsMade old (with_row world row)
-    row_made = record {
-      sound = λ sound. put_is_sound world (with_row world row) (inbox user) mailbox refl refl refl (made.sound sound);
-      keeps = record {
-        epochs = λ name. subst (λ (o : Option ℕ). epoch old.epochs name ≤ unwrap_or o 0) (sym (get_put world.epochs (inbox user) mailbox.validity name)) (epoch_at name (is_name_at name (inbox user)) refl);
-        mailboxes = λ name other e. mailbox_at name other (is_name_at name (inbox user)) refl (sym (get_put world.mailboxes (inbox user) mailbox name) ∙ e);
-      };
+    row_kept : KeepsValidities old (with_row world row)
+    row_kept = record {
+      epochs = λ name. subst (λ (o : Option ℕ). epoch old.epochs name ≤ unwrap_or o 0) (sym (get_put world.epochs row.name row.mailbox.validity name)) (epoch_at name (is_name_at name row.name) refl);
+      mailboxes = λ name other e. mailbox_at name other (is_name_at name row.name) refl (sym (get_put world.mailboxes row.name row.mailbox name) ∙ e);
     }
 
--- ---- one write
+  -- a mailbox has another list
+  module _ (k : Name) (acl : AclMap) where
+    changed_at : (before : Mailbox) → map.get world.mailboxes k ≡ Some before → (name : Name) (other : Mailbox) (b : Bool) → is_name_at name k ≡ b
+        → cond b (Some (record before { acl = acl })) (map.get world.mailboxes name) ≡ Some other → IsKeptOrNew old name other.validity
+    changed_at before is name other true at e =
+        let same : before.validity ≡ other.validity = ap (λ (o : Option Mailbox). (unwrap_or o before).validity) e in
+        subst (IsKeptOrNew old name) same (keeps.mailboxes name before (ap (map.get world.mailboxes) (equal_names name k at) ∙ is))
+    changed_at before is name other false at e = keeps.mailboxes name other e
 
-of_ok : (v w : Write) → ◌≡◌ {A = Result Write WorldError} (Ok v) (Ok w) → v ≡ w
-of_ok v w e = cc
+    list_kept_at : (o : Option Mailbox) → map.get world.mailboxes k ≡ o → (name : Name) (other : Mailbox) → map.get (mailboxes_with_list world.mailboxes k acl o) name ≡ Some other → IsKeptOrNew old name other.validity
+    list_kept_at None is name other e = keeps.mailboxes name other e
+    list_kept_at (Some before) is name other e =
+        changed_at before is name other (is_name_at name k) refl (sym (get_put world.mailboxes k (record before { acl = acl }) name) ∙ e)
 
-module _ (old world : World) (made : IsMade old world) where
-  inbox_made : (user : List ℕ) (w : Write) (b : Bool)
-      → put_of (cond b (Err Limit) (Ok (record { name = inbox user; mailbox = record { validity = epoch old.epochs (inbox user) + 1; acl = owner_acl user } }))) ≡ Ok w → IsMade old (after_write w world)
-  inbox_made user w true e = cc
-  inbox_made user w false e = subst (λ v. IsMade old (after_write v world)) (of_ok _ w e) (row_made old world made user (record { validity = epoch old.epochs (inbox user) + 1; acl = owner_acl user }) refl)
+    list_kept : KeepsValidities old (with_acl world k acl)
+    list_kept = record { epochs = keeps.epochs; mailboxes = list_kept_at (map.get world.mailboxes k) refl }
 
-  write_made : (e : Effect) (w : Write) → write_of e old ≡ Ok w → IsMade old (after_write w world)
-  write_made (effect.CreateInbox user) w is = inbox_made user w (epoch old.epochs (inbox user) == max_validity) is
-  write_made (effect.Subscribe user name) w is = subst (λ v. IsMade old (after_write v world)) (of_ok _ w is) (same_made old world made (after_write (write.Subscribe user name) world) refl refl)
-  write_made (effect.Unsubscribe user name) w is = subst (λ v. IsMade old (after_write v world)) (of_ok _ w is) (same_made old world made (after_write (write.Unsubscribe user name) world) refl refl)
+  removed_kept : (k : Name) → KeepsValidities old (without world k)
+  removed_kept k = record {
+    epochs = keeps.epochs;
+    mailboxes = λ name mailbox e. keeps.mailboxes name mailbox (found_before world.mailboxes k name mailbox e);
+  }
+
+  write_kept : (w : Write) → IsNext old w → KeepsValidities old (after_write w world)
+  write_kept (write.Put row) next = row_kept row next
+  write_kept (write.SetAcl name acl) next = list_kept name acl
+  write_kept (write.Remove name) next = removed_kept name
+  write_kept (write.Subscribe user name) next = same_kept (after_write (write.Subscribe user name) world) refl refl
+  write_kept (write.Unsubscribe user name) next = same_kept (after_write (write.Unsubscribe user name) world) refl refl
 
 -- ---- several, and one list after another
 
-all_made : (old : World) (effects : List Effect) (world : World) → IsMade old world → IsMade old (after_result (writes_of effects old) world)
-all_made old [] world made = made
-all_made old (e ∷ effects) world made = by (write_of e old) (writes_of effects old) refl refl (all_made old effects)
-  where
-    by : (first : Result Write WorldError) (rest : Result (List Write) WorldError) → write_of e old ≡ first → writes_of effects old ≡ rest
-        → ((later : World) → IsMade old later → IsMade old (after_result (writes_of effects old) later)) → IsMade old (after_result (write_then first rest) world)
-    by (Err error) rest is are deeper = made
-    by (Ok w) (Err error) is are deeper = made
-    by (Ok w) (Ok ws) is are deeper =
-        subst (λ r. IsMade old (after_result r (after_write w world))) are (deeper (after_write w world) (write_made old world made e w is))
+writes_kept : (old : World) (ws : List Write) (world : World) → AllByRecursion (IsNext old) ws → KeepsValidities old world → KeepsValidities old (after_writes ws world)
+writes_kept old [] world next keeps = keeps
+writes_kept old (w ∷ ws) world next keeps = writes_kept old ws (after_write w world) next.1 (write_kept old world keeps w next.0)
 
-effects_made : (effects : List Effect) (old : World) → IsMade old (after_all effects old)
-effects_made effects old = all_made old effects old (made_of_itself old)
+effects_kept : (effects : List Effect) (old : World) → KeepsValidities old (after_all effects old)
+effects_kept effects old = by (writes_of effects old) refl
+  where
+    by : (r : Result (List Write) WorldError) → writes_of effects old ≡ r → KeepsValidities old (after_result r old)
+    by (Err error) is = keeps_itself old
+    by (Ok ws) is = writes_kept old ws old (all_are_next old effects ws is) (keeps_itself old)
+
+effects_sound : (effects : List Effect) (old : World) → AreApart effects → IsSound old → IsSound (after_all effects old)
+effects_sound effects old apart sound = by (writes_of effects old) refl
+  where
+    by : (r : Result (List Write) WorldError) → writes_of effects old ≡ r → IsSound (after_result r old)
+    by (Err error) is = sound
+    by (Ok ws) is = writes_are_sound ws old (apart_may old effects ws apart is) sound
 
 kept_through : (old mid : World) → KeepsValidities old mid → (name : Name) (o : Option Mailbox) (validity : ℕ) → map.get mid.mailboxes name ≡ o → option_map (λ (m : Mailbox). m.validity) o ≡ Some validity → IsKeptOrNew old name validity
 kept_through old mid first name None validity is e = cc
@@ -122,9 +125,9 @@ keeps_on old mid new first later = record {
 }
 
 pub steps_stay_sound : WorldsStaySound
-steps_stay_sound world [] sound = sound
-steps_stay_sound world (effects ∷ steps) sound = steps_stay_sound (after_all effects world) steps ((effects_made effects world).sound sound)
+steps_stay_sound world [] apart sound = sound
+steps_stay_sound world (effects ∷ steps) apart sound = steps_stay_sound (after_all effects world) steps apart.1 (effects_sound effects world apart.0 sound)
 
 pub used_once : ValiditiesAreUsedOnce
-used_once world [] = (made_of_itself world).keeps
-used_once world (effects ∷ steps) = keeps_on world (after_all effects world) (after_steps steps (after_all effects world)) (effects_made effects world).keeps (used_once (after_all effects world) steps)
+used_once world [] = keeps_itself world
+used_once world (effects ∷ steps) = keeps_on world (after_all effects world) (after_steps steps (after_all effects world)) (effects_kept effects world) (used_once (after_all effects world) steps)

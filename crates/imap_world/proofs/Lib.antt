@@ -1,8 +1,10 @@
 pub mod Changed
 pub mod Finding
+pub mod Fitting
 pub mod Histories
 pub mod Owners
 pub mod Resolved
 pub mod Room
 pub mod Sets
 pub mod Sound
+pub mod Superiors

@@ -1,5 +1,6 @@
 -- The room that is left after a name was written.
-use Rattle.std.proofs.Common.{◌≡◌, ℕ, ◌+◌, ◌-◌, ◌≤◌, Bool, true, false, cond, List, [], ◌∷◌, length, Option, Some, None, Result, Ok, Err, refl, sym, ap, subst, ◌∙◌, arith}
+use Rattle.std.proofs.Common.{◌≡◌, ℕ, ◌+◌, ◌-◌, ◌<◌, ◌≤◌, get_or, take, Bool, true, false, cond, List, [], ◌∷◌, ◌++◌, length, Option, Some, None, Result, Ok, Err, refl, sym, ap, subst, ◌∙◌, arith}
+use Rattle.std.proofs.lemmas.List.{take_more}
 use Rattle.std.specs.Cmp.Lexicographic.{nat_list_cmp_total}
 use Rattle.std.specs.FinMap as map
 use Rattle.std.specs.FinMap.{get-insert, len-remove}
@@ -10,16 +11,13 @@ use Rattle.std.specs.declared.alloc.AllocError.{AllocError}
 use Rattle.imap_names.specs.Name.{Name}
 use Rattle.imap_names.specs.Order.{Names}
 use Rattle.imap_names.proofs.OrderLaws.{name_total}
-use Rattle.imap_world.specs.World.{NameSet}
 use Rattle.imap_name_map.specs.Rows as name
 use Rattle.imap_user_map.specs.Rows.{Users}
-use Rattle.imap_world.specs.declared.mailbox.Mailbox.{Mailbox}
 use Rattle.imap_world.specs.declared.change.Write.{Write}
 use Rattle.imap_world.specs.declared.change.Write.TheVariants as write
-use Rattle.imap_world.specs.Kept.{superior_is_there}
-use Rattle.imap_world.specs.Ready.{HasRoom, IsWriteReady, IsOneReady, IsReady, Leaves, KeepsRoom, LeavesRoom}
-use Rattle.imap_world.specs.Stored.{Stored, Subscriptions}
-use Rattle.imap_world.proofs.Sound.{put_superior}
+use Rattle.imap_world.specs.Effects.{after_write}
+use Rattle.imap_world.specs.Ready.{HasNameRoom, HasRoom, IsOneReady, IsReady, Leaves, KeepsRoom, LeavesRoom, MayBeWritten}
+use Rattle.imap_world.specs.Stored.{Stored, Subscriptions, world_of}
 use Rattle.imap_world.proofs.Sets.{is_user, equal_users, user_itself}
 
 pub fewer : (o : Option (name.Rows (Unit {0}))) (m n : ℕ) → m ≤ n → HasRoom n o → HasRoom m o
@@ -54,33 +52,60 @@ no_room o more is h = subst (HasRoom more) is h
 -- ---- after one write of several
 
 module _ (old new : Stored) (leaves : Leaves old new) where
-  one_less : (more : ℕ) (w : Write) → IsWriteReady old (more + 1) w → IsWriteReady new more w
-  one_less more (write.Put row) h = leaves.superiors row.name h
+  one_less : (more : ℕ) (w : Write) → HasNameRoom old.subscriptions (more + 1) w → HasNameRoom new.subscriptions more w
+  one_less more (write.Put row) h = tt
+  one_less more (write.SetAcl name acl) h = tt
+  one_less more (write.Remove name) h = tt
   one_less more (write.Subscribe user name) h = leaves.users user more h
   one_less more (write.Unsubscribe user name) h = tt
 
-  all_less : (more : ℕ) (ws : List Write) → AllByRecursion (IsWriteReady old (more + 1)) ws → AllByRecursion (IsWriteReady new more) ws
+  all_less : (more : ℕ) (ws : List Write) → AllByRecursion (HasNameRoom old.subscriptions (more + 1)) ws → AllByRecursion (HasNameRoom new.subscriptions more) ws
   all_less more [] h = tt
   all_less more (w ∷ ws) h = (one_less more w h.0, all_less more ws h.1)
 
-  pub rest_ready : (w : Write) (ws : List Write) → IsReady (w ∷ ws) old → IsReady ws new
-  rest_ready w ws ready = record {
-    mailboxes = omega (arith, leaves.mailboxes, ready.mailboxes);
-    epochs = omega (arith, leaves.epochs, ready.epochs);
-    each = all_less (length ws) ws (subst (λ n. AllByRecursion (IsWriteReady old n) ws) (omega (arith)) ready.each.1);
+  pub rest_ready : (w : Write) (ws : List Write) → world_of new ≡ after_write w (world_of old) → IsReady (w ∷ ws) old → IsReady ws new
+  rest_ready w ws is ready = record {
+    room = record {
+      mailboxes = omega (arith, leaves.mailboxes, ready.room.mailboxes);
+      epochs = omega (arith, leaves.epochs, ready.room.epochs);
+      sets = all_less (length ws) ws (subst (λ n. AllByRecursion (HasNameRoom old.subscriptions n) ws) (omega (arith)) ready.room.sets.1);
+    };
+    may = subst (MayBeWritten ws) (sym is) ready.may.1;
   }
 
-at_least_one : (s : Stored) (n : ℕ) (w : Write) → 1 ≤ n → IsWriteReady s n w → IsWriteReady s 1 w
-at_least_one s n (write.Put row) le h = h
-at_least_one s n (write.Subscribe user name) le h = fewer (map.get s.subscriptions.map user) 1 n le h
+at_least_one : (s : Subscriptions) (n : ℕ) (w : Write) → 1 ≤ n → HasNameRoom s n w → HasNameRoom s 1 w
+at_least_one s n (write.Put row) le h = tt
+at_least_one s n (write.SetAcl name acl) le h = tt
+at_least_one s n (write.Remove name) le h = tt
+at_least_one s n (write.Subscribe user name) le h = fewer (map.get s.map user) 1 n le h
 at_least_one s n (write.Unsubscribe user name) le h = tt
 
 pub first_ready : (s : Stored) (w : Write) (ws : List Write) → IsReady (w ∷ ws) s → IsOneReady s w
 first_ready s w ws ready = record {
-  mailboxes = omega (arith, ready.mailboxes);
-  epochs = omega (arith, ready.epochs);
-  one = at_least_one s (length (w ∷ ws)) w (omega (arith)) ready.each.0;
+  mailboxes = omega (arith, ready.room.mailboxes);
+  epochs = omega (arith, ready.room.epochs);
+  set = at_least_one s.subscriptions (length (w ∷ ws)) w (omega (arith)) ready.room.sets.0;
+  may = ready.may.0;
 }
+
+-- ---- room for one write more
+
+module _ (old new : Subscriptions) (keeps : KeepsRoom old new) (more : ℕ) where
+  one_kept : (w : Write) → HasNameRoom old more w → HasNameRoom new more w
+  one_kept (write.Put row) h = tt
+  one_kept (write.SetAcl name acl) h = tt
+  one_kept (write.Remove name) h = tt
+  one_kept (write.Subscribe user name) h = keeps user more h
+  one_kept (write.Unsubscribe user name) h = tt
+
+  pub all_kept : (ws : List Write) (w : Write) → AllByRecursion (HasNameRoom old more) ws → HasNameRoom new more w → AllByRecursion (HasNameRoom new more) (ws ++ w ∷ [])
+  all_kept [] w h last = (last, tt)
+  all_kept (v ∷ vs) w h last = (one_kept v h.0, all_kept vs w h.1 last)
+
+  -- of the first writes, and one more
+  pub all_kept_at : (ws : List Write) (i : ℕ) (w : Write) → i < length ws → w ≡ get_or ws i w → AllByRecursion (HasNameRoom old more) (take i ws) → HasNameRoom new more w → AllByRecursion (HasNameRoom new more) (take (i + 1) ws)
+  all_kept_at ws i w lt is h last =
+      subst (AllByRecursion (HasNameRoom new more)) (sym (take_more ws i w lt ∙ ap (λ x. take i ws ++ x ∷ []) (sym is))) (all_kept (take i ws) w h last)
 
 -- what is said of a value holds of the one that is there
 pub of_some : {X P : Type 0} (r : Option X) (x : X) → r ≡ Some x → OnSome r P → P
@@ -99,14 +124,13 @@ pub put_room : (s t : Subscriptions) (u : List ℕ) (rows : name.Rows (Unit {0})
 put_room s t u rows is more (Ok done) h = subst (HasRoom more) (sym (there s t u rows is u ∙ ap (λ b. cond b (Some rows) (map.get s.map u)) (user_itself u))) h
 put_room s t u rows is more (Err error) h = tt
 
--- a mailbox was put
-pub put_row_leaves : (old new : Stored) (k : Name) (mailbox : Mailbox) → new.mailboxes.map ≡ map.insert old.mailboxes.map k mailbox → new.subscriptions ≡ old.subscriptions
+-- the mailboxes were changed
+pub mailboxes_leave : (old new : Stored) → new.subscriptions ≡ old.subscriptions
     → old.mailboxes.spare ≤ new.mailboxes.spare + 1 → old.epochs.spare ≤ new.epochs.spare + 1 → Leaves old new
-put_row_leaves old new k mailbox is same mailboxes epochs = record {
+mailboxes_leave old new same mailboxes epochs = record {
   mailboxes = mailboxes;
   epochs = epochs;
   users = λ user more h. subst (λ (s : Subscriptions). HasRoom more (map.get s.map user)) (sym same) (fewer (map.get old.subscriptions.map user) more (more + 1) (omega (arith)) h);
-  superiors = λ name e. subst (λ (m : Names Mailbox). superior_is_there m name ≡ true) (sym is) (put_superior old.mailboxes.map k mailbox name e);
 }
 
 -- the set of one user was changed
@@ -115,11 +139,10 @@ put_set_leaves old new mailboxes epochs users = record {
   mailboxes = omega (arith, ap (λ r. r.spare) mailboxes);
   epochs = omega (arith, ap (λ r. r.spare) epochs);
   users = users;
-  superiors = λ name e. subst (λ r. superior_is_there r.map name ≡ true) (sym mailboxes) e;
 }
 
--- a set without a name has no more names
-pub len_without : (names : NameSet) (k : Name) → map.len (map.remove names k) ≤ map.len names
+-- a map without a name has no more names
+pub len_without : {X : Type 0} (names : Names X) (k : Name) → map.len (map.remove names k) ≤ map.len names
 len_without names k = subst (λ n. n ≤ map.len names) (sym (len-remove name_total names k)) (by (map.contains_key names k))
   where
     by : (b : Bool) → cond b (map.len names - 1) (map.len names) ≤ map.len names

@@ -1,14 +1,20 @@
 -- What holds of every world goes on holding.
-use Rattle.std.proofs.Common.{◌≡◌, ℕ, ◌≤◌, Bool, true, false, cond, Option, Some, None, refl, sym, ap, subst, ◌∙◌, arith}
-use Rattle.std.specs.Prelude.{is_some, unwrap_or}
+use Rattle.std.proofs.Common.{◌≡◌, ℕ, ◌≤◌, Bool, true, false, cond, List, [], ◌∷◌, Option, Some, None, refl, sym, ap, subst, ◌∙◌, arith}
+use Rattle.std.specs.Prelude.{◌||◌, is_some, unwrap_or}
+use Rattle.std.specs.List.{list_any}
 use Rattle.std.specs.FinMap as map
-use Rattle.std.specs.FinMap.{get-empty}
+use Rattle.std.specs.FinMap.{entries, find, get-empty, get-entries}
+use Rattle.imap_name_map.specs.Rows.{has_below}
 use Rattle.imap_names.specs.Name.{Name, superior}
-use Rattle.imap_names.specs.Order.{Names, name_cmp}
-use Rattle.imap_names.proofs.NameLaws.{is_name_at, equal_names, get_put}
+use Rattle.imap_names.specs.Order.{Names, name_cmp, is_below}
+use Rattle.imap_names.proofs.NameLaws.{is_name_at, equal_names, get_put, get_without}
+use Rattle.imap_names.proofs.OrderLaws.{below_from_IsAbove}
+use Rattle.imap_rights.specs.Acl.{AclMap}
 use Rattle.imap_world.specs.declared.mailbox.Mailbox.{Mailbox}
 use Rattle.imap_world.specs.Kept.{IsSound, is_there, superior_is_there}
+use Rattle.imap_world.specs.Tree.{mailboxes_with_list}
 use Rattle.imap_world.specs.World.{World, epoch}
+use Rattle.imap_world.proofs.Superiors.{superior_is_above}
 
 pub empty_is_sound : (world : World) → world.mailboxes ≡ map.empty → IsSound world
 empty_is_sound world none = record {
@@ -87,4 +93,76 @@ same_is_sound old new is counted sound = record {
   closed = subst (λ (m : Names Mailbox). (name : Name) → map.contains_key m name ≡ true → superior_is_there m name ≡ true) (sym is) sound.closed;
   used = subst (λ (m : Names Mailbox). (name : Name) (mailbox : Mailbox) → map.get m name ≡ Some mailbox → mailbox.validity ≤ epoch new.epochs name) (sym is)
       (subst (λ (e : Names ℕ). (name : Name) (mailbox : Mailbox) → map.get old.mailboxes name ≡ Some mailbox → mailbox.validity ≤ epoch e name) (sym counted) sound.used);
+}
+
+-- another list is put on a mailbox, if it is there
+pub list_is_sound : (old new : World) (k : Name) (acl : AclMap) → new.mailboxes ≡ mailboxes_with_list old.mailboxes k acl (map.get old.mailboxes k) → new.epochs ≡ old.epochs → IsSound old → IsSound new
+list_is_sound old new k acl is counted sound = by (map.get old.mailboxes k) refl is
+  where
+    by : (o : Option Mailbox) → map.get old.mailboxes k ≡ o → new.mailboxes ≡ mailboxes_with_list old.mailboxes k acl o → IsSound new
+    by None there is = same_is_sound old new is counted sound
+    by (Some before) there is = changed_is_sound old new k before (record before { acl = acl }) is counted there refl sound
+
+-- ---- one mailbox removed
+
+or_first : (a b : Bool) → a ≡ true → (a || b) ≡ true
+or_first true b e = refl
+or_first false b e = absurd (cc e)
+
+or_second : (a b : Bool) → b ≡ true → (a || b) ≡ true
+or_second true b e = refl
+or_second false b e = e
+
+any_below : {X : Type 0} (top name : Name) (es : List (Name × X)) → is_below top name ≡ true → is_some (find name_cmp name es) ≡ true → list_any (λ e. is_below top e.0) es ≡ true
+any_below top name [] below e = absurd (cc e)
+any_below {X} top name (f ∷ es) below e = by (is_name_at name f.0) refl e (any_below top name es below)
+  where
+    by : (b : Bool) → is_name_at name f.0 ≡ b → is_some (cond b (Some f.1) (find name_cmp name es)) ≡ true → (is_some (find name_cmp name es) ≡ true → list_any (λ g. is_below top g.0) es ≡ true) → list_any (λ g. is_below top g.0) (f ∷ es) ≡ true
+    by true at e deeper = or_first (is_below top f.0) _ (ap (is_below top) (sym (equal_names name f.0 at)) ∙ below)
+    by false at e deeper = or_second (is_below top f.0) _ (deeper e)
+
+-- a mailbox that is there and lies below the name
+pub has_below-there : {X : Type 0} (m : Names X) (top name : Name) → is_below top name ≡ true → map.contains_key m name ≡ true → has_below top m ≡ true
+has_below-there m top name below e = any_below top name (entries m) below (sym (ap is_some (get-entries m name)) ∙ e)
+
+module _ (m : Names Mailbox) (k : Name) (free : has_below k m ≡ false) where
+  still_there : (name above : Name) → map.contains_key m name ≡ true → superior name ≡ Some above → map.contains_key m above ≡ true → map.contains_key (map.remove m k) above ≡ true
+  still_there name above e is there = ap is_some (get_without m k above) ∙ by (is_name_at above k) refl
+    where
+      by : (b : Bool) → is_name_at above k ≡ b → is_some (cond b None (map.get m above)) ≡ true
+      by true at =
+          let below : is_below k name ≡ true = below_from_IsAbove k name (superior_is_above name k (is ∙ ap Some (equal_names above k at))) in
+          absurd (cc (sym (has_below-there m k name below e) ∙ free))
+      by false at = there
+
+  superior_stays : (name : Name) (o : Option Name) → map.contains_key m name ≡ true → superior name ≡ o → is_there m o ≡ true → is_there (map.remove m k) o ≡ true
+  superior_stays name None e is there = refl
+  superior_stays name (Some above) e is there = still_there name above e is there
+
+  was_there : (name : Name) → map.contains_key (map.remove m k) name ≡ true → map.contains_key m name ≡ true
+  was_there name e = by (is_name_at name k) (sym (ap is_some (get_without m k name)) ∙ e)
+    where
+      by : (b : Bool) → is_some (cond b None (map.get m name)) ≡ true → map.contains_key m name ≡ true
+      by true e = absurd (cc e)
+      by false e = e
+
+  closed_without : ((name : Name) → map.contains_key m name ≡ true → superior_is_there m name ≡ true)
+      → (name : Name) → map.contains_key (map.remove m k) name ≡ true → superior_is_there (map.remove m k) name ≡ true
+  closed_without closed name e = superior_stays name (superior name) (was_there name e) refl (closed name (was_there name e))
+
+-- what is found in the mailboxes without one was there
+pub found_before : (m : Names Mailbox) (k name : Name) (mailbox : Mailbox) → map.get (map.remove m k) name ≡ Some mailbox → map.get m name ≡ Some mailbox
+found_before m k name mailbox e = by (is_name_at name k) (sym (get_without m k name) ∙ e)
+  where
+    by : (b : Bool) → cond b None (map.get m name) ≡ Some mailbox → map.get m name ≡ Some mailbox
+    by true e = absurd (cc e)
+    by false e = e
+
+-- a mailbox goes that has none below it
+pub removed_is_sound : (old new : World) (k : Name) → new.mailboxes ≡ map.remove old.mailboxes k → new.epochs ≡ old.epochs → has_below k old.mailboxes ≡ false → IsSound old → IsSound new
+removed_is_sound old new k is counted free sound = record {
+  closed = λ name e. subst (λ (m : Names Mailbox). superior_is_there m name ≡ true) (sym is)
+      (closed_without old.mailboxes k free sound.closed name (subst (λ (m : Names Mailbox). map.contains_key m name ≡ true) is e));
+  used = λ name mailbox e. subst (λ (m : Names ℕ). mailbox.validity ≤ epoch m name) (sym counted)
+      (sound.used name mailbox (found_before old.mailboxes k name mailbox (sym (ap (λ (m : Names Mailbox). map.get m name) is) ∙ e)));
 }

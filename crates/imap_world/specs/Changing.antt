@@ -3,17 +3,15 @@ use Rattle.std.specs.Prelude.{◌≡◌, ◌⊎◌, ℕ, List, Option, Some, Non
 use Rattle.std.specs.FinMap as map
 use Rattle.imap_names.specs.Name.{Name}
 use Rattle.imap_names.specs.Order.{Names}
-use Rattle.imap_rights.specs.Acl.{AclMap, with_entry, is_full_for}
-use Rattle.imap_rights.specs.Change.{applied}
-use Rattle.imap_rights.specs.Effective.{entry}
+use Rattle.imap_rights.specs.Acl.{AclMap}
 use Rattle.imap_rights.specs.declared.change.RightsChange.{RightsChange}
 use Rattle.imap_world.specs.declared.mailbox.Mailbox.{Mailbox}
 use Rattle.imap_world.specs.declared.error.WorldError.{WorldError}
-use Rattle.imap_world.specs.declared.error.WorldError.TheVariants.{NoSuch, Taken, Limit, Memory}
-use Rattle.imap_world.specs.Effects.{with_row, new_row}
+use Rattle.imap_world.specs.declared.error.WorldError.TheVariants.{NoSuch, Taken, Memory}
 use Rattle.imap_world.specs.Kept.{superior_is_there}
 use Rattle.imap_world.specs.Row.{Row}
 use Rattle.imap_world.specs.World.{World}
+pub use Rattle.imap_world.specs.Tree.{acl_with_rights, with_row, new_row}
 
 -- The call returned the value that is meant, or failed with the error that is meant. Memory may run out only if no
 -- error is meant.
@@ -49,12 +47,6 @@ world_with_placed world name acl =
     else if superior_is_there world.mailboxes name
     then with_new_row world (new_row world.epochs name acl)
     else Err NoSuch
-
--- the list with an identifier's rights changed (RFC 4314, section 3.1), unless it would have an entry too many
-abbrev pub acl_with_rights : AclMap → List ℕ → RightsChange → Result AclMap WorldError
-acl_with_rights acl identifier change =
-    let rights = applied change (entry acl identifier) in
-    if is_full_for acl identifier rights then Err Limit else Ok (with_entry acl identifier rights)
 
 abbrev pub mailboxes_with_acl :
     Names Mailbox → Name → Mailbox → Result AclMap WorldError → Result (Names Mailbox) WorldError

@@ -1,27 +1,24 @@
 -- What is asked of the mailboxes, the values that are written for it, and what these make of a world.
-use Rattle.std.specs.Prelude.{ℕ, ◌+◌, ◌==◌, List, [], ◌∷◌, Option, Some, None, Result, Ok, Err, if◌then◌else◌}
+use Rattle.std.specs.Prelude.{ℕ, ◌==◌, List, [], ◌∷◌, ◌++◌, Option, Some, None, Result, Ok, Err, if◌then◌else◌}
 use Rattle.std.specs.FinMap as map
+use Rattle.imap_name_map.specs.Rows.{has_below}
 use Rattle.imap_names.specs.Name.{Name}
-use Rattle.imap_names.specs.Order.{Names}
 use Rattle.imap_rights.specs.Acl.{AclMap, owner_acl}
+use Rattle.imap_rights.specs.declared.change.RightsChange.{RightsChange}
 use Rattle.imap_user_map.specs.Rows.{Users}
 use Rattle.imap_world.specs.declared.change.Write.{Write}
 use Rattle.imap_world.specs.declared.change.Write.TheVariants as write
 use Rattle.imap_world.specs.declared.effect.Effect.{Effect}
 use Rattle.imap_world.specs.declared.effect.Effect.TheVariants as effect
 use Rattle.imap_world.specs.declared.error.WorldError.{WorldError}
-use Rattle.imap_world.specs.declared.error.WorldError.TheVariants.{Limit}
+use Rattle.imap_world.specs.declared.error.WorldError.TheVariants.{NoSuch, Taken, Below}
+use Rattle.imap_world.specs.declared.mailbox.Mailbox.{Mailbox}
 use Rattle.imap_world.specs.Row.{Row}
-use Rattle.imap_world.specs.World.{World, NameSet, epoch, max_validity, subscribed_by, inbox}
+use Rattle.imap_world.specs.Tree.{acl_with_rights, with_acl, without, created_rows}
+use Rattle.imap_world.specs.World.{World, NameSet, subscribed_by, inbox}
+pub use Rattle.imap_world.specs.Tree.{with_row, new_row}
 
 -- ---- what is written
-
--- with this mailbox under the name; its UIDVALIDITY is the greatest that was used there
-abbrev pub with_row : World → Row → World
-with_row world row = record world {
-  mailboxes = map.insert world.mailboxes row.name row.mailbox;
-  epochs = map.insert world.epochs row.name row.mailbox.validity;
-}
 
 -- the set, if it has a name
 abbrev pub if_filled : NameSet → Option NameSet
@@ -38,6 +35,8 @@ with_subscribed world user names =
 
 abbrev pub after_write : Write → World → World
 after_write (write.Put row) world = with_row world row
+after_write (write.SetAcl name acl) world = with_acl world name acl
+after_write (write.Remove name) world = without world name
 after_write (write.Subscribe user name) world =
     with_subscribed world user (map.insert (subscribed_by world user) name tt)
 after_write (write.Unsubscribe user name) world =
@@ -49,31 +48,55 @@ after_writes (write ∷ writes) world = after_writes writes (after_write write w
 
 -- ---- what is asked
 
--- a mailbox that is made under the name has the next UIDVALIDITY, if one is left (RFC 9051, section 2.3.1.1)
-abbrev pub new_row : Names ℕ → Name → AclMap → Result Row WorldError
-new_row epochs name acl =
-    if epoch epochs name == max_validity then Err Limit
-    else Ok (record { name = name; mailbox = record { validity = epoch epochs name + 1; acl = acl } })
-
-abbrev pub put_of : Result Row WorldError → Result Write WorldError
-put_of (Ok row) = Ok (write.Put row)
+abbrev pub put_of : Result Row WorldError → Result (List Write) WorldError
 put_of (Err error) = Err error
+put_of (Ok row) = Ok (write.Put row ∷ [])
 
--- an INBOX is its owner's alone
-abbrev pub write_of : Effect → World → Result Write WorldError
-write_of (effect.CreateInbox user) world = put_of (new_row world.epochs (inbox user) (owner_acl user))
-write_of (effect.Subscribe user name) world = Ok (write.Subscribe user name)
-write_of (effect.Unsubscribe user name) world = Ok (write.Unsubscribe user name)
+abbrev pub puts : List Row → List Write
+puts [] = []
+puts (row ∷ rows) = write.Put row ∷ puts rows
 
-abbrev pub write_then : Result Write WorldError → Result (List Write) WorldError → Result (List Write) WorldError
-write_then (Err error) rest = Err error
-write_then (Ok write) (Err error) = Err error
-write_then (Ok write) (Ok writes) = Ok (write ∷ writes)
+abbrev pub puts_of : Result (List Row) WorldError → Result (List Write) WorldError
+puts_of (Err error) = Err error
+puts_of (Ok rows) = Ok (puts rows)
+
+-- a mailbox goes only if none is below it (RFC 9051, section 6.3.5)
+abbrev pub removal : World → Name → Result (List Write) WorldError
+removal world name =
+    if has_below name world.mailboxes then Err Below else Ok (write.Remove name ∷ [])
+
+abbrev pub list_set : Name → Result AclMap WorldError → Result (List Write) WorldError
+list_set name (Err error) = Err error
+list_set name (Ok acl) = Ok (write.SetAcl name acl ∷ [])
+
+-- the list of the mailbox, if it is there, with an identifier's rights changed
+abbrev pub list_changed : Name → List ℕ → RightsChange → Option Mailbox → Result (List Write) WorldError
+list_changed name identifier change None = Err NoSuch
+list_changed name identifier change (Some mailbox) =
+    list_set name (acl_with_rights mailbox.acl identifier change)
+
+-- what is written for one effect by the world as it is; an INBOX is its owner's alone
+abbrev pub writes_for : Effect → World → Result (List Write) WorldError
+writes_for (effect.CreateInbox user) world = put_of (new_row world.epochs (inbox user) (owner_acl user))
+writes_for (effect.Create owner name) world =
+    if map.contains_key world.mailboxes name then Err Taken else puts_of (created_rows world owner name)
+writes_for (effect.Delete name) world =
+    if map.contains_key world.mailboxes name then removal world name else Err NoSuch
+writes_for (effect.SetRights name identifier change) world =
+    list_changed name identifier change (map.get world.mailboxes name)
+writes_for (effect.Subscribe user name) world = Ok (write.Subscribe user name ∷ [])
+writes_for (effect.Unsubscribe user name) world = Ok (write.Unsubscribe user name ∷ [])
+
+abbrev pub writes_then :
+    Result (List Write) WorldError → Result (List Write) WorldError → Result (List Write) WorldError
+writes_then (Err error) rest = Err error
+writes_then (Ok writes) (Err error) = Err error
+writes_then (Ok writes) (Ok more) = Ok (writes ++ more)
 
 -- of all, in order, each by the world as it is; or the first fault
 abbrev pub writes_of : List Effect → World → Result (List Write) WorldError
 writes_of [] world = Ok []
-writes_of (effect ∷ effects) world = write_then (write_of effect world) (writes_of effects world)
+writes_of (effect ∷ effects) world = writes_then (writes_for effect world) (writes_of effects world)
 
 abbrev pub after_result : Result (List Write) WorldError → World → World
 after_result (Err error) world = world

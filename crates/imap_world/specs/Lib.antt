@@ -3,7 +3,9 @@ pub mod Effects
 pub mod Finite
 pub mod Kept
 pub mod Laws
+pub mod Moving
 pub mod Ready
 pub mod Row
 pub mod Stored
+pub mod Tree
 pub mod World

@@ -1,35 +1,80 @@
 -- What a change needs of a world, so that it is made in memory that is there.
-use Rattle.std.specs.Prelude.{◌≡◌, ℕ, ◌+◌, ◌<◌, ◌≤◌, true, List, length, Option, Some, None}
+use Rattle.std.specs.Prelude.{◌≡◌, ◌⊎◌, ℕ, ◌+◌, ◌<◌, ◌≤◌, Bool, true, false, List, [], ◌∷◌, length, Option, Some, None}
 use Rattle.std.specs.FinMap as map
-use Rattle.std.specs.List.{AllByRecursion}
-use Rattle.imap_name_map.specs.Rows as name
-use Rattle.imap_names.specs.Name.{Name}
+use Rattle.std.specs.List.{AllByRecursion, list_all}
+use Rattle.imap_name_map.specs.Rows.{Rows, has_below}
 use Rattle.imap_world.specs.declared.change.Write.{Write}
 use Rattle.imap_world.specs.declared.change.Write.TheVariants as write
+use Rattle.imap_world.specs.declared.effect.Effect.{Effect}
+use Rattle.imap_world.specs.declared.effect.Effect.TheVariants as effect
+use Rattle.imap_world.specs.Effects.{after_write}
 use Rattle.imap_world.specs.Kept.{superior_is_there}
-use Rattle.imap_world.specs.Stored.{Stored, Subscriptions}
+use Rattle.imap_world.specs.Stored.{Stored, Subscriptions, world_of}
+use Rattle.imap_world.specs.World.{World}
+
+-- ---- effects that don't meet
+
+-- what is written for the effect doesn't depend on which mailboxes are there
+abbrev pub is_plain : Effect → Bool
+is_plain (effect.CreateInbox user) = true
+is_plain (effect.Create owner name) = false
+is_plain (effect.Delete name) = false
+is_plain (effect.SetRights name identifier change) = false
+is_plain (effect.Subscribe user name) = true
+is_plain (effect.Unsubscribe user name) = true
+
+-- each may be resolved by the world as it is before all of them
+abbrev pub AreApart : List Effect → Type 0
+AreApart effects = (length effects ≤ 1) ⊎ (list_all is_plain effects ≡ true)
+
+-- ---- writes that keep the superiors of mailboxes there
+
+-- a mailbox is made below one that is there, and goes only if none is below it
+abbrev pub MayWrite : Write → World → Type 0
+MayWrite (write.Put row) world = superior_is_there world.mailboxes row.name ≡ true
+MayWrite (write.SetAcl name acl) world = Unit {0}
+MayWrite (write.Remove name) world = has_below name world.mailboxes ≡ false
+MayWrite (write.Subscribe user name) world = Unit {0}
+MayWrite (write.Unsubscribe user name) world = Unit {0}
+
+-- each in the world that those before it leave
+abbrev pub MayBeWritten : List Write → World → Type 0
+MayBeWritten [] world = Unit {0}
+MayBeWritten (write ∷ writes) world = MayWrite write world × MayBeWritten writes (after_write write world)
+
+-- ---- room
 
 -- the set is there, with room for `more` names
-abbrev pub HasRoom : ℕ → Option (name.Rows (Unit {0})) → Type 0
+abbrev pub HasRoom : ℕ → Option (Rows (Unit {0})) → Type 0
 HasRoom more None = ⊥
 HasRoom more (Some names) = more ≤ names.spare
 
--- with room for `more` names wherever the write may need one; the superiors of a mailbox that is made are there
-abbrev pub IsWriteReady : Stored → ℕ → Write → Type 0
-IsWriteReady stored more (write.Put row) = superior_is_there stored.mailboxes.map row.name ≡ true
-IsWriteReady stored more (write.Subscribe user name) = HasRoom more (map.get stored.subscriptions.map user)
-IsWriteReady stored more (write.Unsubscribe user name) = Unit {0}
+-- with room for `more` names, if the write adds one
+abbrev pub HasNameRoom : Subscriptions → ℕ → Write → Type 0
+HasNameRoom subscriptions more (write.Put row) = Unit {0}
+HasNameRoom subscriptions more (write.SetAcl name acl) = Unit {0}
+HasNameRoom subscriptions more (write.Remove name) = Unit {0}
+HasNameRoom subscriptions more (write.Subscribe user name) = HasRoom more (map.get subscriptions.map user)
+HasNameRoom subscriptions more (write.Unsubscribe user name) = Unit {0}
+
+-- with room wherever one of the writes may need some
+pub record HasRoomFor (change : List Write) (stored : Stored) : Type 0 where
+  pub mailboxes : length change ≤ stored.mailboxes.spare
+  pub epochs : length change ≤ stored.epochs.spare
+  pub sets : AllByRecursion (HasNameRoom stored.subscriptions (length change)) change
+
+-- ---- what is ready
 
 -- with room for one more mailbox, and what else the write needs
 pub record IsOneReady (stored : Stored) (write : Write) : Type 0 where
   pub mailboxes : 0 < stored.mailboxes.spare
   pub epochs : 0 < stored.epochs.spare
-  pub one : IsWriteReady stored 1 write
+  pub set : HasNameRoom stored.subscriptions 1 write
+  pub may : MayWrite write (world_of stored)
 
 pub record IsReady (change : List Write) (stored : Stored) : Type 0 where
-  pub mailboxes : length change ≤ stored.mailboxes.spare
-  pub epochs : length change ≤ stored.epochs.spare
-  pub each : AllByRecursion (IsWriteReady stored (length change)) change
+  pub room : HasRoomFor change stored
+  pub may : MayBeWritten change (world_of stored)
 
 -- each user's room in the first is left in the second
 abbrev pub KeepsRoom : Subscriptions → Subscriptions → Type 0
@@ -41,10 +86,8 @@ abbrev pub LeavesRoom : Subscriptions → Subscriptions → Type 0
 LeavesRoom old new =
     (user : List ℕ) (more : ℕ) → HasRoom (more + 1) (map.get old.map user) → HasRoom more (map.get new.map user)
 
--- the room of the first is left in the second, but for one name, and so are its superiors
+-- the room of the first is left in the second, but for one name
 pub record Leaves (old new : Stored) : Type 0 where
   pub mailboxes : old.mailboxes.spare ≤ new.mailboxes.spare + 1
   pub epochs : old.epochs.spare ≤ new.epochs.spare + 1
   pub users : LeavesRoom old.subscriptions new.subscriptions
-  pub superiors : (name : Name)
-      → superior_is_there old.mailboxes.map name ≡ true → superior_is_there new.mailboxes.map name ≡ true

@@ -1,9 +1,10 @@
 //! What a change writes.
 
-ghost use Rattle.std.specs.Prelude.{◌≡◌, ◌↔◌, [], length, IfOk, IsTrue};
+ghost use Rattle.std.specs.Prelude.{◌≡◌, ◌↔◌, ◌++◌, ◌∷◌, [], length, IfOk, IsTrue, OnOk};
 
 use crate::mailbox::Mailbox;
 use imap_names::{Name, UserName};
+use imap_rights::Acl;
 use std::alloc::{AllocError, Global};
 use std::marker::Model;
 
@@ -59,6 +60,10 @@ impl Row {
 pub enum Write {
     /// A mailbox is made. Its UIDVALIDITY is the greatest that was used under its name.
     Put(Row),
+    /// The mailbox has this access control list.
+    SetAcl(Name, Acl),
+    /// The mailbox goes. Its UIDVALIDITY stays counted as used.
+    Remove(Name),
     Subscribe(UserName, Name),
     Unsubscribe(UserName, Name),
 }
@@ -70,6 +75,8 @@ impl Write {
     {
         match self {
             Write::Put(row) => Ok(Write::Put(row.try_copy(alloc)?)),
+            Write::SetAcl(name, acl) => Ok(Write::SetAcl(name.try_copy()?, acl.try_copy(alloc)?)),
+            Write::Remove(name) => Ok(Write::Remove(name.try_copy()?)),
             Write::Subscribe(user, name) => {
                 Ok(Write::Subscribe(user.try_copy()?, name.try_copy()?))
             }
@@ -107,6 +114,31 @@ impl Change {
         Change {
             writes: Vec::new(alloc),
         }
+    }
+
+    /// Writes one value.
+    pub(crate) fn of(alloc: Global, write: Write) -> Result<Change, AllocError>
+        ensures { IfOk result (λ change. change ≡ write ∷ []) }
+    {
+        let mut writes = Vec::with_capacity(alloc, 1)?;
+        writes.push_reserved(write);
+        Ok(Change { writes })
+    }
+
+    /// Writes one value more.
+    pub(crate) fn push(&mut self, write: Write) -> Result<(), AllocError>
+        ensures { OnOk result (self.new ≡ self.old ++ write ∷ []) }
+    {
+        self.writes.push(write)?;
+        Ok(())
+    }
+
+    /// Writes what the other change writes, too.
+    pub(crate) fn append(&mut self, mut other: Change) -> Result<(), AllocError>
+        ensures { OnOk result (self.new ≡ self.old ++ other) }
+    {
+        self.writes.append(&mut other.writes)?;
+        Ok(())
     }
 
     /// The values that are written.

@@ -15,6 +15,9 @@ pub enum WorldError {
     /// The name is in use.
     #[error("the name is taken")]
     Taken,
+    /// There are mailboxes below the name.
+    #[error("there are mailboxes below the name")]
+    Below,
     /// The access control list is full, or no UIDVALIDITY is left under the name.
     #[error("a limit is reached")]
     Limit,

@@ -2,7 +2,7 @@
 
 ghost use Rattle.std.specs.Prelude.{◌≡◌};
 ghost use Rattle.imap_world.specs.Changing.{Answers};
-ghost use Rattle.imap_world.specs.Effects.{new_row};
+ghost use Rattle.imap_world.specs.Tree.{new_row};
 ghost use Rattle.imap_world.specs.Kept.{superior_is_there};
 ghost use Rattle.imap_world.specs.World.{epoch};
 

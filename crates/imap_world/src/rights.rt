@@ -1,13 +1,16 @@
 //! The rights that a mailbox gives.
 
 ghost use Rattle.std.specs.Prelude.{◌≡◌, OnErr};
-ghost use Rattle.imap_world.specs.Changing.{Changes, acl_with_rights, mailboxes_with_rights};
+ghost use Rattle.std.specs.FinMap as map;
+ghost use Rattle.imap_world.specs.Changing.{AnswersOrMemory, Changes, mailboxes_with_rights};
+ghost use Rattle.imap_world.specs.Tree.{acl_with_rights, mailboxes_with_list};
 
 use crate::error::WorldError;
 use crate::mailbox::Mailbox;
 use imap_name_map::NameMap;
 use imap_names::NameRef;
 use imap_rights::{Acl, AclError, Identifier, RightsChange};
+use std::alloc::Global;
 
 /// Changes the rights of one identifier on a mailbox. Fails with `NoSuch` if there is no such mailbox.
 pub(crate) fn set_rights(
@@ -24,6 +27,34 @@ pub(crate) fn set_rights(
     match mailboxes.get_mut(name) {
         Some(mailbox) => change_rights(&mut mailbox.acl, identifier, change),
         None => Err(WorldError::NoSuch),
+    }
+}
+
+/// The list with the rights of one identifier changed. Fails with `Limit` if it would have an entry too many.
+pub(crate) fn changed_acl(
+    alloc: Global,
+    acl: &Acl,
+    identifier: &Identifier,
+    change: RightsChange,
+) -> Result<Acl, WorldError>
+    ensures { AnswersOrMemory result (acl_with_rights acl.now identifier.now change) }
+{
+    let mut changed = acl.try_copy(alloc)?;
+    match change_rights(&mut changed, identifier.try_copy(alloc)?, change) {
+        Ok(()) => Ok(changed),
+        Err(error) => Err(error),
+    }
+}
+
+/// Sets the list of a mailbox, if it is there.
+pub(crate) fn put_acl(mailboxes: &mut NameMap<Mailbox>, name: &NameRef<'_>, acl: Acl)
+    ensures mailboxes { let there = map.get mailboxes.old.map name.now in
+        mailboxes.new.map ≡ mailboxes_with_list mailboxes.old.map name.now acl there }
+    ensures spare { mailboxes.new.spare ≡ mailboxes.old.spare }
+{
+    match mailboxes.get_mut(name) {
+        Some(mailbox) => mailbox.acl = acl,
+        None => {}
     }
 }
 

@@ -2,18 +2,55 @@
 
 ghost use Rattle.std.specs.Prelude.{◌≡◌, false, is_some, true, OnOk};
 ghost use Rattle.std.specs.FinMap as map;
+ghost use Rattle.std.specs.List.{AllByRecursion};
 ghost use Rattle.imap_world.specs.Effects.{with_option, if_filled};
-ghost use Rattle.imap_world.specs.Ready.{HasRoom, KeepsRoom, LeavesRoom};
+ghost use Rattle.imap_world.specs.Ready.{HasNameRoom, HasRoom, KeepsRoom, LeavesRoom};
 ghost use Rattle.imap_world.specs.Stored.{filled_sets};
 ghost use Rattle.imap_world.specs.World.{set_of};
 
+use crate::change::Write;
 use imap_name_map::NameMap;
 use imap_names::{Name, NameRef};
 use imap_user_map::UserMap;
 use std::alloc::{AllocError, Global};
 
+/// Makes room for `more` names in the set of each user who subscribes to one.
+pub(crate) fn make_room_for(
+    subscriptions: &mut UserMap<NameMap<()>>,
+    alloc: Global,
+    writes: &[Write],
+    more: usize,
+) -> Result<(), AllocError>
+    ensures sets { filled_sets subscriptions.new ≡ filled_sets subscriptions.old }
+    ensures ok { OnOk result (AllByRecursion (HasNameRoom subscriptions.new more) writes.now) }
+{
+    for write in writes {
+        if let Err(error) = make_room_for_one(subscriptions, alloc, write, more) {
+            return Err(error);
+        }
+    }
+    Ok(())
+}
+
+/// Makes room for `more` names in the set of the user who subscribes to one, if the write is that.
+fn make_room_for_one(
+    subscriptions: &mut UserMap<NameMap<()>>,
+    alloc: Global,
+    write: &Write,
+    more: usize,
+) -> Result<(), AllocError>
+    ensures sets { filled_sets subscriptions.new ≡ filled_sets subscriptions.old }
+    ensures ok { OnOk result (HasNameRoom subscriptions.new more write.now) }
+    ensures room { KeepsRoom subscriptions.old subscriptions.new }
+{
+    match write {
+        Write::Subscribe(user, _) => make_room(subscriptions, alloc, user.as_str(), more),
+        Write::Put(_) | Write::SetAcl(_, _) | Write::Remove(_) | Write::Unsubscribe(_, _) => Ok(()),
+    }
+}
+
 /// Makes room for `more` names that the user subscribes to.
-pub(crate) fn make_room(
+fn make_room(
     subscriptions: &mut UserMap<NameMap<()>>,
     alloc: Global,
     user: &str,

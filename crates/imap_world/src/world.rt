@@ -1,24 +1,26 @@
 //! The world.
 
-ghost use Rattle.std.specs.Prelude.{◌≡◌, ◌<◌, true, IfOk, Ok, OnErr, option_copied};
+ghost use Rattle.std.specs.Prelude.{◌≡◌, ◌<◌, false, true, IfOk, Ok, OnErr, OnOk, option_copied};
 ghost use Rattle.std.specs.FinMap as map;
-ghost use Rattle.imap_world.specs.Changing.{AnswersOrMemory, Changes, world_with_placed, world_with_rights};
-ghost use Rattle.imap_world.specs.Effects.{after_write, after_writes, with_row, write_of, writes_of};
+ghost use Rattle.imap_name_map.specs.Rows.{has_below};
+ghost use Rattle.imap_world.specs.Changing.{Answers, AnswersOrMemory, Changes};
+ghost use Rattle.imap_world.specs.Changing.{world_with_placed, world_with_rights};
+ghost use Rattle.imap_world.specs.Effects.{after_write, after_writes, writes_of};
 ghost use Rattle.imap_world.specs.Kept.{IsSound, superior_is_there};
-ghost use Rattle.imap_world.specs.Ready.{IsOneReady, IsReady, IsWriteReady, KeepsRoom, Leaves};
+ghost use Rattle.imap_world.specs.Ready.{AreApart, HasRoomFor, IsOneReady, IsReady, Leaves};
 ghost use Rattle.imap_world.specs.Stored.{names_in, world_of};
+ghost use Rattle.imap_world.specs.Tree.{new_row, with_acl, with_row, without};
 ghost use Rattle.imap_world.specs.World.{epoch, subscribed_by};
 
 use crate::change::{Change, Row, Write};
 use crate::effect::Effect;
 use crate::error::WorldError;
 use crate::mailbox::Mailbox;
-use crate::owner::owner_acl;
 use crate::placing::{epoch_of, has_superior, new_row};
-use crate::rights::set_rights;
-use crate::subscriptions::{add_name, make_room, remove_name};
+use crate::rights::{put_acl, set_rights};
+use crate::subscriptions::{add_name, make_room_for, remove_name};
 use imap_name_map::NameMap;
-use imap_names::{Name, NameRef, UserName, inbox};
+use imap_names::{Name, NameRef};
 use imap_rights::{Acl, Identifier, RightsChange};
 use imap_user_map::UserMap;
 use std::alloc::{AllocError, Global};
@@ -149,54 +151,39 @@ impl World {
         set_rights(&mut self.mailboxes, name, identifier, change)
     }
 
-    /// Finds the values to be written for the effects, and reserves all room. Fails with `Limit` if a mailbox is to be
-    /// made and no UIDVALIDITY is left under its name. Changes nothing that is kept.
+    /// The mailbox that is made under a name: its UIDVALIDITY is 1 more than the greatest that was used there. Fails
+    /// with `Limit` if that is the greatest there is.
+    pub(crate) fn next_row(&self, name: Name, acl: Acl) -> Result<Row, WorldError>
+        ensures { Answers result (new_row (world_of self.now).epochs name acl) }
+    {
+        new_row(&self.epochs, name, acl)
+    }
+
+    /// Finds the values to be written for the effects, and reserves all room. Changes nothing that is kept.
+    ///
+    /// Fails with the first fault: `Taken` if a mailbox is to be made and is there, `NoSuch` if one isn't there that is
+    /// to go or to have other rights, `Below` if one is below a mailbox that is to go, `Limit` if no UIDVALIDITY is
+    /// left or an access control list would be too long.
     pub fn prepare(&mut self, alloc: Global, effects: &[Effect]) -> Result<Change, WorldError>
+        requires { AreApart effects.now }
         ensures unchanged { world_of self.new ≡ world_of self.old }
         ensures change { AnswersOrMemory result (writes_of effects.now (world_of self.old)) }
         ensures ready { IfOk result (λ change. IsReady change self.new) }
     {
-        let more = effects.len();
-        let mut writes = Vec::new(alloc);
+        let change = self.resolve_all(alloc, effects)?;
+        self.make_room(alloc, &change)?;
+        Ok(change)
+    }
+
+    /// Makes room for all that is written.
+    fn make_room(&mut self, alloc: Global, change: &Change) -> Result<(), AllocError>
+        ensures unchanged { world_of self.new ≡ world_of self.old }
+        ensures room { OnOk result (HasRoomFor change.now self.new) }
+    {
+        let more = change.len();
         self.mailboxes.reserve(more)?;
         self.epochs.reserve(more)?;
-        for effect in effects {
-            match self.resolve(alloc, effect, more) {
-                Ok(write) => writes.push(write)?,
-                Err(error) => return Err(error),
-            }
-        }
-        Ok(Change { writes })
-    }
-
-    /// Finds the value to be written for one effect, and makes room for `more` names where it needs some.
-    fn resolve(&mut self, alloc: Global, effect: &Effect, more: usize) -> Result<Write, WorldError>
-        ensures unchanged { world_of self.new ≡ world_of self.old }
-        ensures write { AnswersOrMemory result (write_of effect.now (world_of self.old)) }
-        ensures ready { IfOk result (λ write. IsWriteReady self.new more write) }
-        ensures mailboxes { self.new.mailboxes ≡ self.old.mailboxes }
-        ensures epochs { self.new.epochs ≡ self.old.epochs }
-        ensures room { KeepsRoom self.old.subscriptions self.new.subscriptions }
-    {
-        match effect {
-            Effect::CreateInbox(user) => self.resolve_inbox(alloc, user),
-            Effect::Subscribe(user, name) => {
-                make_room(&mut self.subscriptions, alloc, user.as_str(), more)?;
-                Ok(Write::Subscribe(user.try_copy()?, name.try_copy()?))
-            }
-            Effect::Unsubscribe(user, name) => {
-                Ok(Write::Unsubscribe(user.try_copy()?, name.try_copy()?))
-            }
-        }
-    }
-
-    /// Finds the mailbox to be written for a user's INBOX.
-    fn resolve_inbox(&self, alloc: Global, user: &UserName) -> Result<Write, WorldError>
-        ensures { AnswersOrMemory result (write_of (Effect.CreateInbox user.now) (world_of self.now)) }
-    {
-        let acl = owner_acl(alloc, user)?;
-        let name = inbox(alloc, user)?;
-        Ok(Write::Put(new_row(&self.epochs, name, acl)?))
+        make_room_for(&mut self.subscriptions, alloc, change.writes(), more)
     }
 
     /// Writes what was prepared. Since then nothing else may have been written.
@@ -218,6 +205,8 @@ impl World {
     {
         match write {
             Write::Put(row) => self.put(row),
+            Write::SetAcl(name, acl) => self.put_list(&name.as_ref(), acl),
+            Write::Remove(name) => self.remove(&name.as_ref()),
             Write::Subscribe(user, name) => {
                 add_name(&mut self.subscriptions, user.as_str(), name)
             }
@@ -238,5 +227,22 @@ impl World {
         let validity = row.mailbox.validity;
         self.mailboxes.insert_reserved(row.name, row.mailbox);
         self.epochs.insert_reserved(row.again, validity);
+    }
+
+    /// Writes the access control list of a mailbox, if it is there.
+    fn put_list(&mut self, name: &NameRef<'_>, acl: Acl)
+        ensures world { world_of self.new ≡ with_acl (world_of self.old) name.now acl }
+        ensures room { Leaves self.old self.new }
+    {
+        put_acl(&mut self.mailboxes, name, acl);
+    }
+
+    /// Removes a mailbox, if it is there.
+    fn remove(&mut self, name: &NameRef<'_>)
+        requires { has_below name.now self.old.mailboxes.map ≡ false }
+        ensures world { world_of self.new ≡ without (world_of self.old) name.now }
+        ensures room { Leaves self.old self.new }
+    {
+        self.mailboxes.remove(name);
     }
 }

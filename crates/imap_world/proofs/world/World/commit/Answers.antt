@@ -19,6 +19,6 @@ write-requires c =
 pub loop-write-preserved : goal.loop-write-preserved
 loop-write-preserved c = record {
   rest = ap (after_writes c.pop_front.new.self.items) c.write.ensures.world ∙ sym (ap (λ ws. after_writes ws (world_of c.loop-write.self)) c.in-Some.ensures.items) ∙ c.loop-write.invariant.rest;
-  ready = rest_ready c.loop-write.self c.write.new.self c.write.ensures.room c.in-Some.write c.pop_front.new.self.items
+  ready = rest_ready c.loop-write.self c.write.new.self c.write.ensures.room c.in-Some.write c.pop_front.new.self.items c.write.ensures.world
       (subst (λ ws. IsReady ws c.loop-write.self) c.in-Some.ensures.items c.loop-write.invariant.ready);
 }

@@ -3,7 +3,7 @@ use Rattle.std.specs.FinMap as map
 use Rattle.imap_world.specs.Kept.{superior_is_there}
 use Rattle.imap_world.specs.Ready.{Leaves}
 use Rattle.imap_world.specs.Stored.{Stored, world_of}
-use Rattle.imap_world.proofs.Room.{put_row_leaves}
+use Rattle.imap_world.proofs.Room.{mailboxes_leave}
 use Rattle.imap_world.proofs.Sound.{put_is_sound}
 use Rattle.imap_world.proofs.world.World.put.Goals as goal
 
@@ -20,4 +20,4 @@ pub returns-clause-room : goal.returns-clause-room
 returns-clause-room c =
     let old : Stored = record { mailboxes = c.self.inside.mailboxes; epochs = c.self.inside.epochs; subscriptions = c.self.inside.subscriptions } in
     let new : Stored = record { mailboxes = c.insert_reserved.new.self; epochs = c.insert_reserved-2.new.self; subscriptions = c.self.inside.subscriptions } in
-    subst (λ s. Leaves s new) c.self.view_is (put_row_leaves old new c.row.inside.name c.row.inside.mailbox c.insert_reserved.ensures.map refl c.insert_reserved.ensures.spare c.insert_reserved-2.ensures.spare)
+    subst (λ s. Leaves s new) c.self.view_is (mailboxes_leave old new refl c.insert_reserved.ensures.spare c.insert_reserved-2.ensures.spare)

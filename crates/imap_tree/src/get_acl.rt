@@ -1,0 +1,77 @@
+//! GETACL (RFC 4314, section 3.3).
+
+ghost use Rattle.std.specs.Prelude.{◌≡◌, IfOk, map};
+ghost use Rattle.imap_print.specs.Lines.{IsPlain, IsPrintable};
+ghost use Rattle.imap_rights.specs.Entries.{pairs_of};
+ghost use Rattle.imap_rights.specs.Rights.{bits};
+ghost use Rattle.imap_tree.specs.GetAcl as specs;
+
+use crate::access::lacking;
+use crate::shown_mailbox::shown_mailbox;
+use imap_answer::{Answer, named};
+use imap_lex::{Octets, Tag};
+use imap_names::Name;
+use imap_print::{AclEntry, Refusal, Response};
+use imap_rights::{Acl, Entry};
+use imap_syntax::Items;
+use imap_view::View;
+use std::alloc::{AllocError, Global};
+
+/// Answers GETACL of a mailbox, as it is named in the command.
+pub fn get_acl_answer(
+    alloc: Global,
+    view: &View<'_>,
+    tag: &Tag,
+    mailbox: &Octets,
+) -> Result<Answer, AllocError>
+    ensures { IfOk result (λ answer. answer ≡ specs.get_acl_answer view.now tag.now mailbox.now) }
+{
+    match named(alloc, view, mailbox)? {
+        Some(name) => get_acl_of(alloc, view, tag, &name),
+        None => Answer::refusal(alloc, tag, Refusal::NonExistent),
+    }
+}
+
+fn get_acl_of(alloc: Global, view: &View<'_>, tag: &Tag, name: &Name) -> Result<Answer, AllocError>
+    ensures { IfOk result (λ answer. answer ≡ specs.get_acl_of_name view.now tag.now name.now) }
+{
+    match view.acl(&name.as_ref()) {
+        Some(acl) => {
+            let line = acl_line(alloc, view, name, acl)?;
+            Answer::done_after(alloc, vec![in alloc; line]?, tag)
+        }
+        None => Answer::refusal(alloc, tag, lacking(view.rights(&name.as_ref()))),
+    }
+}
+
+fn acl_line(alloc: Global, view: &View<'_>, name: &Name, acl: &Acl) -> Result<Response, AllocError>
+    ensures line { IfOk result (λ line. line ≡ specs.acl_line view.now.user name.now acl.now) }
+    ensures printable { IfOk result IsPrintable }
+{
+    let entries = printed_entries(alloc, acl.entries())?;
+    Ok(Response::Acl {
+        mailbox: shown_mailbox(alloc, view, name)?,
+        entries: Items::from_vec(entries),
+    })
+}
+
+fn printed_entries(alloc: Global, entries: &[Entry]) -> Result<Vec<AclEntry>, AllocError>
+    ensures entries { IfOk result (λ printed. printed.items ≡ map specs.acl_entry (pairs_of entries.now)) }
+    ensures plain { IfOk result (λ printed. specs.ArePlain printed.items) }
+{
+    let mut printed = Vec::with_capacity(alloc, entries.len())?;
+    for entry in entries {
+        printed.push(printed_entry(alloc, entry)?)?;
+    }
+    Ok(printed)
+}
+
+fn printed_entry(alloc: Global, entry: &Entry) -> Result<AclEntry, AllocError>
+    ensures entry { IfOk result (λ printed. printed ≡ specs.acl_entry (entry.now.identifier, bits entry.now.rights)) }
+    ensures plain { IsPlain entry.now.identifier }
+{
+    Ok(AclEntry {
+        identifier: Octets::from_slice(alloc, entry.identifier.as_bytes())?,
+        rights: entry.rights,
+    })
+}

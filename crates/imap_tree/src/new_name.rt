@@ -1,0 +1,34 @@
+//! The name that a mailbox is to have (RFC 9051, sections 6.3.4 and 6.3.6).
+
+ghost use Rattle.std.specs.Prelude.{◌≡◌, ◌≢◌, IfOk};
+ghost use Rattle.imap_names.specs.declared.error.NameError.TheVariants.{Memory};
+ghost use Rattle.imap_tree.specs.NewName as specs;
+
+use imap_names::{Name, NameError, read_name};
+use imap_print::Refusal;
+use imap_view::View;
+use std::alloc::{AllocError, Global};
+
+/// The name that the octets mean to the user of the view, or why no mailbox can have it.
+pub(crate) fn read_new_name(
+    alloc: Global,
+    view: &View<'_>,
+    text: &[u8],
+) -> Result<Result<Name, Refusal>, AllocError>
+    ensures { IfOk result (λ read. read ≡ specs.new_name_read view.now.user text.now) }
+{
+    match read_name(alloc, view.user(), text) {
+        Ok(name) => Ok(Ok(name)),
+        Err(NameError::Memory) => Err(AllocError),
+        Err(error) => Ok(Err(name_refusal(error))),
+    }
+}
+
+fn name_refusal(error: NameError) -> Refusal
+    ensures { result ≡ specs.name_refusal error }
+{
+    match error {
+        NameError::TooLong | NameError::TooDeep => Refusal::Limit,
+        _ => Refusal::Cannot,
+    }
+}

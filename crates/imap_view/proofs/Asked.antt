@@ -1,0 +1,100 @@
+-- The view after an effect that the user may ask for.
+use Rattle.std.proofs.Common.{◌≡◌, ℕ, Bool, true, false, cond, List, [], ◌∷◌, ◌++◌, Option, Some, None, Result, Ok, Err, refl, sym, ap, subst, ◌∙◌}
+use Rattle.std.specs.FinMap as map
+use Rattle.std.proofs.lemmas.List.{append-nil}
+use Rattle.imap_names.specs.Name.{Name}
+use Rattle.imap_name_map.specs.Rows.{has_below}
+use Rattle.imap_rights.specs.declared.change.RightsChange.{RightsChange}
+use Rattle.imap_world.specs.declared.change.Write.{Write}
+use Rattle.imap_world.specs.declared.change.Write.TheVariants as write
+use Rattle.imap_world.specs.declared.effect.Effect.{Effect}
+use Rattle.imap_world.specs.declared.effect.Effect.TheVariants as effect
+use Rattle.imap_world.specs.declared.error.WorldError.{WorldError}
+use Rattle.imap_world.specs.declared.error.WorldError.TheVariants.{Below, NoSuch, Taken}
+use Rattle.imap_world.specs.Effects.{after_all, after_result, after_writes, list_changed, list_set, puts, puts_of, removal, writes_for, writes_then}
+use Rattle.imap_world.specs.Row.{Row}
+use Rattle.imap_world.specs.Tree.{created_rows, with_rows}
+use Rattle.imap_world.specs.World.{World}
+use Rattle.imap_view.specs.After.{IsMade, MayAsk, OwnEffectsAreMade, OwnEffectsAreSeen, view_after}
+use Rattle.imap_view.specs.Seen.{owner_of}
+use Rattle.imap_view.specs.TreeAfter.{may_delete, may_make, may_set_rights}
+use Rattle.imap_view.specs.View.{View, view_of}
+use Rattle.imap_view.proofs.Afters.{changed}
+use Rattle.imap_view.proofs.Creating.{creating}
+use Rattle.imap_view.proofs.Deleting.{deleting}
+use Rattle.imap_view.proofs.SettingRights.{setting_rights}
+use Rattle.imap_view.proofs.Views.{administrator_of}
+
+rows_put : (rows : List Row) (world : World) → after_writes (puts rows) world ≡ with_rows world rows
+rows_put [] world = refl
+rows_put (row ∷ rows) world = rows_put rows _
+
+-- what is written for one effect, and the view after it
+record IsAnswered (administrator user : List ℕ) (world : World) (asked : Effect) : Type 0 where
+  writes : List Write
+  found : writes_for asked world ≡ Ok writes
+  after : view_of administrator user (after_writes writes world) ≡ view_after asked (view_of administrator user world)
+
+made_alone : (asked : Effect) (world : World) (writes : List Write) → writes_for asked world ≡ Ok writes → after_all (asked ∷ []) world ≡ after_writes writes world
+made_alone asked world writes found =
+    ap (λ r. after_result (writes_then r (Ok [])) world) found ∙ ap (λ all. after_writes all world) (append-nil writes)
+
+module _ (administrator user : List ℕ) (world : World) where
+  abbrev view : View
+  view = view_of administrator user world
+
+  created : (owner : List ℕ) (name : Name) → owner ≡ owner_of view.administrator name → may_make view name ≡ true → IsAnswered administrator user world (effect.Create owner name)
+  created owner name is may =
+      let creation = creating administrator user world name may in
+      let same : owner ≡ owner_of administrator name = is ∙ ap (λ a. owner_of a name) (administrator_of administrator user world) in
+      record {
+        writes = puts creation.rows;
+        found = ap (λ b. cond b (Err Taken) (puts_of (created_rows world owner name))) creation.absent
+            ∙ ap (λ o. puts_of (created_rows world o name)) same ∙ ap puts_of creation.made;
+        after = ap (view_of administrator user) (rows_put creation.rows world) ∙ creation.seen;
+      }
+
+  deleted : (name : Name) → may_delete view name ≡ true → IsAnswered administrator user world (effect.Delete name)
+  deleted name may =
+      let deletion = deleting administrator user world name may in
+      record {
+        writes = write.Remove name ∷ [];
+        found = ap (λ b. cond b (removal world name) (Err NoSuch)) deletion.there
+            ∙ ap (λ b. cond b (Err Below) (Ok (write.Remove name ∷ []))) deletion.lone;
+        after = deletion.seen;
+      }
+
+  rights_set : (name : Name) (identifier : List ℕ) (change : RightsChange) → may_set_rights view name identifier change ≡ true → IsAnswered administrator user world (effect.SetRights name identifier change)
+  rights_set name identifier change may =
+      let setting = setting_rights administrator user world name identifier change may in
+      record {
+        writes = write.SetAcl name setting.acl ∷ [];
+        found = ap (list_changed name identifier change) setting.there ∙ ap (list_set name) setting.changed;
+        after = setting.seen;
+      }
+
+  answered : (asked : Effect) → MayAsk view asked → IsAnswered administrator user world asked
+  answered (effect.CreateInbox owner) may = absurd may
+  answered (effect.Create owner name) may = created owner name may.0 may.1
+  answered (effect.Delete name) may = deleted name may
+  answered (effect.SetRights name identifier change) may = rights_set name identifier change may
+  answered (effect.Subscribe asker name) may = record {
+    writes = write.Subscribe asker name ∷ [];
+    found = refl;
+    after = changed administrator user world (λ names. map.insert names name tt) asker may;
+  }
+  answered (effect.Unsubscribe asker name) may = record {
+    writes = write.Unsubscribe asker name ∷ [];
+    found = refl;
+    after = changed administrator user world (λ names. map.remove names name) asker may;
+  }
+
+pub own_effects_made : OwnEffectsAreMade
+own_effects_made administrator user world asked may =
+    let given = answered administrator user world asked may in
+    record { writes = given.writes; made = given.found }
+
+pub own_effects : OwnEffectsAreSeen
+own_effects administrator user world asked may =
+    let given = answered administrator user world asked may in
+    ap (view_of administrator user) (made_alone asked world given.writes given.found) ∙ given.after

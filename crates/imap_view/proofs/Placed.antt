@@ -1,0 +1,105 @@
+-- The view after mailboxes are made below places.
+use Rattle.std.proofs.Common.{◌≡◌, ℕ, ◌+◌, Bool, true, false, cond, List, [], ◌∷◌, ◌++◌, map as map_list, Option, Some, None, refl, sym, ap, ◌∙◌}
+use Rattle.std.specs.List.{AllByRecursion}
+use Rattle.std.specs.Prelude.{option_map}
+use Rattle.std.specs.FinMap as map
+use Rattle.imap_names.specs.Name.{Name}
+use Rattle.imap_names.specs.Order.{Names}
+use Rattle.imap_names.proofs.NameLaws.{is_name_at, equal_names, same_names, get_put}
+use Rattle.imap_rights.specs.Acl.{AclMap}
+use Rattle.imap_world.specs.declared.mailbox.Mailbox.{Mailbox}
+use Rattle.imap_world.specs.Effects.{with_row}
+use Rattle.imap_world.specs.Finite.{keep}
+use Rattle.imap_world.specs.Row.{Row}
+use Rattle.imap_world.specs.Tree.{with_rows}
+use Rattle.imap_world.specs.World.{World, epoch}
+use Rattle.imap_view.specs.Seen.{Seen, seen_at}
+use Rattle.imap_view.specs.TreeAfter.{put_option, view_with_mailbox, view_with_mailboxes}
+use Rattle.imap_view.specs.View.{view_of, view_by, seen_in, if_true, is_below_place}
+use Rattle.imap_view.proofs.Narrowing.{get_kept, below_same, seen_changed}
+
+-- ---- lists of which each item is such
+
+module _ {X : Type 0} where
+  pub each_weaker : (P Q : X → Type 0) (xs : List X) → ((x : X) → P x → Q x) → AllByRecursion P xs → AllByRecursion Q xs
+  each_weaker P Q [] f h = tt
+  each_weaker P Q (x ∷ xs) f h = (f x h.0, each_weaker P Q xs f h.1)
+
+  pub each_push : (P : X → Type 0) (xs : List X) (x : X) → AllByRecursion P xs → P x → AllByRecursion P (xs ++ x ∷ [])
+  each_push P [] x h p = (p, tt)
+  each_push P (y ∷ xs) x h p = (h.0, each_push P xs x h.1 p)
+
+-- ---- one mailbox
+
+-- a value is put under a key that is kept; which keys are kept stays
+kept_with : {X Y : Type 0} (f : X → Y) (m : Names X) (k : Name) (x : X) (after before : Name → Bool) → ((q : Name) → after q ≡ before q) → before k ≡ true
+    → keep (λ name y. if_true (after name) (f y)) (map.insert m k x) ≡ map.insert (keep (λ name y. if_true (before name) (f y)) m) k (f x)
+kept_with f m k x after before same holds =
+    same_names _ _ (λ q. get_kept after f (map.insert m k x) q
+    ∙ (λ i. cond (same q i) (option_map f (get_put m k x q i)) None)
+    ∙ by q (is_name_at q k) refl
+    ∙ sym (get_put (keep (λ name y. if_true (before name) (f y)) m) k (f x) q ∙ ap (cond (is_name_at q k) (Some (f x))) (get_kept before f m q)))
+  where
+    by : (q : Name) (b : Bool) → is_name_at q k ≡ b → cond (before q) (option_map f (cond b (Some x) (map.get m q))) None ≡ cond b (Some (f x)) (cond (before q) (option_map f (map.get m q)) None)
+    by q true at = ap (λ b. cond b (Some (f x)) None) (ap before (equal_names q k at) ∙ holds)
+    by q false at = refl
+
+module _ (administrator user : List ℕ) (world : World) (row : Row) where
+  module _ (below : is_below_place administrator user (seen_in administrator user world) row.name ≡ true) where
+    abbrev new : Option Seen
+    new = seen_at administrator user row.name row.mailbox
+
+    seen_new : seen_in administrator user (with_row world row) ≡ put_option (seen_in administrator user world) row.name new
+    seen_new = seen_changed administrator user world (with_row world row) row.name (Some row.mailbox) (get_put world.mailboxes row.name row.mailbox)
+
+    abbrev after : Name → Bool
+    after = is_below_place administrator user (put_option (seen_in administrator user world) row.name new)
+
+    abbrev before : Name → Bool
+    before = is_below_place administrator user (seen_in administrator user world)
+
+    same : (q : Name) → after q ≡ before q
+    same = below_same administrator user (seen_in administrator user world) row.name new below
+
+    -- the same names lie below places
+    pub places_same : (q : Name) → is_below_place administrator user (seen_in administrator user (with_row world row)) q ≡ before q
+    places_same q = ap (λ s. is_below_place administrator user s q) seen_new ∙ same q
+
+    takens : (view_by administrator user (put_option (seen_in administrator user world) row.name new) (with_row world row)).taken ≡ map.insert (view_by administrator user (seen_in administrator user world) world).taken row.name tt
+    takens = kept_with (λ (m : Mailbox). tt) world.mailboxes row.name row.mailbox after before same below
+
+    all_epochs : (view_by administrator user (put_option (seen_in administrator user world) row.name new) (with_row world row)).epochs ≡ map.insert (view_by administrator user (seen_in administrator user world) world).epochs row.name row.mailbox.validity
+    all_epochs = kept_with (λ (n : ℕ). n) world.epochs row.name row.mailbox.validity after before same below
+
+    pub view_with_row : view_of administrator user (with_row world row) ≡ view_with_mailbox (view_of administrator user world) new row.name row.mailbox.validity
+    unfolding view_of
+    view_with_row =
+        ap (λ s. view_by administrator user s (with_row world row)) seen_new
+        ∙ λ i. record (view_by administrator user (put_option (seen_in administrator user world) row.name new) (with_row world row)) { taken = takens i; epochs = all_epochs i }
+
+-- ---- several, that are seen alike
+
+-- the mailbox that is made under a name
+abbrev pub row_of : Names ℕ → AclMap → Name → Row
+row_of epochs acl name = record { name = name; mailbox = record { validity = epoch epochs name + 1; acl = acl } }
+
+module _ (administrator user : List ℕ) (epochs known : Names ℕ) (acl : AclMap) (seen : Option Seen) where
+  -- below a place, with a list by which it is seen so, and the user knows the validities
+  pub record IsNew (world : World) (name : Name) : Type 0 where
+    pub below : is_below_place administrator user (seen_in administrator user world) name ≡ true
+    pub shown : (validity : ℕ) → seen_at administrator user name (record { validity = validity; acl = acl }) ≡ seen
+    pub counted : epoch epochs name ≡ epoch known name
+
+  pub rows_seen : (names : List Name) (world : World) → AllByRecursion (IsNew world) names
+      → view_of administrator user (with_rows world (map_list (row_of epochs acl) names)) ≡ view_with_mailboxes (view_of administrator user world) seen known names
+  rows_seen [] world each = refl
+  rows_seen (name ∷ names) world each =
+      let row : Row = row_of epochs acl name in
+      let first = each.0 in
+      rows_seen names (with_row world row)
+      (each_weaker (IsNew world) (IsNew (with_row world row)) names
+      (λ q new. record { below = places_same administrator user world row first.below q ∙ new.below; shown = new.shown; counted = new.counted })
+      each.1)
+      ∙ ap (λ v. view_with_mailboxes v seen known names)
+      (view_with_row administrator user world row first.below
+      ∙ (λ i. view_with_mailbox (view_of administrator user world) (first.shown (epoch epochs name + 1) i) name (first.counted i + 1)))

@@ -1,0 +1,169 @@
+//! The values that are written for effects.
+
+ghost use Rattle.std.specs.Prelude.{◌≡◌, IfOk, Ok};
+ghost use Rattle.imap_world.specs.Changing.{AnswersOrMemory};
+ghost use Rattle.imap_world.specs.Effects.{put_of, puts_of, writes_for, writes_of, writes_then};
+ghost use Rattle.imap_world.specs.Stored.{world_of};
+ghost use Rattle.imap_world.specs.Tree.{inherited, new_row, rows_for};
+
+use crate::change::{Change, Write};
+use crate::effect::Effect;
+use crate::error::WorldError;
+use crate::own_name::own_name;
+use crate::owner::owner_acl;
+use crate::rights::changed_acl;
+use crate::world::World;
+use imap_names::{Name, NameRef, UserName, inbox};
+use imap_rights::{Acl, Identifier, RightsChange};
+use std::alloc::{AllocError, Global};
+
+impl World {
+    /// Finds the values to be written for the effects, each by the world as it is. Returns the first fault.
+    pub(crate) fn resolve_all(
+        &self,
+        alloc: Global,
+        effects: &[Effect],
+    ) -> Result<Change, WorldError>
+        ensures { AnswersOrMemory result (writes_of effects.now (world_of self.now)) }
+    {
+        let mut change = Change::none(alloc);
+        for effect in effects {
+            match self.resolve(alloc, effect) {
+                Ok(writes) => change.append(writes)?,
+                Err(error) => return Err(error),
+            }
+        }
+        Ok(change)
+    }
+
+    /// Finds the values to be written for one effect.
+    fn resolve(&self, alloc: Global, effect: &Effect) -> Result<Change, WorldError>
+        ensures { AnswersOrMemory result (writes_for effect.now (world_of self.now)) }
+    {
+        match effect {
+            Effect::CreateInbox(user) => self.resolve_inbox(alloc, user),
+            Effect::Create(owner, name) => self.resolve_create(alloc, owner, name),
+            Effect::Delete(name) => self.resolve_delete(alloc, name),
+            Effect::SetRights(name, identifier, change) => {
+                self.resolve_rights(alloc, name, identifier, *change)
+            }
+            Effect::Subscribe(user, name) => {
+                let write = Write::Subscribe(user.try_copy()?, name.try_copy()?);
+                Ok(Change::of(alloc, write)?)
+            }
+            Effect::Unsubscribe(user, name) => {
+                let write = Write::Unsubscribe(user.try_copy()?, name.try_copy()?);
+                Ok(Change::of(alloc, write)?)
+            }
+        }
+    }
+
+    /// Finds the mailbox to be written for a user's INBOX.
+    fn resolve_inbox(&self, alloc: Global, user: &UserName) -> Result<Change, WorldError>
+        ensures { AnswersOrMemory result (writes_for (Effect.CreateInbox user.now) (world_of self.now)) }
+    {
+        let acl = owner_acl(alloc, user)?;
+        let name = inbox(alloc, user)?;
+        let row = self.next_row(name, acl)?;
+        Ok(Change::of(alloc, Write::Put(row))?)
+    }
+
+    /// Finds the mailboxes to be written for a name, which lies in a tree of `owner`, and for its superiors.
+    fn resolve_create(
+        &self,
+        alloc: Global,
+        owner: &UserName,
+        name: &Name,
+    ) -> Result<Change, WorldError>
+        ensures { AnswersOrMemory result (writes_for (Effect.Create owner.now name.now) (world_of self.now)) }
+    {
+        if self.mailbox(&name.as_ref()).is_some() {
+            return Err(WorldError::Taken);
+        }
+        let acl = self.inherited_acl(alloc, owner, &name.as_ref())?;
+        self.rows_for(alloc, owner, &acl, &name.as_ref())
+    }
+
+    /// The access control list of the nearest superior that is there, or one that gives `owner` all rights.
+    fn inherited_acl(
+        &self,
+        alloc: Global,
+        owner: &UserName,
+        name: &NameRef<'_>,
+    ) -> Result<Acl, AllocError>
+        ensures { IfOk result (λ acl. acl ≡ inherited (world_of self.now).mailboxes owner.now name.now) }
+    {
+        match name.superior() {
+            Some(above) => match self.mailbox(&above) {
+                Some(mailbox) => mailbox.acl.try_copy(alloc),
+                None => self.inherited_acl(alloc, owner, &above),
+            },
+            None => owner_acl(alloc, owner),
+        }
+    }
+
+    /// Finds the mailboxes to be written for a name, unless it is there: first its superiors, from the outermost on,
+    /// and last itself. Each has the list `acl`. `reader` may be any user.
+    fn rows_for(
+        &self,
+        alloc: Global,
+        reader: &UserName,
+        acl: &Acl,
+        name: &NameRef<'_>,
+    ) -> Result<Change, WorldError>
+        ensures { AnswersOrMemory result (puts_of (rows_for (world_of self.now) acl.now name.now)) }
+    {
+        if self.mailbox(name).is_some() {
+            return Ok(Change::none(alloc));
+        }
+        let change = match name.superior() {
+            Some(above) => self.rows_for(alloc, reader, acl, &above)?,
+            None => Change::none(alloc),
+        };
+        let own = own_name(alloc, reader, name)?;
+        self.with_last_row(change, own, acl.try_copy(alloc)?)
+    }
+
+    /// The change, and after it the mailbox that is made under `name`.
+    fn with_last_row(&self, mut change: Change, name: Name, acl: Acl) -> Result<Change, WorldError>
+        ensures { let row = new_row (world_of self.now).epochs name acl in
+            AnswersOrMemory result (writes_then (Ok change) (put_of row)) }
+    {
+        let row = self.next_row(name, acl)?;
+        change.push(Write::Put(row))?;
+        Ok(change)
+    }
+
+    /// Finds what is written for a mailbox that goes.
+    fn resolve_delete(&self, alloc: Global, name: &Name) -> Result<Change, WorldError>
+        ensures { AnswersOrMemory result (writes_for (Effect.Delete name.now) (world_of self.now)) }
+    {
+        if self.mailbox(&name.as_ref()).is_none() {
+            return Err(WorldError::NoSuch);
+        }
+        if self.mailboxes().has_below(&name.as_ref()) {
+            return Err(WorldError::Below);
+        }
+        Ok(Change::of(alloc, Write::Remove(name.try_copy()?))?)
+    }
+
+    /// Finds the access control list to be written for a mailbox.
+    fn resolve_rights(
+        &self,
+        alloc: Global,
+        name: &Name,
+        identifier: &Identifier,
+        change: RightsChange,
+    ) -> Result<Change, WorldError>
+        ensures { let effect = Effect.SetRights name.now identifier.now change in
+            AnswersOrMemory result (writes_for effect (world_of self.now)) }
+    {
+        match self.mailbox(&name.as_ref()) {
+            Some(mailbox) => {
+                let acl = changed_acl(alloc, &mailbox.acl, identifier, change)?;
+                Ok(Change::of(alloc, Write::SetAcl(name.try_copy()?, acl))?)
+            }
+            None => Err(WorldError::NoSuch),
+        }
+    }
+}
