@@ -29,13 +29,17 @@ def microseconds(program, count, commands):
 def main():
     if len(sys.argv) != 2:
         raise SystemExit(__doc__)
-    print("| Mailboxes | CREATE up to | SETACL | DELETE |\n|---|---|---|---|")
-    for count, end in ((100, 1_000), (9_000, 10_000)):
-        created = [f"CREATE {mailbox(number)}" for number in range(count, end)]
-        changed = [f"SETACL {mailbox(number)} ann lr" for number in range(count)]
-        deleted = [f"DELETE {mailbox(number)}" for number in range(count - 1, max(count - 1_000, 0) - 1, -1)]
-        times = [microseconds(sys.argv[1], count, commands) for commands in (created, changed, deleted)]
-        print(f"| {count:,} | {end:,}: {times[0]:.1f} | {times[1]:.1f} | {times[2]:.1f} |", flush=True)
+    print("| Mailboxes | CREATE of the last | SETACL | DELETE of the last |\n|---|---|---|---|")
+    for start, count in ((100, 1_000), (9_000, 10_000)):
+        created = [f"CREATE {mailbox(number)}" for number in range(start, count)]
+        changed = [f"SETACL {mailbox(number % count)} ann {'lr'[number % 2]}" for number in range(10_000)]
+        deleted = [f"DELETE {mailbox(number)}" for number in reversed(range(start, count))]
+        times = (
+            microseconds(sys.argv[1], start, created),
+            microseconds(sys.argv[1], count, changed),
+            microseconds(sys.argv[1], count, deleted),
+        )
+        print(f"| {count:,} | {count - start:,}: {times[0]:.1f} | {times[1]:.1f} | {times[2]:.1f} |", flush=True)
 
 
 if __name__ == "__main__":
