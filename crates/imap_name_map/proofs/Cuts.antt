@@ -141,6 +141,15 @@ module _ {K : Type 0} {R : K → K → Ordering} (o : IsTotalOrder R) where
           | Greater ↦ λ p w q. absurd (omega (arith, ap ordering_index (sym p ∙ q)))
         ] refl within is
 
+    -- it has no other place
+    pub before_there : (es : List (K × X)) (d : K × X) (place : ℕ) → T (is_sorted R es) → place < length es → R (get_or es place d).0 k ≡ Equal → place ≡ before (λ x. R x k) es
+    before_there [] d place h within is = absurd (omega (arith, within))
+    before_there (e ∷ es) d zero h within is = ap (λ r. cond (is_lt r) (suc (before (λ x. R x k) es)) 0) (sym is)
+    before_there (e ∷ es) d (suc place) h within is =
+        let later : R e.0 (get_or es place d).0 ≡ Less = all_below R e.0 es place d (first _ _ h) (omega (arith, within)) in
+        ap suc (before_there es d place (second _ _ h) (omega (arith, within)) is)
+        ∙ ap (λ r. cond (is_lt r) (suc (before (λ x. R x k) es)) 0) (sym (sym (alike_right o (get_or es place d).0 k e.0 is) ∙ later))
+
     none_above : (x : K) (es : List (K × X)) → R k x ≡ Less → T (below_all R x es) → find R k es ≡ None
     none_above x [] p h = refl
     none_above x (e ∷ es) p h = ap (λ r. cond (is_eq r) (Some e.1) (find R k es)) (o.trans k x e.0 p (less _ (first _ _ h))) ∙ none_above x es p (second _ _ h)

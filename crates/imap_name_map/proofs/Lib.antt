@@ -7,3 +7,5 @@ pub mod RenameLaws
 pub mod LookUp
 pub mod ClosedLaws
 pub mod RunInserts
+pub mod WithinLaws
+pub mod NamesMoved

@@ -13,7 +13,7 @@ use Rattle.imap_names.specs.Order.{Names, name_cmp}
 use Rattle.imap_names.proofs.OrderLaws.{name_total, name_antisymmetric}
 use Rattle.imap_name_map.specs.Cuts.{before, IsAt, IsPlace, IsGap}
 use Rattle.imap_name_map.specs.Rows.{Rows, with_value}
-use Rattle.imap_name_map.proofs.Cuts.{holds, is_true, find_there, find_gap, put_there, put_new, removed, others_all}
+use Rattle.imap_name_map.proofs.Cuts.{holds, is_true, find_there, find_gap, put_there, put_new, removed, others_all, before_there}
 
 -- every name but k
 abbrev pub other_than : Name → Name → Bool
@@ -106,6 +106,11 @@ module _ {X : Type 0} where
     where
       at_any : (l : List (Name × X)) (n : ℕ) (d d' : Name × X) → n < length l → name_cmp (get_or l n d).0 k ≡ Equal → name_cmp (get_or l n d').0 k ≡ Equal
       at_any l n d d' within at = subst (λ z. name_cmp z.0 k ≡ Equal) (get_or_default l n d d' within) at
+
+  -- a place at which the name stands is its place
+  pub placed : (es : List (Name × X)) (k : Name) (place : ℕ) → IsTrue (is_sorted name_cmp es) → IsAt k es place → IsPlace k es place
+  placed [] k place h at = absurd (omega (arith, at.0))
+  placed (e ∷ es) k place h at = (before_there name_total k (e ∷ es) e place (holds h) at.0 (at.1 e), at)
 
   -- the place of k in a list, or its gap, was found as the list was seen
   module _ (es seen : List (Name × X)) (k : Name) (place : ℕ) (same : seen ≡ es) where

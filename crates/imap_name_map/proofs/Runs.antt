@@ -50,11 +50,11 @@ later_below top a b ha hb e =
     above x [] ax by l = absurd (not_first x (sym (name_cmp-above top x []) ∙ l))
     above x (part ∷ y) ax by l = (part, y, by)
 
-not_below_itself : (top : Name) → is_below top top ≡ false
+pub not_below_itself : (top : Name) → is_below top top ≡ false
 not_below_itself top = false_from_ne_true _ (λ t. IsAbove-self top ((is_below-IsAbove top top).0 t))
 
 -- a name within a run is its top, or below it
-below_unless_top : (top a : Name) → is_within top a ≡ true → (same : Bool) → (same ≡ true) ↔ (a ≡ top) → is_below top a ≡ not same
+pub below_unless_top : (top a : Name) → is_within top a ≡ true → (same : Bool) → (same ≡ true) ↔ (a ≡ top) → is_below top a ≡ not same
 below_unless_top top a h same decides = let (x, ax) = below_from_within top a h in by x ax
   where
     by : (x : Name) → a ≡ x ++ top → is_below top a ≡ not same

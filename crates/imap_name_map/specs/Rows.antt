@@ -1,5 +1,5 @@
 -- A map from names, with the room that it has for more of them.
-use Rattle.std.specs.Prelude.{ℕ, Bool, List, [], ◌∷◌, refl}
+use Rattle.std.specs.Prelude.{ℕ, Bool, ◌||◌, List, [], ◌∷◌, refl}
 use Rattle.std.specs.List.{list_any}
 use Rattle.std.specs.FinMap as fin
 use Rattle.std.specs.FinMap.Entries.{put, where_key}
@@ -49,3 +49,7 @@ below_of top map = entries_below top (fin.entries map)
 -- whether there is a name below `top`
 abbrev pub has_below : {X : Type 0} → Name → Names X → Bool
 has_below top map = list_any (λ e. is_below top e.0) (fin.entries map)
+
+-- whether `top` or a name below it is there
+abbrev pub has_within : {X : Type 0} → Name → Names X → Bool
+has_within top map = fin.contains_key map top || has_below top map

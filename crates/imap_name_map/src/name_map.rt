@@ -1,18 +1,18 @@
 //! Maps from names.
-ghost use Rattle.std.specs.Prelude.{◌≡◌, ◌↔◌, ◌+◌, ◌<◌, ◌≤◌, [], true, length, drop, take, slice_index_or, IsTrue, IfOk, OnOk, OnSome, option_copied};
+ghost use Rattle.std.specs.Prelude.{◌≡◌, ◌↔◌, ◌+◌, ◌<◌, ◌≤◌, [], true, not, length, drop, take, slice_index_or, IsTrue, IfOk, OnOk, OnSome, option_copied};
 ghost use Rattle.std.specs.Borrow.{sem, LendsSo};
 ghost use Rattle.std.specs.FinMap as fin;
 ghost use Rattle.std.specs.List.{list_all};
 ghost use Rattle.std.specs.Option.{option_copied_mut};
 ghost use Rattle.imap_names.specs.Order.{is_within};
 ghost use Rattle.imap_name_map.specs.Renaming.{moved_names, renamed, IsRenamed};
-ghost use Rattle.imap_name_map.specs.Rows.{inserted_all, with_value, run_of, below_of, has_below};
+ghost use Rattle.imap_name_map.specs.Rows.{inserted_all, with_value, run_of, below_of, has_below, has_within};
 ghost use Rattle.imap_name_map.specs.contracts.name_map.NameMap.{the_row};
 
 use crate::copies::copy_entries;
 use crate::edits::{put_entry, remove_entry};
 use crate::moves::rename_in;
-use crate::places::{end_of, ends_below, find_in, part_of, place_or_end, start_of, without_top};
+use crate::places::{end_of, ends_below, find_in, part_of, place_near, start_of, without_top};
 use crate::run_edits::put_run;
 use imap_names::{Name, NameRef};
 use imap_values::TryCopy;
@@ -94,8 +94,19 @@ impl<V> NameMap<V> {
             (λ n w. OnSome result (n ≡ with_value self.old name.now w)) (λ n. n ≡ self.old)) }
         ensures value { option_copied_mut result ≡ fin.get self.old.map name.now }
     {
-        let place = place_or_end(self.entries.as_slice(), name);
-        match self.entries.get_mut(place) {
+        // No name stands at the end.
+        let end = self.len();
+        self.get_mut_near(end, name)
+    }
+
+    /// The value of `name`, to be changed in its place. Takes one comparison if the name is the one at `place`.
+    pub fn get_mut_near(&mut self, place: usize, name: &NameRef<'_>) -> Option<&mut V>
+        ensures* writes_back { sem 𝓛 (LendsSo (the_row V.row) V.row self.entry result
+            (λ n w. OnSome result (n ≡ with_value self.old name.now w)) (λ n. n ≡ self.old)) }
+        ensures value { option_copied_mut result ≡ fin.get self.old.map name.now }
+    {
+        let found = place_near(self.entries.as_slice(), place, name);
+        match self.entries.get_mut(found) {
             Some(entry) => Some(&mut entry.1),
             None => None,
         }
@@ -151,8 +162,9 @@ impl<V> NameMap<V> {
     }
 
     /// Whether neither `top` nor a name below it is there.
+    #[tactic(auto, using(crate::proofs::WithinLaws::not_has_within))]
     pub fn is_free(&self, top: &NameRef<'_>) -> bool
-        ensures { IsTrue result ↔ (run_of top.now self.now.map ≡ []) }
+        ensures { result ≡ not (has_within top.now self.now.map) }
     {
         self.run_entries(top).is_empty()
     }

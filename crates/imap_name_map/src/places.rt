@@ -91,6 +91,19 @@ pub(crate) fn place_or_end<V>(entries: &[(Name, V)], name: &NameRef<'_>) -> usiz
     }
 }
 
+/// As `place_or_end`. Takes one comparison if the name is the one at `place`.
+pub(crate) fn place_near<V>(entries: &[(Name, V)], place: usize, name: &NameRef<'_>) -> usize
+    requires { IsTrue (is_sorted name_cmp entries.now) }
+    ensures there { result < length entries.now → IsPlace name.now entries.now result }
+    ensures absent { length entries.now ≤ result → find name_cmp name.now entries.now ≡ None }
+{
+    if is_at(entries, place, name) {
+        place
+    } else {
+        place_or_end(entries, name)
+    }
+}
+
 /// The entries from `start` up to `end`.
 pub(crate) fn part_of<V>(entries: &[(Name, V)], start: usize, end: usize) -> &[(Name, V)]
     requires order { start ≤ end }

@@ -29,7 +29,7 @@ IsAbove-joined root path rest =
           ∙ ap (λ z. z ++ (reverse (components_of path) ++ root ∷ [])) below.are,
     )
 
-join-two : (xs ys : List (List ℕ)) → HasFirst xs → HasFirst ys → join_with_byte 47 (xs ++ ys) ≡ join_with_byte 47 xs ++ 47 ∷ join_with_byte 47 ys
+pub join-two : (xs ys : List (List ℕ)) → HasFirst xs → HasFirst ys → join_with_byte 47 (xs ++ ys) ≡ join_with_byte 47 xs ++ 47 ∷ join_with_byte 47 ys
 join-two xs ys h k =
     ap (λ z. join_with_byte 47 (z ++ ys)) h.are
     ∙ ap (λ z. join_with_byte 47 ((h.first ∷ h.more) ++ z)) k.are

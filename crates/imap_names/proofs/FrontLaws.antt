@@ -2,12 +2,12 @@
 use Rattle.std.proofs.Common.{◌≡◌, ◌≢◌, ℕ, ◌-◌, ◌%◌, ◌<◌, Bool, true, false, cond, List, [], ◌∷◌, ◌++◌, length, drop, get_or, flat_map, ◌⊎◌, inl, inr, refl, sym, ap, subst, ◌∙◌, arith, Option, Some, None, MatchOption, Bor, lit<}
 use Rattle.std.specs.Prelude.{chars, IsUtf8}
 use Rattle.std.specs.List.{list_any}
-use Rattle.std.specs.Str.{IsAscii}
+use Rattle.std.specs.Str.{IsAscii, IsCharBoundary}
 use Rattle.std.specs.Str.Pattern.{RFindsChar, SplitsAroundMatch}
 use Rattle.std.proofs.lemmas.Bool.{cases_eq}
-use Rattle.std.proofs.Math.Seq.{take-append_seam}
+use Rattle.std.proofs.Math.Seq.{take-append_seam, drop-append_seam}
 use Rattle.std.proofs.lemmas.List.{append_cancel_left, append-nil, take-append-drop, length-append}
-use Rattle.std.proofs.lemmas.Str.{chars-append, chars-IsAscii, IsUtf8-from_ascii, IsUtf8-take, IsCharBoundary-before_ascii}
+use Rattle.std.proofs.lemmas.Str.{chars-append, chars-IsAscii, IsUtf8-from_ascii, IsUtf8-take, IsUtf8-drop, IsCharBoundary-before_ascii}
 use Rattle.std.proofs.lemmas.Str.Ascii.{IsAscii-cons, IsAscii-nil}
 use Rattle.std.proofs.lemmas.Str.Pattern.{NoCharPasses-char, drop_at_char}
 use Rattle.ucd_normal.specs.Decomposition.{or_itself}
@@ -33,12 +33,21 @@ slash_at : (front rest : List ℕ) → get_or (front ++ 47 ∷ rest) (length fro
 slash_at [] rest = refl
 slash_at (c ∷ cs) rest = slash_at cs rest
 
-pub IsUtf8-front : (front rest : List ℕ) → IsUtf8 (front ++ 47 ∷ rest) → IsUtf8 front
-IsUtf8-front front rest utf8 =
+boundary_at_slash : (front rest : List ℕ) → IsCharBoundary (front ++ 47 ∷ rest) (length front)
+boundary_at_slash front rest =
     let within : length front < length (front ++ 47 ∷ rest) = omega (arith, length-append front (47 ∷ rest)) in
     let ascii : get_or (front ++ 47 ∷ rest) (length front) 0 < 128 = omega (arith, slash_at front rest) in
+    IsCharBoundary-before_ascii (front ++ 47 ∷ rest) (length front) within ascii
+
+pub IsUtf8-front : (front rest : List ℕ) → IsUtf8 (front ++ 47 ∷ rest) → IsUtf8 front
+IsUtf8-front front rest utf8 =
     subst IsUtf8 (take-append_seam front (47 ∷ rest))
-    (IsUtf8-take (front ++ 47 ∷ rest) (length front) utf8 (IsCharBoundary-before_ascii (front ++ 47 ∷ rest) (length front) within ascii))
+    (IsUtf8-take (front ++ 47 ∷ rest) (length front) utf8 (boundary_at_slash front rest))
+
+pub IsUtf8-back : (front rest : List ℕ) → IsUtf8 (front ++ 47 ∷ rest) → IsUtf8 (47 ∷ rest)
+IsUtf8-back front rest utf8 =
+    subst IsUtf8 (drop-append_seam front (47 ∷ rest))
+    (IsUtf8-drop (front ++ 47 ∷ rest) (length front) utf8 (boundary_at_slash front rest))
 
 -- ---- NFC: a text in it is so up to a delimiter, since nothing is composed over one
 
@@ -94,27 +103,27 @@ no_front : (xs ys : List ℕ) → ys ≡ xs ++ ys → xs ≡ []
 no_front [] ys e = refl
 no_front (x ∷ xs) ys e = absurd (omega (arith, ap length e, length-append (x ∷ xs) ys))
 
+nfc-joined : (cs rest : List ℕ) → nfc (cs ++ 47 ∷ rest) ≡ nfc cs ++ nfc (47 ∷ rest)
+nfc-joined cs rest = normalize-ascii_boundary Nfc cs 47 rest (omega arith)
+
 nfc_to_delimiter : (cs rest : List ℕ) → nfc (cs ++ 47 ∷ rest) ≡ cs ++ 47 ∷ rest → nfc cs ≡ cs
 nfc_to_delimiter cs rest same =
-    elim (cuts (nfc cs) (nfc (47 ∷ rest)) cs (47 ∷ rest) (sym (boundary cs rest) ∙ same)) [
+    elim (cuts (nfc cs) (nfc (47 ∷ rest)) cs (47 ∷ rest) (sym (nfc-joined cs rest) ∙ same)) [
       | inl h ↦ longer h.between h.front h.back
       | inr h ↦ shorter h.between h.front h.back
     ]
   where
-    boundary : (ds rest : List ℕ) → nfc (ds ++ 47 ∷ rest) ≡ nfc ds ++ nfc (47 ∷ rest)
-    boundary ds rest = normalize-ascii_boundary Nfc ds 47 rest (omega arith)
-
     longer : (between : List ℕ) → nfc cs ≡ cs ++ between → 47 ∷ rest ≡ between ++ nfc (47 ∷ rest) → nfc cs ≡ cs
     longer [] front back = front ∙ append-nil cs
     longer (c ∷ more) front back =
         let slash : c ≡ 47 = cc in
         let is : nfc cs ≡ cs ++ 47 ∷ more = front ∙ ap (λ d. cs ++ d ∷ more) slash in
-        absurd (nfc_some 47 more (no_rest (nfc cs) (nfc (47 ∷ more)) (sym (nfc_idem cs) ∙ ap nfc is ∙ boundary cs more)))
+        absurd (nfc_some 47 more (no_rest (nfc cs) (nfc (47 ∷ more)) (sym (nfc_idem cs) ∙ ap nfc is ∙ nfc-joined cs more)))
 
     shorter : (between : List ℕ) → cs ≡ nfc cs ++ between → nfc (47 ∷ rest) ≡ between ++ 47 ∷ rest → nfc cs ≡ cs
     shorter [] front back = sym (front ∙ append-nil (nfc cs))
     shorter (c ∷ more) front back =
-        absurd (nfc_some c more (no_front (nfc (c ∷ more)) (nfc (47 ∷ rest)) (sym (nfc_idem (47 ∷ rest)) ∙ ap nfc back ∙ boundary (c ∷ more) rest)))
+        absurd (nfc_some c more (no_front (nfc (c ∷ more)) (nfc (47 ∷ rest)) (sym (nfc_idem (47 ∷ rest)) ∙ ap nfc back ∙ nfc-joined (c ∷ more) rest)))
 
 pub chars-joined : (front rest : List ℕ) → IsUtf8 front → chars (front ++ 47 ∷ rest) ≡ chars front ++ 47 ∷ chars rest
 chars-joined front rest utf8 =
@@ -128,3 +137,20 @@ pub is_nfc-to_delimiter : (front rest : List ℕ) → IsUtf8 front → is_nfc (c
 is_nfc-to_delimiter front rest utf8 h =
     let text : chars (front ++ 47 ∷ rest) ≡ chars front ++ 47 ∷ chars rest = chars-joined front rest utf8 in
     is_in_form_from Nfc (chars front) (nfc_to_delimiter (chars front) (chars rest) (ap nfc (sym text) ∙ is_in_form-true Nfc _ h ∙ text))
+
+-- what follows a delimiter may follow another text in NFC
+pub is_nfc-behind : (front other rest : List ℕ) → IsUtf8 front → IsUtf8 other → is_nfc (chars front) ≡ true → is_nfc (chars other) ≡ true → is_nfc (chars (front ++ 47 ∷ rest)) ≡ true → is_nfc (chars (other ++ 47 ∷ rest)) ≡ true
+is_nfc-behind front other rest utf8 utf8' nfc_front nfc_other h =
+    let whole : nfc (chars front ++ 47 ∷ chars rest) ≡ chars front ++ 47 ∷ chars rest =
+    ap nfc (sym (chars-joined front rest utf8)) ∙ is_in_form-true Nfc _ h ∙ chars-joined front rest utf8 in
+    let back : nfc (47 ∷ chars rest) ≡ 47 ∷ chars rest =
+    append_cancel_left (chars front) _ _ (
+    ap (λ z. z ++ nfc (47 ∷ chars rest)) (sym (is_in_form-true Nfc (chars front) nfc_front))
+    ∙ sym (nfc-joined (chars front) (chars rest)) ∙ whole
+    ) in
+    is_in_form_from Nfc (chars (other ++ 47 ∷ rest)) (
+    ap nfc (chars-joined other rest utf8')
+    ∙ nfc-joined (chars other) (chars rest)
+    ∙ (λ i. is_in_form-true Nfc (chars other) nfc_other i ++ back i)
+    ∙ sym (chars-joined other rest utf8')
+    )

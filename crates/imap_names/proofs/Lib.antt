@@ -14,6 +14,7 @@ pub mod MovedLaws
 pub mod InboxWord
 pub mod ReadLaws
 pub mod ShownLaws
+pub mod MovedPaths
 pub mod Spelling
 pub mod Walks
 pub mod LetterLaws

@@ -1,16 +1,16 @@
 -- From a path by the rules to a name.
-use Rattle.std.proofs.Common.{◌≡◌, ℕ, ◌≤◌, Bool, true, false, cond, List, length, refl, sym, ap, ◌∙◌, subst, Option, Some, None}
+use Rattle.std.proofs.Common.{◌≡◌, ℕ, ◌≤◌, Bool, true, false, cond, List, [], ◌∷◌, length, refl, sym, ap, ◌∙◌, subst, arith, Option, Some, None}
 use Rattle.std.specs.Prelude.{chars, nat_lt}
 use Rattle.std.specs.Str.{is_utf8}
 use Rattle.std.specs.List.{list_any}
-use Rattle.std.proofs.lemmas.Bool.{ltb-false}
+use Rattle.std.proofs.lemmas.Bool.{ltb-false, ltb-true, lt-ltb}
 use Rattle.unicode_normalization.specs.Forms.{is_nfc}
 use Rattle.imap_names.specs.declared.error.NameError.{NameError}
-use Rattle.imap_names.specs.Name.{named, root_of, components, path_of, is_empty}
+use Rattle.imap_names.specs.Name.{Name, named, root_of, components, path_of, is_empty}
 use Rattle.imap_names.specs.Text.{components_of, has_control}
 use Rattle.imap_names.specs.Valid.{max_path_octets, max_depth, is_reserved, with_inbox, is_root, IsName}
 use Rattle.imap_names.specs.Reading.{path_fault}
-use Rattle.imap_names.proofs.NameLaws.{root_of-named, components-named}
+use Rattle.imap_names.proofs.NameLaws.{root_of-named, components-named, named-parts}
 use Rattle.imap_names.proofs.Parts.{path_of-text}
 
 -- the path breaks no rule of the tree
@@ -61,3 +61,18 @@ path_fault-none root path h =
       short = ltb-false max_path_octets (length path) c.0;
       shallow = ltb-false max_depth (length (components_of path)) d.0;
     }
+
+-- ---- the parts of a name
+
+-- it has a root and a component
+pub has_component : (name : Name) → IsName name → nat_lt 1 (length name) ≡ true
+has_component [] valid = let clash : [] ∷ [] ≡ [] = valid.parted in cc
+has_component (root ∷ []) valid = let clash : [] ∷ [] ≡ [] = valid.parted in cc
+has_component (part ∷ root ∷ more) valid = lt-ltb 1 (length (part ∷ root ∷ more)) (omega arith)
+
+-- it is its path below its root
+pub named-valid : (name : Name) (root path : List ℕ) → IsName name → root ≡ root_of name → path ≡ path_of name → named root (components_of path) ≡ name
+named-valid name root path valid r p =
+    (λ i. named (r i) (components_of (p i)))
+    ∙ ap (named (root_of name)) valid.parted
+    ∙ named-parts name (λ e. let long = ltb-true 1 (length name) (has_component name valid) in omega (arith, long, ap length e))

@@ -1,5 +1,5 @@
 -- Which names a mailbox may have, and how a path is held.
-use Rattle.std.specs.Prelude.{◌≡◌, ℕ, ◌≤◌, Bool, true, false, not, ◌&&◌, ◌||◌, List, [], ◌∷◌, chars, codes, length, map, bytes_eq, if◌then◌else◌}
+use Rattle.std.specs.Prelude.{◌≡◌, ℕ, ◌≤◌, Bool, true, false, not, ◌&&◌, ◌||◌, nat_lt, Option, Some, None, List, [], ◌∷◌, chars, codes, length, map, bytes_eq, if◌then◌else◌}
 use Rattle.std.specs.Char.{to_ascii_lowercase}
 use Rattle.std.specs.Str.{is_utf8}
 use Rattle.std.specs.List.{list_any, join_with_byte}
@@ -36,6 +36,14 @@ with_inbox (first ∷ more) = (if is_inbox_word first then codes "INBOX" else fi
 
 abbrev pub held_path : List ℕ → List ℕ
 held_path path = join_with_byte 47 (with_inbox (components_of path))
+
+-- whether the path is neither too long nor too deep for a mailbox
+abbrev pub fits : Name → Bool
+fits name =
+    not (nat_lt max_path_octets (length (path_of name))) && not (nat_lt max_depth (length (components name)))
+
+abbrev pub if_fits : Name → Option Name
+if_fits name = if fits name then Some name else None
 
 -- the root of the Shared tree, or a user
 abbrev pub is_root : List ℕ → Bool

@@ -8,6 +8,7 @@
 pub mod error;
 pub mod laws;
 pub mod letters;
+mod moving;
 pub mod name;
 pub mod name_ref;
 pub mod namespace;

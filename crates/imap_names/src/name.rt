@@ -2,7 +2,7 @@
 ghost use Rattle.std.specs.Prelude.{◌≡◌, ◌≢◌, ◌↔◌, ◌∷◌, [], true, codes, IsTrue, IfOk, MatchOption};
 ghost use Rattle.imap_names.specs.Name.{named, root_of, path_of, shared_root, is_inbox, IsAbove};
 ghost use Rattle.imap_names.specs.Tree.{root_of_tree};
-ghost use Rattle.imap_names.specs.Valid.{IsName};
+ghost use Rattle.imap_names.specs.Valid.{IsName, is_root};
 
 use crate::name_ref::NameRef;
 use crate::user_name::UserName;
@@ -24,6 +24,20 @@ pub enum Tree {
 }
 
 impl Tree {
+    /// The tree with this root, which is a user or no text.
+    pub(crate) fn at_root(alloc: Global, root: &str) -> Result<Tree, AllocError>
+        requires { is_root root.now ≡ true }
+        ensures { IfOk result (λ tree. root_of_tree tree ≡ root.now) }
+    {
+        if root.is_empty() {
+            return Ok(Tree::Shared);
+        }
+        match UserName::read(alloc, root)? {
+            Some(owner) => Ok(Tree::User(owner)),
+            None => unreachable!(),
+        }
+    }
+
     /// The same tree, without copying the owner's name.
     pub fn try_copy(&self) -> Result<Tree, AllocError>
         ensures { IfOk result (λ copy. copy ≡ self.now) }

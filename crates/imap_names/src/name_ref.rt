@@ -1,14 +1,17 @@
 //! Borrowed mailbox names, and their order.
-ghost use Rattle.std.specs.Prelude.{◌≡◌, ◌+◌, ◌↔◌, length, option_copied, IsTrue};
+ghost use Rattle.std.specs.Prelude.{◌≡◌, ◌+◌, ◌↔◌, length, option_copied, IsTrue, IfOk};
 ghost use Rattle.std.specs.Cmp.Lexicographic.{slice_cmp};
 ghost use Rattle.imap_names.specs.Name.{named, root_of, path_of, owner, superior, is_inbox};
 ghost use Rattle.imap_names.specs.Order.{octet_cmp, path_cmp, path_run_cmp, end_cmp, name_cmp, run_cmp};
 ghost use Rattle.imap_names.specs.Text.{components_of};
 ghost use Rattle.imap_names.specs.Valid.{IsName};
 
+use crate::name::{Name, Tree};
 use crate::read::depth;
+use std::alloc::{AllocError, Global};
 use std::cmp::Ordering;
 use std::marker::Model;
+use std::sync::ArcStr;
 
 /// The name of a mailbox, borrowed. It is what [`Name`](crate::Name) is, and contracts see the same list.
 ///
@@ -67,6 +70,16 @@ impl<'a> NameRef<'a> {
         ensures valid { IsName self.now }
     {
         self.path
+    }
+
+    /// The same name, with texts of its own.
+    pub fn to_name(&self, alloc: Global) -> Result<Name, AllocError>
+        ensures name { IfOk result (λ name. name ≡ self.now) }
+        ensures valid { IsName self.now }
+    {
+        let tree = Tree::at_root(alloc, self.root)?;
+        let path = ArcStr::from_str(alloc, self.path)?;
+        Ok(Name { tree, path })
     }
 
     /// How many components the path has.
