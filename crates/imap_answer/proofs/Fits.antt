@@ -1,5 +1,5 @@
 -- The forms of an answer that are fit.
-use Rattle.std.proofs.Common.{◌≡◌, ℕ, true, false, List, None, refl, sym, ◌∙◌, true≢false}
+use Rattle.std.proofs.Common.{◌≡◌, ℕ, false, List, refl, sym, true≢false}
 use Rattle.std.specs.List.{list_any}
 use Rattle.imap_print.specs.declared.response.Response.{Response}
 use Rattle.imap_view.specs.After.{MayAsk}

@@ -1,3 +1,4 @@
+pub mod Alike
 pub mod Answer
 pub mod Fit
 pub mod Name

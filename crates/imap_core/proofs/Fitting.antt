@@ -82,6 +82,7 @@ module _ (view : View) (own : Option Own) (number : ℕ) where
   answer_fits tag (command.Unsubscribe mailbox) = list.unsubscribe_fits view tag mailbox
   answer_fits tag (command.Create mailbox) = tree.create_fits view tag mailbox
   answer_fits tag (command.Delete mailbox) = tree.delete_fits view tag mailbox
+  answer_fits tag (command.Rename from to) = tree.rename_fits view tag from to
   answer_fits tag (command.SetAcl mailbox identifier rights) = tree.set_acl_fits view tag mailbox identifier rights
   answer_fits tag (command.DeleteAcl mailbox identifier) = tree.delete_acl_fits view tag mailbox identifier
   answer_fits tag (command.GetAcl mailbox) = tree.get_acl_fits view tag mailbox

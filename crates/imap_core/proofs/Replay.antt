@@ -15,7 +15,8 @@ use Rattle.imap_core.specs.Trace.{Event, Acts, Sees, is_quiet, with_replies, tra
 use Rattle.imap_view.specs.View.{View, view_code}
 use Rattle.imap_core.proofs.Fitting.{IsIdle}
 use Rattle.imap_core.proofs.Sameness.{equal_from_same, same_from_itself}
-use Rattle.imap_core.proofs.Steps.{own_after, own_after_change, own_in-next, own_in-other, view_after_asking, view_in-next, view_next}
+use Rattle.imap_answer.proofs.Alike.{view_after_asking}
+use Rattle.imap_core.proofs.Steps.{own_after, own_after_change, own_in-next, own_in-other, view_in-next, view_next}
 
 abbrev replay : View → Option Own → List Event → List (ℕ × List ℕ)
 replay view own [] = []

@@ -13,7 +13,8 @@ use Rattle.imap_core.specs.declared.sessions.Session.{Session}
 use Rattle.imap_core.specs.declared.sessions.SessionChange.{SessionChange}
 use Rattle.imap_core.specs.declared.sessions.SessionChange.TheVariants as session
 use Rattle.imap_core.specs.Laws.{NeverUnavailable, OtherSessionsStay, RefusalsChangeNothing, StepsAreAlike}
-use Rattle.imap_core.specs.Machine.{accounts_after, effects_of, next, outcome, outcome_for, own_in, view_in}
+use Rattle.imap_answer.specs.Alike.{effects_of}
+use Rattle.imap_core.specs.Machine.{accounts_after, next, outcome, outcome_for, own_in, view_in}
 use Rattle.imap_core.specs.Sessions.{Own}
 use Rattle.imap_core.proofs.Fitting.{outcome_fits}
 use Rattle.imap_core.proofs.Numbered.{at_number}

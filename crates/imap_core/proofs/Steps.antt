@@ -6,33 +6,18 @@ use Rattle.std.proofs.lemmas.Map.Text.{is_eq-slice_cmp}
 use Rattle.std.proofs.lemmas.Slice.Eq.{bytes_eq-Decides}
 use Rattle.std.specs.FinMap as map
 use Rattle.std.specs.FinMap.{get-insert}
-use Rattle.imap_answer.specs.Fit.{MayBeAsked}
-use Rattle.imap_view.proofs.Asked.{own_effects}
-use Rattle.imap_view.specs.After.{view_after}
-use Rattle.imap_view.specs.View.{View, view_of}
-use Rattle.imap_world.specs.declared.effect.Effect.{Effect}
-use Rattle.imap_world.specs.Effects.{after_all}
-use Rattle.imap_world.specs.World.{World}
+use Rattle.imap_answer.proofs.Alike.{after_asking, view_after_asking}
+use Rattle.imap_view.specs.View.{View}
 use Rattle.imap_core.specs.declared.sessions.SessionChange.{SessionChange}
 use Rattle.imap_core.specs.declared.sessions.SessionChange.TheVariants as session
 use Rattle.imap_core.specs.declared.session_id.SessionId.{SessionId}
 use Rattle.imap_core.specs.declared.step.Step.{Step}
 use Rattle.imap_core.specs.Accounts.{Accounts}
-use Rattle.imap_core.specs.Machine.{State, outcome_for, outcome, next, view_in, own_in, effects_of, with_own, accounts_after}
+use Rattle.imap_core.specs.Machine.{State, outcome_for, outcome, next, view_in, own_in, with_own, accounts_after}
 use Rattle.imap_core.specs.Sessions.{Own}
 use Rattle.imap_core.proofs.Fitting.{outcome_fits}
 
 -- ---- the view
-
--- what a step of the user's makes of the view
-abbrev pub view_after_asking : Option Effect → View → View
-view_after_asking None view = view
-view_after_asking (Some effect) view = view_after effect view
-
-after_asking : (administrator user : List ℕ) (world : World) (asked : Option Effect) → MayBeAsked (view_of administrator user world) asked
-    → view_of administrator user (after_all (effects_of asked) world) ≡ view_after_asking asked (view_of administrator user world)
-after_asking administrator user world None may = refl
-after_asking administrator user world (Some effect) may = own_effects administrator user world effect may
 
 -- the acting user's view after a step is a function of the view before, the user's sessions and the step
 abbrev pub view_next : View → Option Own → Step → View

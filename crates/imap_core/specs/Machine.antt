@@ -4,7 +4,7 @@ use Rattle.std.specs.Coded.{Coded, coded_ℕ, coded_list, coded×, code_by}
 use Rattle.std.specs.FinMap as map
 use Rattle.imap_print.specs.declared.response.Response.{Response}
 use Rattle.imap_view.specs.View.{View, view_of}
-use Rattle.imap_world.specs.declared.effect.Effect.{Effect}
+use Rattle.imap_answer.specs.Alike.{effects_of}
 use Rattle.imap_world.specs.declared.site.Site.{Site}
 use Rattle.imap_world.specs.Effects.{after_all}
 use Rattle.imap_world.specs.Stored.{Stored, stored_code}
@@ -67,10 +67,6 @@ abbrev pub answer : State → Step → List Response
 answer state step = (outcome state step).answer.replies
 
 -- ---- after a step
-
-abbrev pub effects_of : Option Effect → List Effect
-effects_of None = []
-effects_of (Some effect) = effect ∷ []
 
 abbrev pub with_own : Accounts → List ℕ → (Own → Own) → Option Own → Accounts
 with_own accounts user f None = accounts

@@ -17,6 +17,7 @@ use Rattle.imap_tree.specs.Delete.{delete_answer}
 use Rattle.imap_tree.specs.GetAcl.{get_acl_answer}
 use Rattle.imap_tree.specs.ListRights.{list_rights_answer}
 use Rattle.imap_tree.specs.MyRights.{my_rights_answer}
+use Rattle.imap_tree.specs.Rename.{rename_answer}
 use Rattle.imap_tree.specs.SetAcl.{delete_acl_answer, set_acl_answer}
 use Rattle.imap_view.specs.View.{View}
 use Rattle.imap_core.specs.declared.outcome.Outcome.{Outcome}
@@ -45,6 +46,7 @@ command_answer view tag (command.Subscribe mailbox) = subscribe_answer view tag 
 command_answer view tag (command.Unsubscribe mailbox) = unsubscribe_answer view tag mailbox
 command_answer view tag (command.Create mailbox) = create_answer view tag mailbox
 command_answer view tag (command.Delete mailbox) = delete_answer view tag mailbox
+command_answer view tag (command.Rename from to) = rename_answer view tag from to
 command_answer view tag (command.SetAcl mailbox identifier rights) =
     set_acl_answer view tag mailbox identifier rights
 command_answer view tag (command.DeleteAcl mailbox identifier) = delete_acl_answer view tag mailbox identifier

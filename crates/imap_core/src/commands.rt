@@ -13,7 +13,7 @@ use imap_list::{Query, list_answer, namespace_answer, subscribe_answer, unsubscr
 use imap_print::Refusal;
 use imap_tree::{
     create_answer, delete_acl_answer, delete_answer, get_acl_answer, list_rights_answer,
-    my_rights_answer, set_acl_answer,
+    my_rights_answer, rename_answer, set_acl_answer,
 };
 use imap_view::View;
 use session::{capability_answer, logout_answer};
@@ -65,6 +65,7 @@ fn command_answer(
         Command::Unsubscribe { mailbox } => unsubscribe_answer(alloc, view, tag, mailbox),
         Command::Create { mailbox } => create_answer(alloc, view, tag, mailbox),
         Command::Delete { mailbox } => delete_answer(alloc, view, tag, mailbox),
+        Command::Rename { from, to } => rename_answer(alloc, view, tag, from, to),
         Command::SetAcl {
             mailbox,
             identifier,

@@ -1,8 +1,12 @@
-//! What holds of every listing.
+//! What holds of every listing, and of each command.
 
+ghost use Rattle.std.specs.Prelude.{ℕ, List};
+ghost use Rattle.imap_answer.specs.Alike.{AnswersAlike};
 ghost use Rattle.imap_list.specs.Laws.{LevelsNeedPercent, ListingIsExact, ListingIsOne};
 ghost use Rattle.imap_list.specs.Laws.{OrderMakesNoDifference, SubscribedListingIsExact};
+ghost use Rattle.imap_list.specs.ListCommand.{Query, list_answer};
 ghost use Rattle.imap_list.specs.Namespaces.{NamespacesArePrinted};
+ghost use Rattle.imap_list.specs.Subscriptions.{subscribe_answer, unsubscribe_answer};
 
 use imap_names::laws::{match_is_tested, percent_is_tested};
 
@@ -44,4 +48,11 @@ pub fn levels_need_percent()
 /// The response to NAMESPACE has the prefixes of [`imap_names::namespaces`].
 pub fn namespaces_are_printed()
     ensures { NamespacesArePrinted }
+{}
+
+/// In two worlds that are alike to its user each command is answered alike, and leaves them alike to that user.
+pub fn commands_are_alike()
+    ensures list { (tag : List ℕ) (query : Query) → AnswersAlike (λ view. list_answer view tag query) }
+    ensures subscribe { (tag mailbox : List ℕ) → AnswersAlike (λ view. subscribe_answer view tag mailbox) }
+    ensures unsubscribe { (tag mailbox : List ℕ) → AnswersAlike (λ view. unsubscribe_answer view tag mailbox) }
 {}

@@ -11,7 +11,7 @@ use Rattle.imap_names.specs.Name.{Name, is_inbox}
 use Rattle.imap_names.specs.Reading.{name_read}
 use Rattle.imap_names.specs.declared.error.NameError.{NameError}
 use Rattle.imap_names.specs.declared.error.NameError.TheVariants.{Control, EmptyComponent, Memory, Reserved, TooDeep, TooLong}
-use Rattle.imap_name_map.specs.Rows.{has_below}
+use Rattle.imap_name_map.specs.Rows.{has_below, has_within}
 use Rattle.imap_print.specs.declared.response.Refusal.{Refusal}
 use Rattle.imap_print.specs.declared.response.Refusal.TheVariants.{AlreadyExists, Cannot, HasChildren, Limit, NonExistent, NoPerm}
 use Rattle.imap_rights.specs.declared.change.RightsChange.{RightsChange}
@@ -19,10 +19,12 @@ use Rattle.imap_rights.specs.Acl.{AclMap}
 use Rattle.imap_rights.specs.Change.{replacing, rights_read}
 use Rattle.imap_rights.specs.Identifier.{identifier_read}
 use Rattle.imap_rights.specs.Rights.{administer, delete_mailbox, has_any, lookup, no_rights}
+use Rattle.imap_view.specs.RenameAfter.{can_all_arrive}
 use Rattle.imap_view.specs.Seen.{Seen, owner_of}
 use Rattle.imap_view.specs.TreeAfter.{may_set_rights, missing_in, validities_left}
 use Rattle.imap_view.specs.View.{View, acl_in, may_create, rights_in}
-use Rattle.imap_world.specs.declared.effect.Effect.TheVariants.{Create, Delete, SetRights}
+use Rattle.imap_world.specs.declared.effect.Effect.TheVariants.{Create, Delete, Rename, SetRights}
+use Rattle.imap_world.specs.Moving.{can_move}
 use Rattle.imap_tree.specs.Access.{lacking}
 use Rattle.imap_tree.specs.Create.{create_answer, create_of, without_delimiter}
 use Rattle.imap_tree.specs.Delete.{delete_answer, delete_of}
@@ -30,6 +32,7 @@ use Rattle.imap_tree.specs.GetAcl.{get_acl_answer, get_acl_by, get_acl_of}
 use Rattle.imap_tree.specs.ListRights.{list_rights_answer, list_rights_by, list_rights_of}
 use Rattle.imap_tree.specs.MyRights.{my_rights_answer, my_rights_of, my_rights_of_seen}
 use Rattle.imap_tree.specs.NewName.{new_name_read, or_refusal}
+use Rattle.imap_tree.specs.Rename.{rename_answer, rename_of, rename_to}
 use Rattle.imap_tree.specs.SetAcl.{delete_acl_answer, set_acl_answer, set_acl_by, set_rights_by, set_rights_of}
 
 module _ (view : View) (tag : List ℕ) where
@@ -116,16 +119,16 @@ module _ (view : View) (tag : List ℕ) where
 
   -- ---- DELETE
 
-  delete_by : (name : Name) (held : Bool) → has_any (rights_in view name) delete_mailbox ≡ held → (inbox below : Bool) → has_below name view.taken ≡ below
+  delete_by : (name : Name) (held : Bool) → has_any (rights_in view name) delete_mailbox ≡ held → (inbox : Bool) → is_inbox name ≡ inbox → (below : Bool) → has_below name view.taken ≡ below
       → IsFit view (cond (not held) (refusal tag (lacking (rights_in view name))) (cond inbox (refusal tag Cannot) (cond below (refusal tag HasChildren) (done_with tag (Delete name)))))
-  delete_by name false e inbox below d = lacking_fits (rights_in view name)
-  delete_by name true e true below d = fits_alone view _ refl
-  delete_by name true e false true d = fits_alone view _ refl
-  delete_by name true e false false d = fits_asking view tag (Delete name) (ap (λ b. b && not (has_below name view.taken)) e ∙ ap not d)
+  delete_by name false e inbox i below d = lacking_fits (rights_in view name)
+  delete_by name true e true i below d = fits_alone view _ refl
+  delete_by name true e false i true d = fits_alone view _ refl
+  delete_by name true e false i false d = fits_asking view tag (Delete name) (λ k. e k && (not (i k) && not (d k)))
 
   delete_named : (name : Option Name) → IsFit view (delete_of view tag name)
   delete_named None = fits_alone view _ refl
-  delete_named (Some name) = delete_by name _ refl (is_inbox name) _ refl
+  delete_named (Some name) = delete_by name _ refl _ refl _ refl
 
   pub delete_fits : (mailbox : List ℕ) → IsFit view (delete_answer view tag mailbox)
   delete_fits mailbox = delete_named (named view mailbox)
@@ -161,3 +164,29 @@ module _ (view : View) (tag : List ℕ) where
 
   pub create_fits : (mailbox : List ℕ) → IsFit view (create_answer view tag mailbox)
   create_fits mailbox = create_read (new_name_read view.user (without_delimiter mailbox)) (name_fit (name_read view.user (without_delimiter mailbox)))
+
+  -- ---- RENAME
+
+  rename_by : (old new : Name) (held : Bool) → has_any (rights_in view old) delete_mailbox ≡ held → (can : Bool) → can_move old new ≡ can → (may : Bool) → may_create view new ≡ may
+      → (used : Bool) → has_within new view.taken ≡ used → (all : Bool) → can_all_arrive view old new ≡ all
+      → IsFit view (cond (not held) (refusal tag (lacking (rights_in view old))) (cond (not can) (refusal tag Cannot) (cond (not may) (refusal tag NoPerm)
+      (cond used (refusal tag AlreadyExists) (cond all (done_with tag (Rename (owner_of view.administrator new) old new)) (refusal tag Limit))))))
+  rename_by old new false h can c may m used u all a = lacking_fits (rights_in view old)
+  rename_by old new true h false c may m used u all a = fits_alone view _ refl
+  rename_by old new true h true c false m used u all a = fits_alone view _ refl
+  rename_by old new true h true c true m true u all a = fits_alone view _ refl
+  rename_by old new true h true c true m false u false a = fits_alone view _ refl
+  rename_by old new true h true c true m false u true a =
+      fits_asking view tag (Rename (owner_of view.administrator new) old new)
+      (refl, λ k. h k && (c k && (m k && (not (u k) && a k))))
+
+  rename_read : (old : Name) (new : Result Name Refusal) → IsRefusalFit new → IsFit view (rename_to view tag old new)
+  rename_read old (Err reason) fit = fits_alone view _ fit
+  rename_read old (Ok new) fit = rename_by old new _ refl _ refl _ refl _ refl _ refl
+
+  rename_named : (old : Option Name) (new : List ℕ) → IsFit view (rename_of view tag old new)
+  rename_named None new = fits_alone view _ refl
+  rename_named (Some old) new = rename_read old (new_name_read view.user new) (name_fit (name_read view.user new))
+
+  pub rename_fits : (old new : List ℕ) → IsFit view (rename_answer view tag old new)
+  rename_fits old new = rename_named (named view old) new

@@ -5,4 +5,5 @@ pub mod GetAcl
 pub mod ListRights
 pub mod MyRights
 pub mod NewName
+pub mod Rename
 pub mod SetAcl

@@ -62,7 +62,7 @@ fn create_of_name(
 }
 
 /// Whether a UIDVALIDITY is left for each mailbox that is made with the name.
-fn are_validities_left(view: &View<'_>, name: &NameRef<'_>) -> bool
+pub(crate) fn are_validities_left(view: &View<'_>, name: &NameRef<'_>) -> bool
     requires { is_root name.now ≡ false }
     ensures { result ≡ validities_left view.now (missing_in view.now name.now) }
 {

@@ -7,7 +7,6 @@ use Rattle.imap_names.specs.Order.{Names, name_cmp}
 use Rattle.imap_names.proofs.NameLaws.{same_names, get_where}
 use Rattle.imap_names.proofs.OrderLaws.{name_antisymmetric}
 use Rattle.imap_world.specs.declared.mailbox.Mailbox.{Mailbox}
-use Rattle.imap_world.specs.declared.effect.Effect.TheVariants as effect
 use Rattle.imap_world.specs.Effects.{if_filled, with_subscribed}
 use Rattle.imap_world.specs.World.{World, NameSet, set_of, subscribed_by}
 use Rattle.imap_world.proofs.Finding.{get-keep}

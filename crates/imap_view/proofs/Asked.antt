@@ -1,33 +1,40 @@
 -- The view after an effect that the user may ask for.
-use Rattle.std.proofs.Common.{◌≡◌, ℕ, Bool, true, false, cond, List, [], ◌∷◌, ◌++◌, Option, Some, None, Result, Ok, Err, refl, sym, ap, subst, ◌∙◌}
+use Rattle.std.proofs.Common.{◌≡◌, ℕ, true, cond, not, List, [], ◌∷◌, ◌++◌, Ok, Err, refl, ap, ◌∙◌}
 use Rattle.std.specs.FinMap as map
 use Rattle.std.proofs.lemmas.List.{append-nil}
 use Rattle.imap_names.specs.Name.{Name}
-use Rattle.imap_name_map.specs.Rows.{has_below}
+use Rattle.imap_name_map.specs.Rows.{has_below, has_within}
 use Rattle.imap_rights.specs.declared.change.RightsChange.{RightsChange}
 use Rattle.imap_world.specs.declared.change.Write.{Write}
 use Rattle.imap_world.specs.declared.change.Write.TheVariants as write
 use Rattle.imap_world.specs.declared.effect.Effect.{Effect}
 use Rattle.imap_world.specs.declared.effect.Effect.TheVariants as effect
-use Rattle.imap_world.specs.declared.error.WorldError.{WorldError}
-use Rattle.imap_world.specs.declared.error.WorldError.TheVariants.{Below, NoSuch, Taken}
-use Rattle.imap_world.specs.Effects.{after_all, after_result, after_writes, list_changed, list_set, puts, puts_of, removal, writes_for, writes_then}
+use Rattle.imap_world.specs.declared.error.WorldError.TheVariants.{Below, Cannot, NoSuch, Taken}
+use Rattle.imap_world.specs.Effects.{after_all, after_result, after_write, after_writes, list_changed, list_set, move_after, puts, puts_of, removal, renaming as move_to, writes_for, writes_then}
+use Rattle.imap_world.specs.Moving.{arrivals, arrivals_at, superior_rows}
 use Rattle.imap_world.specs.Row.{Row}
 use Rattle.imap_world.specs.Tree.{created_rows, with_rows}
 use Rattle.imap_world.specs.World.{World}
-use Rattle.imap_view.specs.After.{IsMade, MayAsk, OwnEffectsAreMade, OwnEffectsAreSeen, view_after}
+use Rattle.imap_view.specs.After.{MayAsk, OwnEffectsAreMade, OwnEffectsAreSeen, view_after}
+use Rattle.imap_view.specs.RenameAfter.{may_rename, names_after}
 use Rattle.imap_view.specs.Seen.{owner_of}
 use Rattle.imap_view.specs.TreeAfter.{may_delete, may_make, may_set_rights}
 use Rattle.imap_view.specs.View.{View, view_of}
 use Rattle.imap_view.proofs.Afters.{changed}
 use Rattle.imap_view.proofs.Creating.{creating}
 use Rattle.imap_view.proofs.Deleting.{deleting}
+use Rattle.imap_view.proofs.Renaming.{renaming}
 use Rattle.imap_view.proofs.SettingRights.{setting_rights}
 use Rattle.imap_view.proofs.Views.{administrator_of}
 
 rows_put : (rows : List Row) (world : World) → after_writes (puts rows) world ≡ with_rows world rows
 rows_put [] world = refl
 rows_put (row ∷ rows) world = rows_put rows _
+
+-- and after them one write more
+rows_then : (rows : List Row) (last : Write) (world : World) → after_writes (puts rows ++ last ∷ []) world ≡ after_write last (with_rows world rows)
+rows_then [] last world = refl
+rows_then (row ∷ rows) last world = rows_then rows last _
 
 -- what is written for one effect, and the view after it
 record IsAnswered (administrator user : List ℕ) (world : World) (asked : Effect) : Type 0 where
@@ -60,8 +67,24 @@ module _ (administrator user : List ℕ) (world : World) where
       record {
         writes = write.Remove name ∷ [];
         found = ap (λ b. cond b (removal world name) (Err NoSuch)) deletion.there
+            ∙ ap (λ b. cond b (Err Cannot) (cond (has_below name world.mailboxes) (Err Below) (Ok (write.Remove name ∷ [])))) deletion.common
             ∙ ap (λ b. cond b (Err Below) (Ok (write.Remove name ∷ []))) deletion.lone;
         after = deletion.seen;
+      }
+
+  renamed : (owner : List ℕ) (old new : Name) → owner ≡ owner_of view.administrator new → may_rename view old new ≡ true → IsAnswered administrator user world (effect.Rename owner old new)
+  renamed owner old new is may =
+      let result = renaming administrator user world old new may in
+      let same : owner ≡ owner_of administrator new = is ∙ ap (λ a. owner_of a new) (administrator_of administrator user world) in
+      let gets : List (Name × ℕ) = arrivals_at view.epochs (names_after view old new) in
+      record {
+        writes = puts result.rows ++ write.Move old new gets ∷ [];
+        found = ap (λ b. cond b (move_to world owner old new) (Err NoSuch)) result.there
+            ∙ ap (λ b. cond (not b) (Err Cannot) (cond (has_within new world.mailboxes) (Err Taken) (move_after old new (puts_of (superior_rows world owner new)) (arrivals world old new)))) result.allowed
+            ∙ ap (λ b. cond b (Err Taken) (move_after old new (puts_of (superior_rows world owner new)) (arrivals world old new))) result.free
+            ∙ ap (λ o. move_after old new (puts_of (superior_rows world o new)) (arrivals world old new)) same
+            ∙ λ i. move_after old new (puts_of (result.made i)) (result.arrive i);
+        after = ap (view_of administrator user) (rows_then result.rows (write.Move old new gets) world) ∙ result.seen;
       }
 
   rights_set : (name : Name) (identifier : List ℕ) (change : RightsChange) → may_set_rights view name identifier change ≡ true → IsAnswered administrator user world (effect.SetRights name identifier change)
@@ -77,6 +100,7 @@ module _ (administrator user : List ℕ) (world : World) where
   answered (effect.CreateInbox owner) may = absurd may
   answered (effect.Create owner name) may = created owner name may.0 may.1
   answered (effect.Delete name) may = deleted name may
+  answered (effect.Rename owner old new) may = renamed owner old new may.0 may.1
   answered (effect.SetRights name identifier change) may = rights_set name identifier change may
   answered (effect.Subscribe asker name) may = record {
     writes = write.Subscribe asker name ∷ [];

@@ -1,5 +1,5 @@
 -- The view after CREATE.
-use Rattle.std.proofs.Common.{◌≡◌, ◌⊎◌, inl, inr, ℕ, ◌<◌, Bool, true, false, cond, not, ◌&&◌, List, [], ◌∷◌, ◌++◌, map as map_list, Option, Some, None, Ok, Err, refl, sym, ap, subst, ◌∙◌, true≢false, arith}
+use Rattle.std.proofs.Common.{◌≡◌, ◌⊎◌, inl, inr, ℕ, ◌<◌, ◌≤◌, Bool, true, false, cond, not, ◌&&◌, List, [], ◌∷◌, ◌++◌, length, map as map_list, Option, Some, None, Ok, Err, refl, sym, ap, subst, ◌∙◌, true≢false, arith}
 use Rattle.std.specs.List.{AllByRecursion}
 use Rattle.std.specs.Prelude.{nat_lt, is_some, option_and_then, unwrap_or, bytes_eq}
 use Rattle.std.specs.FinMap as map
@@ -14,13 +14,14 @@ use Rattle.imap_rights.specs.Rights.{create, has_any}
 use Rattle.imap_world.specs.declared.error.WorldError.TheVariants.{Limit}
 use Rattle.imap_world.specs.declared.mailbox.Mailbox.{Mailbox}
 use Rattle.imap_world.specs.Effects.{new_row}
+use Rattle.imap_world.specs.Row.{Row}
 use Rattle.imap_world.specs.Tree.{acl_or, inherited, with_last, rows_for}
 use Rattle.imap_world.specs.World.{World, epoch, max_validity}
 use Rattle.imap_view.specs.Seen.{Seen, is_root, owner_by_root, owner_of, seen_at, seen_with}
-use Rattle.imap_view.specs.TreeAfter.{is_known, missing_in, new_seen, seen_or, validities_left, CreatingIsSeen}
+use Rattle.imap_view.specs.TreeAfter.{is_known, missing_in, new_seen, seen_or, validities_left, may_make, IsCreation, CreatingIsSeen}
 use Rattle.imap_view.specs.View.{View, view_of, seen_in, is_below_place, is_below_place_in, creatable_below, may_create, rights_of}
 use Rattle.imap_view.proofs.Narrowing.{makes_place, place_below, deeper_below, get_epochs}
-use Rattle.imap_view.proofs.Placed.{each_weaker, each_push, row_of, IsNew, rows_seen}
+use Rattle.imap_view.proofs.Placed.{each_weaker, each_push, each_mapped, row_of, IsNew, rows_seen}
 use Rattle.imap_view.proofs.Views.{administrator_of, user_of, get_seen, contains_taken}
 
 -- ---- who may create under a name knows the names there
@@ -33,7 +34,7 @@ unknown : (o : Option Seen) (taken rest : Bool) → is_some o ≡ false → crea
 unknown None taken rest none e = not-true taken (and_parts (not taken) rest e).0
 unknown (Some s) taken rest none e = absurd (true≢false none)
 
-creatable_is_below : (view : View) (name : Name) → may_create view name ≡ true → is_below_place_in view name ≡ true
+pub creatable_is_below : (view : View) (name : Name) → may_create view name ≡ true → is_below_place_in view name ≡ true
 creatable_is_below view [] e = e
 creatable_is_below view (root ∷ []) e = absurd (true≢false (sym e))
 creatable_is_below view (deepest ∷ root ∷ []) e = place_below view.administrator view.user view.seen deepest (root ∷ []) e
@@ -52,7 +53,7 @@ creatable_is_below view (deepest ∷ above ∷ next ∷ more) e =
         (ap (λ o. has_any (rights_of o) create) is ∙ ap (λ o. creatable_below o (map.contains_key view.taken (above ∷ next ∷ more)) (may_create view (above ∷ next ∷ more))) (sym is) ∙ e))
 
 -- the superior lets the user create too, if the user doesn't know of it
-above_creatable : (view : View) (deepest above : List ℕ) (more : Name) → may_create view (deepest ∷ above ∷ more) ≡ true → is_known view (above ∷ more) ≡ false → is_root (above ∷ more) ≡ false → may_create view (above ∷ more) ≡ true
+pub above_creatable : (view : View) (deepest above : List ℕ) (more : Name) → may_create view (deepest ∷ above ∷ more) ≡ true → is_known view (above ∷ more) ≡ false → is_root (above ∷ more) ≡ false → may_create view (above ∷ more) ≡ true
 above_creatable view deepest above [] e unseen named = absurd (true≢false named)
 above_creatable view deepest above (next ∷ more) e unseen named =
     deeper (map.get view.seen (above ∷ next ∷ more)) (map.contains_key view.taken (above ∷ next ∷ more)) (may_create view (above ∷ next ∷ more)) (or_parts _ _ unseen).0 e
@@ -67,21 +68,21 @@ without_other : (a b : Bool) → b ≡ true → (a && b) ≡ a
 without_other true b e = e
 without_other false b e = refl
 
-equal_octets : (a b : List ℕ) → bytes_eq a b ≡ true → a ≡ b
+pub equal_octets : (a b : List ℕ) → bytes_eq a b ≡ true → a ≡ b
 equal_octets a b e = (bytes_eq-Decides a b).0 e
 
 module _ (administrator user : List ℕ) (world : World) where
   abbrev view : View
   view = view_of administrator user world
 
-  known_is_there : (name : Name) → is_known view name ≡ true → map.contains_key world.mailboxes name ≡ true
+  pub known_is_there : (name : Name) → is_known view name ≡ true → map.contains_key world.mailboxes name ≡ true
   known_is_there name e = by (or_cases (map.contains_key view.seen name) (map.contains_key view.taken name) e)
     where
       by : (map.contains_key view.seen name ≡ true) ⊎ (map.contains_key view.taken name ≡ true) → map.contains_key world.mailboxes name ≡ true
       by (inl h) = was_some (seen_at administrator user name) (map.get world.mailboxes name) (ap is_some (sym (get_seen administrator user world name)) ∙ h)
       by (inr h) = (and_parts (map.contains_key world.mailboxes name) _ (sym (contains_taken administrator user world name) ∙ h)).0
 
-  creatable_there : (name : Name) → may_create view name ≡ true → is_below_place administrator user (seen_in administrator user world) name ≡ true
+  pub creatable_there : (name : Name) → may_create view name ≡ true → is_below_place administrator user (seen_in administrator user world) name ≡ true
   unfolding view_of
   creatable_there name may = creatable_is_below (view_of administrator user world) name may
 
@@ -101,8 +102,10 @@ module _ (administrator user : List ℕ) (world : World) where
   -- on the way from the name up, below what is there
   record IsMissing (name : Name) (missing : Name) : Type 0 where
     pub may : may_create view missing ≡ true
+    pub absent : map.contains_key world.mailboxes missing ≡ false
     pub named : is_root missing ≡ false
     pub tree : root_of missing ≡ root_of name
+    pub short : length missing ≤ length name
 
   record AreMissing (acl : AclMap) (name : Name) (names : List Name) : Type 0 where
     pub rows : rows_for world acl name ≡ Ok (map_list (row_of world.epochs acl) names)
@@ -132,16 +135,17 @@ module _ (administrator user : List ℕ) (world : World) where
       by false is rest =
           let path = ap (λ b. cond b [] (missing_in view (above ∷ more) ++ (deepest ∷ above ∷ more) ∷ [])) is in
           let mine = may is refl in
+          let absent : map.contains_key world.mailboxes (deepest ∷ above ∷ more) ≡ false = sym (taken_is_there (deepest ∷ above ∷ more) mine) ∙ (or_parts (map.contains_key view.seen (deepest ∷ above ∷ more)) (map.contains_key view.taken (deepest ∷ above ∷ more)) is).1 in
           let lefts = and_parts _ _ (sym (list_all-append (λ name. nat_lt (epoch view.epochs name) max_validity) (missing_in view (above ∷ more)) ((deepest ∷ above ∷ more) ∷ [])) ∙ ap (validities_left view) (sym path) ∙ left) in
           let others = rest (above_creatable view deepest above more mine) lefts.0 in
           subst (AreMissing acl (deepest ∷ above ∷ more)) (sym path)
           (record {
-            rows = ap (λ b. cond b (Ok []) (with_last (rows_for world acl (above ∷ more)) (new_row world.epochs (deepest ∷ above ∷ more) acl))) (sym (taken_is_there (deepest ∷ above ∷ more) mine) ∙ (or_parts _ _ is).1)
+            rows = ap (λ b. cond b (Ok []) (with_last (rows_for world acl (above ∷ more)) (new_row world.epochs (deepest ∷ above ∷ more) acl))) absent
                 ∙ (λ i. with_last (others.rows i) (new_row_left (deepest ∷ above ∷ more) acl mine (and_parts _ _ lefts.1).0 i))
                 ∙ ap (λ rows. Ok rows) (sym (map-append (row_of world.epochs acl) (missing_in view (above ∷ more)) ((deepest ∷ above ∷ more) ∷ [])));
             each = each_push (IsMissing (deepest ∷ above ∷ more)) (missing_in view (above ∷ more)) (deepest ∷ above ∷ more)
-                (each_weaker (IsMissing (above ∷ more)) (IsMissing (deepest ∷ above ∷ more)) (missing_in view (above ∷ more)) (λ q h. record { may = h.may; named = h.named; tree = h.tree }) others.each)
-                (record { may = mine; named = refl; tree = refl });
+                (each_weaker (IsMissing (above ∷ more)) (IsMissing (deepest ∷ above ∷ more)) (missing_in view (above ∷ more)) (λ q h. record { may = h.may; absent = h.absent; named = h.named; tree = h.tree; short = omega (arith, h.short) }) others.each)
+                (record { may = mine; absent = absent; named = refl; tree = refl; short = omega arith });
           })
 
   -- ---- how the new mailboxes are seen
@@ -187,24 +191,45 @@ module _ (administrator user : List ℕ) (world : World) where
       (λ i. cond (named i) None (seen_by (owner_by_root administrator (tree i)) (inherited world.mailboxes (owner_of administrator name) name)))
       ∙ inherits name may
 
-pub creating : CreatingIsSeen
-creating administrator user world name may =
+-- the row is of a name below a place that isn't there, and no longer than this
+pub record IsFresh (administrator user : List ℕ) (world : World) (longest : ℕ) (row : Row) : Type 0 where
+  pub below : is_below_place administrator user (seen_in administrator user world) row.name ≡ true
+  pub absent : map.contains_key world.mailboxes row.name ≡ false
+  pub short : length row.name ≤ longest
+
+-- a creation, with what holds of its rows
+pub record Creates (administrator user : List ℕ) (world : World) (name : Name) : Type 0 where
+  pub creation : IsCreation administrator user world name
+  pub fresh : AllByRecursion (IsFresh administrator user world (length name)) creation.rows
+
+pub creates : (administrator user : List ℕ) (world : World) (name : Name) → may_make (view_of administrator user world) name ≡ true → Creates administrator user world name
+creates administrator user world name may =
     let parts = and_parts (may_create (view_of administrator user world) name) _ may in
     let more = and_parts (not (map.contains_key (view_of administrator user world).taken name)) _ parts.1 in
     let acl = inherited world.mailboxes (owner_of administrator name) name in
     let missings = missing administrator user world acl name (λ unseen named. parts.0) more.1 in
     record {
-      rows = map_list (row_of world.epochs acl) (missing_in (view_of administrator user world) name);
-      absent = sym (taken_is_there administrator user world name parts.0) ∙ not-true _ more.0;
-      made = missings.rows;
-      seen = rows_seen administrator user world.epochs (view_of administrator user world).epochs acl (new_seen (view_of administrator user world) name)
-          (missing_in (view_of administrator user world) name) world
-          (each_weaker (IsMissing administrator user world name) (IsNew administrator user world.epochs (view_of administrator user world).epochs acl (new_seen (view_of administrator user world) name) world)
+      creation = record {
+        rows = map_list (row_of world.epochs acl) (missing_in (view_of administrator user world) name);
+        absent = sym (taken_is_there administrator user world name parts.0) ∙ not-true _ more.0;
+        made = missings.rows;
+        seen = rows_seen administrator user world.epochs (view_of administrator user world).epochs acl (new_seen (view_of administrator user world) name)
+            (missing_in (view_of administrator user world) name) world
+            (each_weaker (IsMissing administrator user world name) (IsNew administrator user world.epochs (view_of administrator user world).epochs acl (new_seen (view_of administrator user world) name) world)
+            (missing_in (view_of administrator user world) name)
+            (λ q h. record {
+              below = creatable_there administrator user world q h.may;
+              shown = seen_alike administrator user world name parts.0 q h.named h.tree;
+              counted = counted_there administrator user world q h.may;
+            })
+            missings.each);
+      };
+      fresh = each_mapped (IsFresh administrator user world (length name)) (row_of world.epochs acl) (missing_in (view_of administrator user world) name)
+          (each_weaker (IsMissing administrator user world name) (λ q. IsFresh administrator user world (length name) (row_of world.epochs acl q))
           (missing_in (view_of administrator user world) name)
-          (λ q h. record {
-            below = creatable_there administrator user world q h.may;
-            shown = seen_alike administrator user world name parts.0 q h.named h.tree;
-            counted = counted_there administrator user world q h.may;
-          })
+          (λ q h. record { below = creatable_there administrator user world q h.may; absent = h.absent; short = h.short })
           missings.each);
     }
+
+pub creating : CreatingIsSeen
+creating administrator user world name may = (creates administrator user world name may).creation

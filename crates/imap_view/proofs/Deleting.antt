@@ -24,7 +24,7 @@ use Rattle.imap_view.proofs.Views.{get_seen}
 
 -- ---- a right is held on what is there and seen
 
-pub none_held : (some : ℕ) → has_any (rights_of None) some ≡ true → ⊥
+none_held : (some : ℕ) → has_any (rights_of None) some ≡ true → ⊥
 none_held some has = true≢false (sym has ∙ ap (λ m. not (m == 0)) (and_zero_l some))
 
 -- a mailbox on which the user holds a right is there
@@ -64,7 +64,7 @@ module _ (administrator user : List ℕ) (world : World) (name : Name) where
     below_between deepest (part ∷ between) = deeper_below administrator user (seen_in administrator user world) deepest (part ∷ between ++ name) (below_between part between)
 
     -- a holder of x knows all names below
-    known_below : (q : Name) → is_below name q ≡ true → is_known_below q ≡ true
+    pub known_below : (q : Name) → is_below name q ≡ true → is_known_below q ≡ true
     known_below q below = let above = IsAbove_from_below name q below in ap is_known_below above.2 ∙ below_between above.0 above.1
 
     any_known : (es : List (Name × Mailbox)) → list_any (λ e. is_below name e.0) (filter_map (kept_entry known_entry) es) ≡ list_any (λ e. is_below name e.0) es
@@ -107,10 +107,12 @@ module _ (administrator user : List ℕ) (world : World) (name : Name) where
 pub deleting : DeletingIsSeen
 deleting administrator user world name may =
     let parts = and_parts _ _ may in
+    let more = and_parts _ _ parts.1 in
     let place = ap (λ s. is_place administrator user s name) (sym (seen_is administrator user world))
     ∙ place_seen administrator user world name (makes_place (fin.get (view_of administrator user world).seen name) delete_mailbox refl parts.0) in
     record {
       there = held_is_there administrator user world name delete_mailbox parts.0;
-      lone = sym (none_below administrator user world name place) ∙ not-true _ parts.1;
+      common = not-true _ more.0;
+      lone = sym (none_below administrator user world name place) ∙ not-true _ more.1;
       seen = without_seen administrator user world name place;
     }

@@ -9,6 +9,7 @@ pub mod Listings
 pub mod Moving
 pub mod Narrowing
 pub mod Placed
+pub mod Renaming
 pub mod SettingRights
 pub mod Unknown
 pub mod Views

@@ -1,12 +1,12 @@
--- The view after RENAME.
+-- The view after a mailbox and all below it moved.
 use Rattle.std.proofs.Common.{◌≡◌, inl, inr, ℕ, ◌<◌, Bool, true, false, cond, List, [], ◌∷◌, ◌++◌, length, Option, Some, None, refl, sym, ap, ◌∙◌, true≢false, arith}
 use Rattle.std.specs.Prelude.{option_and_then, is_some}
 use Rattle.std.specs.FinMap as map
-use Rattle.std.specs.FinMap.{get-entries}
-use Rattle.std.specs.FinMap.Entries.{find, find-where_key}
+use Rattle.std.specs.FinMap.Entries.{find}
 use Rattle.imap_name_map.specs.Renaming.{renamed}
-use Rattle.imap_name_map.specs.Rows.{run_of}
+use Rattle.imap_name_map.specs.Rows.{run_of, inserted_all}
 use Rattle.imap_name_map.proofs.LookUp.{get_renamed}
+use Rattle.imap_name_map.proofs.Runs.{get_in_run}
 use Rattle.imap_names.specs.Name.{Name, root_of}
 use Rattle.imap_names.specs.Order.{Names, name_cmp, is_within, moved}
 use Rattle.imap_names.proofs.MovedLaws.{within_itself, within_no_shorter, root_of-within, moved_within}
@@ -15,17 +15,25 @@ use Rattle.imap_names.proofs.OrderLaws.{name_antisymmetric, below_from_within}
 use Rattle.imap_rights.specs.Effective.{effective}
 use Rattle.imap_rights.specs.Rights.{delete_mailbox, has_any}
 use Rattle.imap_world.specs.declared.mailbox.Mailbox.{Mailbox}
-use Rattle.imap_world.specs.Moving.{Arrival, with_moved}
+use Rattle.imap_world.specs.Moving.{with_moved}
 use Rattle.imap_world.specs.World.{World, NameSet}
 use Rattle.imap_world.proofs.Finding.{get-keep}
-use Rattle.imap_view.specs.RenameAfter.{counted, view_with_moved, IsMove, MovingIsSeen}
-use Rattle.imap_view.specs.Seen.{Seen, is_root, owner_by_root, seen_at, seen_with}
-use Rattle.imap_view.specs.TreeAfter.{narrowed}
-use Rattle.imap_view.specs.View.{view_of, seen_in, is_place, is_place_with, is_below_place, rights_of, rights_in}
-use Rattle.imap_view.proofs.Arriving.{in_use_still, seen_still, counted_after, counted_alike, subscribed_still}
-use Rattle.imap_view.proofs.Deleting.{none_held, held_is_there, place_seen, below_between}
+use Rattle.imap_view.specs.RenameAfter.{view_with_moved}
+use Rattle.imap_view.specs.Seen.{is_root, owner_by_root, seen_at, seen_with, Seen}
+use Rattle.imap_view.specs.View.{view_of, seen_in, is_place, is_place_with, is_below_place, is_below_place_in, rights_in}
+use Rattle.imap_view.proofs.Arriving.{all_arrived, inserted_alike}
+use Rattle.imap_view.proofs.Deleting.{held_is_there, place_seen, below_between}
 use Rattle.imap_view.proofs.Narrowing.{in_use, seen_is, makes_place, deeper_below, IsWithin, IsCovered, below_within, get_taken, get_epochs, view_is_narrowed}
-use Rattle.imap_view.proofs.Views.{get_seen}
+
+-- The user holds x on the mailbox, and the new name lies in its tree, below a place, and no mailbox is there or below.
+pub record IsMove (administrator user : List ℕ) (world : World) (old new : Name) : Type 0 where
+  pub deletable : has_any (rights_in (view_of administrator user world) old) delete_mailbox ≡ true
+  pub known : is_below_place_in (view_of administrator user world) new ≡ true
+  -- neither is the root of the tree
+  pub old_named : 1 < length old
+  pub new_named : 1 < length new
+  pub one_tree : root_of new ≡ root_of old
+  pub free : run_of new world.mailboxes ≡ []
 
 -- ---- runs, by look-up
 
@@ -35,18 +43,13 @@ module _ {X : Type 0} where
   nil_of_find (e ∷ es) none =
       absurd (cc (sym (none e.0) ∙ ap (λ b. cond b (Some e.1) (find name_cmp e.0 es)) (is_name_at-same e.0)))
 
-  find_run : (top : Name) (m : Names X) (q : Name) → find name_cmp q (run_of top m) ≡ cond (is_within top q) (map.get m q) None
-  find_run top m q =
-      find-where_key name_cmp (is_within top) q (λ x t. ap (is_within top) (sym (name_antisymmetric q x t))) (map.entries m)
-      ∙ ap (λ o. cond (is_within top q) o None) (sym (get-entries m q))
-
   -- in an empty run nothing is found
-  pub none_within : (top : Name) (m : Names X) (q : Name) → run_of top m ≡ [] → is_within top q ≡ true → map.get m q ≡ None
-  none_within top m q free e = ap (λ b. cond b (map.get m q) None) (sym e) ∙ sym (find_run top m q) ∙ ap (find name_cmp q) free
+  pub none_found : (top : Name) (m : Names X) (q : Name) → run_of top m ≡ [] → is_within top q ≡ true → map.get m q ≡ None
+  none_found top m q free e = ap (λ b. cond b (map.get m q) None) (sym e) ∙ sym (get_in_run top m q) ∙ ap (find name_cmp q) free
 
   -- and a run in which nothing is found is empty
   pub no_run : (top : Name) (m : Names X) → ((q : Name) → is_within top q ≡ true → map.get m q ≡ None) → run_of top m ≡ []
-  no_run top m none = nil_of_find (run_of top m) (λ q. find_run top m q ∙ by q (is_within top q) refl)
+  no_run top m none = nil_of_find (run_of top m) (λ q. get_in_run top m q ∙ by q (is_within top q) refl)
     where
       by : (q : Name) (b : Bool) → is_within top q ≡ b → cond b (map.get m q) None ≡ None
       by q true e = none q e
@@ -75,11 +78,11 @@ seen_alike administrator user q p a b e (Some m) =
 -- ---- the view, by look-ups
 
 module _ (administrator user : List ℕ) (world : World) where
-  taken_at : (q : Name) → map.get (view_of administrator user world).taken q ≡ cond (is_below_place administrator user (seen_in administrator user world) q) (in_use (map.get world.mailboxes q)) None
+  pub taken_at : (q : Name) → map.get (view_of administrator user world).taken q ≡ cond (is_below_place administrator user (seen_in administrator user world) q) (in_use (map.get world.mailboxes q)) None
   unfolding view_of
   taken_at q = get_taken administrator user (seen_in administrator user world) world q
 
-  taken_there : (q : Name) → is_below_place administrator user (seen_in administrator user world) q ≡ true → in_use (map.get world.mailboxes q) ≡ map.get (view_of administrator user world).taken q
+  pub taken_there : (q : Name) → is_below_place administrator user (seen_in administrator user world) q ≡ true → in_use (map.get world.mailboxes q) ≡ map.get (view_of administrator user world).taken q
   taken_there q h = sym (taken_at q ∙ ap (λ b. cond b (in_use (map.get world.mailboxes q)) None) h)
 
   pub epochs_there : (q : Name) → is_below_place administrator user (seen_in administrator user world) q ≡ true → map.get world.epochs q ≡ map.get (view_of administrator user world).epochs q
@@ -89,19 +92,13 @@ module _ (administrator user : List ℕ) (world : World) where
   get_seen_in : (q : Name) → map.get (seen_in administrator user world) q ≡ option_and_then (seen_at administrator user q) (map.get world.mailboxes q)
   get_seen_in q = get-keep name_cmp (seen_at administrator user) name_antisymmetric world.mailboxes q
 
-  -- a right is held on no root
-  held_is_long : (name : Name) (some : ℕ) → has_any (rights_in (view_of administrator user world) name) some ≡ true → 1 < length name
-  held_is_long [] some has = absurd (none_held some (ap (λ o. has_any (rights_of o) some) (sym (get_seen administrator user world [] ∙ none (map.get world.mailboxes []))) ∙ has))
+  -- all names at or below one that is known are known
+  pub known_within : (top : Name) → is_below_place administrator user (seen_in administrator user world) top ≡ true → (q : Name) → is_within top q ≡ true → is_below_place administrator user (seen_in administrator user world) q ≡ true
+  known_within top known q e = let (x, is) = below_from_within top q e in ap (is_below_place administrator user (seen_in administrator user world)) is ∙ by x
     where
-      none : (o : Option Mailbox) → option_and_then (seen_at administrator user []) o ≡ None
-      none None = refl
-      none (Some m) = refl
-  held_is_long (root ∷ []) some has = absurd (none_held some (ap (λ o. has_any (rights_of o) some) (sym (get_seen administrator user world (root ∷ []) ∙ none (map.get world.mailboxes (root ∷ [])))) ∙ has))
-    where
-      none : (o : Option Mailbox) → option_and_then (seen_at administrator user (root ∷ [])) o ≡ None
-      none None = refl
-      none (Some m) = refl
-  held_is_long (deepest ∷ above ∷ more) some has = omega arith
+      by : (x : Name) → is_below_place administrator user (seen_in administrator user world) (x ++ top) ≡ true
+      by [] = known
+      by (part ∷ x) = deeper_below administrator user (seen_in administrator user world) part (x ++ top) (by x)
 
 -- ---- the whole
 
@@ -115,37 +112,30 @@ module _ (administrator user : List ℕ) (world : World) (old new : Name) (move 
   abbrev taken : NameSet
   taken = map.insert (view_of administrator user world).taken old tt
 
-  there : map.contains_key world.mailboxes old ≡ true
+  pub there : map.contains_key world.mailboxes old ≡ true
   there = held_is_there administrator user world old delete_mailbox move.deletable
 
-  long : 1 < length old
-  long = held_is_long administrator user world old delete_mailbox move.deletable
-
-  place : is_place administrator user seen old ≡ true
+  pub place : is_place administrator user seen old ≡ true
   place =
       ap (λ s. is_place administrator user s old) (sym (seen_is administrator user world))
       ∙ place_seen administrator user world old (makes_place (map.get (view_of administrator user world).seen old) delete_mailbox refl move.deletable)
 
-  known : is_below_place administrator user seen new ≡ true
+  pub known : is_below_place administrator user seen new ≡ true
   unfolding view_of
   known = move.known
 
   -- all names at or below the new one are known
-  pub known_within : (q : Name) → is_within new q ≡ true → is_below_place administrator user seen q ≡ true
-  known_within q e = let (x, is) = below_from_within new q e in ap (is_below_place administrator user seen) is ∙ by x
-    where
-      by : (x : Name) → is_below_place administrator user seen (x ++ new) ≡ true
-      by [] = known
-      by (part ∷ x) = deeper_below administrator user seen part (x ++ new) (by x)
+  known_below : (q : Name) → is_within new q ≡ true → is_below_place administrator user seen q ≡ true
+  known_below q e = known_within administrator user world new known q e
 
   -- ---- nothing is at or below the new name
 
   free_seen : run_of new seen ≡ []
-  free_seen = no_run new seen (λ q e. get_seen_in administrator user world q ∙ ap (option_and_then (seen_at administrator user q)) (none_within new world.mailboxes q move.free e))
+  free_seen = no_run new seen (λ q e. get_seen_in administrator user world q ∙ ap (option_and_then (seen_at administrator user q)) (none_found new world.mailboxes q move.free e))
 
   old_apart : (q : Name) → is_within new q ≡ true → is_name_at q old ≡ true → ⊥
   old_apart q e at =
-      true≢false (sym there ∙ ap is_some (ap (map.get world.mailboxes) (sym (equal_names q old at)) ∙ none_within new world.mailboxes q move.free e))
+      true≢false (sym there ∙ ap is_some (ap (map.get world.mailboxes) (sym (equal_names q old at)) ∙ none_found new world.mailboxes q move.free e))
 
   free_taken : run_of new taken ≡ []
   free_taken = no_run new taken (λ q e. get_put (view_of administrator user world).taken old tt q ∙ by q e (is_name_at q old) refl)
@@ -158,7 +148,7 @@ module _ (administrator user : List ℕ) (world : World) (old new : Name) (move 
       by q e true at = absurd (old_apart q e at)
       by q e false at =
           taken_at administrator user world q
-          ∙ ap (λ o. cond (is_below_place administrator user seen q) (in_use o) None) (none_within new world.mailboxes q move.free e)
+          ∙ ap (λ o. cond (is_below_place administrator user seen q) (in_use o) None) (none_found new world.mailboxes q move.free e)
           ∙ none (is_below_place administrator user seen q)
 
   -- ---- what is seen
@@ -169,8 +159,8 @@ module _ (administrator user : List ℕ) (world : World) (old new : Name) (move 
   seen_case q true e d =
       let from : Name = moved new old q in
       let inside : is_within old from ≡ true = moved_within new old q e in
-      seen_alike administrator user q from (within_is_named new q move.no_root e) (within_is_named old from long inside)
-      (within_one_root new q move.no_root e ∙ move.one_tree ∙ sym (within_one_root old from long inside))
+      seen_alike administrator user q from (within_is_named new q move.new_named e) (within_is_named old from move.old_named inside)
+      (within_one_root new q move.new_named e ∙ move.one_tree ∙ sym (within_one_root old from move.old_named inside))
       (map.get world.mailboxes from)
       ∙ sym (get_seen_in administrator user world from)
   seen_case q false e true = refl
@@ -185,7 +175,7 @@ module _ (administrator user : List ℕ) (world : World) (old new : Name) (move 
 
   place_case : (q : Name) (b : Bool) → is_within new q ≡ b → (d : Bool) → is_place_with (cond b (map.get seen (moved new old q)) (cond d None (map.get seen q))) ≡ true
       → (is_place_with (map.get seen q) ≡ true → IsCovered administrator user seen q) → IsCovered administrator user seen q
-  place_case q true is d e stays = inr (known_within q is)
+  place_case q true is d e stays = inr (known_below q is)
   place_case q false is true e stays = absurd (true≢false (sym e))
   place_case q false is false e stays = stays e
 
@@ -203,7 +193,7 @@ module _ (administrator user : List ℕ) (world : World) (old new : Name) (move 
   -- ---- the names in use
 
   -- the user knows of `old` by the right x, and of all below it since it is a place
-  pub taken_within : (p : Name) → is_within old p ≡ true → in_use (map.get world.mailboxes p) ≡ map.get taken p
+  taken_within : (p : Name) → is_within old p ≡ true → in_use (map.get world.mailboxes p) ≡ map.get taken p
   taken_within p e =
       let (x, is) = below_from_within old p e in
       by x is (is_name_at p old) refl ∙ sym (get_put (view_of administrator user world).taken old tt p)
@@ -232,32 +222,31 @@ module _ (administrator user : List ℕ) (world : World) (old new : Name) (move 
 
   -- ---- the view
 
-  module _ (arrivals : List Arrival) where
-    abbrev renamed_world : World
-    renamed_world = record world { mailboxes = renamed old new world.mailboxes }
-
+  module _ (arrivals : List (Name × ℕ)) where
     abbrev after : World
     after = with_moved world old new arrivals
 
+    all_seen : seen_in administrator user after ≡ seen_after
+    all_seen =
+        same_names _ _ (λ q. get_seen_in administrator user after q
+        ∙ all_arrived (option_and_then (seen_at administrator user q)) (λ m validity. refl) (renamed old new world.mailboxes) arrivals q
+        ∙ sym (get_seen_in administrator user (record world { mailboxes = renamed old new world.mailboxes }) q))
+        ∙ moved_seen
+
     all_taken : (q : Name) → is_below_place administrator user seen_after q ≡ true → in_use (map.get after.mailboxes q) ≡ map.get (renamed old new taken) q
     all_taken q h =
-        in_use_still renamed_world arrivals q
+        all_arrived in_use (λ m validity. refl) (renamed old new world.mailboxes) arrivals q
         ∙ ap in_use (get_renamed old new world.mailboxes q move.free)
         ∙ taken_case q (known_before q h) (is_within new q) refl (is_within old q) refl
         ∙ sym (get_renamed old new taken q free_taken)
 
-    all_epochs : (q : Name) → is_below_place administrator user seen_after q ≡ true → map.get after.epochs q ≡ map.get (counted (view_of administrator user world).epochs arrivals) q
+    all_epochs : (q : Name) → is_below_place administrator user seen_after q ≡ true → map.get after.epochs q ≡ map.get (inserted_all (view_of administrator user world).epochs arrivals) q
     all_epochs q h =
-        ap (λ epochs. map.get epochs q) (counted_after renamed_world arrivals)
-        ∙ counted_alike world.epochs (view_of administrator user world).epochs arrivals q (epochs_there administrator user world q (known_before q h))
+        inserted_alike world.epochs (view_of administrator user world).epochs arrivals q (epochs_there administrator user world q (known_before q h))
 
     -- whatever validities the mailboxes get
-    pub with_moved_seen : view_of administrator user (with_moved world old new arrivals) ≡ view_with_moved (view_of administrator user world) old new arrivals
+    pub moved_is_seen : view_of administrator user (with_moved world old new arrivals) ≡ view_with_moved (view_of administrator user world) old new arrivals
     unfolding view_of
-    with_moved_seen =
-        view_is_narrowed administrator user after seen_after (renamed old new taken) (counted (view_of administrator user world).epochs arrivals)
-        (seen_still administrator user renamed_world arrivals ∙ moved_seen) all_taken all_epochs
-        ∙ ap (λ names. narrowed (record (view_of administrator user world) { seen = seen_after; taken = renamed old new taken; epochs = counted (view_of administrator user world).epochs arrivals; subscribed = names })) (subscribed_still renamed_world arrivals user)
-
-pub moving : MovingIsSeen
-moving administrator user world old new arrivals move names = with_moved_seen administrator user world old new move arrivals
+    moved_is_seen =
+        view_is_narrowed administrator user after seen_after (renamed old new taken) (inserted_all (view_of administrator user world).epochs arrivals)
+        all_seen all_taken all_epochs

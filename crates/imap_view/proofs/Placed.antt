@@ -29,6 +29,11 @@ module _ {X : Type 0} where
   each_push P [] x h p = (p, tt)
   each_push P (y ∷ xs) x h p = (h.0, each_push P xs x h.1 p)
 
+module _ {X Y : Type 0} where
+  pub each_mapped : (P : Y → Type 0) (f : X → Y) (xs : List X) → AllByRecursion (λ x. P (f x)) xs → AllByRecursion P (map_list f xs)
+  each_mapped P f [] h = tt
+  each_mapped P f (x ∷ xs) h = (h.0, each_mapped P f xs h.1)
+
 -- ---- one mailbox
 
 -- a value is put under a key that is kept; which keys are kept stays
@@ -76,6 +81,29 @@ module _ (administrator user : List ℕ) (world : World) (row : Row) where
     view_with_row =
         ap (λ s. view_by administrator user s (with_row world row)) seen_new
         ∙ λ i. record (view_by administrator user (put_option (seen_in administrator user world) row.name new) (with_row world row)) { taken = takens i; epochs = all_epochs i }
+
+-- ---- several
+
+module _ (administrator user : List ℕ) where
+  abbrev pub IsBelow : World → Row → Type 0
+  IsBelow world row = is_below_place administrator user (seen_in administrator user world) row.name ≡ true
+
+  -- below places no place comes and none goes
+  pub rows_places_same : (rows : List Row) (world : World) → AllByRecursion (IsBelow world) rows → (q : Name)
+      → is_below_place administrator user (seen_in administrator user (with_rows world rows)) q ≡ is_below_place administrator user (seen_in administrator user world) q
+  rows_places_same [] world each q = refl
+  rows_places_same (row ∷ rows) world each q =
+      rows_places_same rows (with_row world row)
+      (each_weaker (IsBelow world) (IsBelow (with_row world row)) rows (λ r h. places_same administrator user world row each.0 r.name ∙ h) each.1) q
+      ∙ places_same administrator user world row each.0 q
+
+-- under other names all stays
+pub rows_elsewhere : (rows : List Row) (world : World) (q : Name) → AllByRecursion (λ row. is_name_at q row.name ≡ false) rows → map.get (with_rows world rows).mailboxes q ≡ map.get world.mailboxes q
+rows_elsewhere [] world q each = refl
+rows_elsewhere (row ∷ rows) world q each =
+    rows_elsewhere rows (with_row world row) q each.1
+    ∙ get_put world.mailboxes row.name row.mailbox q
+    ∙ ap (λ b. cond b (Some row.mailbox) (map.get world.mailboxes q)) each.0
 
 -- ---- several, that are seen alike
 

@@ -8,6 +8,7 @@ use Rattle.imap_world.specs.declared.effect.Effect.{Effect}
 use Rattle.imap_world.specs.declared.effect.Effect.TheVariants as effect
 use Rattle.imap_world.specs.Effects.{after_all, writes_for}
 use Rattle.imap_world.specs.World.{World, inbox}
+use Rattle.imap_view.specs.RenameAfter.{may_rename, view_renamed}
 use Rattle.imap_view.specs.Seen.{owner_of}
 use Rattle.imap_view.specs.TreeAfter.{may_delete, may_make, may_set_rights, view_with, view_with_rights, view_without}
 use Rattle.imap_view.specs.View.{View, view_of, is_below_place_in}
@@ -18,6 +19,8 @@ MayAsk view (effect.CreateInbox owner) = ⊥
 MayAsk view (effect.Create owner name) =
     (owner ≡ owner_of view.administrator name) × (may_make view name ≡ true)
 MayAsk view (effect.Delete name) = may_delete view name ≡ true
+MayAsk view (effect.Rename owner old new) =
+    (owner ≡ owner_of view.administrator new) × (may_rename view old new ≡ true)
 MayAsk view (effect.SetRights name identifier change) = may_set_rights view name identifier change ≡ true
 MayAsk view (effect.Subscribe user name) = user ≡ view.user
 MayAsk view (effect.Unsubscribe user name) = user ≡ view.user
@@ -27,6 +30,7 @@ abbrev pub view_after : Effect → View → View
 view_after (effect.CreateInbox owner) view = view
 view_after (effect.Create owner name) view = view_with view name
 view_after (effect.Delete name) view = view_without view name
+view_after (effect.Rename owner old new) view = view_renamed view old new
 view_after (effect.SetRights name identifier change) view = view_with_rights view name identifier change
 view_after (effect.Subscribe user name) view = record view { subscribed = map.insert view.subscribed name tt }
 view_after (effect.Unsubscribe user name) view = record view { subscribed = map.remove view.subscribed name }

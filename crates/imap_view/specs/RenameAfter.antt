@@ -1,57 +1,85 @@
 -- What the view of a user becomes when the user renames a mailbox (RFC 9051, section 6.3.6).
-use Rattle.std.specs.Prelude.{◌≡◌, ℕ, ◌<◌, true, false, List, [], ◌∷◌, length, map as map_list, Result}
+use Rattle.std.specs.Prelude.{◌≡◌, ℕ, Bool, true, false, not, ◌&&◌, List, [], ◌∷◌, Ok, map as map_list}
 use Rattle.std.specs.FinMap as map
-use Rattle.imap_name_map.specs.Renaming.{moved_names, renamed}
-use Rattle.imap_name_map.specs.Rows.{run_of}
-use Rattle.imap_names.specs.Name.{Name, root_of}
-use Rattle.imap_names.specs.Order.{Names, is_within}
+use Rattle.std.specs.List.{list_all}
+use Rattle.imap_name_map.specs.Renaming.{renamed}
+use Rattle.imap_name_map.specs.Rows.{has_within, inserted_all}
+use Rattle.imap_names.specs.Name.{Name}
+use Rattle.imap_names.specs.Order.{moved}
 use Rattle.imap_rights.specs.Rights.{delete_mailbox, has_any}
-use Rattle.imap_world.specs.declared.error.WorldError.{WorldError}
-use Rattle.imap_world.specs.Moving.{Arrival, arrivals, arrivals_at, with_moved}
+use Rattle.imap_world.specs.Moving.{arrivals, arrivals_at, can_arrive, can_move, superior_rows, with_moved}
+use Rattle.imap_world.specs.Row.{Row}
+use Rattle.imap_world.specs.Tree.{with_rows}
 use Rattle.imap_world.specs.World.{World}
-use Rattle.imap_view.specs.TreeAfter.{narrowed}
-use Rattle.imap_view.specs.View.{View, view_of, is_below_place_in, rights_in}
+use Rattle.imap_view.specs.Listing.{names_below}
+use Rattle.imap_view.specs.Seen.{owner_of}
+use Rattle.imap_view.specs.TreeAfter.{missing_in, narrowed, validities_left, view_with}
+use Rattle.imap_view.specs.View.{View, view_of, may_create, rights_in}
 
--- the validities, with those of the arrivals
-abbrev pub counted : Names ℕ → List Arrival → Names ℕ
-counted epochs [] = epochs
-counted epochs (arrival ∷ arrivals) = counted (map.insert epochs arrival.name arrival.validity) arrivals
+-- The names that move with a mailbox on which the user holds x: it is a place, so that the user knows of all below it.
+abbrev pub moving_names : View → (old : Name) → List Name
+moving_names view old = old ∷ names_below old view.taken
+
+-- and what they become, in their order
+abbrev pub names_after : View → (old new : Name) → List Name
+names_after view old new = map_list (moved old new) (moving_names view old)
+
+-- the superiors of a name that aren't there, as far as the user knows
+abbrev pub missing_above : View → Name → List Name
+missing_above view [] = []
+missing_above view (deepest ∷ above) = missing_in view above
+
+-- each name that a mailbox gets can be had, and each superior that isn't there can be made
+abbrev pub can_all_arrive : View → (old new : Name) → Bool
+can_all_arrive view old new =
+    list_all (can_arrive view.epochs) (names_after view old new) && validities_left view (missing_above view new)
+
+-- The user holds x on the mailbox, it can move, the new name may be made, neither it nor a name below it is in use, and
+-- all can arrive.
+abbrev pub may_rename : View → (old new : Name) → Bool
+may_rename view old new =
+    has_any (rights_in view old) delete_mailbox
+    && (can_move old new
+    && (may_create view new
+    && (not (has_within new view.taken) && can_all_arrive view old new)))
+
+-- with the superiors of a name
+abbrev pub view_with_above : View → Name → View
+view_with_above view [] = view
+view_with_above view (deepest ∷ above) = view_with view above
 
 -- The mailbox `old` and all below it are called by `new` now. By the right x the user knows that `old` is in use,
 -- even if it lies below no place.
-abbrev pub view_with_moved : View → (old new : Name) → List Arrival → View
+abbrev pub view_with_moved : View → (old new : Name) → (arrivals : List (Name × ℕ)) → View
 view_with_moved view old new arrivals = narrowed (record view {
   seen = renamed old new view.seen;
   taken = renamed old new (map.insert view.taken old tt);
-  epochs = counted view.epochs arrivals;
+  epochs = inserted_all view.epochs arrivals;
 })
 
--- the names that the mailbox and all below it get, each with the next UIDVALIDITY that was never used there
-abbrev pub arrivals_in : View → (old new : Name) → Result (List Arrival) WorldError
-arrivals_in view old new = arrivals_at view.epochs (moved_names old new (map.insert view.taken old tt))
+-- the superiors are made first
+abbrev pub view_renamed : View → (old new : Name) → View
+view_renamed view old new =
+    view_with_moved (view_with_above view new) old new (arrivals_at view.epochs (names_after view old new))
 
--- The user holds x on the mailbox, and the new name lies in its tree, below a place, not at or below the mailbox, and
--- no mailbox is there or below.
-pub record IsMove (administrator user : List ℕ) (world : World) (old new : Name) : Type 0 where
-  pub deletable : has_any (rights_in (view_of administrator user world) old) delete_mailbox ≡ true
-  pub known : is_below_place_in (view_of administrator user world) new ≡ true
-  pub one_tree : root_of new ≡ root_of old
-  -- the new name isn't the root of the tree
-  pub no_root : 1 < length new
-  pub apart : is_within old new ≡ false
-  pub free : run_of new world.mailboxes ≡ []
+-- The mailbox is there and can move to the new name, at and below which nothing is. Superiors are made for it, and all
+-- mailboxes that move get the names and UIDVALIDITYs that the user expects, those that the user doesn't see too. The
+-- view after it is as said.
+pub record IsRenaming (administrator user : List ℕ) (world : World) (old new : Name) : Type 0 where
+  pub rows : List Row
+  pub there : map.contains_key world.mailboxes old ≡ true
+  pub allowed : can_move old new ≡ true
+  pub free : has_within new world.mailboxes ≡ false
+  pub made : superior_rows world (owner_of administrator new) new ≡ Ok rows
+  pub arrive : let view = view_of administrator user world in
+      arrivals world old new ≡ Ok (arrivals_at view.epochs (names_after view old new))
+  pub seen : let view = view_of administrator user world in
+      view_of administrator user
+      (with_moved (with_rows world rows) old new (arrivals_at view.epochs (names_after view old new)))
+      ≡ view_renamed view old new
 
--- The view after it is found from the view before and the validities that the names get.
-abbrev pub MovingIsSeen : Type 0
-MovingIsSeen =
-    (administrator user : List ℕ) (world : World) (old new : Name) (arrivals : List Arrival)
-    → IsMove administrator user world old new
-    → map_list (λ (a : Arrival). a.name) arrivals ≡ moved_names old new world.mailboxes
-    → view_of administrator user (with_moved world old new arrivals)
-    ≡ view_with_moved (view_of administrator user world) old new arrivals
-
--- And these are found from the view before alone, though mailboxes that the user doesn't see move too.
-abbrev pub ArrivalsAreSeen : Type 0
-ArrivalsAreSeen =
-    (administrator user : List ℕ) (world : World) (old new : Name) → IsMove administrator user world old new
-    → arrivals world old new ≡ arrivals_in (view_of administrator user world) old new
+-- Whether the mailbox may be renamed, and the view after it, are found from the view before alone.
+abbrev pub RenamingIsSeen : Type 0
+RenamingIsSeen =
+    (administrator user : List ℕ) (world : World) (old new : Name)
+    → may_rename (view_of administrator user world) old new ≡ true → IsRenaming administrator user world old new

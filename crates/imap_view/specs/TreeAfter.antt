@@ -3,7 +3,7 @@
 use Rattle.std.specs.Prelude.{◌≡◌, ℕ, ◌+◌, Bool, true, false, not, ◌&&◌, ◌||◌, nat_lt, List, [], ◌∷◌, ◌++◌, Option, Some, None, Ok, if◌then◌else◌}
 use Rattle.std.specs.FinMap as map
 use Rattle.std.specs.List.{list_all}
-use Rattle.imap_names.specs.Name.{Name}
+use Rattle.imap_names.specs.Name.{Name, is_inbox}
 use Rattle.imap_names.specs.Order.{Names}
 use Rattle.imap_name_map.specs.Rows.{has_below}
 use Rattle.imap_rights.specs.declared.change.RightsChange.{RightsChange}
@@ -81,18 +81,20 @@ SettingRightsIsSeen =
 
 -- ---- DELETE
 
--- the user holds x on the mailbox, and no name below it is in use
+-- the user holds x on the mailbox, it is no INBOX, and no name below it is in use
 abbrev pub may_delete : View → Name → Bool
-may_delete view name = has_any (rights_in view name) delete_mailbox && not (has_below name view.taken)
+may_delete view name =
+    has_any (rights_in view name) delete_mailbox && (not (is_inbox name) && not (has_below name view.taken))
 
 -- the mailbox is gone, and with it the place that it may have been
 abbrev pub view_without : View → Name → View
 view_without view name =
     narrowed (record view { seen = map.remove view.seen name; taken = map.remove view.taken name })
 
--- The mailbox is there, and no mailbox of the world is below it. The view after it is as said.
+-- The mailbox is there, is no INBOX, and no mailbox of the world is below it. The view after it is as said.
 pub record IsDeletion (administrator user : List ℕ) (world : World) (name : Name) : Type 0 where
   pub there : map.contains_key world.mailboxes name ≡ true
+  pub common : is_inbox name ≡ false
   pub lone : has_below name world.mailboxes ≡ false
   pub seen :
       view_of administrator user (without world name) ≡ view_without (view_of administrator user world) name

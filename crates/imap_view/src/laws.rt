@@ -2,7 +2,7 @@
 
 ghost use Rattle.imap_view.specs.After.{HiddenIsAbsent, OthersInboxesAreHidden};
 ghost use Rattle.imap_view.specs.After.{OthersSubscriptionsAreHidden, OwnEffectsAreMade, OwnEffectsAreSeen};
-ghost use Rattle.imap_view.specs.RenameAfter.{ArrivalsAreSeen, MovingIsSeen};
+ghost use Rattle.imap_view.specs.RenameAfter.{RenamingIsSeen};
 ghost use Rattle.imap_view.specs.TreeAfter.{CreatingIsSeen, DeletingIsSeen, SettingRightsIsSeen};
 
 /// The view after an effect that the user may ask for is found from the view before alone.
@@ -45,12 +45,7 @@ pub fn creating_is_seen()
     ensures { CreatingIsSeen }
 {}
 
-/// The view after a mailbox and all below it moved is found from the view before and the validities that they get.
-pub fn moving_is_seen()
-    ensures { MovingIsSeen }
-{}
-
-/// The validities that they get are found from the view before alone, though mailboxes that aren't seen move, too.
-pub fn arrivals_are_seen()
-    ensures { ArrivalsAreSeen }
+/// Whether the user may rename a mailbox, and the view after it, are found from the view before alone.
+pub fn renaming_is_seen()
+    ensures { RenamingIsSeen }
 {}

@@ -1,12 +1,14 @@
 -- What is written for effects keeps the superiors of mailboxes there, and takes the next validities.
-use Rattle.std.proofs.Common.{◌≡◌, inl, inr, ℕ, ◌+◌, ◌≤◌, Bool, true, false, cond, List, [], ◌∷◌, ◌++◌, append-nil, length, Option, Some, None, Result, Ok, Err, refl, sym, ap, subst, ◌∙◌, arith}
-use Rattle.std.specs.Prelude.{◌==◌, is_some}
+use Rattle.std.proofs.Common.{◌≡◌, inl, inr, ℕ, ◌+◌, ◌≤◌, Bool, true, false, cond, not, List, [], ◌∷◌, ◌++◌, append-nil, length, Option, Some, None, Result, Ok, Err, refl, sym, ap, subst, ◌∙◌, arith}
+use Rattle.std.specs.Prelude.{◌==◌, is_some, unwrap_or}
 use Rattle.std.specs.FinMap as map
 use Rattle.std.specs.List.{AllByRecursion, list_all}
 use Rattle.std.proofs.lemmas.Bool.{and_parts}
-use Rattle.imap_name_map.specs.Rows.{has_below}
-use Rattle.imap_names.specs.Name.{Name}
-use Rattle.imap_names.specs.Order.{Names}
+use Rattle.imap_name_map.proofs.NamesMoved.{moved_names_alike}
+use Rattle.imap_name_map.specs.Renaming.{moved_names}
+use Rattle.imap_name_map.specs.Rows.{has_below, has_within}
+use Rattle.imap_names.specs.Name.{Name, is_inbox}
+use Rattle.imap_names.specs.Order.{Names, is_within}
 use Rattle.imap_names.proofs.NameLaws.{is_name_at-same, get_put}
 use Rattle.imap_rights.specs.Acl.{AclMap, owner_acl}
 use Rattle.imap_rights.specs.declared.change.RightsChange.{RightsChange}
@@ -15,14 +17,17 @@ use Rattle.imap_world.specs.declared.change.Write.TheVariants as write
 use Rattle.imap_world.specs.declared.effect.Effect.{Effect}
 use Rattle.imap_world.specs.declared.effect.Effect.TheVariants as effect
 use Rattle.imap_world.specs.declared.error.WorldError.{WorldError}
-use Rattle.imap_world.specs.declared.error.WorldError.TheVariants.{NoSuch, Taken, Below, Limit}
+use Rattle.imap_world.specs.declared.error.WorldError.TheVariants.{NoSuch, Taken, Below, Cannot, Limit}
 use Rattle.imap_world.specs.declared.mailbox.Mailbox.{Mailbox}
-use Rattle.imap_world.specs.Effects.{after_write, after_writes, list_changed, list_set, put_of, puts, puts_of, writes_for, writes_of, writes_then}
+use Rattle.imap_world.specs.Effects.{after_write, after_writes, list_changed, list_set, move_after, put_of, puts, puts_of, writes_for, writes_of, writes_then}
 use Rattle.imap_world.specs.Kept.{IsSound, superior_is_there}
-use Rattle.imap_world.specs.Ready.{AreApart, MayBeWritten, MayWrite, is_plain}
+use Rattle.imap_world.specs.Moving.{arrivals, arrivals_at, can_arrive, can_move, superior_rows}
+use Rattle.imap_world.specs.Ready.{AreApart, MayBeWritten, MayMove, MayWrite, is_plain}
 use Rattle.imap_world.specs.Row.{Row}
-use Rattle.imap_world.specs.Tree.{acl_with_rights, created_rows, inherited, new_row, rows_for, with_last, with_acl, with_row, without}
+use Rattle.imap_world.specs.Tree.{acl_with_rights, created_rows, inherited, new_row, rows_for, with_last, with_acl, with_row, with_rows, without}
 use Rattle.imap_world.specs.World.{World, epoch, inbox, max_validity}
+use Rattle.imap_world.proofs.Made.{AreTails, StaysAt, below_is_apart, free_alike, moved_arrivals_alike, other_is_apart, rows_are_tails, rows_keep, stays_at}
+use Rattle.imap_world.proofs.Moves.{can_move-new_long, moved_is_sound, moves_apart}
 use Rattle.imap_world.proofs.Sound.{list_is_sound, put_is_sound, removed_is_sound, same_is_sound}
 use Rattle.imap_world.proofs.Superiors.{puts-last}
 
@@ -35,6 +40,7 @@ write_is_sound : (w : Write) (world : World) → MayWrite w world → IsSound wo
 write_is_sound (write.Put row) world may sound = put_is_sound world (with_row world row) row.name row.mailbox refl refl may sound
 write_is_sound (write.SetAcl name acl) world may sound = list_is_sound world (with_acl world name acl) name acl refl refl sound
 write_is_sound (write.Remove name) world may sound = removed_is_sound world (without world name) name refl refl may sound
+write_is_sound (write.Move old new arrivals) world may sound = moved_is_sound world old new arrivals may sound
 write_is_sound (write.Subscribe user name) world may sound = same_is_sound world (after_write (write.Subscribe user name) world) refl refl sound
 write_is_sound (write.Unsubscribe user name) world may sound = same_is_sound world (after_write (write.Unsubscribe user name) world) refl refl sound
 
@@ -44,11 +50,13 @@ writes_are_sound (w ∷ ws) world may sound = writes_are_sound ws (after_write w
 
 -- ---- what is written for effects
 
--- a mailbox that is made has the validity after the greatest that was used
+-- a mailbox that is made has the validity after the greatest that was used; that mailboxes which move have such ones is asked
+-- of each move
 abbrev pub IsNext : World → Write → Type 0
 IsNext old (write.Put row) = row.mailbox.validity ≡ epoch old.epochs row.name + 1
 IsNext old (write.SetAcl name acl) = Unit {0}
 IsNext old (write.Remove name) = Unit {0}
+IsNext old (write.Move from to arrivals) = Unit {0}
 IsNext old (write.Subscribe user name) = Unit {0}
 IsNext old (write.Unsubscribe user name) = Unit {0}
 
@@ -157,11 +165,68 @@ module _ (world : World) where
   create_fits owner name false (Err error) ws made e = absurd (cc e)
   create_fits owner name false (Ok rows) ws made e = subst (AreFit world) (ok_same (puts rows) ws e) (rows_made (inherited world.mailboxes owner name) name rows made).fit
 
-  delete_fits : (name : Name) (b below : Bool) (ws : List Write) → has_below name world.mailboxes ≡ below
-      → ◌≡◌ {A = Result (List Write) WorldError} (cond b (cond below (Err Below) (Ok (write.Remove name ∷ []))) (Err NoSuch)) (Ok ws) → AreFit world ws
-  delete_fits name true true ws is e = absurd (cc e)
-  delete_fits name true false ws is e = subst (AreFit world) (ok_same (write.Remove name ∷ []) ws e) (record { may = (is, tt); next = (tt, tt) })
-  delete_fits name false below ws is e = absurd (cc e)
+  delete_fits : (name : Name) (b inbox below : Bool) (ws : List Write) → has_below name world.mailboxes ≡ below
+      → ◌≡◌ {A = Result (List Write) WorldError} (cond b (cond inbox (Err Cannot) (cond below (Err Below) (Ok (write.Remove name ∷ [])))) (Err NoSuch)) (Ok ws) → AreFit world ws
+  delete_fits name true true below ws is e = absurd (cc e)
+  delete_fits name true false true ws is e = absurd (cc e)
+  delete_fits name true false false ws is e = subst (AreFit world) (ok_same (write.Remove name ∷ []) ws e) (record { may = (is, tt); next = (tt, tt) })
+  delete_fits name false inbox below ws is e = absurd (cc e)
+
+  -- ---- a mailbox that moves
+
+  rows_written : (rows : List Row) (w : World) → after_writes (puts rows) w ≡ with_rows w rows
+  rows_written [] w = refl
+  rows_written (row ∷ rows) w = rows_written rows (with_row w row)
+
+  -- once superiors are made that are apart from both names
+  move_after_rows : (old : Name) (deepest : List ℕ) (above : Name) (rows : List Row) (came : List (Name × ℕ)) → AreMade above rows → AreTails above rows → map.contains_key world.mailboxes old ≡ true
+      → can_move old (deepest ∷ above) ≡ true → has_within (deepest ∷ above) world.mailboxes ≡ false → came ≡ arrivals_at world.epochs (moved_names old (deepest ∷ above) world.mailboxes)
+      → MayMove old (deepest ∷ above) came (with_rows world rows)
+  move_after_rows old deepest above rows came made tails there can free are =
+      let new : Name = deepest ∷ above in
+      let mid : World = with_rows world rows in
+      let out = moves_apart world.mailboxes old new there can free in
+      let at_new : (q : Name) → is_within new q ≡ true → StaysAt q world mid = λ q e. stays_at q rows world (below_is_apart deepest above q rows tails e) in
+      let at_old : (q : Name) → is_within old q ≡ true → StaysAt q world mid = λ q e. stays_at q rows world (other_is_apart old deepest above q rows tails out e) in
+      record {
+        there = rows_keep old rows world there;
+        allowed = can;
+        free = free_alike new world.mailboxes mid.mailboxes (λ q e. ap is_some (sym (at_new q e).mailbox)) free;
+        superior = superior_written deepest above rows made.there;
+        next = are
+            ∙ moved_arrivals_alike world.epochs mid.epochs old new world.mailboxes (λ q e. ap (λ o. unwrap_or o 0) (sym (at_new q e).epoch))
+            ∙ ap (arrivals_at mid.epochs) (moved_names_alike old new world.mailboxes mid.mailboxes (λ q e. ap is_some (sym (at_old q e).mailbox)));
+      }
+    where
+      superior_written : (deepest : List ℕ) (above : Name) (rows : List Row) → IsThereAfter rows above → superior_is_there (with_rows world rows).mailboxes (deepest ∷ above) ≡ true
+      superior_written deepest [] rows there = refl
+      superior_written deepest (root ∷ []) rows there = refl
+      superior_written deepest (part ∷ next ∷ more) rows there = ap (λ (w : World). map.contains_key w.mailboxes (part ∷ next ∷ more)) (sym (rows_written rows world)) ∙ there
+
+  move_fits : (owner : List ℕ) (old new : Name) (rows : Result (List Row) WorldError) → superior_rows world owner new ≡ rows → (all : Bool) → map.contains_key world.mailboxes old ≡ true
+      → can_move old new ≡ true → has_within new world.mailboxes ≡ false → (ws : List Write)
+      → move_after old new (puts_of rows) (cond all (Ok (arrivals_at world.epochs (moved_names old new world.mailboxes))) (Err Limit)) ≡ Ok ws → AreFit world ws
+  move_fits owner old new (Err error) is all there can free ws e = absurd (cc e)
+  move_fits owner old new (Ok rows) is false there can free ws e = absurd (cc e)
+  move_fits owner old [] (Ok rows) is true there can free ws e = absurd (omega (arith, can_move-new_long old [] can))
+  move_fits owner old (deepest ∷ above) (Ok rows) is true there can free ws e =
+      let acl = inherited world.mailboxes owner above in
+      let made = rows_made acl above rows is in
+      let came = arrivals_at world.epochs (moved_names old (deepest ∷ above) world.mailboxes) in
+      subst (AreFit world) (ok_same (puts rows ++ write.Move old (deepest ∷ above) came ∷ []) ws e) (record {
+        may = may-last (puts rows) (write.Move old (deepest ∷ above) came) world made.fit.may
+            (subst (MayMove old (deepest ∷ above) came) (sym (rows_written rows world)) (move_after_rows old deepest above rows came made (rows_are_tails world acl above rows is) there can free refl));
+        next = all-append world (puts rows) (write.Move old (deepest ∷ above) came ∷ []) made.fit.next (tt, tt);
+      })
+
+  rename_fits : (owner : List ℕ) (old new : Name) (there : Bool) → map.contains_key world.mailboxes old ≡ there → (can : Bool) → can_move old new ≡ can
+      → (used : Bool) → has_within new world.mailboxes ≡ used → (ws : List Write)
+      → cond there (cond (not can) (Err Cannot) (cond used (Err Taken) (move_after old new (puts_of (superior_rows world owner new)) (arrivals world old new)))) (Err NoSuch) ≡ Ok ws → AreFit world ws
+  rename_fits owner old new false is can allowed used free ws e = absurd (cc e)
+  rename_fits owner old new true is false allowed used free ws e = absurd (cc e)
+  rename_fits owner old new true is true allowed true free ws e = absurd (cc e)
+  rename_fits owner old new true is true allowed false free ws e =
+      move_fits owner old new (superior_rows world owner new) refl (list_all (can_arrive world.epochs) (moved_names old new world.mailboxes)) is allowed free ws e
 
   list_fits : (name : Name) (r : Result AclMap WorldError) (ws : List Write) → list_set name r ≡ Ok ws → AreFit world ws
   list_fits name (Err error) ws e = absurd (cc e)
@@ -174,7 +239,8 @@ module _ (world : World) where
   pub effect_fits : (e : Effect) (ws : List Write) → writes_for e world ≡ Ok ws → AreFit world ws
   effect_fits (effect.CreateInbox user) ws is = inbox_fits user (new_row world.epochs (inbox user) (owner_acl user)) ws refl is
   effect_fits (effect.Create owner name) ws is = create_fits owner name (map.contains_key world.mailboxes name) (created_rows world owner name) ws refl is
-  effect_fits (effect.Delete name) ws is = delete_fits name (map.contains_key world.mailboxes name) (has_below name world.mailboxes) ws refl is
+  effect_fits (effect.Delete name) ws is = delete_fits name (map.contains_key world.mailboxes name) (is_inbox name) (has_below name world.mailboxes) ws refl is
+  effect_fits (effect.Rename owner old new) ws is = rename_fits owner old new (map.contains_key world.mailboxes old) refl (can_move old new) refl (has_within new world.mailboxes) refl ws is
   effect_fits (effect.SetRights name identifier change) ws is = rights_fit name identifier change (map.get world.mailboxes name) ws is
   effect_fits (effect.Subscribe user name) ws is = subst (AreFit world) (ok_same (write.Subscribe user name ∷ []) ws is) (record { may = (tt, tt); next = (tt, tt) })
   effect_fits (effect.Unsubscribe user name) ws is = subst (AreFit world) (ok_same (write.Unsubscribe user name ∷ []) ws is) (record { may = (tt, tt); next = (tt, tt) })
@@ -208,6 +274,7 @@ module _ (world : World) where
   plain_may (effect.CreateInbox user) ws later plain is = plain_inbox user (new_row world.epochs (inbox user) (owner_acl user)) ws later refl is
   plain_may (effect.Create owner name) ws later plain is = absurd (cc plain)
   plain_may (effect.Delete name) ws later plain is = absurd (cc plain)
+  plain_may (effect.Rename owner old new) ws later plain is = absurd (cc plain)
   plain_may (effect.SetRights name identifier change) ws later plain is = absurd (cc plain)
   plain_may (effect.Subscribe user name) ws later plain is = subst (λ vs. MayBeWritten vs later) (ok_same (write.Subscribe user name ∷ []) ws is) (tt, tt)
   plain_may (effect.Unsubscribe user name) ws later plain is = subst (λ vs. MayBeWritten vs later) (ok_same (write.Unsubscribe user name ∷ []) ws is) (tt, tt)

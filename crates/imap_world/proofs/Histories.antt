@@ -15,11 +15,12 @@ use Rattle.imap_world.specs.declared.mailbox.Mailbox.{Mailbox}
 use Rattle.imap_world.specs.Effects.{writes_of, after_write, after_writes, after_result, after_all, after_steps}
 use Rattle.imap_world.specs.Kept.{IsSound}
 use Rattle.imap_world.specs.Laws.{IsKeptOrNew, KeepsValidities, WorldsStaySound, ValiditiesAreUsedOnce}
-use Rattle.imap_world.specs.Ready.{AreApart}
+use Rattle.imap_world.specs.Ready.{AreApart, MayBeWritten, MayWrite}
 use Rattle.imap_world.specs.Row.{Row}
 use Rattle.imap_world.specs.Tree.{mailboxes_with_list, with_acl, with_row, without}
 use Rattle.imap_world.specs.World.{World, epoch}
 use Rattle.imap_world.proofs.Fitting.{IsNext, all_are_next, apart_may, writes_are_sound}
+use Rattle.imap_world.proofs.Moves.{moved_is_kept}
 use Rattle.imap_world.proofs.Sound.{found_before}
 
 there : (o : Option Mailbox) (mailbox : Mailbox) → o ≡ Some mailbox → option_map (λ (m : Mailbox). m.validity) o ≡ Some mailbox.validity
@@ -82,25 +83,26 @@ module _ (old world : World) (keeps : KeepsValidities old world) where
     mailboxes = λ name mailbox e. keeps.mailboxes name mailbox (found_before world.mailboxes k name mailbox e);
   }
 
-  write_kept : (w : Write) → IsNext old w → KeepsValidities old (after_write w world)
-  write_kept (write.Put row) next = row_kept row next
-  write_kept (write.SetAcl name acl) next = list_kept name acl
-  write_kept (write.Remove name) next = removed_kept name
-  write_kept (write.Subscribe user name) next = same_kept (after_write (write.Subscribe user name) world) refl refl
-  write_kept (write.Unsubscribe user name) next = same_kept (after_write (write.Unsubscribe user name) world) refl refl
+  write_kept : (w : Write) → IsNext old w → MayWrite w world → KeepsValidities old (after_write w world)
+  write_kept (write.Put row) next may = row_kept row next
+  write_kept (write.SetAcl name acl) next may = list_kept name acl
+  write_kept (write.Remove name) next may = removed_kept name
+  write_kept (write.Move from to arrivals) next may = moved_is_kept world from to arrivals may old keeps
+  write_kept (write.Subscribe user name) next may = same_kept (after_write (write.Subscribe user name) world) refl refl
+  write_kept (write.Unsubscribe user name) next may = same_kept (after_write (write.Unsubscribe user name) world) refl refl
 
 -- ---- several, and one list after another
 
-writes_kept : (old : World) (ws : List Write) (world : World) → AllByRecursion (IsNext old) ws → KeepsValidities old world → KeepsValidities old (after_writes ws world)
-writes_kept old [] world next keeps = keeps
-writes_kept old (w ∷ ws) world next keeps = writes_kept old ws (after_write w world) next.1 (write_kept old world keeps w next.0)
+writes_kept : (old : World) (ws : List Write) (world : World) → AllByRecursion (IsNext old) ws → MayBeWritten ws world → KeepsValidities old world → KeepsValidities old (after_writes ws world)
+writes_kept old [] world next may keeps = keeps
+writes_kept old (w ∷ ws) world next may keeps = writes_kept old ws (after_write w world) next.1 may.1 (write_kept old world keeps w next.0 may.0)
 
-effects_kept : (effects : List Effect) (old : World) → KeepsValidities old (after_all effects old)
-effects_kept effects old = by (writes_of effects old) refl
+effects_kept : (effects : List Effect) (old : World) → AreApart effects → KeepsValidities old (after_all effects old)
+effects_kept effects old apart = by (writes_of effects old) refl
   where
     by : (r : Result (List Write) WorldError) → writes_of effects old ≡ r → KeepsValidities old (after_result r old)
     by (Err error) is = keeps_itself old
-    by (Ok ws) is = writes_kept old ws old (all_are_next old effects ws is) (keeps_itself old)
+    by (Ok ws) is = writes_kept old ws old (all_are_next old effects ws is) (apart_may old effects ws apart is) (keeps_itself old)
 
 effects_sound : (effects : List Effect) (old : World) → AreApart effects → IsSound old → IsSound (after_all effects old)
 effects_sound effects old apart sound = by (writes_of effects old) refl
@@ -129,5 +131,5 @@ steps_stay_sound world [] apart sound = sound
 steps_stay_sound world (effects ∷ steps) apart sound = steps_stay_sound (after_all effects world) steps apart.1 (effects_sound effects world apart.0 sound)
 
 pub used_once : ValiditiesAreUsedOnce
-used_once world [] = keeps_itself world
-used_once world (effects ∷ steps) = keeps_on world (after_all effects world) (after_steps steps (after_all effects world)) (effects_kept effects world) (used_once (after_all effects world) steps)
+used_once world [] apart = keeps_itself world
+used_once world (effects ∷ steps) apart = keeps_on world (after_all effects world) (after_steps steps (after_all effects world)) (effects_kept effects world apart.0) (used_once (after_all effects world) steps apart.1)

@@ -1,7 +1,10 @@
 pub mod Changed
+pub mod Coming
 pub mod Finding
 pub mod Fitting
 pub mod Histories
+pub mod Made
+pub mod Moves
 pub mod Owners
 pub mod Resolved
 pub mod Room

@@ -16,7 +16,7 @@ use Rattle.imap_user_map.specs.Rows.{Users}
 use Rattle.imap_world.specs.declared.change.Write.{Write}
 use Rattle.imap_world.specs.declared.change.Write.TheVariants as write
 use Rattle.imap_world.specs.Effects.{after_write}
-use Rattle.imap_world.specs.Ready.{HasNameRoom, HasRoom, IsOneReady, IsReady, Leaves, KeepsRoom, LeavesRoom, MayBeWritten}
+use Rattle.imap_world.specs.Ready.{HasNameRoom, HasRoom, IsOneReady, IsReady, Leaves, KeepsRoom, LeavesRoom, MayBeWritten, count_of, counts_of}
 use Rattle.imap_world.specs.Stored.{Stored, Subscriptions, world_of}
 use Rattle.imap_world.proofs.Sets.{is_user, equal_users, user_itself}
 
@@ -51,11 +51,12 @@ no_room o more is h = subst (HasRoom more) is h
 
 -- ---- after one write of several
 
-module _ (old new : Stored) (leaves : Leaves old new) where
+module _ (counted : ℕ) (old new : Stored) (leaves : Leaves counted old new) where
   one_less : (more : ℕ) (w : Write) → HasNameRoom old.subscriptions (more + 1) w → HasNameRoom new.subscriptions more w
   one_less more (write.Put row) h = tt
   one_less more (write.SetAcl name acl) h = tt
   one_less more (write.Remove name) h = tt
+  one_less more (write.Move from to arrivals) h = tt
   one_less more (write.Subscribe user name) h = leaves.users user more h
   one_less more (write.Unsubscribe user name) h = tt
 
@@ -63,11 +64,11 @@ module _ (old new : Stored) (leaves : Leaves old new) where
   all_less more [] h = tt
   all_less more (w ∷ ws) h = (one_less more w h.0, all_less more ws h.1)
 
-  pub rest_ready : (w : Write) (ws : List Write) → world_of new ≡ after_write w (world_of old) → IsReady (w ∷ ws) old → IsReady ws new
-  rest_ready w ws is ready = record {
+  pub rest_ready : (w : Write) (ws : List Write) → counted ≡ count_of w → world_of new ≡ after_write w (world_of old) → IsReady (w ∷ ws) old → IsReady ws new
+  rest_ready w ws counts is ready = record {
     room = record {
       mailboxes = omega (arith, leaves.mailboxes, ready.room.mailboxes);
-      epochs = omega (arith, leaves.epochs, ready.room.epochs);
+      epochs = omega (arith, counts, leaves.epochs, ready.room.epochs);
       sets = all_less (length ws) ws (subst (λ n. AllByRecursion (HasNameRoom old.subscriptions n) ws) (omega (arith)) ready.room.sets.1);
     };
     may = subst (MayBeWritten ws) (sym is) ready.may.1;
@@ -77,6 +78,7 @@ at_least_one : (s : Subscriptions) (n : ℕ) (w : Write) → 1 ≤ n → HasName
 at_least_one s n (write.Put row) le h = tt
 at_least_one s n (write.SetAcl name acl) le h = tt
 at_least_one s n (write.Remove name) le h = tt
+at_least_one s n (write.Move from to arrivals) le h = tt
 at_least_one s n (write.Subscribe user name) le h = fewer (map.get s.map user) 1 n le h
 at_least_one s n (write.Unsubscribe user name) le h = tt
 
@@ -95,6 +97,7 @@ module _ (old new : Subscriptions) (keeps : KeepsRoom old new) (more : ℕ) wher
   one_kept (write.Put row) h = tt
   one_kept (write.SetAcl name acl) h = tt
   one_kept (write.Remove name) h = tt
+  one_kept (write.Move from to arrivals) h = tt
   one_kept (write.Subscribe user name) h = keeps user more h
   one_kept (write.Unsubscribe user name) h = tt
 
@@ -125,16 +128,16 @@ put_room s t u rows is more (Ok done) h = subst (HasRoom more) (sym (there s t u
 put_room s t u rows is more (Err error) h = tt
 
 -- the mailboxes were changed
-pub mailboxes_leave : (old new : Stored) → new.subscriptions ≡ old.subscriptions
-    → old.mailboxes.spare ≤ new.mailboxes.spare + 1 → old.epochs.spare ≤ new.epochs.spare + 1 → Leaves old new
-mailboxes_leave old new same mailboxes epochs = record {
+pub mailboxes_leave : (counted : ℕ) (old new : Stored) → new.subscriptions ≡ old.subscriptions
+    → old.mailboxes.spare ≤ new.mailboxes.spare + 1 → old.epochs.spare ≤ new.epochs.spare + counted → Leaves counted old new
+mailboxes_leave counted old new same mailboxes epochs = record {
   mailboxes = mailboxes;
   epochs = epochs;
   users = λ user more h. subst (λ (s : Subscriptions). HasRoom more (map.get s.map user)) (sym same) (fewer (map.get old.subscriptions.map user) more (more + 1) (omega (arith)) h);
 }
 
 -- the set of one user was changed
-pub put_set_leaves : (old new : Stored) → new.mailboxes ≡ old.mailboxes → new.epochs ≡ old.epochs → LeavesRoom old.subscriptions new.subscriptions → Leaves old new
+pub put_set_leaves : (old new : Stored) → new.mailboxes ≡ old.mailboxes → new.epochs ≡ old.epochs → LeavesRoom old.subscriptions new.subscriptions → Leaves 0 old new
 put_set_leaves old new mailboxes epochs users = record {
   mailboxes = omega (arith, ap (λ r. r.spare) mailboxes);
   epochs = omega (arith, ap (λ r. r.spare) epochs);
@@ -148,3 +151,16 @@ len_without names k = subst (λ n. n ≤ map.len names) (sym (len-remove name_to
     by : (b : Bool) → cond b (map.len names - 1) (map.len names) ≤ map.len names
     by true = omega (arith)
     by false = omega (arith)
+
+-- ---- how many validities are counted
+
+counts_of-append : (ws more : List Write) → counts_of (ws ++ more) ≡ counts_of ws + counts_of more
+counts_of-append [] more = omega arith
+counts_of-append (w ∷ ws) more = omega (arith, counts_of-append ws more)
+
+-- of one write more
+pub counts_of-take : (ws : List Write) (i : ℕ) (w : Write) → i < length ws → w ≡ get_or ws i w → counts_of (take (i + 1) ws) ≡ counts_of (take i ws) + count_of w
+counts_of-take ws i w lt is =
+    ap counts_of (take_more ws i w lt ∙ ap (λ x. take i ws ++ x ∷ []) (sym is))
+    ∙ counts_of-append (take i ws) (w ∷ [])
+    ∙ ap (λ n. counts_of (take i ws) + n) (omega arith)

@@ -1,8 +1,8 @@
 -- What is asked of the mailboxes, the values that are written for it, and what these make of a world.
-use Rattle.std.specs.Prelude.{ℕ, ◌==◌, List, [], ◌∷◌, ◌++◌, Option, Some, None, Result, Ok, Err, if◌then◌else◌}
+use Rattle.std.specs.Prelude.{ℕ, ◌==◌, List, [], ◌∷◌, ◌++◌, not, Option, Some, None, Result, Ok, Err, if◌then◌else◌}
 use Rattle.std.specs.FinMap as map
-use Rattle.imap_name_map.specs.Rows.{has_below}
-use Rattle.imap_names.specs.Name.{Name}
+use Rattle.imap_name_map.specs.Rows.{has_below, has_within}
+use Rattle.imap_names.specs.Name.{Name, is_inbox}
 use Rattle.imap_rights.specs.Acl.{AclMap, owner_acl}
 use Rattle.imap_rights.specs.declared.change.RightsChange.{RightsChange}
 use Rattle.imap_user_map.specs.Rows.{Users}
@@ -11,8 +11,9 @@ use Rattle.imap_world.specs.declared.change.Write.TheVariants as write
 use Rattle.imap_world.specs.declared.effect.Effect.{Effect}
 use Rattle.imap_world.specs.declared.effect.Effect.TheVariants as effect
 use Rattle.imap_world.specs.declared.error.WorldError.{WorldError}
-use Rattle.imap_world.specs.declared.error.WorldError.TheVariants.{NoSuch, Taken, Below}
+use Rattle.imap_world.specs.declared.error.WorldError.TheVariants.{NoSuch, Taken, Below, Cannot}
 use Rattle.imap_world.specs.declared.mailbox.Mailbox.{Mailbox}
+use Rattle.imap_world.specs.Moving.{arrivals, can_move, superior_rows, with_moved}
 use Rattle.imap_world.specs.Row.{Row}
 use Rattle.imap_world.specs.Tree.{acl_with_rights, with_acl, without, created_rows}
 use Rattle.imap_world.specs.World.{World, NameSet, subscribed_by, inbox}
@@ -37,6 +38,7 @@ abbrev pub after_write : Write → World → World
 after_write (write.Put row) world = with_row world row
 after_write (write.SetAcl name acl) world = with_acl world name acl
 after_write (write.Remove name) world = without world name
+after_write (write.Move old new arrivals) world = with_moved world old new arrivals
 after_write (write.Subscribe user name) world =
     with_subscribed world user (map.insert (subscribed_by world user) name tt)
 after_write (write.Unsubscribe user name) world =
@@ -60,10 +62,25 @@ abbrev pub puts_of : Result (List Row) WorldError → Result (List Write) WorldE
 puts_of (Err error) = Err error
 puts_of (Ok rows) = Ok (puts rows)
 
--- a mailbox goes only if none is below it (RFC 9051, section 6.3.5)
+-- a mailbox goes only if it is no INBOX and none is below it (RFC 9051, section 6.3.5)
 abbrev pub removal : World → Name → Result (List Write) WorldError
 removal world name =
-    if has_below name world.mailboxes then Err Below else Ok (write.Remove name ∷ [])
+    if is_inbox name then Err Cannot
+    else if has_below name world.mailboxes then Err Below else Ok (write.Remove name ∷ [])
+
+-- first the superiors are made
+abbrev pub move_after : (old new : Name)
+    → Result (List Write) WorldError → Result (List (Name × ℕ)) WorldError → Result (List Write) WorldError
+move_after old new (Err error) arrivals = Err error
+move_after old new (Ok made) (Err error) = Err error
+move_after old new (Ok made) (Ok arrivals) = Ok (made ++ write.Move old new arrivals ∷ [])
+
+-- a mailbox moves, with all below it, only to a name at and below which nothing is (RFC 9051, section 6.3.6)
+abbrev pub renaming : World → (owner : List ℕ) → (old new : Name) → Result (List Write) WorldError
+renaming world owner old new =
+    if not (can_move old new) then Err Cannot
+    else if has_within new world.mailboxes then Err Taken
+    else move_after old new (puts_of (superior_rows world owner new)) (arrivals world old new)
 
 abbrev pub list_set : Name → Result AclMap WorldError → Result (List Write) WorldError
 list_set name (Err error) = Err error
@@ -82,6 +99,8 @@ writes_for (effect.Create owner name) world =
     if map.contains_key world.mailboxes name then Err Taken else puts_of (created_rows world owner name)
 writes_for (effect.Delete name) world =
     if map.contains_key world.mailboxes name then removal world name else Err NoSuch
+writes_for (effect.Rename owner old new) world =
+    if map.contains_key world.mailboxes old then renaming world owner old new else Err NoSuch
 writes_for (effect.SetRights name identifier change) world =
     list_changed name identifier change (map.get world.mailboxes name)
 writes_for (effect.Subscribe user name) world = Ok (write.Subscribe user name ∷ [])

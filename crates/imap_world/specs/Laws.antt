@@ -28,4 +28,5 @@ pub record KeepsValidities (old new : World) : Type 0 where
 
 -- No UIDVALIDITY is used twice under a name (RFC 9051, section 2.3.1.1).
 abbrev pub ValiditiesAreUsedOnce : Type 0
-ValiditiesAreUsedOnce = (world : World) (steps : List (List Effect)) → KeepsValidities world (after_steps steps world)
+ValiditiesAreUsedOnce = (world : World) (steps : List (List Effect))
+    → AllByRecursion AreApart steps → KeepsValidities world (after_steps steps world)

@@ -2,13 +2,16 @@
 use Rattle.std.specs.Prelude.{◌≡◌, ◌⊎◌, ℕ, ◌+◌, ◌<◌, ◌≤◌, Bool, true, false, List, [], ◌∷◌, length, Option, Some, None}
 use Rattle.std.specs.FinMap as map
 use Rattle.std.specs.List.{AllByRecursion, list_all}
-use Rattle.imap_name_map.specs.Rows.{Rows, has_below}
+use Rattle.imap_name_map.specs.Renaming.{moved_names}
+use Rattle.imap_name_map.specs.Rows.{Rows, has_below, has_within}
+use Rattle.imap_names.specs.Name.{Name}
 use Rattle.imap_world.specs.declared.change.Write.{Write}
 use Rattle.imap_world.specs.declared.change.Write.TheVariants as write
 use Rattle.imap_world.specs.declared.effect.Effect.{Effect}
 use Rattle.imap_world.specs.declared.effect.Effect.TheVariants as effect
 use Rattle.imap_world.specs.Effects.{after_write}
 use Rattle.imap_world.specs.Kept.{superior_is_there}
+use Rattle.imap_world.specs.Moving.{arrivals_at, can_move}
 use Rattle.imap_world.specs.Stored.{Stored, Subscriptions, world_of}
 use Rattle.imap_world.specs.World.{World}
 
@@ -19,6 +22,7 @@ abbrev pub is_plain : Effect → Bool
 is_plain (effect.CreateInbox user) = true
 is_plain (effect.Create owner name) = false
 is_plain (effect.Delete name) = false
+is_plain (effect.Rename owner old new) = false
 is_plain (effect.SetRights name identifier change) = false
 is_plain (effect.Subscribe user name) = true
 is_plain (effect.Unsubscribe user name) = true
@@ -29,11 +33,21 @@ AreApart effects = (length effects ≤ 1) ⊎ (list_all is_plain effects ≡ tru
 
 -- ---- writes that keep the superiors of mailboxes there
 
+-- Mailboxes move to names at and below which nothing is, below one that is there. Each gets the next UIDVALIDITY that
+-- was never used under its name.
+pub record MayMove (old new : Name) (arrivals : List (Name × ℕ)) (world : World) : Type 0 where
+  pub there : map.contains_key world.mailboxes old ≡ true
+  pub allowed : can_move old new ≡ true
+  pub free : has_within new world.mailboxes ≡ false
+  pub superior : superior_is_there world.mailboxes new ≡ true
+  pub next : arrivals ≡ arrivals_at world.epochs (moved_names old new world.mailboxes)
+
 -- a mailbox is made below one that is there, and goes only if none is below it
 abbrev pub MayWrite : Write → World → Type 0
 MayWrite (write.Put row) world = superior_is_there world.mailboxes row.name ≡ true
 MayWrite (write.SetAcl name acl) world = Unit {0}
 MayWrite (write.Remove name) world = has_below name world.mailboxes ≡ false
+MayWrite (write.Move old new arrivals) world = MayMove old new arrivals world
 MayWrite (write.Subscribe user name) world = Unit {0}
 MayWrite (write.Unsubscribe user name) world = Unit {0}
 
@@ -54,13 +68,27 @@ abbrev pub HasNameRoom : Subscriptions → ℕ → Write → Type 0
 HasNameRoom subscriptions more (write.Put row) = Unit {0}
 HasNameRoom subscriptions more (write.SetAcl name acl) = Unit {0}
 HasNameRoom subscriptions more (write.Remove name) = Unit {0}
+HasNameRoom subscriptions more (write.Move old new arrivals) = Unit {0}
 HasNameRoom subscriptions more (write.Subscribe user name) = HasRoom more (map.get subscriptions.map user)
 HasNameRoom subscriptions more (write.Unsubscribe user name) = Unit {0}
+
+-- how many UIDVALIDITYs the write counts as used
+abbrev pub count_of : Write → ℕ
+count_of (write.Put row) = 1
+count_of (write.Move old new arrivals) = length arrivals
+count_of (write.SetAcl name acl) = 0
+count_of (write.Remove name) = 0
+count_of (write.Subscribe user name) = 0
+count_of (write.Unsubscribe user name) = 0
+
+abbrev pub counts_of : List Write → ℕ
+counts_of [] = 0
+counts_of (write ∷ writes) = count_of write + counts_of writes
 
 -- with room wherever one of the writes may need some
 pub record HasRoomFor (change : List Write) (stored : Stored) : Type 0 where
   pub mailboxes : length change ≤ stored.mailboxes.spare
-  pub epochs : length change ≤ stored.epochs.spare
+  pub epochs : counts_of change ≤ stored.epochs.spare
   pub sets : AllByRecursion (HasNameRoom stored.subscriptions (length change)) change
 
 -- ---- what is ready
@@ -68,7 +96,7 @@ pub record HasRoomFor (change : List Write) (stored : Stored) : Type 0 where
 -- with room for one more mailbox, and what else the write needs
 pub record IsOneReady (stored : Stored) (write : Write) : Type 0 where
   pub mailboxes : 0 < stored.mailboxes.spare
-  pub epochs : 0 < stored.epochs.spare
+  pub epochs : count_of write ≤ stored.epochs.spare
   pub set : HasNameRoom stored.subscriptions 1 write
   pub may : MayWrite write (world_of stored)
 
@@ -86,8 +114,8 @@ abbrev pub LeavesRoom : Subscriptions → Subscriptions → Type 0
 LeavesRoom old new =
     (user : List ℕ) (more : ℕ) → HasRoom (more + 1) (map.get old.map user) → HasRoom more (map.get new.map user)
 
--- the room of the first is left in the second, but for one name
-pub record Leaves (old new : Stored) : Type 0 where
+-- the room of the first is left in the second, but for one mailbox, one subscription and this many UIDVALIDITYs
+pub record Leaves (counted : ℕ) (old new : Stored) : Type 0 where
   pub mailboxes : old.mailboxes.spare ≤ new.mailboxes.spare + 1
-  pub epochs : old.epochs.spare ≤ new.epochs.spare + 1
+  pub epochs : old.epochs.spare ≤ new.epochs.spare + counted
   pub users : LeavesRoom old.subscriptions new.subscriptions

@@ -1,7 +1,9 @@
 //! What a change writes.
 
 ghost use Rattle.std.specs.Prelude.{◌≡◌, ◌↔◌, ◌++◌, ◌∷◌, [], length, IfOk, IsTrue, OnOk};
+ghost use Rattle.imap_world.specs.Ready.{count_of, counts_of};
 
+use crate::arrivals::Arrivals;
 use crate::mailbox::Mailbox;
 use imap_names::{Name, UserName};
 use imap_rights::Acl;
@@ -64,11 +66,28 @@ pub enum Write {
     SetAcl(Name, Acl),
     /// The mailbox goes. Its UIDVALIDITY stays counted as used.
     Remove(Name),
+    /// The mailbox of the first name and all below it are called by the second name. These are the names that they get.
+    /// They keep their lists.
+    Move(Name, Name, Arrivals),
     Subscribe(UserName, Name),
     Unsubscribe(UserName, Name),
 }
 
 impl Write {
+    /// How many UIDVALIDITYs it counts as used.
+    fn count(&self) -> usize
+        ensures { result ≡ count_of self.now }
+    {
+        match self {
+            Write::Put(_) => 1,
+            Write::Move(_, _, arrivals) => arrivals.entries().len(),
+            Write::SetAcl(_, _)
+            | Write::Remove(_)
+            | Write::Subscribe(_, _)
+            | Write::Unsubscribe(_, _) => 0,
+        }
+    }
+
     /// Returns an equal copy.
     pub fn try_copy(&self, alloc: Global) -> Result<Write, AllocError>
         ensures { IfOk result (λ copy. copy ≡ self.now) }
@@ -77,6 +96,10 @@ impl Write {
             Write::Put(row) => Ok(Write::Put(row.try_copy(alloc)?)),
             Write::SetAcl(name, acl) => Ok(Write::SetAcl(name.try_copy()?, acl.try_copy(alloc)?)),
             Write::Remove(name) => Ok(Write::Remove(name.try_copy()?)),
+            Write::Move(old, new, arrivals) => {
+                let arrivals = arrivals.try_copy(alloc)?;
+                Ok(Write::Move(old.try_copy()?, new.try_copy()?, arrivals))
+            }
             Write::Subscribe(user, name) => {
                 Ok(Write::Subscribe(user.try_copy()?, name.try_copy()?))
             }
@@ -156,6 +179,13 @@ impl Change {
         Ok(Change { writes })
     }
 
+    /// How many UIDVALIDITYs are counted as used. Fails if no memory could hold them.
+    pub(crate) fn count(&self) -> Result<usize, AllocError>
+        ensures { IfOk result (λ count. count ≡ counts_of self.now) }
+    {
+        count_all(self.writes.as_slice())
+    }
+
     /// How many values are written.
     pub fn len(&self) -> usize
         ensures { result ≡ length self.now }
@@ -169,6 +199,19 @@ impl Change {
     {
         self.writes.is_empty()
     }
+}
+
+fn count_all(writes: &[Write]) -> Result<usize, AllocError>
+    ensures { IfOk result (λ count. count ≡ counts_of writes.now) }
+{
+    let mut count: usize = 0;
+    for write in writes {
+        match count.checked_add(write.count()) {
+            Some(more) => count = more,
+            None => return Err(AllocError),
+        }
+    }
+    Ok(count)
 }
 
 fn copy_writes(alloc: Global, writes: &[Write]) -> Result<Vec<Write>, AllocError>

@@ -14,6 +14,9 @@ pub enum Effect {
     Create(UserName, Name),
     /// The mailbox goes (RFC 9051, section 6.3.5).
     Delete(Name),
+    /// The mailbox of the first name and all below it are called by the second (RFC 9051, section 6.3.6). Superiors of
+    /// that which aren't there are made, as by `Create` in a tree of this owner. Each mailbox gets a new UIDVALIDITY.
+    Rename(UserName, Name, Name),
     /// The rights of one identifier on the mailbox change (RFC 4314, section 3.1). To replace them by none is to
     /// remove its entry (RFC 4314, section 3.2).
     SetRights(Name, Identifier, RightsChange),

@@ -18,7 +18,10 @@ pub enum WorldError {
     /// There are mailboxes below the name.
     #[error("there are mailboxes below the name")]
     Below,
-    /// The access control list is full, or no UIDVALIDITY is left under the name.
+    /// An INBOX can't go, and a mailbox can't move to another tree or below itself.
+    #[error("that is not possible")]
+    Cannot,
+    /// The access control list is full, the name is too long or too deep, or no UIDVALIDITY is left under it.
     #[error("a limit is reached")]
     Limit,
     #[error("out of memory")]

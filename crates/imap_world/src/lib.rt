@@ -4,12 +4,13 @@
 //! refused; [`World::commit`] writes them, takes no memory, and cannot.
 #![tactic(auto)]
 
+mod arrivals;
 mod change;
 mod effect;
 mod error;
 pub mod laws;
 mod mailbox;
-mod own_name;
+mod moving;
 mod owner;
 mod placing;
 mod resolve;
@@ -18,9 +19,11 @@ mod site;
 mod subscriptions;
 mod world;
 
+pub use arrivals::Arrivals;
 pub use change::{Change, Row, Write};
 pub use effect::Effect;
 pub use error::WorldError;
 pub use mailbox::Mailbox;
+pub use moving::can_move;
 pub use site::{Limits, Site};
 pub use world::World;

@@ -4,12 +4,11 @@ ghost use Rattle.std.specs.Prelude.{◌≡◌, IfOk, Ok};
 ghost use Rattle.imap_world.specs.Changing.{AnswersOrMemory};
 ghost use Rattle.imap_world.specs.Effects.{put_of, puts_of, writes_for, writes_of, writes_then};
 ghost use Rattle.imap_world.specs.Stored.{world_of};
-ghost use Rattle.imap_world.specs.Tree.{inherited, new_row, rows_for};
+ghost use Rattle.imap_world.specs.Tree.{created_rows, inherited, new_row, rows_for};
 
 use crate::change::{Change, Write};
 use crate::effect::Effect;
 use crate::error::WorldError;
-use crate::own_name::own_name;
 use crate::owner::owner_acl;
 use crate::rights::changed_acl;
 use crate::world::World;
@@ -44,6 +43,7 @@ impl World {
             Effect::CreateInbox(user) => self.resolve_inbox(alloc, user),
             Effect::Create(owner, name) => self.resolve_create(alloc, owner, name),
             Effect::Delete(name) => self.resolve_delete(alloc, name),
+            Effect::Rename(owner, old, new) => self.resolve_rename(alloc, owner, old, new),
             Effect::SetRights(name, identifier, change) => {
                 self.resolve_rights(alloc, name, identifier, *change)
             }
@@ -80,8 +80,21 @@ impl World {
         if self.mailbox(&name.as_ref()).is_some() {
             return Err(WorldError::Taken);
         }
-        let acl = self.inherited_acl(alloc, owner, &name.as_ref())?;
-        self.rows_for(alloc, owner, &acl, &name.as_ref())
+        self.resolve_rows(alloc, owner, &name.as_ref())
+    }
+
+    /// Finds the mailboxes to be written for a name, unless it is there, and for its superiors. Each has the list of
+    /// the nearest superior that is there.
+    pub(crate) fn resolve_rows(
+        &self,
+        alloc: Global,
+        owner: &UserName,
+        name: &NameRef<'_>,
+    ) -> Result<Change, WorldError>
+        ensures { AnswersOrMemory result (puts_of (created_rows (world_of self.now) owner.now name.now)) }
+    {
+        let acl = self.inherited_acl(alloc, owner, name)?;
+        self.rows_for(alloc, &acl, name)
     }
 
     /// The access control list of the nearest superior that is there, or one that gives `owner` all rights.
@@ -103,24 +116,18 @@ impl World {
     }
 
     /// Finds the mailboxes to be written for a name, unless it is there: first its superiors, from the outermost on,
-    /// and last itself. Each has the list `acl`. `reader` may be any user.
-    fn rows_for(
-        &self,
-        alloc: Global,
-        reader: &UserName,
-        acl: &Acl,
-        name: &NameRef<'_>,
-    ) -> Result<Change, WorldError>
+    /// and last itself. Each has the list `acl`.
+    fn rows_for(&self, alloc: Global, acl: &Acl, name: &NameRef<'_>) -> Result<Change, WorldError>
         ensures { AnswersOrMemory result (puts_of (rows_for (world_of self.now) acl.now name.now)) }
     {
         if self.mailbox(name).is_some() {
             return Ok(Change::none(alloc));
         }
         let change = match name.superior() {
-            Some(above) => self.rows_for(alloc, reader, acl, &above)?,
+            Some(above) => self.rows_for(alloc, acl, &above)?,
             None => Change::none(alloc),
         };
-        let own = own_name(alloc, reader, name)?;
+        let own = name.to_name(alloc)?;
         self.with_last_row(change, own, acl.try_copy(alloc)?)
     }
 
@@ -140,6 +147,9 @@ impl World {
     {
         if self.mailbox(&name.as_ref()).is_none() {
             return Err(WorldError::NoSuch);
+        }
+        if name.is_inbox() {
+            return Err(WorldError::Cannot);
         }
         if self.mailboxes().has_below(&name.as_ref()) {
             return Err(WorldError::Below);

@@ -45,7 +45,11 @@ fn make_room_for_one(
 {
     match write {
         Write::Subscribe(user, _) => make_room(subscriptions, alloc, user.as_str(), more),
-        Write::Put(_) | Write::SetAcl(_, _) | Write::Remove(_) | Write::Unsubscribe(_, _) => Ok(()),
+        Write::Put(_)
+        | Write::SetAcl(_, _)
+        | Write::Remove(_)
+        | Write::Move(_, _, _)
+        | Write::Unsubscribe(_, _) => Ok(()),
     }
 }
 

@@ -1,21 +1,24 @@
 //! The world.
 
-ghost use Rattle.std.specs.Prelude.{◌≡◌, ◌<◌, false, true, IfOk, Ok, OnErr, OnOk, option_copied};
+ghost use Rattle.std.specs.Prelude.{◌≡◌, ◌<◌, ◌≤◌, false, true, length, IfOk, Ok, OnErr, OnOk, option_copied};
 ghost use Rattle.std.specs.FinMap as map;
 ghost use Rattle.imap_name_map.specs.Rows.{has_below};
 ghost use Rattle.imap_world.specs.Changing.{Answers, AnswersOrMemory, Changes};
 ghost use Rattle.imap_world.specs.Changing.{world_with_placed, world_with_rights};
 ghost use Rattle.imap_world.specs.Effects.{after_write, after_writes, writes_of};
 ghost use Rattle.imap_world.specs.Kept.{IsSound, superior_is_there};
-ghost use Rattle.imap_world.specs.Ready.{AreApart, HasRoomFor, IsOneReady, IsReady, Leaves};
+ghost use Rattle.imap_world.specs.Moving.{with_moved};
+ghost use Rattle.imap_world.specs.Ready.{AreApart, HasRoomFor, IsOneReady, IsReady, Leaves, MayMove, count_of};
 ghost use Rattle.imap_world.specs.Stored.{names_in, world_of};
 ghost use Rattle.imap_world.specs.Tree.{new_row, with_acl, with_row, without};
 ghost use Rattle.imap_world.specs.World.{epoch, subscribed_by};
 
+use crate::arrivals::Arrivals;
 use crate::change::{Change, Row, Write};
 use crate::effect::Effect;
 use crate::error::WorldError;
 use crate::mailbox::Mailbox;
+use crate::moving::set_validities;
 use crate::placing::{epoch_of, has_superior, new_row};
 use crate::rights::{put_acl, set_rights};
 use crate::subscriptions::{add_name, make_room_for, remove_name};
@@ -161,9 +164,10 @@ impl World {
 
     /// Finds the values to be written for the effects, and reserves all room. Changes nothing that is kept.
     ///
-    /// Fails with the first fault: `Taken` if a mailbox is to be made and is there, `NoSuch` if one isn't there that is
-    /// to go or to have other rights, `Below` if one is below a mailbox that is to go, `Limit` if no UIDVALIDITY is
-    /// left or an access control list would be too long.
+    /// Fails with the first fault: `Taken` if a mailbox is to be made or to move to a name that is in use, `NoSuch` if
+    /// one isn't there that is to go, to move or to have other rights, `Cannot` if an INBOX is to go or a mailbox can't
+    /// move there, `Below` if one is below a mailbox that is to go, `Limit` if no UIDVALIDITY is left, a name would be
+    /// too long or too deep, or an access control list would be too long.
     pub fn prepare(&mut self, alloc: Global, effects: &[Effect]) -> Result<Change, WorldError>
         requires { AreApart effects.now }
         ensures unchanged { world_of self.new ≡ world_of self.old }
@@ -182,7 +186,7 @@ impl World {
     {
         let more = change.len();
         self.mailboxes.reserve(more)?;
-        self.epochs.reserve(more)?;
+        self.epochs.reserve(change.count()?)?;
         make_room_for(&mut self.subscriptions, alloc, change.writes(), more)
     }
 
@@ -201,12 +205,15 @@ impl World {
     fn write(&mut self, write: Write)
         requires { IsOneReady self.old write }
         ensures world { world_of self.new ≡ after_write write (world_of self.old) }
-        ensures room { Leaves self.old self.new }
+        ensures room { Leaves (count_of write) self.old self.new }
     {
         match write {
             Write::Put(row) => self.put(row),
             Write::SetAcl(name, acl) => self.put_list(&name.as_ref(), acl),
             Write::Remove(name) => self.remove(&name.as_ref()),
+            Write::Move(old, new, arrivals) => {
+                self.move_run(&old.as_ref(), &new.as_ref(), arrivals)
+            }
             Write::Subscribe(user, name) => {
                 add_name(&mut self.subscriptions, user.as_str(), name)
             }
@@ -222,7 +229,7 @@ impl World {
         requires epochs { 0 < self.old.epochs.spare }
         requires superior { superior_is_there self.old.mailboxes.map row.name ≡ true }
         ensures world { world_of self.new ≡ with_row (world_of self.old) row }
-        ensures room { Leaves self.old self.new }
+        ensures room { Leaves 1 self.old self.new }
     {
         let validity = row.mailbox.validity;
         self.mailboxes.insert_reserved(row.name, row.mailbox);
@@ -232,7 +239,7 @@ impl World {
     /// Writes the access control list of a mailbox, if it is there.
     fn put_list(&mut self, name: &NameRef<'_>, acl: Acl)
         ensures world { world_of self.new ≡ with_acl (world_of self.old) name.now acl }
-        ensures room { Leaves self.old self.new }
+        ensures room { Leaves 0 self.old self.new }
     {
         put_acl(&mut self.mailboxes, name, acl);
     }
@@ -241,8 +248,21 @@ impl World {
     fn remove(&mut self, name: &NameRef<'_>)
         requires { has_below name.now self.old.mailboxes.map ≡ false }
         ensures world { world_of self.new ≡ without (world_of self.old) name.now }
-        ensures room { Leaves self.old self.new }
+        ensures room { Leaves 0 self.old self.new }
     {
         self.mailboxes.remove(name);
+    }
+
+    /// Calls a mailbox and all below it by a new name.
+    fn move_run(&mut self, old: &NameRef<'_>, new: &NameRef<'_>, arrivals: Arrivals)
+        requires room { length arrivals ≤ self.old.epochs.spare }
+        requires may { MayMove old.now new.now arrivals (world_of self.old) }
+        ensures world { world_of self.new ≡ with_moved (world_of self.old) old.now new.now arrivals }
+        ensures room { Leaves (length arrivals) self.old self.new }
+    {
+        let (names, validities) = arrivals.into_parts();
+        self.mailboxes.rename(old, new, names);
+        set_validities(&mut self.mailboxes, new, &validities);
+        self.epochs.insert_run(new, validities);
     }
 }

@@ -17,7 +17,7 @@ returns t c =
     let absent : map.contains_key world.mailboxes name ≡ false = search rules in
     let last : AnswersOrMemory c.with_last_row-2.result (writes_then (Ok c.match-superior.change) (put_of (new_row world.epochs name acl))) =
     subst (AnswersOrMemory c.with_last_row-2.result)
-    (λ i. writes_then (Ok (c.change.view_is i)) (put_of (new_row world.epochs (c.in_ok-own.ensures.own i) (c.in_ok-try_copy.ensures i)))) c.with_last_row-2.ensures in
+    (λ i. writes_then (Ok (c.change.view_is i)) (put_of (new_row world.epochs (c.in_ok-own.ensures.name i) (c.in_ok-try_copy.ensures i)))) c.with_last_row-2.ensures in
     elim c.match-superior.branch [
       | in-Some+in_ok-change-in-Some w ↦
           let outer : puts_of (rows_for world acl w.in-Some.above) ≡ Ok c.match-superior.change =

@@ -1,6 +1,6 @@
-use Rattle.std.proofs.Common.{sym, ap, subst, ◌∙◌}
+use Rattle.std.proofs.Common.{refl, sym, ap, subst, ◌∙◌}
 use Rattle.imap_world.specs.Effects.{after_writes}
-use Rattle.imap_world.specs.Ready.{IsReady}
+use Rattle.imap_world.specs.Ready.{IsReady, count_of}
 use Rattle.imap_world.specs.Stored.{world_of}
 use Rattle.imap_world.proofs.Room.{first_ready, rest_ready}
 use Rattle.imap_world.proofs.world.World.commit.Goals as goal
@@ -19,6 +19,6 @@ write-requires c =
 pub loop-write-preserved : goal.loop-write-preserved
 loop-write-preserved c = record {
   rest = ap (after_writes c.pop_front.new.self.items) c.write.ensures.world ∙ sym (ap (λ ws. after_writes ws (world_of c.loop-write.self)) c.in-Some.ensures.items) ∙ c.loop-write.invariant.rest;
-  ready = rest_ready c.loop-write.self c.write.new.self c.write.ensures.room c.in-Some.write c.pop_front.new.self.items c.write.ensures.world
+  ready = rest_ready (count_of c.in-Some.write) c.loop-write.self c.write.new.self c.write.ensures.room c.in-Some.write c.pop_front.new.self.items refl c.write.ensures.world
       (subst (λ ws. IsReady ws c.loop-write.self) c.in-Some.ensures.items c.loop-write.invariant.ready);
 }

@@ -20,4 +20,4 @@ pub returns-clause-room : goal.returns-clause-room
 returns-clause-room c =
     let old : Stored = record { mailboxes = c.self.inside.mailboxes; epochs = c.self.inside.epochs; subscriptions = c.self.inside.subscriptions } in
     let new : Stored = record { mailboxes = c.insert_reserved.new.self; epochs = c.insert_reserved-2.new.self; subscriptions = c.self.inside.subscriptions } in
-    subst (λ s. Leaves s new) c.self.view_is (mailboxes_leave old new refl c.insert_reserved.ensures.spare c.insert_reserved-2.ensures.spare)
+    subst (λ s. Leaves 1 s new) c.self.view_is (mailboxes_leave 1 old new refl c.insert_reserved.ensures.spare c.insert_reserved-2.ensures.spare)

@@ -15,4 +15,4 @@ pub returns-clause-room : goal.returns-clause-room
 returns-clause-room c =
     let old : Stored = record { mailboxes = c.self.inside.mailboxes; epochs = c.self.inside.epochs; subscriptions = c.self.inside.subscriptions } in
     let new : Stored = record old { mailboxes = c.put_acl.new.mailboxes } in
-    subst (λ s. Leaves s new) c.self.view_is (mailboxes_leave old new refl (omega (arith, c.put_acl.ensures.spare)) (omega (arith)))
+    subst (λ s. Leaves 0 s new) c.self.view_is (mailboxes_leave 0 old new refl (omega (arith, c.put_acl.ensures.spare)) (omega (arith)))

@@ -21,4 +21,4 @@ returns-clause-room c =
     let new : Stored = record old { mailboxes = c.remove.new.self } in
     let fewer : map.len c.remove.new.self.map ≤ map.len old.mailboxes.map =
     subst (λ m. map.len m ≤ map.len old.mailboxes.map) (sym c.remove.ensures.map) (len_without old.mailboxes.map c.args.name.now) in
-    subst (λ s. Leaves s new) c.self.view_is (mailboxes_leave old new refl (omega (arith, fewer, c.remove.ensures.spare)) (omega (arith)))
+    subst (λ s. Leaves 0 s new) c.self.view_is (mailboxes_leave 0 old new refl (omega (arith, fewer, c.remove.ensures.spare)) (omega (arith)))
