@@ -317,6 +317,86 @@ fn names_have_superiors(rt: HostRuntime) -> Result<(), Fail> {
     Ok(())
 }
 
+/// The path that `name`, which is `old` or below it, gets when `old` moves to `new`. No text if the new name would be too
+/// long or too deep.
+fn moved_path(alloc: Global, name: &str, old: &str, new: &str) -> Result<String, Fail> {
+    let (name, old, new) = (full(alloc, name)?, full(alloc, old)?, full(alloc, new)?);
+    if !name.as_ref().compare_to_run(&old.as_ref()).is_eq() {
+        return Ok(String::from_str(alloc, "not below")?);
+    }
+    match name.moved(alloc, &old, &new)? {
+        Some(moved) => Ok(String::from_str(alloc, moved.path())?),
+        None => Ok(String::new(alloc)),
+    }
+}
+
+#[test]
+fn names_move_with_a_mailbox(rt: HostRuntime) -> Result<(), Fail> {
+    const TABLE: [(&str, &str, &str, &str); 6] = [
+        ("Shared/a", "Shared/a", "Shared/x", "x"),
+        ("Shared/a/b/c", "Shared/a", "Shared/x/y", "x/y/b/c"),
+        ("Shared/a/b/c", "Shared/a/b", "Shared/x", "x/c"),
+        (
+            "Other Users/ann/a/a",
+            "Other Users/ann/a",
+            "Other Users/ann/INBOX/a",
+            "INBOX/a/a",
+        ),
+        (
+            "Shared/a/b/c",
+            "Shared/a",
+            "Shared/n/n/n/n/n/n/n/n/n/n/n/n/n/n",
+            "n/n/n/n/n/n/n/n/n/n/n/n/n/n/b/c",
+        ),
+        (
+            "Shared/a/b/c",
+            "Shared/a",
+            "Shared/n/n/n/n/n/n/n/n/n/n/n/n/n/n/n",
+            "",
+        ),
+    ];
+    for &(name, old, new, path) in &TABLE {
+        assert_eq!(rt;
+            moved_path(rt.alloc(), name, old, new)?.as_str(),
+            path,
+            "{name} {new}"
+        );
+    }
+    Ok(())
+}
+
+/// How many octets the path of `Shared/a/b` has when `Shared/a` moves to a name with a path of `count` octets.
+fn moved_length(alloc: Global, count: usize) -> Result<usize, Fail> {
+    let mut new = String::from_str(alloc, "Shared/")?;
+    new.push_str(repeated(alloc, "x", count)?.as_str())?;
+    Ok(moved_path(alloc, "Shared/a/b", "Shared/a", new.as_str())?.len())
+}
+
+#[test]
+fn moved_names_keep_the_limit_of_octets(rt: HostRuntime) -> Result<(), Fail> {
+    assert_eq!(rt; moved_length(rt.alloc(), 253)?, 255);
+    assert_eq!(rt; moved_length(rt.alloc(), 254)?, 0);
+    Ok(())
+}
+
+fn is_superior(alloc: Global, name: &str, superior: &str) -> Result<bool, Fail> {
+    let (name, superior) = (full(alloc, name)?, full(alloc, superior)?);
+    let above = name.as_ref().superior().ok_or("no superior")?;
+    Ok(above.to_name(alloc)?.is_same(&superior))
+}
+
+#[test]
+fn borrowed_names_are_kept(rt: HostRuntime) -> Result<(), Fail> {
+    const TABLE: [(&str, &str); 2] = [
+        ("Shared/a/b/c", "Shared/a/b"),
+        ("Other Users/ann/inbox/x", "Other Users/ann/inbox"),
+    ];
+    for &(name, superior) in &TABLE {
+        assert!(rt; is_superior(rt.alloc(), name, superior)?, "{name}");
+    }
+    Ok(())
+}
+
 #[test]
 fn names_are_borrowed(rt: HostRuntime) -> Result<(), Fail> {
     let name = full(rt.alloc(), "Other Users/ann/a/b")?;

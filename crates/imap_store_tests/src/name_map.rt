@@ -187,6 +187,39 @@ fn values_are_changed(rt: HostRuntime) -> Result<(), Fail> {
     Ok(())
 }
 
+/// Adds 10 to the value of the name, which is looked for at `place` first.
+fn add_near(map: &mut NameMap<u32>, alloc: Global, place: usize, name: &str) -> Result<bool, Fail> {
+    let name = full(alloc, name)?;
+    match map.get_mut_near(place, &name.as_ref()) {
+        Some(value) => {
+            *value = value.saturating_add(10);
+            Ok(true)
+        }
+        None => Ok(false),
+    }
+}
+
+#[test]
+fn values_are_changed_near_a_place(rt: HostRuntime) -> Result<(), Fail> {
+    // Where the name is looked for first, and whether it is there.
+    const TABLE: [(usize, &str, bool); 6] = [
+        (3, "Shared/a!", true),
+        (0, "Other Users/bob/a/b", true),
+        (7, "Shared/a", true),
+        (usize::MAX, "Shared/ab", true),
+        (4, "Shared/b", false),
+        (7, "Other Users/eve/a", false),
+    ];
+    let mut map = whole_map(rt.alloc())?;
+    for &(place, name, is_there) in &TABLE {
+        let found = add_near(&mut map, rt.alloc(), place, name)?;
+        assert_eq!(rt; found, is_there, "{name}");
+    }
+    let text = shown(rt.alloc(), map.entries())?;
+    assert_eq!(rt; text.as_str(), "a=10 a/b=1 a/b/c=2 a!=13 ab=14 a=5 a/b=16 ");
+    Ok(())
+}
+
 #[test]
 fn gives_the_entry_at_a_place(rt: HostRuntime) -> Result<(), Fail> {
     let map = whole_map(rt.alloc())?;

@@ -1,0 +1,19 @@
+//! Tests of what a store is made of: names and maps from them, rights, mod-sequences, mailboxes, and the texts of messages.
+//!
+//! They stand in a crate of their own, since a crate that has tests is proved twice: once without and once with them.
+#![tactic(auto)]
+
+#[cfg(test)]
+mod mailbox;
+#[cfg(test)]
+mod modseq;
+#[cfg(test)]
+mod name_map;
+#[cfg(test)]
+mod names;
+#[cfg(test)]
+mod patterns;
+#[cfg(test)]
+mod rights;
+#[cfg(test)]
+mod text;
