@@ -6,6 +6,7 @@ use crate::command::Command;
 use imap_values::TryCopy;
 use std::alloc::{AllocError, Global};
 
+// One long match, as each arm only copies its fields.
 impl TryCopy for Command {
     /// Returns an equal copy. It shares the octets of strings and of messages.
     fn try_copy(&self, alloc: Global) -> Result<Command, AllocError> {

@@ -10,8 +10,8 @@ use std::alloc::{AllocError, Global};
 use std::sync::ArcStr;
 
 impl Name {
-    /// What this name, which is `old` or below it, becomes when `old` becomes `new` (RFC 9051, section 6.3.6). `None` if
-    /// that has too many octets or components.
+    /// What this name, which is `old` or below it, becomes when `old` becomes `new` (RFC 9051, section
+    /// 6.3.6). `None` if that has too many octets or components.
     pub fn moved(&self, alloc: Global, old: &Name, new: &Name) -> Result<Option<Name>, AllocError>
         requires { is_within old.now self.now ≡ true }
         ensures { IfOk result (λ name. name ≡ if_fits (moved old.now new.now self.now)) }

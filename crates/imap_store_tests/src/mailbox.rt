@@ -6,8 +6,7 @@ use imap_values::{Same, TryCopy};
 use std::alloc::Global;
 use std::test::Fail;
 
-// A test lends its mailbox to a function that says what it did, and lets it go before a `?`: each `?` in whose reach a
-// mailbox lives takes long to prove.
+// A test lends its mailbox to a function and lets it go before a `?`: a `?` within reach of one takes long to prove.
 
 fn date() -> Result<DateTime, MailboxError> {
     DateTime::of_moment(1_000_000).ok_or(MailboxError::Limit)

@@ -317,8 +317,8 @@ fn names_have_superiors(rt: HostRuntime) -> Result<(), Fail> {
     Ok(())
 }
 
-/// The path that `name`, which is `old` or below it, gets when `old` moves to `new`. No text if the new name would be too
-/// long or too deep.
+/// The path that `name`, which is `old` or below it, gets when `old` moves to `new`. No text if the new name would be
+/// too long or too deep.
 fn moved_path(alloc: Global, name: &str, old: &str, new: &str) -> Result<String, Fail> {
     let (name, old, new) = (full(alloc, name)?, full(alloc, old)?, full(alloc, new)?);
     if !name.as_ref().compare_to_run(&old.as_ref()).is_eq() {
