@@ -22,8 +22,8 @@ pub record IsOneCommand (octets : List ℕ) : Type 0 where
   pub ends : IsLastLine last
   pub whole : octets ≡ sections_octets sections ++ last
 
--- Within its limits a framer returns them as one Whole frame, and before it Continue for each literal for which the
--- client waits.
+-- Within its limits a framer returns them as one Whole frame, and before it Continue for each literal for
+-- which the client waits.
 abbrev pub IsFramedWhole : (octets : List ℕ) → IsOneCommand octets → Type 0
 IsFramedWhole octets f =
     (limit : ℕ) → AllByRecursion (λ s. IsShort s.mark) f.sections

@@ -28,7 +28,8 @@ arguments_fit c = mailbox_fits c
 abbrev pub arguments_text : Command → List ℕ
 arguments_text (command.Select mailbox given) = selecting_text mailbox given
 arguments_text (command.Examine mailbox given) = selecting_text mailbox given
-arguments_text (command.List selection reference wanted returns) = list_text selection reference wanted returns
+arguments_text (command.List selection reference wanted returns) =
+    list_text selection reference wanted returns
 arguments_text (command.Append mailbox flags moment message) = append_text mailbox flags moment message
 arguments_text (command.Enable capabilities) = enable_text capabilities
 arguments_text c = mailbox_text c

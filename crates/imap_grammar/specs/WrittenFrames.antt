@@ -22,7 +22,10 @@ abbrev pub IsToldWhole : (octets : List ℕ) → Framed octets → Type 0
 IsToldWhole octets f =
     (limit : ℕ) → outside f.sections + length f.last ≤ max_command_octets → inside f.sections ≤ limit
     → run (awaiting limit (start limit)) octets
-    ≡ record { frames = map (λ s. Continue) f.sections ++ Whole octets ∷ []; next = awaiting limit (start limit) }
+    ≡ record {
+      frames = map (λ s. Continue) f.sections ++ Whole octets ∷ [];
+      next = awaiting limit (start limit);
+    }
 
 abbrev pub EachIsTold : Type 0
 EachIsTold =

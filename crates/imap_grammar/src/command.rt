@@ -6,11 +6,11 @@ use crate::commands::store::StoreSpec;
 use crate::verb::verb_of;
 use imap_lex::Octets;
 use imap_query::{FetchItem, SearchKeys, SearchReturn, StatusItem};
-use imap_syntax::{DateTime, Flags, Items, MessageSet, Numbering};
+use imap_syntax::{Atom, DateTime, Flags, Items, MessageSet, Numbering, OneOrMore};
 use std::fmt;
 
-/// A command without its tag. Names of mailboxes, identifiers and rights are as the client sent them, without their
-/// quotes and escapes.
+/// A command without its tag. Names of mailboxes, identifiers and rights are as the client sent them, without
+/// their quotes and escapes.
 #[derive(Drop)]
 pub enum Command {
     /// RFC 9051, section 6.1.1.
@@ -27,12 +27,12 @@ pub enum Command {
     Close,
     /// RFC 9051, section 6.4.2.
     Unselect,
-    /// LOGIN, AUTHENTICATE or STARTTLS (RFC 9051, section 6.2), with any arguments: sessions are authenticated when
-    /// they begin.
+    /// LOGIN, AUTHENTICATE or STARTTLS (RFC 9051, section 6.2), with any arguments: sessions are
+    /// authenticated when they begin.
     Authenticate,
     /// RFC 9051, section 6.3.1.
     Enable {
-        capabilities: Items<Octets>,
+        capabilities: OneOrMore<Atom>,
     },
     /// RFC 9051, section 6.3.2.
     Select {

@@ -10,14 +10,14 @@ pub fn one_request()
     ensures once { SpellsOnce }
 {}
 
-/// The octets that `write_command` writes are lines and literals. Within its limits a framer returns them as one frame,
-/// and before it a `Continue` for each literal.
+/// The octets that `write_command` writes are lines and literals. Within its limits a framer returns them as
+/// one frame, and before it a `Continue` for each literal.
 pub fn written_is_told()
     ensures { EachIsTold }
 {}
 
-/// The octets of each command are lines that announce literals, each with its literal, and a last line. Within its
-/// limits a framer returns them as one frame.
+/// The octets of each command are lines that announce literals, each with its literal, and a last line.
+/// Within its limits a framer returns them as one frame.
 pub fn one_command()
     ensures { EachCommandIsOne }
 {}

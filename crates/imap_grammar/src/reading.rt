@@ -115,7 +115,8 @@ fn read_request(alloc: Global, frame: &Octets) -> Result<Request, AllocError>
 }
 
 /// Reads the request that `frame` makes. `frame` may have any octets: if they are no command, the request is
-/// `Malformed`. The message of APPEND shares the octets of `frame`. A frame that begins with no tag takes no memory.
+/// `Malformed`. The message of APPEND shares the octets of `frame`. A frame that begins with no tag takes no
+/// memory.
 pub fn parse(alloc: Global, frame: &Octets) -> Result<Request, AllocError>
     ensures spelt { IfOk result (λ request. Spells frame.now request) }
     ensures only { IfOk result (λ request. SpellsNoOther frame.now request) }

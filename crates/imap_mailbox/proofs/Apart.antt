@@ -1,42 +1,28 @@
 -- Events have places of their own.
-use Rattle.std.proofs.Common.{◌≡◌, ℕ, ◌+◌, ◌<◌, ◌≤◌, eqb, not, Bool, true, false, cond, List, [], ◌∷◌, ◌++◌, map, refl, ap, ◌∙◌, arith, ⊎_elim}
-use Rattle.std.proofs.lemmas.Bool.{cases_lt, ne_eqb, eqb-true}
+use Rattle.std.proofs.Common.{◌≡◌, ℕ, ◌+◌, ◌<◌, ◌≤◌, eqb, not, Bool, true, false, cond, List, [], ◌∷◌, map, refl, ap, ◌∙◌, arith, ⊎_elim}
+use Rattle.std.proofs.lemmas.Bool.{cases_lt, eqb-true}
 use Rattle.std.proofs.lemmas.List.{map-append}
 use Rattle.imap_mailbox.specs.declared.flags.SharedFlags.{SharedFlags}
 use Rattle.imap_mailbox.specs.declared.message.Message.{Message}
 use Rattle.imap_mailbox.specs.declared.message.GoneMessage.{GoneMessage}
 use Rattle.imap_mailbox.specs.Rows.{Event, Added, FlagsSet, Expunged}
 use Rattle.imap_mailbox.specs.Summary.{Summary, step, message_of, flags_in, without, uids_in, places_in, message_places, count_of, AreApart, Rises, ArePlacesBelow}
+use Rattle.imap_mailbox.proofs.Counts.{one, one_other, count_more, count_push}
 use Rattle.imap_mailbox.proofs.Finding.{put_above}
 
--- 1 if both are one number
-abbrev one : ℕ → ℕ → ℕ
-one m n = cond (eqb m n) 1 0
-
-count_more : (p m : ℕ) (ns : List ℕ) → count_of p (m ∷ ns) ≡ one m p + count_of p ns
-count_more p m ns = by (eqb m p)
-  where
-    by : (b : Bool) → cond b (1 + count_of p ns) (count_of p ns) ≡ cond b 1 0 + count_of p ns
-    by true = refl
-    by false = omega arith
-
-count_push : (p m : ℕ) (ns : List ℕ) → count_of p (ns ++ m ∷ []) ≡ count_of p ns + one m p
-count_push p m [] = omega (arith, count_more p m [])
-count_push p m (n ∷ ns) = omega (arith, count_more p n (ns ++ m ∷ []), count_more p n ns, count_push p m ns)
-
-one_other : (m p : ℕ) → m < p → one m p ≡ 0
-one_other m p lt = ap (λ b. cond b 1 0) (ne_eqb m p (λ e. omega (arith, e)))
+one_below : (m p : ℕ) → m < p → one m p ≡ 0
+one_below m p lt = one_other m p (λ e. omega (arith, e))
 
 none_there : (n p : ℕ) (messages : List Message) → n ≤ p → ArePlacesBelow n messages → count_of p (message_places messages) ≡ 0
 none_there n p [] le h = refl
 none_there n p (m ∷ messages) le h =
     let lt : m.place < n = h.0 in
-    omega (arith, count_more p m.place (message_places messages), one_other m.place p (omega (arith, lt)), none_there n p messages le h.1)
+    omega (arith, count_more p m.place (message_places messages), one_below m.place p (omega (arith, lt)), none_there n p messages le h.1)
 
 none_gone : (low high p : ℕ) (ns : List ℕ) → high ≤ p → Rises low high ns → count_of p ns ≡ 0
 none_gone low high p [] le h = refl
 none_gone low high p (n ∷ ns) le h =
-    omega (arith, count_more p n ns, one_other n p (let lt = below (n + 1) high ns h.1 in omega (arith, lt)), none_gone (n + 1) high p ns le h.1)
+    omega (arith, count_more p n ns, one_below n p (let lt = below (n + 1) high ns h.1 in omega (arith, lt)), none_gone (n + 1) high p ns le h.1)
   where
     below : (low high : ℕ) (ns : List ℕ) → Rises low high ns → low ≤ high
     below low high [] h = h
@@ -86,9 +72,9 @@ pub apart_step : (e : Event) (s : Summary) → Rises 1 s.next (uids_in s.message
 apart_step e s rises places gone h p =
     let more = added_by e s p rises in
     ⊎_elim
-    (λ (lt : s.shared < p). let other = one_other s.shared p lt in let before = h p in omega (arith, more, other, before))
+    (λ (lt : s.shared < p). let other = one_below s.shared p lt in let before = h p in omega (arith, more, other, before))
     (λ (le : p ≤ s.shared). ⊎_elim
-    (λ (less : p < s.shared). let other : one s.shared p ≡ 0 = ap (λ b. cond b 1 0) (ne_eqb s.shared p (λ e. omega (arith, e, less))) in let before = h p in omega (arith, more, other, before))
+    (λ (less : p < s.shared). let other = one_other s.shared p (λ e. omega (arith, e, less)) in let before = h p in omega (arith, more, other, before))
     (λ (ge : s.shared ≤ p).
     let none = none_there s.shared p s.messages ge places in
     let no_gone = none_gone 0 s.shared p (places_in s.gone) ge gone in

@@ -167,7 +167,7 @@ changes_are_steps history user uid seen =
 
 -- ---- the uids that are messages, and counts
 
-uids_steps : (es : List Event) (s : Summary) → uids_in (steps es s).messages ≡ uids_from es (uids_in s.messages)
+pub uids_steps : (es : List Event) (s : Summary) → uids_in (steps es s).messages ≡ uids_from es (uids_in s.messages)
 uids_steps [] s = refl
 uids_steps (e ∷ es) s = uids_steps es (step e s) ∙ ap (uids_from es) (uids_step e s)
 

@@ -1,5 +1,5 @@
 -- What the steps of a summary keep.
-use Rattle.std.proofs.Common.{◌≡◌, ◌≢◌, ⊎_elim, ℕ, ◌+◌, ◌<◌, ◌≤◌, eqb, not, Bool, true, false, cond, ◌&&◌, List, [], ◌∷◌, ◌++◌, length, map, filter, refl, sym, ap, subst, ◌∙◌, arith}
+use Rattle.std.proofs.Common.{◌≡◌, ◌≢◌, ⊎_elim, ℕ, ◌+◌, ◌<◌, ◌≤◌, eqb, not, Bool, true, false, cond, List, [], ◌∷◌, ◌++◌, length, map, filter, refl, sym, ap, subst, ◌∙◌, arith}
 use Rattle.std.proofs.lemmas.List.{map-append}
 use Rattle.imap_modseq.specs.Merge.{befores, AreInOrder}
 use Rattle.imap_modseq.proofs.Order.{order_more, order_push}
@@ -7,9 +7,9 @@ use Rattle.imap_mailbox.specs.declared.flags.SharedFlags.{SharedFlags}
 use Rattle.imap_mailbox.specs.declared.own.SeenChange.{SeenChange}
 use Rattle.imap_mailbox.specs.declared.message.Message.{Message}
 use Rattle.imap_mailbox.specs.declared.message.GoneMessage.{GoneMessage}
-use Rattle.imap_mailbox.specs.Rows.{Event, Added, FlagsSet, Expunged, Shared, row_step, gone_step, next_step, uid_step, IsGiven, IsPresent, is_among}
+use Rattle.imap_mailbox.specs.Rows.{Event, Added, FlagsSet, Expunged, Shared, row_step, gone_step, next_step, uid_step, IsGiven, IsPresent, WasGiven}
 use Rattle.imap_mailbox.specs.History.{own_entry, own_at, own_with}
-use Rattle.imap_mailbox.specs.Summary.{Summary, message_of, flags_in, without, step, row_in, gone_in, ArePlacesBelow, AreOfBelow, Fits, Rises, places_in, uids_in, gone_uids, is_given, IsSound, with_seen}
+use Rattle.imap_mailbox.specs.Summary.{Summary, message_of, flags_in, without, step, row_in, gone_in, ArePlacesBelow, AreOfGiven, Fits, Rises, places_in, uids_in, gone_uids, count_of, given_once, IsSound, with_seen}
 use Rattle.imap_mailbox.proofs.Apart.{apart_step}
 use Rattle.imap_mailbox.proofs.Accounts.{IsAccounted, gone_after, accounted_step}
 use Rattle.imap_mailbox.proofs.Rising.{rises_upper, rises_push, rises_step}
@@ -44,25 +44,25 @@ next_rises (Expunged uid) next h = omega arith
 
 -- ---- own changes
 
-pub of_more : (next more : ℕ) (own : List SeenChange) → next ≤ more → AreOfBelow next own → AreOfBelow more own
+pub of_more : (next more : ℕ) (own : List SeenChange) → next ≤ more → AreOfGiven next own → AreOfGiven more own
 of_more next more [] le h = tt
-of_more next more (s ∷ own) le h = let here : s.uid < next = h.0 in (omega arith, of_more next more own le h.1)
+of_more next more (s ∷ own) le h = let here : s.uid < next = h.0.1 in ((h.0.0, omega arith), of_more next more own le h.1)
 
-of_push : (next : ℕ) (own : List SeenChange) (s : SeenChange) → s.uid < next → AreOfBelow next own → AreOfBelow next (own ++ s ∷ [])
+of_push : (next : ℕ) (own : List SeenChange) (s : SeenChange) → WasGiven next s.uid → AreOfGiven next own → AreOfGiven next (own ++ s ∷ [])
 of_push next [] s lt h = (lt, tt)
 of_push next (x ∷ own) s lt h = (h.0, of_push next own s lt h.1)
 
 pub fits_step : (e : Event) (s : Summary) (own : List SeenChange) → IsGiven s.next (Shared e) → Fits s.shared s.next own → Fits (step e s).shared (step e s).next own
 fits_step e s own given h = record {
   order = subst (λ n. AreInOrder 0 n (befores (map own_entry own))) (sym (shared_after e s)) (order_more 0 s.shared (befores (map own_entry own)) h.order);
-  known = subst (λ n. AreOfBelow n own) (sym (next_after e s)) (of_more s.next (next_step e s.next) own (next_rises e s.next given) h.known);
+  known = subst (λ n. AreOfGiven n own) (sym (next_after e s)) (of_more s.next (next_step e s.next) own (next_rises e s.next given) h.known);
 }
 
 pub bs_pushed : (own : List SeenChange) (s : SeenChange) → befores (map own_entry (own ++ s ∷ [])) ≡ befores (map own_entry own) ++ s.before ∷ []
 bs_pushed [] s = refl
 bs_pushed (x ∷ own) s = ap (λ t. x.before ∷ t) (bs_pushed own s)
 
-pub fits_push : (shared next : ℕ) (own : List SeenChange) (s : SeenChange) → s.before ≡ shared → s.uid < next → Fits shared next own → Fits shared next (own ++ s ∷ [])
+pub fits_push : (shared next : ℕ) (own : List SeenChange) (s : SeenChange) → s.before ≡ shared → WasGiven next s.uid → Fits shared next own → Fits shared next (own ++ s ∷ [])
 fits_push shared next own s at lt h = record {
   order = subst (AreInOrder 0 shared) (sym (bs_pushed own s ∙ ap (λ n. befores (map own_entry own) ++ n ∷ []) at)) (order_push 0 shared (befores (map own_entry own)) (omega arith) h.order);
   known = of_push next own s lt h.known;
@@ -148,12 +148,13 @@ uids_step (Expunged uid) s = without_uid uid s.messages
 pub accounted_after : (e : Event) (s : Summary) → IsGiven s.next (Shared e) → IsPresent (uids_in s.messages) e → Rises 1 s.next (uids_in s.messages)
     → IsAccounted (gone_uids s.gone) s.next (uids_in s.messages) → IsAccounted (gone_uids (step e s).gone) (step e s).next (uids_in (step e s).messages)
 accounted_after e s given present rises h uid =
-    ap (is_among uid) (gone_after e s) ∙ accounted_step e (gone_uids s.gone) s.next (uids_in s.messages) given present rises h uid
-    ∙ (λ i. is_given uid (sym (next_after e s) i) && not (is_among uid (sym (uids_step e s) i)))
+    (λ i. count_of uid (uids_step e s i) + count_of uid (gone_after e s i))
+    ∙ accounted_step e (gone_uids s.gone) s.next (uids_in s.messages) given present rises h uid
+    ∙ ap (λ n. given_once n uid) (sym (next_after e s))
 
 pub sound_step : (e : Event) (s : Summary) → IsGiven s.next (Shared e) → IsPresent (uids_in s.messages) e → IsSound s → IsSound (step e s)
 sound_step e s given present h = record {
-  gone = accounted_after e s given present h.uids h.gone;
+  once = accounted_after e s given present h.uids h.once;
   apart = apart_step e s h.uids h.place h.places h.apart;
   uids = subst (λ n. Rises 1 n (uids_in (step e s).messages)) (sym (next_after e s)) (subst (Rises 1 (next_step e s.next)) (sym (uids_step e s)) (rises_step e 1 s.next (uids_in s.messages) given h.uids));
   place = last_step e s h.place;
@@ -161,10 +162,10 @@ sound_step e s given present h = record {
   fits = λ user. subst (λ own. Fits (step e s).shared (step e s).next (own_at own user)) (sym (own_after e s)) (fits_step e s (own_at s.own user) given (h.fits user));
 }
 
-pub sound_marked : (user : List ℕ) (uid : ℕ) (seen : Bool) (s : Summary) → uid < s.next → IsSound s → IsSound (with_seen user uid seen s)
+pub sound_marked : (user : List ℕ) (uid : ℕ) (seen : Bool) (s : Summary) → WasGiven s.next uid → IsSound s → IsSound (with_seen user uid seen s)
 sound_marked user uid seen s lt h = record {
   uids = h.uids;
-  gone = h.gone;
+  once = h.once;
   apart = h.apart;
   place = h.place;
   places = h.places;

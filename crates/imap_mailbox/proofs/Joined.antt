@@ -11,7 +11,7 @@ use Rattle.imap_mailbox.specs.declared.message.Message.{Message}
 use Rattle.imap_mailbox.specs.Rows.{Arrival, Added, FlagsSet, Expunged, Shared, SeenSet, Row, row_of, at_uid, row_step, gone_step}
 use Rattle.imap_mailbox.specs.History.{own_entry}
 use Rattle.imap_mailbox.specs.declared.message.GoneMessage.{GoneMessage}
-use Rattle.imap_mailbox.specs.Summary.{message_of, flags_in, without, latest_from, latest, latest_number, latest_seen, number_at, row_in, gone_in, ArePlacesBelow, AreOfBelow}
+use Rattle.imap_mailbox.specs.Summary.{message_of, flags_in, without, latest_from, latest, latest_number, latest_seen, number_at, row_in, gone_in, ArePlacesBelow, AreOfGiven}
 use Rattle.imap_mailbox.proofs.Rising.{AreGoneBelow}
 
 abbrev bs_of : List SeenChange → List ℕ
@@ -44,10 +44,10 @@ latest-bound low high j uid (s ∷ own) found h le =
     by false = omega arith
 
 -- a message that came after all own changes has none
-latest-none : (j uid next : ℕ) (own : List SeenChange) → AreOfBelow next own → next ≤ uid → latest_from j uid own None ≡ None
+latest-none : (j uid next : ℕ) (own : List SeenChange) → AreOfGiven next own → next ≤ uid → latest_from j uid own None ≡ None
 latest-none j uid next [] h lt = refl
 latest-none j uid next (s ∷ own) h lt =
-    let le : s.uid < next = h.0 in
+    let le : s.uid < next = h.0.1 in
     ap (λ b. latest_from (j + 1) uid own (cond b (Some (own_number s.before j, s.seen)) None)) (ne_eqb uid s.uid (λ e. omega arith))
     ∙ latest-none (j + 1) uid next own h.1 lt
 
@@ -84,7 +84,7 @@ module _ (own : List SeenChange) (n : ℕ) (order : AreInOrder 0 n (bs_of own)) 
       by true rest = ap (λ l. row_in own c ∷ l) rest
       by false rest = rest
 
-  pub added_all : (low : ℕ) (m : Arrival) (messages : List Message) → AreOfBelow low own → low ≤ m.uid → row_step next (Shared (Added m)) (map (row_in own) messages) ≡ map (row_in own) (messages ++ message_of n m ∷ [])
+  pub added_all : (low : ℕ) (m : Arrival) (messages : List Message) → AreOfGiven low own → low ≤ m.uid → row_step next (Shared (Added m)) (map (row_in own) messages) ≡ map (row_in own) (messages ++ message_of n m ∷ [])
   added_all low m messages known le = ap (λ r. map (row_in own) messages ++ r ∷ []) one ∙ sym (map-append (row_in own) messages (message_of n m ∷ []))
     where
       none : latest m.uid own ≡ None

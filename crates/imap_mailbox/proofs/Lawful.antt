@@ -1,5 +1,5 @@
 -- What the events of a mailbox meet is kept by one event more.
-use Rattle.std.proofs.Common.{◌≡◌, ◌≢◌, ℕ, ◌+◌, ◌-◌, ◌<◌, Bool, true, false, List, [], ◌∷◌, ◌++◌, length, take, drop, map, unwrap_or, refl, sym, ap, subst, ◌∙◌, arith, ⊎_elim}
+use Rattle.std.proofs.Common.{◌≡◌, ◌≢◌, ℕ, ◌+◌, ◌-◌, Bool, true, false, List, [], ◌∷◌, ◌++◌, length, take, drop, map, unwrap_or, refl, sym, ap, subst, ◌∙◌, arith, ⊎_elim}
 use Rattle.std.proofs.lemmas.Bool.{cases_Bool}
 use Rattle.std.proofs.lemmas.List.{map-append, length-map, length_push, take-append-drop}
 use Rattle.std.specs.FinMap as fin
@@ -10,7 +10,7 @@ use Rattle.imap_modseq.specs.Merge.{merge_from, merge, befores, AreInOrder}
 use Rattle.imap_modseq.proofs.Merge.{merge_from-own, merge_from-shared}
 use Rattle.imap_modseq.proofs.Order.{order_more, order_push}
 use Rattle.imap_mailbox.specs.declared.own.SeenChange.{SeenChange}
-use Rattle.imap_mailbox.specs.Rows.{Event, Entry, Shared, SeenSet, next_from, uids_from, uid_step, entry_next, IsGiven, AreGiven, IsPresent, ArePresent}
+use Rattle.imap_mailbox.specs.Rows.{Event, Entry, Shared, SeenSet, next_from, uids_from, uid_step, entry_next, WasGiven, IsGiven, AreGiven, IsPresent, ArePresent}
 use Rattle.imap_mailbox.specs.History.{History, own_at, own_with, own_entry, events_of, uids, next_uid, IsLawful, with_event, with_own_change}
 use Rattle.imap_mailbox.specs.Bridge.{LawfulStays}
 use Rattle.imap_mailbox.proofs.Merged.{own_at-same, own_at-other}
@@ -57,7 +57,7 @@ event_stays history user e h given there = record {
   given = subst (AreGiven 1) (sym (after_event history user e h)) (given_push (events_of history user) (Shared e) 1 h.given (subst (λ n. IsGiven n (Shared e)) (sym (next_of history user)) given));
 }
 
-module _ (history : History) (user : List ℕ) (uid : ℕ) (seen : Bool) (h : IsLawful history user) (lt : uid < next_uid history) where
+module _ (history : History) (user : List ℕ) (uid : ℕ) (seen : Bool) (h : IsLawful history user) (lt : WasGiven (next_uid history) uid) where
   abbrev change : SeenChange
   change = record { before = length history.shared; uid = uid; seen = seen }
 
@@ -69,13 +69,13 @@ module _ (history : History) (user : List ℕ) (uid : ℕ) (seen : Bool) (h : Is
       ∙ merge_from-own 0 (length history.shared) (map Shared history.shared) (map own_entry (own_at history.own user)) (SeenSet uid seen) (omega (arith, length-map history.shared Shared))
 
   given_mine : AreGiven 1 (merge (map Shared history.shared) (map own_entry (own_at history.own user ++ change ∷ [])))
-  given_mine = subst (AreGiven 1) (sym events_mine) (given_push (events_of history user) (SeenSet uid seen) 1 h.given (subst (λ n. uid < n) (sym (next_of history user)) lt))
+  given_mine = subst (AreGiven 1) (sym events_mine) (given_push (events_of history user) (SeenSet uid seen) 1 h.given (subst (λ n. WasGiven n uid) (sym (next_of history user)) lt))
 
 -- of a list of own changes
 abbrev LawfulOwn : History → List SeenChange → Type 0
 LawfulOwn history own = AreInOrder 0 (length history.shared) (befores (map own_entry own)) × AreGiven 1 (merge (map Shared history.shared) (map own_entry own))
 
-change_stays : (history : History) (user other : List ℕ) (uid : ℕ) (seen : Bool) → IsLawful history user → uid < next_uid history → IsLawful (with_own_change other uid seen history) user
+change_stays : (history : History) (user other : List ℕ) (uid : ℕ) (seen : Bool) → IsLawful history user → WasGiven (next_uid history) uid → IsLawful (with_own_change other uid seen history) user
 change_stays history user other uid seen h lt = record { order = both.0; given = both.1; present = h.present }
   where
     is_user : same_bytes user other ≡ true → user ≡ other

@@ -1,6 +1,7 @@
 pub mod Values
 pub mod Sameness
 pub mod Words
+pub mod Merging
 pub mod Steps
 pub mod Merged
 pub mod Uids
@@ -9,6 +10,7 @@ pub mod Ordered
 pub mod Latest
 pub mod Fitting
 pub mod Bridge
+pub mod Counts
 pub mod Accounts
 pub mod Apart
 pub mod Rising
@@ -17,7 +19,10 @@ pub mod Isolated
 pub mod Marking
 pub mod Finding
 pub mod Keeping
+pub mod KeptValues
 pub mod Lending
+pub mod Bounds
 pub mod Since
 pub mod Lawful
 pub mod Admitted
+pub mod CallEvents

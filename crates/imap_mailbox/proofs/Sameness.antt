@@ -5,6 +5,7 @@ use Rattle.std.specs.Str.{bytes_eq}
 use Rattle.std.proofs.lemmas.Slice.Eq.{bytes_eq-Decides}
 use Rattle.imap_mailbox.specs.declared.flags.SharedFlags.{SharedFlags}
 use Rattle.imap_mailbox.specs.Calls.{is_same, same_words, same_flags}
+use Rattle.imap_mailbox.specs.Called.{FlagsAreTested}
 
 bools_are : (a b : Bool) → is_same a b ≡ true → a ≡ b
 bools_are true true e = refl
@@ -44,6 +45,9 @@ flags_are a b e =
 
 flags_itself : (a : SharedFlags) → same_flags a a ≡ true
 flags_itself a = λ i. bool_itself a.answered i && (bool_itself a.deleted i && (bool_itself a.draft i && (bool_itself a.flagged i && words_itself a.keywords i)))
+
+pub flags_are_tested : FlagsAreTested
+flags_are_tested a b = ((λ e. flags_are a b e), (λ e. ap (same_flags a) (sym e) ∙ flags_itself a))
 
 pub said : (r : Bool) (a b : SharedFlags) → ((r ≡ true) ↔ (a ≡ b)) → r ≡ same_flags a b
 said r a b h = by r (same_flags a b) h.0 h.1 (λ e. flags_are a b e) (λ e. ap (same_flags a) (sym e) ∙ flags_itself a)

@@ -1,59 +1,64 @@
--- A map with a function of each value, after a change.
-use Rattle.std.proofs.Common.{◌≡◌, ℕ, List, [], ◌∷◌, Bool, true, false, cond, Option, Some, None, map, refl, sym, ap, ◌∙◌}
+-- The own changes of all users, after a change of one.
+use Rattle.std.proofs.Common.{◌≡◌, ℕ, List, [], ◌∷◌, ◌++◌, Bool, true, false, cond, Option, Some, None, unwrap_or, refl, sym, ap, ◌∙◌}
 use Rattle.std.specs.Option.{option_map}
+use Rattle.std.specs.Prelude.{option_and_then}
 use Rattle.std.specs.Ordering.{nat_cmp, eq_by_cmp}
 use Rattle.std.specs.Cmp.Lexicographic.{slice_cmp, nat_list_cmp_total}
 use Rattle.std.proofs.lemmas.Map.Text.{is_eq-slice_cmp}
 use Rattle.std.proofs.lemmas.Slice.Eq.{bytes_eq-Decides}
-use Rattle.std.specs.FinMap.{find, get, insert, remove, empty, entries, get-entries, get-from_entries, get-insert, get-remove, get-empty}
+use Rattle.std.specs.FinMap.{get, insert, empty, get-insert, get-empty, slice_cmp-IsAntisymmetric, nat_cmp-IsAntisymmetric}
 use Rattle.imap_user_map.specs.Rows.{Users}
-use Rattle.imap_mailbox.specs.Owned.{map_values}
 use Rattle.imap_user_map.proofs.Entries.{same_answers}
+use Rattle.imap_mailbox.specs.declared.own.SeenChange.{SeenChange}
+use Rattle.imap_mailbox.specs.Owned.{Owned, if_any, owned_changes, changes_of}
+use Rattle.imap_mailbox.proofs.KeptValues.{get-keep}
 
 abbrev pub same_bytes : List ℕ → List ℕ → Bool
 same_bytes = eq_by_cmp (slice_cmp nat_cmp)
 
-module _ {X Y : Type 0} (f : X → Y) where
-  moved_in : (b : Bool) (w : Option X) (v : X) → cond b (Some (f v)) (option_map f w) ≡ option_map f (cond b (Some v) w)
-  moved_in true w v = refl
-  moved_in false w v = refl
+pub get_changes : (m : Users Owned) (q : List ℕ) → get (changes_of m) q ≡ option_and_then (owned_changes q) (get m q)
+get_changes m q = get-keep (slice_cmp nat_cmp) owned_changes (slice_cmp-IsAntisymmetric nat_cmp-IsAntisymmetric) m q
 
-  moved_out : (b : Bool) (w : Option X) → cond b None (option_map f w) ≡ option_map f (cond b None w)
-  moved_out true w = refl
-  moved_out false w = refl
+any_or : (l : List SeenChange) → unwrap_or (if_any l) [] ≡ l
+any_or [] = refl
+any_or (c ∷ l) = refl
 
-  find_values : (es : List (List ℕ × X)) (q : List ℕ) → find (slice_cmp nat_cmp) q (map (λ e. (e.0, f e.1)) es) ≡ option_map f (find (slice_cmp nat_cmp) q es)
-  find_values [] q = refl
-  find_values (e ∷ es) q = ap (cond (same_bytes q e.0) (Some (f e.1))) (find_values es q) ∙ moved_in (same_bytes q e.0) (find (slice_cmp nat_cmp) q es) e.1
+pub any_pushed : (l : List SeenChange) (c : SeenChange) → if_any (l ++ c ∷ []) ≡ Some (l ++ c ∷ [])
+any_pushed [] c = refl
+any_pushed (d ∷ l) c = refl
 
-  -- what it has at the bytes q
-  pub get-map_values : (m : Users X) (q : List ℕ) → get (map_values f m) q ≡ option_map f (get m q)
-  get-map_values m q = get-from_entries nat_list_cmp_total _ q ∙ find_values (entries m) q ∙ ap (option_map f) (sym (get-entries m q))
+-- the changes of a user, who may have none
+pub changes_in : (m : Users Owned) (q : List ℕ) → unwrap_or (get (changes_of m) q) [] ≡ unwrap_or (option_map (λ (o : Owned). o.list) (get m q)) []
+changes_in m q = ap (λ o. unwrap_or o []) (get_changes m q) ∙ by (get m q)
+  where
+    by : (o : Option Owned) → unwrap_or (option_and_then (owned_changes q) o) [] ≡ unwrap_or (option_map (λ (o : Owned). o.list) o) []
+    by None = refl
+    by (Some o) = any_or o.list
 
-  pub map_values-insert : (m : Users X) (k : List ℕ) (v : X) → map_values f (insert m k v) ≡ insert (map_values f m) k (f v)
-  map_values-insert m k v = same_answers _ _ (λ q. get-map_values (insert m k v) q ∙ ap (option_map f) (get-insert nat_list_cmp_total m k v q)
-      ∙ sym (moved_in (same_bytes q k) (get m q) v) ∙ ap (cond (same_bytes q k) (Some (f v))) (sym (get-map_values m q)) ∙ sym (get-insert nat_list_cmp_total (map_values f m) k (f v) q))
-
-  pub map_values-remove : (m : Users X) (k : List ℕ) → map_values f (remove m k) ≡ remove (map_values f m) k
-  map_values-remove m k = same_answers _ _ (λ q. get-map_values (remove m k) q ∙ ap (option_map f) (get-remove nat_list_cmp_total m k q)
-      ∙ sym (moved_out (same_bytes q k) (get m q)) ∙ ap (cond (same_bytes q k) None) (sym (get-map_values m q)) ∙ sym (get-remove nat_list_cmp_total (map_values f m) k q))
-
-  -- a value that is replaced by one of which f is the same is not seen
-  pub map_values_same : (m : Users X) (k : List ℕ) (v w : X) → get m k ≡ Some v → f w ≡ f v → map_values f (insert m k w) ≡ map_values f m
-  map_values_same m k v w e same = same_answers _ _ (λ q. get-map_values (insert m k w) q ∙ ap (option_map f) (get-insert nat_list_cmp_total m k w q) ∙ at q ∙ sym (get-map_values m q))
+module _ (m : Users Owned) (k : List ℕ) (o : Owned) where
+  -- what a user has who gets another list
+  put_at : (list : Option (List SeenChange)) → if_any o.list ≡ list → (q : List ℕ) → get (changes_of (insert m k o)) q ≡ cond (same_bytes q k) list (get (changes_of m) q)
+  put_at list is q =
+      get_changes (insert m k o) q ∙ ap (option_and_then (owned_changes q)) (get-insert nat_list_cmp_total m k o q)
+      ∙ by (same_bytes q k) ∙ ap (cond (same_bytes q k) list) (sym (get_changes m q))
     where
-      here : (q : List ℕ) → q ≡ k → option_map f (Some w) ≡ option_map f (get m q)
-      here q is = ap Some same ∙ ap (option_map f) (sym e) ∙ ap (λ l. option_map f (get m l)) (sym is)
+      by : (b : Bool) → option_and_then (owned_changes q) (cond b (Some o) (get m q)) ≡ cond b list (option_and_then (owned_changes q) (get m q))
+      by true = is
+      by false = refl
 
-      by_test : (q : List ℕ) (b : Bool) → same_bytes q k ≡ b → option_map f (cond b (Some w) (get m q)) ≡ option_map f (get m q)
-      by_test q true t = here q ((bytes_eq-Decides q k).0 (sym (is_eq-slice_cmp q k) ∙ t))
-      by_test q false t = refl
+  pub changes_put : (list : List SeenChange) → if_any o.list ≡ Some list → changes_of (insert m k o) ≡ insert (changes_of m) k list
+  changes_put list is = same_answers _ _ (λ q. put_at (Some list) is q ∙ sym (get-insert nat_list_cmp_total (changes_of m) k list q))
 
-      at : (q : List ℕ) → option_map f (cond (same_bytes q k) (Some w) (get m q)) ≡ option_map f (get m q)
-      at q = by_test q (same_bytes q k) refl
+  -- the changes that the user had anyway
+  pub changes_same : if_any o.list ≡ option_and_then (owned_changes k) (get m k) → changes_of (insert m k o) ≡ changes_of m
+  changes_same is = same_answers _ _ (λ q. put_at _ refl q ∙ by q (same_bytes q k) refl)
+    where
+      by : (q : List ℕ) (b : Bool) → same_bytes q k ≡ b → cond b (if_any o.list) (get (changes_of m) q) ≡ get (changes_of m) q
+      by q true t = is ∙ sym (get_changes m k) ∙ ap (get (changes_of m)) (sym ((bytes_eq-Decides q k).0 (sym (is_eq-slice_cmp q k) ∙ t)))
+      by q false t = refl
 
-pub map_values-empty : {X Y : Type 0} (f : X → Y) (m : Users X) → m ≡ empty → map_values f m ≡ empty
-map_values-empty f m e = same_answers _ _ (λ q. get-map_values f m q ∙ ap (λ n. option_map f (get n q)) e ∙ ap (option_map f) (get-empty (slice_cmp nat_cmp) q) ∙ sym (get-empty (slice_cmp nat_cmp) q))
+pub changes_empty : (m : Users Owned) → m ≡ empty → changes_of m ≡ empty
+changes_empty m e = same_answers _ _ (λ q. get_changes m q ∙ ap (λ n. option_and_then (owned_changes q) (get n q)) e ∙ ap (option_and_then (owned_changes q)) (get-empty (slice_cmp nat_cmp) q) ∙ sym (get-empty (slice_cmp nat_cmp) q))
 
 -- a key that was set has its value
 pub get_set : {X : Type 0} (m : Users X) (k : List ℕ) (v : X) → get (insert m k v) k ≡ Some v

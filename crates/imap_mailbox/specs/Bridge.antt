@@ -1,10 +1,11 @@
 -- What the summary of events says is what the events say.
-use Rattle.std.specs.Prelude.{◌≡◌, ℕ, ◌<◌, Bool, List, [], length}
+use Rattle.std.specs.Prelude.{◌≡◌, ℕ, Bool, List, [], length}
 use Rattle.std.specs.FinMap as fin
-use Rattle.imap_mailbox.specs.Rows.{Event, Shared, IsGiven, IsPresent}
+use Rattle.imap_mailbox.specs.Rows.{Event, Shared, WasGiven, IsGiven, IsPresent}
 use Rattle.imap_mailbox.specs.History.{History, rows, gone, highest, uids, next_uid, room, IsLawful}
 use Rattle.imap_mailbox.specs.History.{with_event, with_own_change}
-use Rattle.imap_mailbox.specs.Summary.{summary_of, step, with_seen, rows_of, gone_of, highest_of, room_of, IsSound}
+use Rattle.imap_mailbox.specs.Summary.{summary_of, step, with_seen, rows_of, gone_of, highest_of, room_of}
+use Rattle.imap_mailbox.specs.Summary.{IsSound}
 
 abbrev pub RowsAreThoseOfEvents : Type 0
 RowsAreThoseOfEvents = (history : History) (user : List ℕ) → IsLawful history user
@@ -40,7 +41,7 @@ LawfulStays =
     → IsGiven (next_uid history) (Shared e) → IsPresent (uids history) e
     → IsLawful (with_event e history) user)
     × ((history : History) (user other : List ℕ) (uid : ℕ) (seen : Bool) → IsLawful history user
-    → uid < next_uid history → IsLawful (with_own_change other uid seen history) user)
+    → WasGiven (next_uid history) uid → IsLawful (with_own_change other uid seen history) user)
 
 -- the summary of events is one that the type of a mailbox admits
 abbrev pub SummariesAreAdmitted : Type 0

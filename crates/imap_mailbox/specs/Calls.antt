@@ -1,5 +1,6 @@
 -- Changes that may be refused.
-use Rattle.std.specs.Prelude.{◌≡◌, ◌≢◌, ℕ, nat_lt, Bool, true, false, ◌==◌, List, [], ◌∷◌, length, ◌&&◌, ◌||◌, not, Option, Some, None, Result, Ok, Err, if◌then◌else◌}
+use Rattle.std.specs.Prelude.{◌≡◌, ℕ, Bool, true, false, ◌==◌, ◌&&◌, ◌||◌, not, if◌then◌else◌}
+use Rattle.std.specs.Prelude.{List, [], ◌∷◌, length, Option, Some, None, Result, Ok, Err}
 use Rattle.std.specs.Str.{bytes_eq}
 use Rattle.imap_syntax.specs.Moments.{Moment}
 use Rattle.imap_modseq.specs.Numbers.{max_events}
@@ -7,24 +8,26 @@ use Rattle.imap_mailbox.specs.declared.flags.SharedFlags.{SharedFlags}
 use Rattle.imap_mailbox.specs.declared.message.Message.{Message}
 use Rattle.imap_mailbox.specs.declared.error.MailboxError.{MailboxError}
 use Rattle.imap_mailbox.specs.declared.error.MailboxError.TheVariants.{Full, Limit, NoSuchUid, Memory}
+use Rattle.imap_mailbox.specs.Flags.{has_too_many}
 use Rattle.imap_mailbox.specs.Rows.{Arrival}
 use Rattle.imap_mailbox.specs.History.{own_at}
-use Rattle.imap_mailbox.specs.Summary.{Summary, with_arrival, with_flags, with_expunge, with_seen, room_of, is_there}
+use Rattle.imap_mailbox.specs.Summary.{Summary, with_arrival, with_flags, with_expunge, with_seen, room_of}
+use Rattle.imap_mailbox.specs.Summary.{is_there}
 use Rattle.imap_mailbox.specs.Summary.{latest, latest_seen}
 
 -- the call made the change that is meant, or was refused for the cause that is meant
 abbrev pub Makes : {A B : Type 0} → Result B MailboxError → A → Result A MailboxError → Type 0
-Makes (Ok done) new meant = meant ≡ Ok new
-Makes (Err error) new meant = meant ≡ Err error
+Makes (Ok done) new (Ok wanted) = wanted ≡ new
+Makes (Ok done) new (Err refusal) = ⊥
+Makes (Err error) new (Ok wanted) = ⊥
+Makes (Err error) new (Err refusal) = error ≡ refusal
 
--- the same, where only want of memory may stand in the place of both
+-- the same, but a change that is meant may fail for want of memory. A refusal that is meant never does
 abbrev pub Changes : {A B : Type 0} → Result B MailboxError → A → Result A MailboxError → Type 0
-Changes (Ok done) new meant = meant ≡ Ok new
-Changes (Err error) new meant = error ≢ Memory → meant ≡ Err error
-
--- the most keywords of a message
-abbrev pub max_keywords : ℕ
-max_keywords = 32
+Changes (Ok done) new (Ok wanted) = wanted ≡ new
+Changes (Ok done) new (Err refusal) = ⊥
+Changes (Err error) new (Ok wanted) = error ≡ Memory
+Changes (Err error) new (Err refusal) = error ≡ refusal
 
 abbrev pub is_same : Bool → Bool → Bool
 is_same a b = (a && b) || (not a && not b)
@@ -41,9 +44,6 @@ same_flags a b =
     && (is_same a.deleted b.deleted
     && (is_same a.draft b.draft
     && (is_same a.flagged b.flagged && same_words a.keywords b.keywords)))
-
-abbrev pub has_too_many : SharedFlags → Bool
-has_too_many flags = nat_lt max_keywords (length flags.keywords)
 
 abbrev pub message_at : ℕ → List Message → Option Message
 message_at uid [] = None

@@ -1,5 +1,6 @@
 -- A client that held what the first events gave, and is told what came after (RFC 7162, section 3.2.5).
-use Rattle.std.specs.Prelude.{◌≡◌, ℕ, ◌-◌, nat_lt, Bool, false, not, ◌==◌, ◌||◌, List, [], ◌∷◌, ◌++◌, take, map, filter, if◌then◌else◌}
+use Rattle.std.specs.Prelude.{◌≡◌, ℕ, ◌-◌, nat_lt, Bool, false, not, ◌==◌, ◌||◌, List, [], ◌∷◌, ◌++◌, take}
+use Rattle.std.specs.Prelude.{map, filter, if◌then◌else◌}
 use Rattle.imap_mailbox.specs.declared.flags.SharedFlags.{SharedFlags}
 use Rattle.imap_mailbox.specs.Rows.{Row, rows_after}
 use Rattle.imap_mailbox.specs.History.{History, events_of, IsLawful}

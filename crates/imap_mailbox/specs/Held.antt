@@ -1,5 +1,5 @@
 -- A mailbox with its room.
-use Rattle.std.specs.Prelude.{ℕ, ◌≤◌, List, [], length, Option, Some, None, unwrap_or, refl}
+use Rattle.std.specs.Prelude.{◌≢◌, ℕ, ◌+◌, ◌≤◌, List, [], ◌∷◌, length, Option, Some, None, unwrap_or, refl}
 use Rattle.std.specs.Coded.{Coded, code_by, coded×, coded_ℕ, coded_list}
 use Rattle.std.specs.FinMap as fin
 use Rattle.imap_user_map.specs.Rows as users
@@ -9,7 +9,9 @@ use Rattle.imap_mailbox.specs.contracts.message.GoneMessage as gone_message
 use Rattle.imap_mailbox.specs.declared.own.SeenChange.{SeenChange}
 use Rattle.imap_mailbox.specs.declared.message.Message.{Message}
 use Rattle.imap_mailbox.specs.declared.message.GoneMessage.{GoneMessage}
-use Rattle.imap_mailbox.specs.Owned.{Owned, owned_code, map_values}
+use Rattle.imap_mailbox.specs.Owned.{Owned, owned_code, changes_of}
+use Rattle.imap_mailbox.specs.Flags.{HasFewKeywords}
+use Rattle.imap_mailbox.specs.Rows.{Event, Added, FlagsSet, Expunged}
 use Rattle.imap_mailbox.specs.History.{own_at}
 use Rattle.imap_mailbox.specs.Summary.{Summary, IsSound}
 
@@ -39,14 +41,14 @@ held_code =
 
 -- each user's own changes
 abbrev pub lists : users.Rows Owned → users.Users (List SeenChange)
-lists own = map_values (λ o. o.list) own.map
+lists own = changes_of own.map
 
 abbrev pub list_at : users.Rows Owned → List ℕ → List SeenChange
 list_at own user = unwrap_or (fin.get (lists own) user) []
 
--- room for n more own changes of a user who has some
+-- a list with room for n more own changes of the user
 abbrev pub HasOwnRoom : ℕ → Option Owned → Type 0
-HasOwnRoom n None = Unit {0}
+HasOwnRoom n None = ⊥
 HasOwnRoom n (Some o) = n ≤ o.room
 
 abbrev pub summary_with : List Message → List GoneMessage → ℕ → ℕ → users.Rows Owned → Summary
@@ -57,7 +59,27 @@ summary_with messages gone next shared own =
 abbrev pub summary_in : Held → Summary
 summary_in h = summary_with h.messages h.gone h.next h.shared h.own
 
+-- ---- what the type of a mailbox keeps
+
+abbrev pub HaveFewKeywords : List Message → Type 0
+HaveFewKeywords [] = Unit {0}
+HaveFewKeywords (m ∷ messages) = HasFewKeywords m.flags × HaveFewKeywords messages
+
+-- an entry of the map has own changes
 pub record IsKept (s : Summary) : Type 0 where
   pub sound : IsSound s
   pub few : s.shared ≤ max_events
   pub own_few : (user : List ℕ) → length (own_at s.own user) ≤ max_events
+  pub keywords : HaveFewKeywords s.messages
+  pub filled : (user : List ℕ) → fin.get s.own user ≢ Some []
+
+-- no message gets more keywords by the event
+abbrev pub SetsFewKeywords : Event → Type 0
+SetsFewKeywords (Added m) = HasFewKeywords m.flags
+SetsFewKeywords (FlagsSet uid flags) = HasFewKeywords flags
+SetsFewKeywords (Expunged uid) = Unit {0}
+
+-- the room of the user's list is left, but for one change
+abbrev pub LeavesOwnRoom : List ℕ → (old new : users.Rows Owned) → Type 0
+LeavesOwnRoom user old new =
+    (more : ℕ) → HasOwnRoom (more + 1) (fin.get old.map user) → HasOwnRoom more (fin.get new.map user)

@@ -5,8 +5,9 @@ use Rattle.imap_user_map.specs.Rows.{Users}
 use Rattle.imap_modseq.specs.Merge.{Own, merge, befores, AreInOrder}
 use Rattle.imap_modseq.specs.Numbers.{max_events}
 use Rattle.imap_mailbox.specs.declared.own.SeenChange.{SeenChange}
-use Rattle.imap_mailbox.specs.Rows.{Event, Entry, Shared, SeenSet, Row, rows_after, gone_after, uids_from, next_from}
-use Rattle.imap_mailbox.specs.Rows.{AreGiven, ArePresent}
+use Rattle.imap_mailbox.specs.Rows.{Event, Entry, Shared, SeenSet, Row, rows_after, gone_after, uids_from}
+use Rattle.imap_mailbox.specs.Rows.{next_from}
+use Rattle.imap_mailbox.specs.Rows.{AreGiven, ArePresent, first_uid}
 
 -- an own change has the number of shared events before it
 pub record History : Type 0 where
@@ -36,9 +37,6 @@ highest history user = 1 + length (events_of history user)
 abbrev pub uids : History → List ℕ
 uids history = uids_from history.shared []
 
-abbrev pub first_uid : ℕ
-first_uid = 1
-
 abbrev pub next_uid : History → ℕ
 next_uid history = next_from history.shared first_uid
 
@@ -55,8 +53,9 @@ abbrev pub room : ℕ → History → ℕ
 room max_messages history =
     room_by max_messages (length (uids history)) (next_uid history) (length history.shared)
 
--- what the events of a mailbox meet, as the user sees them: own changes stand in order, after shared events that
--- are there; UIDs are given in turn, an own change is of a UID given before it, and a message is expunged once
+-- what the events of a mailbox meet, as the user sees them: own changes stand in order, after shared events
+-- that are there; UIDs are given in turn, an own change is of a UID given before it, and a message is
+-- expunged once
 pub record IsLawful (history : History) (user : List ℕ) : Type 0 where
   pub order : AreInOrder 0 (length history.shared) (befores (map own_entry (own_at history.own user)))
   pub given : AreGiven first_uid (events_of history user)

@@ -1,5 +1,6 @@
 -- Messages that are lent.
-use Rattle.std.specs.Prelude.{ℕ, ◌+◌, ◌≤◌, ◌<◌, nat_lt, slice_index_or, Bool, ◌==◌, List, [], ◌∷◌, length, map, filter, Option, Some, None, option_map, if◌then◌else◌, refl}
+use Rattle.std.specs.Prelude.{ℕ, ◌+◌, ◌≤◌, ◌<◌, nat_lt, slice_index_or, Bool, ◌==◌, List, [], ◌∷◌, length}
+use Rattle.std.specs.Prelude.{map, filter, Option, Some, None, option_map, if◌then◌else◌, refl}
 use Rattle.std.specs.Coded.{Coded, code_by, coded×, coded_ℕ, coded_bool, coded_list}
 use Rattle.std.specs.Borrow.{Bor}
 use Rattle.imap_syntax.specs.Moments.{Moment}

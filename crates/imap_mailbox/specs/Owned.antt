@@ -1,7 +1,6 @@
 -- One user's own changes of \Seen, with their room.
-use Rattle.std.specs.Prelude.{◌≡◌, ℕ, eqb, Bool, List, map, refl}
-use Rattle.std.specs.FinMap.{from_entries}
-use Rattle.std.specs.FinMap as fin
+use Rattle.std.specs.Prelude.{◌≡◌, ℕ, eqb, Bool, List, [], ◌∷◌, Option, Some, None, refl}
+use Rattle.imap_mailbox.specs.Finite.{keep}
 use Rattle.std.specs.HashMap.{HashMap, get}
 use Rattle.std.specs.Coded.{Coded, code_by, coded×, coded_ℕ, coded_list}
 use Rattle.imap_user_map.specs.Rows.{Users}
@@ -23,6 +22,14 @@ owned_code =
 abbrev pub AreLatest : {S : Type 0} → HashMap ℕ (ℕ × Bool) S → List SeenChange → Type 0
 AreLatest table own = (uid : ℕ) → get eqb table uid ≡ latest uid own
 
--- the map with f of each value
-abbrev pub map_values : {X Y : Type 0} → (X → Y) → Users X → Users Y
-map_values f m = from_entries (map (λ e. (e.0, f e.1)) (fin.entries m))
+-- the changes, if there are any
+abbrev pub if_any : List SeenChange → Option (List SeenChange)
+if_any [] = None
+if_any (change ∷ own) = Some (change ∷ own)
+
+abbrev pub owned_changes : List ℕ → Owned → Option (List SeenChange)
+owned_changes user o = if_any o.list
+
+-- by users who have some: an empty list keeps its room
+abbrev pub changes_of : Users Owned → Users (List SeenChange)
+changes_of m = keep owned_changes m

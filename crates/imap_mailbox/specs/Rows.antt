@@ -1,6 +1,7 @@
 -- The messages of a mailbox as a user has them, after a list of events (RFC 9051, section 2.3; RFC 7162,
 -- section 3.1).
-use Rattle.std.specs.Prelude.{◌≡◌, ℕ, ◌+◌, ◌<◌, Bool, true, false, not, ◌==◌, ◌||◌, List, [], ◌∷◌, ◌++◌, map, filter, if◌then◌else◌}
+use Rattle.std.specs.Prelude.{◌≡◌, ℕ, ◌+◌, ◌<◌, ◌≤◌, Bool, true, false, not, ◌==◌, ◌||◌, if◌then◌else◌}
+use Rattle.std.specs.Prelude.{List, [], ◌∷◌, ◌++◌, map, filter}
 use Rattle.imap_modseq.specs.Numbers.{first_number}
 use Rattle.imap_syntax.specs.Moments.{Moment}
 use Rattle.imap_mailbox.specs.declared.flags.SharedFlags.{SharedFlags}
@@ -97,12 +98,19 @@ next_from (e ∷ events) next = next_from events (next_step e next)
 
 -- ---- what events of a mailbox meet
 
+abbrev pub first_uid : ℕ
+first_uid = 1
+
+-- a message got the UID, if `next` is UIDNEXT
+abbrev pub WasGiven : (next uid : ℕ) → Type 0
+WasGiven next uid = (first_uid ≤ uid) × (uid < next)
+
 -- a message gets the next UID, and an own change is of a message that was added before it
 abbrev pub IsGiven : ℕ → Entry → Type 0
 IsGiven next (Shared (Added m)) = m.uid ≡ next
 IsGiven next (Shared (FlagsSet uid flags)) = Unit {0}
 IsGiven next (Shared (Expunged uid)) = Unit {0}
-IsGiven next (SeenSet uid seen) = uid < next
+IsGiven next (SeenSet uid seen) = WasGiven next uid
 
 abbrev pub entry_next : Entry → ℕ → ℕ
 entry_next (Shared e) next = next_step e next

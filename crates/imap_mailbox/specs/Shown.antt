@@ -1,9 +1,12 @@
 -- What a mailbox shows to a user, and how each change shows.
-use Rattle.std.specs.Prelude.{◌≡◌, ◌≢◌, ℕ, ◌+◌, ◌-◌, Bool, true, false, ◌||◌, List, length, Option, Some, None, option_map, if◌then◌else◌}
+use Rattle.std.specs.Prelude.{◌≡◌, ◌≢◌, ℕ, ◌+◌, ◌-◌, Bool, true, false, ◌||◌, List, length, Option, Some}
+use Rattle.std.specs.Prelude.{None, option_map, if◌then◌else◌}
 use Rattle.imap_modseq.specs.Numbers.{first_number}
-use Rattle.imap_mailbox.specs.Rows.{Arrival, Event, Shared, SeenSet, Row, row_step, gone_step, next_step, IsGiven}
+use Rattle.imap_mailbox.specs.Rows.{Arrival, Event, Shared, SeenSet, Row, row_step, gone_step, next_step}
+use Rattle.imap_mailbox.specs.Rows.{IsGiven}
 use Rattle.imap_mailbox.specs.History.{own_at, room_by}
-use Rattle.imap_mailbox.specs.Summary.{Summary, with_arrival, step, with_seen, rows_of, gone_of, room_of, IsSound}
+use Rattle.imap_mailbox.specs.Summary.{Summary, with_arrival, step, with_seen, rows_of, gone_of, room_of}
+use Rattle.imap_mailbox.specs.Summary.{IsSound}
 
 -- the rights of RFC 4314, section 2.1, that decide what is shown
 pub record Rights : Type 0 where

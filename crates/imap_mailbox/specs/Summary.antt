@@ -1,14 +1,17 @@
 -- A mailbox by its summary: the messages that are there, those that are gone, and what is counted.
-use Rattle.std.specs.Prelude.{◌≡◌, ℕ, ◌+◌, ◌<◌, ◌≤◌, max, nat_le, nat_lt, Bool, false, not, ◌==◌, ◌&&◌, List, [], ◌∷◌, ◌++◌, length, map, filter, Option, Some, None, if◌then◌else◌}
+use Rattle.std.specs.Prelude.{◌≡◌, ℕ, ◌+◌, ◌<◌, ◌≤◌, max, nat_le, nat_lt, Bool, false, not, ◌==◌, ◌&&◌}
+use Rattle.std.specs.Prelude.{if◌then◌else◌}
+use Rattle.std.specs.Prelude.{List, [], ◌∷◌, ◌++◌, length, map, filter, Option, Some, None}
 use Rattle.imap_user_map.specs.Rows.{Users}
 use Rattle.imap_modseq.specs.Merge.{befores, AreInOrder}
-use Rattle.imap_modseq.specs.Numbers.{shared_number, own_number}
+use Rattle.imap_modseq.specs.Numbers.{shared_number, own_number, highest_after}
 use Rattle.imap_mailbox.specs.declared.flags.SharedFlags.{SharedFlags}
 use Rattle.imap_mailbox.specs.declared.own.SeenChange.{SeenChange}
 use Rattle.imap_mailbox.specs.declared.message.Message.{Message}
 use Rattle.imap_mailbox.specs.declared.message.GoneMessage.{GoneMessage}
-use Rattle.imap_mailbox.specs.Rows.{Arrival, Event, Added, FlagsSet, Expunged, Row, is_among}
-use Rattle.imap_mailbox.specs.History.{History, own_at, own_with, own_entry, first_uid, room_by}
+use Rattle.imap_mailbox.specs.Rows.{Arrival, Event, Added, FlagsSet, Expunged, Row, is_among, first_uid}
+use Rattle.imap_mailbox.specs.Rows.{WasGiven}
+use Rattle.imap_mailbox.specs.History.{History, own_at, own_with, own_entry, room_by}
 
 -- `next` is UIDNEXT, and `shared` the number of shared events
 pub record Summary : Type 0 where
@@ -130,7 +133,7 @@ abbrev pub gone_of : Summary → List ℕ → List (ℕ × ℕ)
 gone_of s user = map (gone_in (own_at s.own user)) s.gone
 
 abbrev pub highest_of : Summary → List ℕ → ℕ
-highest_of s user = 1 + (s.shared + length (own_at s.own user))
+highest_of s user = highest_after s.shared (length (own_at s.own user))
 
 abbrev pub room_of : ℕ → Summary → ℕ
 room_of max_messages s = room_by max_messages (length s.messages) s.next s.shared
@@ -168,26 +171,32 @@ abbrev pub AreApart : List Message → List GoneMessage → Type 0
 AreApart messages gone = (place : ℕ)
     → count_of place (message_places messages) + count_of place (places_in gone) ≤ 1
 
-abbrev pub AreOfBelow : ℕ → List SeenChange → Type 0
-AreOfBelow next [] = Unit {0}
-AreOfBelow next (s ∷ own) = (s.uid < next) × AreOfBelow next own
+-- they are of UIDs that were given
+abbrev pub AreOfGiven : (next : ℕ) → List SeenChange → Type 0
+AreOfGiven next [] = Unit {0}
+AreOfGiven next (s ∷ own) = WasGiven next s.uid × AreOfGiven next own
 
--- a user's own changes stand in order, after shared events that are there, and are of UIDs below the next
+-- a user's own changes stand in order, after shared events that are there, and are of UIDs that were given
 pub record Fits (shared next : ℕ) (own : List SeenChange) : Type 0 where
   pub order : AreInOrder 0 shared (befores (map own_entry own))
-  pub known : AreOfBelow next own
+  pub known : AreOfGiven next own
 
 abbrev pub is_given : ℕ → ℕ → Bool
 is_given uid next = nat_le first_uid uid && nat_lt uid next
 
+-- how many messages got the UID
+abbrev pub given_once : (next uid : ℕ) → ℕ
+given_once next uid = if is_given uid next then 1 else 0
+
 abbrev pub is_there : ℕ → Summary → Bool
 is_there uid s = is_among uid (uids_in s.messages)
 
--- UIDs of messages rise; the gone UIDs are those that were given and are of no message; each message has a place
--- of its own, and the places of gone messages rise
+-- UIDs of messages rise; each UID that was given is there or gone, once, and no other is; each message has a
+-- place of its own, and the places of gone messages rise
 pub record IsSound (s : Summary) : Type 0 where
   pub uids : Rises first_uid s.next (uids_in s.messages)
-  pub gone : (uid : ℕ) → is_among uid (gone_uids s.gone) ≡ (is_given uid s.next && not (is_there uid s))
+  pub once : (uid : ℕ)
+      → count_of uid (uids_in s.messages) + count_of uid (gone_uids s.gone) ≡ given_once s.next uid
   pub apart : AreApart s.messages s.gone
   pub place : ArePlacesBelow s.shared s.messages
   pub places : Rises 0 s.shared (places_in s.gone)

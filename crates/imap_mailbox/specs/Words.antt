@@ -1,22 +1,25 @@
 -- Keywords (RFC 9051, section 2.3.2).
-use Rattle.std.specs.Prelude.{◌≡◌, ℕ, suc, not, List, [], ◌∷◌, map, filter, Result, Ok, Err}
+use Rattle.std.specs.Prelude.{◌≡◌, ℕ, suc, not, List, [], ◌∷◌, filter, Option, Some, None, Result, Ok, Err}
+use Rattle.std.specs.declared.vec.Vec.{Vec}
+use Rattle.imap_syntax.specs.Atoms.{IsAtom}
 use Rattle.std.specs.BTreeSet.{insert_key}
-use Rattle.std.specs.Char.{to_ascii_lowercase}
-use Rattle.std.specs.Str.{str_eq_ignore_ascii_case}
+use Rattle.std.specs.Str.{str_to_ascii_lowercase, str_eq_ignore_ascii_case}
 use Rattle.std.specs.Cmp.Lexicographic.{slice_cmp}
 use Rattle.std.specs.Ordering.{nat_cmp}
 use Rattle.std.specs.declared.cmp.Ordering.TheVariants.{Less}
 use Rattle.std.specs.FinMap.Entries.{by_order}
 
-abbrev pub lower_case : List ℕ → List ℕ
-lower_case word = map to_ascii_lowercase word
-
 -- with the word in lower case, at its place in the order of octets
 abbrev pub with_word : List ℕ → List (List ℕ) → List (List ℕ)
-with_word word words = insert_key (slice_cmp nat_cmp) words (lower_case word)
+with_word word words = insert_key (slice_cmp nat_cmp) words (str_to_ascii_lowercase word)
 
 abbrev pub without_word : List ℕ → List (List ℕ) → List (List ℕ)
 without_word word words = filter (λ w. not (str_eq_ignore_ascii_case w word)) words
+
+-- with all words of a set, and without them
+abbrev pub with_words : (others words : List (List ℕ)) → List (List ℕ)
+with_words [] words = words
+with_words (w ∷ others) words = with_words others (with_word w words)
 
 -- ---- what the type of keywords keeps
 
@@ -31,11 +34,22 @@ AreRising (w ∷ words) = IsBefore w words × AreRising words
 
 abbrev pub AreLower : List (List ℕ) → Type 0
 AreLower [] = Unit {0}
-AreLower (w ∷ words) = (lower_case w ≡ w) × AreLower words
+AreLower (w ∷ words) = (str_to_ascii_lowercase w ≡ w) × AreLower words
 
+abbrev pub AreAtoms : List (List ℕ) → Type 0
+AreAtoms [] = Unit {0}
+AreAtoms (w ∷ words) = IsAtom w × AreAtoms words
+
+-- they rise, and each is an atom in lower case: so it has no space
 pub record AreKeywords (words : List (List ℕ)) : Type 0 where
   pub rising : AreRising words
   pub lower : AreLower words
+  pub atoms : AreAtoms words
+
+-- the words behind a count of their owners; a set without words may have none
+abbrev pub words_in : {Z : Type 0} → Option (Vec (List ℕ) Z) → List (List ℕ)
+words_in None = []
+words_in (Some shared) = shared.items
 
 -- the place of a word, or the place for it
 abbrev pub next_place : Result ℕ ℕ → Result ℕ ℕ

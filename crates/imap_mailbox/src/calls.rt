@@ -2,7 +2,9 @@
 
 ghost use Rattle.std.specs.Prelude.{◌≡◌, OnErr, IfOk};
 ghost use Rattle.imap_mailbox.specs.Held.{summary_in};
-ghost use Rattle.imap_mailbox.specs.Calls.{Makes, Changes, add_result, set_flags_result, expunge_result, mark_seen_result, has_too_many};
+ghost use Rattle.imap_mailbox.specs.Flags.{has_too_many};
+ghost use Rattle.imap_mailbox.specs.Calls.{Makes, Changes};
+ghost use Rattle.imap_mailbox.specs.Calls.{add_result, set_flags_result, expunge_result, mark_seen_result};
 
 use crate::error::MailboxError;
 use crate::flags::SharedFlags;
@@ -23,8 +25,8 @@ fn has_too_many(flags: &SharedFlags) -> bool
 }
 
 impl Mailbox {
-    /// Adds a message and returns its UID. Fails with `Full` if [`room`](Mailbox::room) is 0, then with `Limit` if
-    /// `flags` has over [`MAX_KEYWORDS`] keywords, and then with `Memory`.
+    /// Adds a message and returns its UID. Fails with `Full` if [`room`](Mailbox::room) is 0, then with
+    /// `Limit` if `flags` has over [`MAX_KEYWORDS`] keywords, and then with `Memory`.
     pub fn add(
         &mut self,
         max_messages: u64,
@@ -49,10 +51,12 @@ impl Mailbox {
         }
     }
 
-    /// Sets the shared flags of a message. Flags that stay as they are are no event. Fails with `NoSuchUid`, and else
-    /// with `Limit` if there are over [`MAX_KEYWORDS`] keywords or [`MAX_EVENTS`] shared events. It takes no memory.
+    /// Sets the shared flags of a message. Flags that stay as they are are no event. Fails with `NoSuchUid`,
+    /// and else with `Limit` if there are over [`MAX_KEYWORDS`] keywords or [`MAX_EVENTS`] shared events. It
+    /// takes no memory.
     pub fn set_flags(&mut self, uid: u32, flags: SharedFlags) -> Result<(), MailboxError>
-        ensures makes { Makes result (summary_in self.new) (set_flags_result uid flags (summary_in self.old)) }
+        ensures makes { Makes result (summary_in self.new)
+            (set_flags_result uid flags (summary_in self.old)) }
         ensures err { OnErr result (summary_in self.new ≡ summary_in self.old) }
     {
         match self.find(uid) {
@@ -73,8 +77,8 @@ impl Mailbox {
         }
     }
 
-    /// Expunges a message. Fails with `NoSuchUid`, then with `Limit` if there are [`MAX_EVENTS`] shared events, and
-    /// then with `Memory`.
+    /// Expunges a message. Fails with `NoSuchUid`, then with `Limit` if there are [`MAX_EVENTS`] shared
+    /// events, and then with `Memory`.
     pub fn expunge(&mut self, uid: u32) -> Result<(), MailboxError>
         ensures changes { Changes result (summary_in self.new) (expunge_result uid (summary_in self.old)) }
         ensures err { OnErr result (summary_in self.new ≡ summary_in self.old) }
@@ -96,8 +100,9 @@ impl Mailbox {
         }
     }
 
-    /// Sets a user's own `\Seen` of a message, or takes it away. A flag that stays as it is is no event. Fails with
-    /// `NoSuchUid`, then with `Limit` if `user` has [`MAX_EVENTS`] own changes, and then with `Memory`.
+    /// Sets a user's own `\Seen` of a message, or takes it away. A flag that stays as it is is no event.
+    /// Fails with `NoSuchUid`, then with `Limit` if `user` has [`MAX_EVENTS`] own changes, and then with
+    /// `Memory`.
     pub fn mark_seen(
         &mut self,
         alloc: Global,
@@ -117,9 +122,9 @@ impl Mailbox {
                 if self.own_len(user) == MAX_EVENTS {
                     return Err(MailboxError::Limit);
                 }
-                match self.reserve_seen(alloc, user) {
-                    Ok((name, first)) => {
-                        self.put_seen(name, first, uid, seen);
+                match self.reserve_seen(alloc, user, 1) {
+                    Ok(()) => {
+                        self.put_seen(user, uid, seen);
                         Ok(())
                     }
                     Err(_) => Err(MailboxError::Memory),

@@ -1,3 +1,5 @@
+//! Why a mailbox is not changed.
+
 use std::alloc::AllocError;
 use thiserror::Error;
 

@@ -1,7 +1,7 @@
 //! The flags that all users share.
 
 ghost use Rattle.std.specs.Prelude.{◌≡◌, OnOk, OnErr};
-ghost use Rattle.imap_mailbox.specs.Flags.{no_flags, with_flag, without_flag};
+ghost use Rattle.imap_mailbox.specs.Flags.{no_flags, with_flag, without_flag, with_flags_of};
 ghost use Rattle.imap_mailbox.specs.Calls.{same_flags};
 
 use crate::keywords::Keywords;
@@ -33,7 +33,8 @@ impl SharedFlags {
         }
     }
 
-    /// Sets a flag. `\Seen` is each user's own, and other flags with a backslash are not kept: both change nothing.
+    /// Sets a flag. `\Seen` is each user's own, and other flags with a backslash are not kept: both change
+    /// nothing.
     pub fn insert(&mut self, alloc: Global, flag: &Flag) -> Result<(), AllocError>
         ensures ok { OnOk result (self.new ≡ with_flag flag.now self.old) }
         ensures err { OnErr result (self.new ≡ self.old) }
@@ -45,14 +46,28 @@ impl SharedFlags {
             Flag::Flagged => self.flagged = true,
             Flag::Seen => {}
             Flag::Other(_) => {}
-            Flag::Keyword(word) => return self.keywords.insert(alloc, word.as_slice()),
+            Flag::Keyword(word) => return self.keywords.insert(alloc, word),
         }
         Ok(())
     }
 
+    /// Sets all flags of another set, in one pass over the keywords of both.
+    pub fn insert_all(&mut self, alloc: Global, others: &SharedFlags) -> Result<(), AllocError>
+        ensures ok { OnOk result (self.new ≡ with_flags_of others.now self.old) }
+        ensures err { OnErr result (self.new ≡ self.old) }
+    {
+        self.keywords.insert_all(alloc, &others.keywords)?;
+        self.answered = self.answered || others.answered;
+        self.deleted = self.deleted || others.deleted;
+        self.draft = self.draft || others.draft;
+        self.flagged = self.flagged || others.flagged;
+        Ok(())
+    }
+
     /// Takes a flag away. `\Seen` and other flags with a backslash change nothing.
-    pub fn remove(&mut self, flag: &Flag)
-        ensures { self.new ≡ without_flag flag.now self.old }
+    pub fn remove(&mut self, alloc: Global, flag: &Flag) -> Result<(), AllocError>
+        ensures ok { OnOk result (self.new ≡ without_flag flag.now self.old) }
+        ensures err { OnErr result (self.new ≡ self.old) }
     {
         match flag {
             Flag::Answered => self.answered = false,
@@ -61,8 +76,9 @@ impl SharedFlags {
             Flag::Flagged => self.flagged = false,
             Flag::Seen => {}
             Flag::Other(_) => {}
-            Flag::Keyword(word) => self.keywords.remove(word.as_slice()),
+            Flag::Keyword(word) => return self.keywords.remove(alloc, word),
         }
+        Ok(())
     }
 }
 

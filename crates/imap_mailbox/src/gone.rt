@@ -8,7 +8,8 @@ ghost use Rattle.imap_mailbox.specs.Summary.{gone_in};
 ghost use Rattle.imap_mailbox.specs.Lent.{gone_shown, gone_after_number, NeverFall};
 
 use crate::message::GoneMessage;
-use crate::own::{FIRST_NUMBER, OwnSeen};
+use crate::own::OwnSeen;
+use imap_modseq::number_after;
 use std::marker::Model;
 
 /// A message that was expunged, as a user has it.
@@ -45,6 +46,7 @@ impl<'a> Model for GoneUids<'a> {
 }
 
 impl<'a> GoneUids<'a> {
+    /// The number of messages.
     pub fn len(&self) -> usize
         ensures len { result ≡ length self.now }
         ensures order { NeverFall self.now }
@@ -52,6 +54,7 @@ impl<'a> GoneUids<'a> {
         self.gone.len() - self.first
     }
 
+    /// The message at `place`, from 0, in the order in which they went.
     pub fn get(&self, place: usize) -> GoneUid
         requires { place < length self.now }
         ensures { gone_shown result ≡ slice_index_or self.now place (gone_shown result) }
@@ -100,7 +103,7 @@ fn plain_gone(message: &GoneMessage) -> GoneUid
 {
     GoneUid {
         uid: message.uid,
-        number: FIRST_NUMBER + message.place,
+        number: number_after(message.place, 0),
     }
 }
 
@@ -112,6 +115,6 @@ fn own_gone(message: &GoneMessage, own: &OwnSeen) -> GoneUid
 {
     GoneUid {
         uid: message.uid,
-        number: FIRST_NUMBER + (message.place + own.count_before(message.place) as u64),
+        number: number_after(message.place, own.count_before(message.place) as u64),
     }
 }

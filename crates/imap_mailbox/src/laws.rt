@@ -1,14 +1,20 @@
-//! What the summary of a mailbox says of the events that happened, of a client that was away, and of what each change
-//! shows to a user.
+//! What the summary of a mailbox says of the events that happened, of a client that was away, and of what
+//! each change shows to a user.
 //!
-//! The events of a mailbox are one list of shared events, and for each user a list of own changes of `\Seen`. Their
-//! summary is what a [`Mailbox`](crate::Mailbox) keeps. The functions do nothing: their contracts are the laws.
-ghost use Rattle.imap_mailbox.specs.Bridge.{RowsAreThoseOfEvents, GoneAreThoseOfEvents, CountsAreThoseOfEvents};
-ghost use Rattle.imap_mailbox.specs.Bridge.{EventsAreSteps, ChangesAreSteps, LawfulStays, SummariesAreAdmitted};
+//! The events of a mailbox are one list of shared events, and for each user a list of own changes of
+//! `\Seen`. Their summary is what a [`Mailbox`](crate::Mailbox) keeps. The functions do nothing: their
+//! contracts are the laws.
+
+ghost use Rattle.imap_mailbox.specs.Bridge.{RowsAreThoseOfEvents, GoneAreThoseOfEvents};
+ghost use Rattle.imap_mailbox.specs.Bridge.{CountsAreThoseOfEvents};
+ghost use Rattle.imap_mailbox.specs.Bridge.{EventsAreSteps, ChangesAreSteps, LawfulStays};
+ghost use Rattle.imap_mailbox.specs.Bridge.{SummariesAreAdmitted};
+ghost use Rattle.imap_mailbox.specs.Called.{CallsAreEvents, FlagsAreTested};
 ghost use Rattle.imap_mailbox.specs.Client.{ClientIsBroughtUp};
 ghost use Rattle.imap_mailbox.specs.Shown.{AnothersSeenIsHidden, AddIsSeenAsRoom, EventIsSeen, OwnSeenIsSeen};
 
-/// The messages of the summary, as a user has them, are those that the user's events give, with flags and numbers.
+/// The messages of the summary, as a user has them, are those that the user's events give, with flags and
+/// numbers.
 pub fn rows_are_those_of_events()
     ensures { RowsAreThoseOfEvents }
 {}
@@ -33,8 +39,8 @@ pub fn changes_are_steps()
     ensures { ChangesAreSteps }
 {}
 
-/// A client that held what the first events gave, and follows VANISHED and FETCH of what came later, holds what a fetch
-/// of all messages gives (RFC 7162, section 3.2.5).
+/// A client that held what the first events gave, and follows VANISHED and FETCH of what came later, holds
+/// what a fetch of all messages gives (RFC 7162, section 3.2.5).
 pub fn client_is_brought_up()
     ensures { ClientIsBroughtUp }
 {}
@@ -54,12 +60,14 @@ pub fn event_is_seen()
     ensures { EventIsSeen }
 {}
 
-/// What a user sees after a change of the user's own `\Seen` is a function of what was seen before and of the change.
+/// What a user sees after a change of the user's own `\Seen` is a function of what was seen before and of
+/// the change.
 pub fn own_seen_is_seen()
     ensures { OwnSeenIsSeen }
 {}
 
-/// What the laws ask of events holds of a mailbox without events, and is kept by each event that a mailbox takes.
+/// What the laws ask of events holds of a mailbox without events, and is kept by each event that a mailbox
+/// takes.
 pub fn lawful_stays()
     ensures { LawfulStays }
 {}
@@ -67,4 +75,16 @@ pub fn lawful_stays()
 /// The summary of events is one that a mailbox may have.
 pub fn summaries_are_admitted()
     ensures { SummariesAreAdmitted }
+{}
+
+/// Each call that succeeds makes the events that a mailbox takes: the new summary is that of the events
+/// which are there then, and these are lawful.
+pub fn calls_are_events()
+    ensures { CallsAreEvents }
+{}
+
+/// Flags that are the same by the test of [`Mailbox::set_flags`](crate::Mailbox::set_flags), and so make no
+/// event, are equal.
+pub fn flags_are_tested()
+    ensures { FlagsAreTested }
 {}

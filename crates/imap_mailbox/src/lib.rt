@@ -1,11 +1,12 @@
 //! What one mailbox holds: its messages, their flags, and what happened to them.
 //!
-//! A [`Mailbox`] gives each message the next UID, and each change a mod-sequence ([`imap_modseq`]). All users share the
-//! messages and their flags but `\Seen`, which each user has apart. [`Rows`] are the messages as one user has them.
+//! A [`Mailbox`] gives each message the next UID, and each change a mod-sequence ([`imap_modseq`]). All
+//! users share the messages and their flags but `\Seen`, which each user has apart. [`Rows`] are the
+//! messages as one user has them.
 //!
-//! A mailbox keeps no list of events. Contracts speak of its summary: the messages that are there, those that are gone,
-//! UIDNEXT, the number of shared events, and each user's changes of `\Seen`. [`laws`] say that the summary of events
-//! tells each user what the events tell.
+//! A mailbox keeps no list of events. Contracts speak of its summary: the messages that are there, those
+//! that are gone, UIDNEXT, the number of shared events, and each user's changes of `\Seen`. [`laws`] say
+//! that the summary of events tells each user what the events tell.
 #![tactic(auto)]
 
 mod calls;
@@ -28,6 +29,6 @@ pub use gone::{GoneUid, GoneUids};
 pub use keywords::Keywords;
 pub use mailbox::Mailbox;
 pub use message::{GoneMessage, Message};
-pub use own::{OwnSeen, SeenChange};
+pub use own::SeenChange;
 pub use row::Row;
 pub use rows::Rows;

@@ -1,24 +1,28 @@
 //! One mailbox.
 
-ghost use Rattle.std.specs.Prelude.{◌≡◌, ℕ, ◌+◌, ◌<◌, ◌≤◌, List, [], true, length, option_copied, IsTrue, OnSome, OnOk, IfOk};
+ghost use Rattle.std.specs.Prelude.{◌≡◌, ℕ, ◌+◌, ◌<◌, ◌≤◌, List, [], true, length, option_copied, IsTrue};
+ghost use Rattle.std.specs.Prelude.{OnSome, OnOk, IfOk};
 ghost use Rattle.std.specs.FinMap as map;
-ghost use Rattle.std.specs.String.{string_bytes};
 ghost use Rattle.imap_modseq.specs.Numbers.{max_events, max_number};
+ghost use Rattle.imap_mailbox.specs.Flags.{HasFewKeywords};
+ghost use Rattle.imap_mailbox.specs.Rows.{WasGiven};
 ghost use Rattle.imap_mailbox.specs.History.{own_at, end_uid};
 ghost use Rattle.imap_mailbox.specs.Summary.{new_summary, with_arrival, with_flags, with_expunge, with_seen};
-ghost use Rattle.imap_mailbox.specs.Summary.{rows_of, gone_of, highest_of, room_of, is_there, latest, latest_seen};
-ghost use Rattle.imap_mailbox.specs.Held.{summary_in, HasOwnRoom};
+ghost use Rattle.imap_mailbox.specs.Summary.{rows_of, gone_of, highest_of, room_of, is_there, latest};
+ghost use Rattle.imap_mailbox.specs.Summary.{latest_seen};
+ghost use Rattle.imap_mailbox.specs.Held.{summary_in, HasOwnRoom, LeavesOwnRoom, IsKept};
 ghost use Rattle.imap_mailbox.specs.Calls.{message_at, arrival, if_there};
 ghost use Rattle.imap_mailbox.specs.Lent.{gone_after_number};
+ghost use Rattle.imap_mailbox.specs.Order.{AreRowsInOrder, AreGoneInOrder};
 
 use crate::flags::SharedFlags;
 use crate::gone::GoneUids;
 use crate::marks::{mark_own, reserve_own};
 use crate::message::{GoneMessage, Message, find_message, remove_message, set_message_flags};
-use crate::own::{FIRST_NUMBER, OwnSeen, SeenChange};
+use crate::own::{OwnSeen, SeenChange};
 use crate::rows::Rows;
 use imap_lex::Octets;
-use imap_modseq::MAX_EVENTS;
+use imap_modseq::{MAX_EVENTS, highest_after};
 use imap_syntax::DateTime;
 use imap_user_map::UserMap;
 use std::alloc::{AllocError, Global};
@@ -26,8 +30,8 @@ use std::marker::Model;
 
 /// The messages of a mailbox, what each user changed of `\Seen`, and what was expunged.
 ///
-/// Contracts see its [summary](crate::laws) with its room. Methods that end in `_reserved` take no memory: they commit
-/// what was decided, in room that was made before.
+/// Contracts see its [summary](crate::laws) with its room. Methods that end in `_reserved` take no memory:
+/// they commit what was decided, in room that was made before.
 #[derive(Drop)]
 pub struct Mailbox {
     messages: Vec<Message>,
@@ -83,21 +87,12 @@ impl Mailbox {
         self.gone.reserve(more)
     }
 
-    /// Makes room for own changes of `more` users who have none.
-    pub fn reserve_users(&mut self, more: usize) -> Result<(), AllocError>
-        ensures contents { summary_in self.new ≡ summary_in self.old }
-        ensures own { self.new.own.map ≡ self.old.own.map }
-        ensures ok { OnOk result (more ≤ self.new.own.spare) }
-        ensures room { self.new.room ≡ self.old.room }
-    {
-        self.own.reserve(more)
-    }
-
     /// Adds a message, in room that is there, and returns its UID.
     pub fn add_reserved(&mut self, date: DateTime, octets: Octets, flags: SharedFlags) -> u32
         requires room { 0 < self.old.room }
         requires uids { self.old.next < end_uid }
         requires few { self.old.shared < max_events }
+        requires keywords { HasFewKeywords flags }
         ensures contents { summary_in self.new
             ≡ with_arrival (arrival self.old.next date octets flags) (summary_in self.old) }
         ensures own { self.new.own ≡ self.old.own }
@@ -121,6 +116,7 @@ impl Mailbox {
     /// Sets the shared flags of a message. It takes no room.
     pub fn set_flags_reserved(&mut self, uid: u32, flags: SharedFlags)
         requires few { self.old.shared < max_events }
+        requires keywords { HasFewKeywords flags }
         ensures contents { summary_in self.new
             ≡ if_there uid (with_flags uid flags (summary_in self.old)) (summary_in self.old) }
         ensures own { self.new.own ≡ self.old.own }
@@ -145,26 +141,23 @@ impl Mailbox {
         }
     }
 
-    /// Sets a user's own `\Seen` of a message or takes it away, in room that is there. `first` is the empty list for a
-    /// user without own changes.
-    pub fn mark_seen_reserved(&mut self, user: String, first: OwnSeen, uid: u32, seen: bool)
-        requires first { first.list ≡ [] }
-        requires first_room { 0 < first.room }
-        requires spare { 0 < self.old.own.spare }
-        requires room { HasOwnRoom 1 (map.get self.old.own.map (string_bytes user)) }
-        requires few { length (own_at (summary_in self.old).own (string_bytes user)) < max_events }
-        ensures contents { summary_in self.new ≡ if_there uid
-            (with_seen (string_bytes user) uid seen (summary_in self.old)) (summary_in self.old) }
+    /// Sets a user's own `\Seen` of a message or takes it away, in room that is there.
+    pub fn mark_seen_reserved(&mut self, user: &str, uid: u32, seen: bool)
+        requires room { HasOwnRoom 1 (map.get self.old.own.map user.now) }
+        requires few { length (own_at (summary_in self.old).own user.now) < max_events }
+        ensures contents { summary_in self.new
+            ≡ if_there uid (with_seen user.now uid seen (summary_in self.old)) (summary_in self.old) }
+        ensures own { LeavesOwnRoom user.now self.old.own self.new.own }
         ensures room { self.new.room ≡ self.old.room }
-        ensures spare { self.old.own.spare ≤ self.new.own.spare + 1 }
     {
         if self.contains(uid) {
-            self.put_seen(user, first, uid, seen);
+            self.put_seen(user, uid, seen);
         }
     }
 
     pub(crate) fn put_flags(&mut self, uid: u32, flags: SharedFlags)
         requires few { self.old.shared < max_events }
+        requires keywords { HasFewKeywords flags }
         ensures contents { summary_in self.new ≡ with_flags uid flags (summary_in self.old) }
         ensures own { self.new.own ≡ self.old.own }
         ensures room { self.new.room ≡ self.old.room }
@@ -188,47 +181,25 @@ impl Mailbox {
         self.shared = place + 1;
     }
 
-    pub(crate) fn put_seen(&mut self, user: String, first: OwnSeen, uid: u32, seen: bool)
-        requires first { first.list ≡ [] }
-        requires first_room { 0 < first.room }
-        requires spare { 0 < self.old.own.spare }
-        requires room { HasOwnRoom 1 (map.get self.old.own.map (string_bytes user)) }
-        requires known { uid < self.old.next }
-        requires few { length (own_at (summary_in self.old).own (string_bytes user)) < max_events }
-        ensures contents { summary_in self.new ≡ with_seen (string_bytes user) uid seen (summary_in self.old) }
+    pub(crate) fn put_seen(&mut self, user: &str, uid: u32, seen: bool)
+        requires room { HasOwnRoom 1 (map.get self.old.own.map user.now) }
+        requires known { WasGiven self.old.next uid }
+        requires few { length (own_at (summary_in self.old).own user.now) < max_events }
+        ensures contents { summary_in self.new ≡ with_seen user.now uid seen (summary_in self.old) }
+        ensures own { LeavesOwnRoom user.now self.old.own self.new.own }
         ensures room { self.new.room ≡ self.old.room }
-        ensures spare { self.old.own.spare ≤ self.new.own.spare + 1 }
     {
         let before = self.shared;
-        mark_own(&mut self.own, user, first, SeenChange { before, uid, seen });
+        mark_own(&mut self.own, user, SeenChange { before, uid, seen });
     }
 
-    fn reserve_own(&mut self, user: &str) -> Result<(), AllocError>
+    /// Makes room for `more` own changes of a user.
+    pub fn reserve_seen(&mut self, alloc: Global, user: &str, more: usize) -> Result<(), AllocError>
         ensures contents { summary_in self.new ≡ summary_in self.old }
         ensures room { self.new.room ≡ self.old.room }
-        ensures ok { OnOk result ((0 < self.new.own.spare) × HasOwnRoom 1 (map.get self.new.own.map user.now)) }
+        ensures ok { OnOk result (HasOwnRoom more (map.get self.new.own.map user.now)) }
     {
-        self.own.reserve(1)?;
-        reserve_own(&mut self.own, user)
-    }
-
-    /// Makes room for an own change of a user. Returns the user's name and an empty list, as
-    /// [`mark_seen_reserved`](Mailbox::mark_seen_reserved) takes them.
-    pub fn reserve_seen(
-        &mut self,
-        alloc: Global,
-        user: &str,
-    ) -> Result<(String, OwnSeen), AllocError>
-        ensures contents { summary_in self.new ≡ summary_in self.old }
-        ensures room { self.new.room ≡ self.old.room }
-        ensures ok { OnOk result ((0 < self.new.own.spare) × HasOwnRoom 1 (map.get self.new.own.map user.now)) }
-        ensures parts { IfOk result (λ p. (string_bytes p.0 ≡ user.now) × (p.1.list ≡ []) × (0 < p.1.room)) }
-    {
-        self.reserve_own(user)?;
-        let mut first = OwnSeen::new(alloc);
-        first.reserve(1)?;
-        let name = String::from_str(alloc, user)?;
-        Ok((name, first))
+        reserve_own(&mut self.own, alloc, user, more)
     }
 }
 
@@ -267,12 +238,11 @@ impl Mailbox {
         ensures number { result ≡ highest_of (summary_in self.now) user.now }
         ensures bounded { result ≤ max_number }
     {
-        let own = self.own_len(user);
-        FIRST_NUMBER - 1 + (self.shared_len() + own)
+        highest_after(self.shared_len(), self.own_len(user))
     }
 
-    /// The number of messages that may be added, if there may be `max_messages` messages: the least of the messages,
-    /// the UIDs and the shared events that are left.
+    /// The number of messages that may be added, if there may be `max_messages` messages: the least of the
+    /// messages, the UIDs and the shared events that are left.
     pub fn room(&self, max_messages: u64) -> u64
         ensures { result ≡ room_of max_messages (summary_in self.now) }
     {
@@ -284,7 +254,8 @@ impl Mailbox {
 
     /// UIDNEXT (RFC 9051, section 2.3.1.1).
     pub fn next_uid(&self) -> u32
-        ensures { result ≡ self.now.next }
+        ensures next { result ≡ self.now.next }
+        ensures valid { IsKept (summary_in self.now) }
     {
         self.next
     }
@@ -299,8 +270,9 @@ impl Mailbox {
     /// The message with the UID, by a search that halves.
     pub fn find(&self, uid: u32) -> Option<&Message>
         ensures message { option_copied result ≡ message_at uid self.now.messages }
-        ensures known { OnSome result (uid < self.now.next) }
+        ensures known { OnSome result (WasGiven self.now.next uid) }
         ensures there { OnSome result (is_there uid (summary_in self.now) ≡ true) }
+        ensures valid { IsKept (summary_in self.now) }
     {
         match find_message(&self.messages, uid) {
             Some(place) => Some(&self.messages[place]),
@@ -311,7 +283,8 @@ impl Mailbox {
     /// Whether a message has the UID, by a search that halves.
     pub fn contains(&self, uid: u32) -> bool
         ensures there { result ≡ is_there uid (summary_in self.now) }
-        ensures known { IsTrue result → uid < self.now.next }
+        ensures valid { IsKept (summary_in self.now) }
+        ensures known { IsTrue result → WasGiven self.now.next uid }
     {
         match find_message(&self.messages, uid) {
             Some(_) => true,
@@ -321,7 +294,8 @@ impl Mailbox {
 
     /// The messages as the user has them.
     pub fn rows(&self, user: &str) -> Rows<'_>
-        ensures { result ≡ rows_of (summary_in self.now) user.now }
+        ensures rows { result ≡ rows_of (summary_in self.now) user.now }
+        ensures valid { AreRowsInOrder self.now.next (highest_of (summary_in self.now) user.now) result }
     {
         Rows {
             messages: &self.messages,
@@ -329,17 +303,19 @@ impl Mailbox {
         }
     }
 
-    /// The messages that went with a mod-sequence greater than `number` for the user, as VANISHED (EARLIER) tells them
-    /// (RFC 7162, section 3.2.10), by a search that halves.
+    /// The messages that went with a mod-sequence greater than `number` for the user, as VANISHED (EARLIER)
+    /// tells them (RFC 7162, section 3.2.10), by a search that halves.
     pub fn gone_since(&self, user: &str, number: u64) -> GoneUids<'_>
-        ensures { result ≡ gone_after_number number (gone_of (summary_in self.now) user.now) }
+        ensures gone { result ≡ gone_after_number number (gone_of (summary_in self.now) user.now) }
+        ensures valid { AreGoneInOrder self.now.next (highest_of (summary_in self.now) user.now) result }
     {
         self.gone(user).since(number)
     }
 
     /// All messages that were expunged, with their mod-sequences for the user.
     pub fn gone(&self, user: &str) -> GoneUids<'_>
-        ensures { result ≡ gone_of (summary_in self.now) user.now }
+        ensures gone { result ≡ gone_of (summary_in self.now) user.now }
+        ensures valid { AreGoneInOrder self.now.next (highest_of (summary_in self.now) user.now) result }
     {
         GoneUids {
             gone: &self.gone,

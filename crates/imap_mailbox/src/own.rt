@@ -6,12 +6,10 @@ ghost use Rattle.imap_modseq.specs.Numbers.{max_events, own_before};
 ghost use Rattle.imap_mailbox.specs.History.{own_entry};
 ghost use Rattle.imap_mailbox.specs.Summary.{latest};
 
+use imap_modseq::number_after;
 use std::alloc::{AllocError, Global};
 use std::collections::HashMap;
 use std::marker::Model;
-
-/// The mod-sequence of the first event.
-pub(crate) const FIRST_NUMBER: u64 = 2;
 
 /// A change of a user's own `\Seen`.
 #[derive(Drop)]
@@ -28,7 +26,8 @@ pub struct SeenChange {
 pub struct OwnSeen {
     changes: Vec<SeenChange>,
 
-    // For each UID its last change: the mod-sequence, and whether the flag is set. So a row is found without a walk.
+    // For each UID its last change: the mod-sequence, and whether the flag is set. So a row is found without
+    // a walk.
     latest: HashMap<u32, (u64, bool)>,
 }
 
@@ -78,7 +77,7 @@ impl OwnSeen {
         ensures list { self.new.list ≡ self.old.list ++ change ∷ [] }
         ensures room { self.old.room ≤ self.new.room + 1 }
     {
-        let number = FIRST_NUMBER + (change.before + self.changes.len() as u64);
+        let number = number_after(change.before, self.changes.len() as u64);
         drop(self.latest.insert(change.uid, (number, change.seen)));
         self.changes.push_reserved(change);
     }

@@ -9,8 +9,9 @@ ghost use Rattle.imap_mailbox.specs.Lent.{row_shown};
 
 use crate::flags::SharedFlags;
 use crate::message::Message;
-use crate::own::{FIRST_NUMBER, OwnSeen};
+use crate::own::OwnSeen;
 use imap_lex::Octets;
+use imap_modseq::number_after;
 use imap_syntax::DateTime;
 
 /// A message as a user has it, lent from the mailbox.
@@ -37,7 +38,7 @@ pub(crate) fn plain_row<'a>(message: &'a Message) -> Row<'a>
         octets: &message.octets,
         flags: &message.flags,
         seen: false,
-        number: FIRST_NUMBER + message.place,
+        number: number_after(message.place, 0),
     }
 }
 
@@ -49,7 +50,7 @@ pub(crate) fn own_row<'a>(message: &'a Message, own: &OwnSeen) -> Row<'a>
     ensures { row_shown result ≡ row_in own.now.list message.now }
 {
     let (latest, seen) = own.latest(message.uid).unwrap_or((0, false));
-    let shared = FIRST_NUMBER + (message.place + own.count_before(message.place) as u64);
+    let shared = number_after(message.place, own.count_before(message.place) as u64);
     Row {
         uid: message.uid,
         date: message.date,

@@ -32,6 +32,7 @@ impl<'a> Model for Rows<'a> {
 }
 
 impl<'a> Rows<'a> {
+    /// The number of messages.
     pub fn len(&self) -> usize
         ensures { result ≡ length self.now }
     {

@@ -1,3 +1,4 @@
+-- Definitions of events, their merge and their numbers.
 pub mod Merge
 pub mod Numbers
 pub mod Clocks

@@ -1,27 +1,22 @@
 //! When the events of a mailbox happened, for each of its users.
 
-ghost use Rattle.std.specs.Prelude.{◌≡◌, ℕ, ◌<◌, ◌≤◌, ◌↔◌, length, IsOk, IsErrOf, IfOk, OnOk, OnErr, nat_le};
+ghost use Rattle.std.specs.Prelude.{◌≡◌, ℕ, ◌<◌, ◌≤◌, ◌↔◌, length, nat_le};
+ghost use Rattle.std.specs.Prelude.{IsOk, IsErrOf, IfOk, OnOk, OnErr};
 ghost use Rattle.imap_modseq.specs.Merge.{AreInOrder};
 ghost use Rattle.imap_modseq.specs.Numbers.{max_events, max_number, own_before, shared_number, own_number_at};
 ghost use Rattle.imap_modseq.specs.Clocks.{IsInOrder, no_events, own_of, highest_of};
 ghost use Rattle.imap_modseq.specs.Clocks.{with_shared_event, with_own_change};
 
 use crate::error::ClocksError;
+use crate::numbering::{MAX_EVENTS, highest_after, number_after};
 use crate::own_changes::OwnChanges;
 use std::alloc::{AllocError, Global};
 use std::marker::Model;
 
-/// The most shared events of a mailbox, and the most own changes of a user: 2^62 - 1. So mod-sequences stay below
-/// 2^63 (RFC 7162, section 7).
-pub const MAX_EVENTS: u64 = 4_611_686_018_427_387_903;
-
-/// The mod-sequence of the first event. A mailbox without events has 1.
-const FIRST_NUMBER: u64 = 2;
-
 /// How many shared events a mailbox had, and where the own changes of each user stand among them.
 ///
-/// It numbers events and knows nothing else of them. Events and changes are named by their places in their lists,
-/// counted from 0, and users by their names, octet by octet.
+/// It numbers events and knows nothing else of them. Events and changes are named by their places in their
+/// lists, counted from 0, and users by their names, octet by octet.
 #[derive(Drop)]
 pub struct Clocks {
     shared: u64,
@@ -71,7 +66,8 @@ impl Clocks {
         ensures bounded { result ≤ max_number }
         ensures valid { IsInOrder self.now }
     {
-        FIRST_NUMBER - 1 + self.shared + self.own_len(user)
+        let own = self.own_len(user);
+        highest_after(self.shared, own)
     }
 
     /// The mod-sequence for `user` of the shared event at `place`.
@@ -81,7 +77,7 @@ impl Clocks {
         ensures bounded { result ≤ max_number }
     {
         let befores = self.befores_of(user);
-        FIRST_NUMBER + place + count_before(befores, place)
+        number_after(place, count_before(befores, place))
     }
 
     /// The mod-sequence for `user` of the user's own change at `place`.
@@ -91,7 +87,7 @@ impl Clocks {
         ensures bounded { result ≤ max_number }
     {
         let befores = self.befores_of(user);
-        FIRST_NUMBER + befores[place as usize] + place
+        number_after(befores[place as usize], place)
     }
 
     /// Adds a shared event, after all others. Fails with `Exhausted` if there are [`MAX_EVENTS`].
@@ -110,8 +106,8 @@ impl Clocks {
         Ok(())
     }
 
-    /// Adds an own change of `user`, after all shared events. Fails with `Exhausted` if `user` has [`MAX_EVENTS`] of
-    /// them, whether or not there is memory, and else with `Memory` if there is none.
+    /// Adds an own change of `user`, after all shared events. Fails with `Exhausted` if `user` has
+    /// [`MAX_EVENTS`] of them, whether or not there is memory, and else with `Memory` if there is none.
     pub fn own_event(&mut self, alloc: Global, user: &str) -> Result<(), ClocksError>
         ensures ok { OnOk result (self.new ≡ with_own_change self.old user.now) }
         ensures err { OnErr result (self.new ≡ self.old) }

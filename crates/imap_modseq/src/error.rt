@@ -1,3 +1,5 @@
+//! Why an event is not added.
+
 use std::alloc::{AllocError, AllocFailed};
 use thiserror::Error;
 

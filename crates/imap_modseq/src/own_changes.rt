@@ -1,17 +1,19 @@
 //! The own changes of all users.
 
-ghost use Rattle.std.specs.Prelude.{◌≡◌, ◌≤◌, ◌↔◌, [], ◌∷◌, ◌++◌, None, length, IfOk, OnOk, OnErr, IsErrOf, IsOkUnless};
+ghost use Rattle.std.specs.Prelude.{◌≡◌, ◌≤◌, ◌↔◌, [], ◌∷◌, ◌++◌, None, length};
+ghost use Rattle.std.specs.Prelude.{IfOk, OnOk, OnErr, IsErrOf, IsOkUnless};
 ghost use Rattle.std.specs.FinMap as map;
 ghost use Rattle.imap_modseq.specs.Numbers.{max_events};
 ghost use Rattle.imap_modseq.specs.Clocks.{befores_of, by_octets, with_before};
 
-use crate::clocks::MAX_EVENTS;
 use crate::error::ClocksError;
+use crate::numbering::MAX_EVENTS;
 use std::alloc::{AllocError, Global};
 use std::collections::BTreeMap;
 use std::marker::Model;
 
-/// For each user with own changes, how many shared events come before each of them, in the order of the changes.
+/// For each user with own changes, how many shared events come before each of them, in the order of the
+/// changes.
 ///
 /// Contracts see a finite map from the octets of users' names to these lists.
 #[derive(Drop)]

@@ -20,7 +20,7 @@ pub mod user_name;
 mod wildcards;
 
 pub use error::NameError;
-pub use name::{MAX_DEPTH, MAX_PATH_OCTETS, Name, Tree, inbox, is_above};
+pub use name::{MAX_DEPTH, MAX_PATH_OCTETS, Name, Tree, inbox, inbox_ref, is_above};
 pub use name_ref::NameRef;
 pub use namespace::{NamespacePrefixes, namespaces};
 pub use pattern::Pattern;

@@ -162,6 +162,13 @@ pub fn inbox(alloc: Global, user: &UserName) -> Result<Name, AllocError>
     Ok(Name { tree, path })
 }
 
+/// The user's INBOX (RFC 9051, section 5.1), borrowed.
+pub fn inbox_ref(user: &UserName) -> NameRef<'_>
+    ensures { result ≡ named user.now (codes "INBOX" ∷ []) }
+{
+    NameRef::new(user.as_str(), "INBOX")
+}
+
 /// Whether `above` is a superior of `below`. No name is a superior of itself.
 pub fn is_above(above: &Name, below: &Name) -> bool
     ensures { IsTrue result ↔ IsAbove above.now below.now }

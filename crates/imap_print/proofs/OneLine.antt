@@ -3,7 +3,7 @@ use Rattle.std.proofs.Common.{◌≡◌, ℕ, ◌/◌, ◌%◌, ◌<◌, Bool, t
 use Rattle.std.proofs.lemmas.Bool.Decides.{nat_tests}
 use Rattle.std.specs.Prelude.{codes, filter}
 use Rattle.std.specs.Fmt.{decimal}
-use Rattle.std.specs.List.{list_all, AllByRecursion}
+use Rattle.std.specs.List.{list_all, concat, AllByRecursion}
 use Rattle.imap_rights.specs.Rights.{bits, has_any, letters, letters_of}
 use Rattle.imap_rights.specs.declared.rights.Rights.{Rights}
 use Rattle.imap_print.specs.declared.copied.CopiedUids.{CopiedUids}
@@ -188,17 +188,17 @@ origin_settles : (origin : Option ℕ) → Settles (origin_text origin)
 origin_settles None = settled _ refl
 origin_settles (Some n) = settles-append (settles-append (settled (codes "<") refl) (number_settles n)) (settled (codes ">") refl)
 
-body_settles : (body : FetchedSection) → AllByRecursion IsPlain (section_names body.section) → IsHeld body.octets → Settles (body_text body)
+body_settles : (body : FetchedSection) → AllByRecursion IsPlain (section_names body.section) → IsHeld (concat body.octets) → Settles (body_text body)
 body_settles body h held =
     settles-append
     (settles-append (settles-append (settles-append (settles-append (settled (codes "BODY[") refl) (section_settles body.section h)) (settled (codes "]") refl)) (origin_settles body.origin)) (settled (codes " ") refl))
-    (literal_settles body.octets held)
+    (literal_settles (concat body.octets) held)
 
 parted : {A : Type 0} (P : A → Type 0) (xs ys : List A) → AllByRecursion P (xs ++ ys) → AllByRecursion P xs × AllByRecursion P ys
 parted P [] ys h = (tt, h)
 parted P (x ∷ xs) ys h = let more = parted P xs ys h.1 in ((h.0, more.0), more.1)
 
-bodies_settle : (bodies : List FetchedSection) → AllByRecursion IsPlain (flat_map (λ body. section_names body.section) bodies) → AllByRecursion IsHeld (map (λ body. body.octets) bodies) → AllSettle (map body_text bodies)
+bodies_settle : (bodies : List FetchedSection) → AllByRecursion IsPlain (flat_map (λ body. section_names body.section) bodies) → AllByRecursion IsHeld (map (λ body. concat body.octets) bodies) → AllSettle (map body_text bodies)
 bodies_settle [] h held = tt
 bodies_settle (body ∷ bodies) h held =
     let names = parted IsPlain (section_names body.section) (flat_map (λ b. section_names b.section) bodies) h in
@@ -274,7 +274,7 @@ named_settles name s o = given_by_settles (λ n. name ++ decimal n) (λ n. settl
 mod_seq_settles : (o : Option ℕ) → AllSettle (given_by (λ n. codes "MODSEQ (" ++ decimal n ++ codes ")") o)
 mod_seq_settles o = given_by_settles _ (λ n. settles-append (settles-append (settled (codes "MODSEQ (") refl) (number_settles n)) (settled (codes ")") refl)) o
 
-fetched_settles : (items : FetchedItems) → AllByRecursion IsPlain (flags_keywords items.flags ++ flat_map (λ body. section_names body.section) items.sections) → AllByRecursion IsHeld (map (λ body. body.octets) items.sections)
+fetched_settles : (items : FetchedItems) → AllByRecursion IsPlain (flags_keywords items.flags ++ flat_map (λ body. section_names body.section) items.sections) → AllByRecursion IsHeld (map (λ body. concat body.octets) items.sections)
     → Settles (fetched_text items)
 fetched_settles items h held =
     let plain = parted IsPlain (flags_keywords items.flags) (flat_map (λ body. section_names body.section) items.sections) h in

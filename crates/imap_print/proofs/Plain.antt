@@ -1,9 +1,9 @@
 -- Which texts have neither CR nor LF, for who shows that responses are printable.
-use Rattle.std.proofs.Common.{◌≡◌, ◌≢◌, ℕ, zero, suc, ◌<◌, Bool, true, false, not, eqb, List, [], ◌∷◌, ◌++◌, length, get_or, refl, sym, ap, ◌∙◌, suc-le-suc, zero-le, arith}
+use Rattle.std.proofs.Common.{◌≡◌, ◌≢◌, ℕ, zero, suc, ◌<◌, Bool, true, false, not, eqb, List, [], ◌∷◌, ◌++◌, length, get_or, refl, sym, ap, ◌∙◌, map, flat_map, suc-le-suc, zero-le, arith}
 use Rattle.std.specs.Prelude.{chars}
 use Rattle.std.specs.Char.{is_control}
 use Rattle.std.specs.Str.{IsUtf8, NonePass, NoCharPasses}
-use Rattle.std.specs.List.{list_all, list_any}
+use Rattle.std.specs.List.{list_all, list_any, concat, AllByRecursion}
 use Rattle.std.proofs.lemmas.Bool.{and_from, or_parts, or_from, ne_eqb}
 use Rattle.std.proofs.lemmas.Bool.Decides.{nat_tests}
 use Rattle.std.proofs.lemmas.Str.{encodes-chars, NoCharPasses-byte}
@@ -11,7 +11,12 @@ use Rattle.std.proofs.lemmas.List.Folds.{list_all-append}
 use Rattle.imap_lex.specs.Chars.{is_tag_char}
 use Rattle.imap_lex.specs.CommandTag.{IsTag}
 use Rattle.imap_syntax.proofs.Writing.{both_true}
-use Rattle.imap_print.specs.Lines.{is_plain, IsPlain}
+use Rattle.imap_syntax.specs.Lexical.{is_atom_char}
+use Rattle.imap_syntax.specs.Atoms.{IsAtom}
+use Rattle.imap_syntax.specs.FieldNames.{IsFieldName}
+use Rattle.imap_syntax.specs.Written.{is_unquotable}
+use Rattle.imap_print.specs.declared.fetch.FetchedSection.{FetchedSection}
+use Rattle.imap_print.specs.Lines.{is_plain, IsPlain, section_names}
 
 tag_char_plain : (octet : ℕ) → is_tag_char octet ≡ true → is_plain octet ≡ true
 tag_char_plain octet h = grind (arith, nat_tests)
@@ -56,3 +61,45 @@ never text utf8 printable control small is i l e =
 pub IsPlain-text : (text : List ℕ) → IsUtf8 text → list_any is_control (chars text) ≡ false → IsPlain text
 IsPlain-text text utf8 printable =
     plain_by text (never text utf8 printable 13 (omega arith) refl) (never text utf8 printable 10 (omega arith) refl)
+
+-- ---- what is plain by its type
+
+atom_char_plain : (octet : ℕ) → is_atom_char octet ≡ true → is_plain octet ≡ true
+atom_char_plain octet h = grind (arith, nat_tests)
+
+atom_chars_plain : (octets : List ℕ) → list_all is_atom_char octets ≡ true → IsPlain octets
+atom_chars_plain [] h = refl
+atom_chars_plain (octet ∷ octets) h =
+    let parts = both_true (is_atom_char octet) (list_all is_atom_char octets) h in
+    and_from _ _ (atom_char_plain octet parts.0) (atom_chars_plain octets parts.1)
+
+-- an atom is plain
+pub plain_atom : (word : List ℕ) → IsAtom word → IsPlain word
+plain_atom word is = atom_chars_plain word (both_true (not (eqb (length word) 0)) (list_all is_atom_char word) is).1
+
+quotable_plain : (octet : ℕ) → is_unquotable octet ≡ false → is_plain octet ≡ true
+quotable_plain octet h = grind (arith, nat_tests)
+
+all_quotable_plain : (octets : List ℕ) → list_any is_unquotable octets ≡ false → IsPlain octets
+all_quotable_plain [] h = refl
+all_quotable_plain (octet ∷ octets) h =
+    let parts = or_parts (is_unquotable octet) (list_any is_unquotable octets) h in
+    and_from _ _ (quotable_plain octet parts.0) (all_quotable_plain octets parts.1)
+
+negated : (b : Bool) → not b ≡ true → b ≡ false
+negated true h = absurd cc
+negated false h = refl
+
+-- the name of a header field is plain
+pub plain_field_name : (name : List ℕ) → IsFieldName name → IsPlain name
+plain_field_name name is = all_quotable_plain name (negated (list_any is_unquotable name) is)
+
+abbrev pub names_of : List FetchedSection → List (List ℕ)
+names_of sections = flat_map (λ body. section_names body.section) sections
+
+abbrev pub octets_of : List FetchedSection → List (List ℕ)
+octets_of sections = map (λ body. concat body.octets) sections
+
+pub plain-append : (words more : List (List ℕ)) → AllByRecursion IsPlain words → AllByRecursion IsPlain more → AllByRecursion IsPlain (words ++ more)
+plain-append [] more h k = k
+plain-append (word ∷ words) more h k = (h.0, plain-append words more h.1 k)

@@ -1,5 +1,6 @@
 -- How the items of a message are printed (RFC 9051, section 7.5.2; RFC 7162, section 3.1).
 use Rattle.std.specs.Prelude.{ℕ, List, [], ◌++◌, codes, decimal, map, Option, Some, None}
+use Rattle.std.specs.List.{concat}
 use Rattle.imap_syntax.specs.Written.{literal_text}
 use Rattle.imap_syntax.specs.Moments.{Moment}
 use Rattle.imap_syntax.specs.WrittenDates.{date_time}
@@ -31,7 +32,7 @@ origin_text None = []
 abbrev pub body_text : FetchedSection → List ℕ
 body_text body =
     codes "BODY[" ++ section_text body.section ++ codes "]" ++ origin_text body.origin ++ codes " "
-    ++ literal_text body.octets
+    ++ literal_text (concat body.octets)
 
 abbrev pub flags_words : Option FlagSet → List (List ℕ)
 flags_words flags = given_by (λ set. codes "FLAGS " ++ flags_text set) flags

@@ -20,4 +20,5 @@ abbrev pub permanent_text : FlagSet → Bool → List ℕ
 permanent_text flags any = in_parentheses (flag_words flags ++ given any (codes "\\*"))
 
 abbrev pub every_system_flag : List (List ℕ)
-every_system_flag = codes "\\Answered" ∷ codes "\\Deleted" ∷ codes "\\Draft" ∷ codes "\\Flagged" ∷ codes "\\Seen" ∷ []
+every_system_flag =
+    codes "\\Answered" ∷ codes "\\Deleted" ∷ codes "\\Draft" ∷ codes "\\Flagged" ∷ codes "\\Seen" ∷ []

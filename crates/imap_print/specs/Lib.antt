@@ -1,3 +1,4 @@
+pub mod Literals
 pub mod Words
 pub mod Strings
 pub mod Sets

@@ -1,13 +1,14 @@
 -- The lines that a client reads: text, with literals in it, up to a CRLF (RFC 9051, sections 2.2.2 and 4.3).
-use Rattle.std.specs.Prelude.{◌≡◌, ℕ, zero, suc, ◌+◌, ◌-◌, ◌*◌, ◌^◌, ◌<◌, Bool, true, false, ◌==◌, ◌||◌, not}
-use Rattle.std.specs.Prelude.{List, [], ◌∷◌, ◌++◌, length, map, flat_map, Option, Some, None, if◌then◌else◌}
-use Rattle.std.specs.List.{list_all, AllByRecursion}
+use Rattle.std.specs.Prelude.{◌≡◌, ℕ, zero, suc, ◌+◌, ◌-◌, ◌*◌, Bool, true, false, ◌==◌, ◌||◌, not}
+use Rattle.std.specs.Prelude.{List, [], ◌∷◌, ◌++◌, map, flat_map, Option, Some, None, if◌then◌else◌}
+use Rattle.std.specs.List.{list_all, concat, AllByRecursion}
 use Rattle.std.specs.Char.{is_ascii_digit}
 use Rattle.imap_print.specs.declared.response.Response.{Response}
 use Rattle.imap_print.specs.declared.response.Response.TheVariants as response
 use Rattle.imap_print.specs.declared.flag.FlagSet.{FlagSet}
 use Rattle.imap_query.specs.declared.fetch.Section.{Section}
 use Rattle.imap_query.specs.declared.fetch.Section.TheVariants as section
+pub use Rattle.imap_print.specs.Literals.{IsHeld}
 use Rattle.imap_print.specs.Printed.{line, printed}
 
 -- ---- a reader
@@ -106,22 +107,18 @@ is_plain octet = not (octet == 13 || octet == 10)
 abbrev pub IsPlain : List ℕ → Type 0
 IsPlain octets = list_all is_plain octets ≡ true
 
--- as many octets as a machine's memory may hold
-abbrev pub IsHeld : List ℕ → Type 0
-IsHeld octets = length octets < 2 ^ 64
-
 abbrev pub literals : Response → List (List ℕ)
-literals (response.Fetch number items) = map (λ body. body.octets) items.sections
+literals (response.Fetch number items) = map (λ body. concat body.octets) items.sections
 literals other = []
 
--- No text of the response has a CR or LF, and its literals fit into memory. A tag has neither by its type; so this asks
--- it of the names of mailboxes, identifiers, keywords and header fields.
+-- No text of the response has a CR or LF, and its literals fit into memory. A tag has neither by its type; so
+-- this asks it of the names of mailboxes, identifiers, keywords and header fields.
 pub record IsPrintable (reply : Response) : Type 0 where
   pub plain : AllByRecursion IsPlain (texts reply)
   pub held : AllByRecursion IsHeld (literals reply)
 
--- A client reads the octets of a printable response as one line, whatever follows them: each literal has as many octets
--- as it says, and no CR or LF stands elsewhere but in literals and at the end.
+-- A client reads the octets of a printable response as one line, whatever follows them: each literal has as
+-- many octets as it says, and no CR or LF stands elsewhere but in literals and at the end.
 abbrev pub EachIsOneLine : Type 0
 EachIsOneLine =
     (reply : Response) (rest : List ℕ) → IsPrintable reply → after_line text (line reply ++ rest) ≡ Some rest

@@ -96,19 +96,22 @@ results_words results =
     ++ given_by (λ mod_seq. codes "MODSEQ " ++ decimal mod_seq) results.mod_seq
 
 abbrev pub line_text : Response → List ℕ
-line_text response.Greeting = codes "* PREAUTH [CAPABILITY " ++ capabilities ++ codes "] shared mailbox profile ready"
+line_text response.Greeting =
+    codes "* PREAUTH [CAPABILITY " ++ capabilities ++ codes "] shared mailbox profile ready"
 line_text response.Capability = codes "* CAPABILITY " ++ capabilities
 line_text (response.Bye farewell) = codes "* BYE " ++ farewell_text farewell
 line_text (response.Done tag code) = tag ++ done_text code
 line_text (response.Refused tag refusal) = tag_text tag ++ codes " " ++ refusal_text refusal
 line_text response.Ready = codes "+ ready"
 line_text response.Idling = codes "+ idling"
-line_text response.Namespace = codes "* NAMESPACE ((\"\" \"/\")) ((\"Other Users/\" \"/\")) ((\"Shared/\" \"/\"))"
+line_text response.Namespace =
+    codes "* NAMESPACE ((\"\" \"/\")) ((\"Other Users/\" \"/\")) ((\"Shared/\" \"/\"))"
 line_text (response.Enabled enabled) = codes "* ENABLED" ++ before_each 32 (enabled_words enabled)
 line_text (response.List attributes mailbox) =
     codes "* LIST " ++ attributes_text attributes ++ codes " \"/\" " ++ name_text mailbox
 line_text response.ListRoot = codes "* LIST (\\Noselect) \"/\" \"\""
-line_text (response.Status mailbox items) = codes "* STATUS " ++ name_text mailbox ++ codes " " ++ values_text items
+line_text (response.Status mailbox items) =
+    codes "* STATUS " ++ name_text mailbox ++ codes " " ++ values_text items
 line_text (response.Acl mailbox entries) = codes "* ACL " ++ name_text mailbox ++ entries_text entries
 line_text (response.MyRights mailbox rights) =
     codes "* MYRIGHTS " ++ name_text mailbox ++ codes " " ++ letters_of (bits rights)

@@ -29,12 +29,14 @@ pub record Range : Type 0 where
   pub first : ℕ
   pub last : ℕ
 
--- the ranges of a run from `first` to `last` and of further numbers. The run goes on with a number that is one more
--- than its last
+-- the ranges of a run from `first` to `last` and of further numbers. The run goes on with a number that is
+-- one more than its last
 abbrev pub runs_from : (first last : ℕ) → List ℕ → List Range
 runs_from first last [] = record { first = first; last = last } ∷ []
 runs_from first last (n ∷ numbers) =
-    if n == last + 1 then runs_from first n numbers else record { first = first; last = last } ∷ runs_from n n numbers
+    if n == last + 1
+    then runs_from first n numbers
+    else record { first = first; last = last } ∷ runs_from n n numbers
 
 abbrev pub runs : List ℕ → List Range
 runs [] = []

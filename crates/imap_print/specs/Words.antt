@@ -37,8 +37,9 @@ abbrev pub are_there : List (List ℕ) → Bool
 are_there [] = false
 are_there (word ∷ words) = true
 
--- `new` is `old` and then the words of a list. `begun` says whether the list has words in `old`, and `now` whether it
--- has words in `new`
-pub record GoesOn (old : List ℕ) (begun : Bool) (words : List (List ℕ)) (new : List ℕ) (now : Bool) : Type 0 where
+-- `new` is `old` and then the words of a list. `begun` says whether the list has words in `old`, and `now`
+-- whether it has words in `new`
+pub record GoesOn (old : List ℕ) (begun : Bool) (words : List (List ℕ)) (new : List ℕ) (now : Bool)
+    : Type 0 where
   pub printed : new ≡ old ++ further begun 32 words
   pub any : now ≡ (begun || are_there words)

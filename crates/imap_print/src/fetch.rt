@@ -1,7 +1,7 @@
 //! The items of a message.
 
 use crate::flag::FlagSet;
-use imap_lex::Octets;
+use crate::literal_parts::LiteralParts;
 use imap_query::Section;
 use imap_syntax::{DateTime, Items};
 use imap_values::{Same, TryCopy, same_five};
@@ -13,7 +13,7 @@ pub struct FetchedSection {
     pub section: Section,
     /// The offset of the first octet in the section, if a part of it was requested.
     pub origin: Option<u64>,
-    pub octets: Octets,
+    pub octets: LiteralParts,
 }
 
 /// The items of a message that are sent (RFC 9051, section 7.5.2).
@@ -34,7 +34,7 @@ impl TryCopy for FetchedSection {
         Ok(FetchedSection {
             section: self.section.try_copy(alloc)?,
             origin: self.origin,
-            octets: self.octets.try_copy()?,
+            octets: self.octets.try_copy(alloc)?,
         })
     }
 }

@@ -1,7 +1,6 @@
 //! The flags of a message.
 
-use imap_lex::Octets;
-use imap_syntax::Items;
+use imap_syntax::{Atom, Items};
 use imap_values::{Same, TryCopy, same_five};
 use std::alloc::{AllocError, Global};
 
@@ -14,7 +13,7 @@ pub struct FlagSet {
     pub flagged: bool,
     pub seen: bool,
     /// In the order in which they are printed.
-    pub keywords: Items<Octets>,
+    pub keywords: Items<Atom>,
 }
 
 impl TryCopy for FlagSet {

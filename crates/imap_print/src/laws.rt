@@ -6,14 +6,16 @@ ghost use Rattle.imap_print.specs.ReadBack.{NamesAreReadBack, SetIsReadBack};
 
 use crate::numbering::NumberSet;
 
-/// A client that reads `{n}`, CRLF and n octets as a literal reads one line in the octets of a response, and as many
-/// lines as there are responses in those of a list, if the names and other texts in them have neither CR nor LF.
+/// A client that reads `{n}`, CRLF and n octets as a literal reads one line in the octets of a response, and
+/// as many lines as there are responses in those of a list, if the names and other texts in them have neither
+/// CR nor LF.
 pub fn each_is_one_line()
     ensures one { EachIsOneLine }
     ensures all { AllAreRead }
 {}
 
-/// A set is printed as ranges that have just its numbers, in their order, and no fewer ranges have the same numbers.
+/// A set is printed as ranges that have just its numbers, in their order, and no fewer ranges have the same
+/// numbers.
 pub fn sets_are_shortest(set: &NumberSet)
     ensures numbers { RunsHaveTheNumbers set.now }
     ensures fewest { RunsAreFewest set.now }

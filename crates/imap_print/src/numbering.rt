@@ -9,7 +9,8 @@ use std::marker::Model;
 
 /// A set of message numbers or UIDs (RFC 9051, sections 2.3.1.1 and 2.3.1.2).
 ///
-/// It is not empty. Its numbers begin at 1 or above, and each is greater than the one before. Contracts see their list.
+/// It is not empty. Its numbers begin at 1 or above, and each is greater than the one before. Contracts see
+/// their list.
 #[derive(Debug, Drop)]
 pub struct NumberSet {
     numbers: Vec<u32>,
@@ -38,6 +39,7 @@ impl NumberSet {
         }
     }
 
+    /// Returns the numbers, each greater than the one before.
     pub fn as_slice(&self) -> &[u32]
         ensures numbers { result.now ≡ self.now }
         ensures valid { IsNumberSet self.now }

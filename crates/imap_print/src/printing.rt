@@ -23,16 +23,15 @@ use crate::response::Response;
 use codes::{push_bye, push_capability, push_done, push_greeting, push_moved, push_refused};
 use fetched::push_fetched;
 use flags::{push_all_flags, push_permanent};
-use imap_lex::Octets;
-use imap_syntax::{push_between, push_number};
+use imap_syntax::{Atom, push_between, push_number};
 use mailboxes::{push_acl, push_list, push_list_rights, push_my_rights, push_status};
 use numbers::push_set;
 use searched::push_search;
 use std::alloc::{AllocError, Global};
 use words::push_given;
 
-/// The octets of the responses, each a line that CRLF ends. A client reads just these lines in them, if the names and
-/// other texts in the responses have neither CR nor LF.
+/// The octets of the responses, each a line that CRLF ends. A client reads just these lines in them, if the
+/// names and other texts in the responses have neither CR nor LF.
 pub fn print(alloc: Global, responses: &[Response]) -> Result<Vec<u8>, AllocError>
     ensures octets { IfOk result (λ out. out.items ≡ printed responses.now) }
     ensures lines { IfOk result (λ out.
@@ -111,7 +110,7 @@ fn push_enabled(out: &mut Vec<u8>, enabled: EnabledCapabilities) -> Result<(), A
     Ok(())
 }
 
-fn push_flags_line(out: &mut Vec<u8>, keywords: &[Octets]) -> Result<(), AllocError>
+fn push_flags_line(out: &mut Vec<u8>, keywords: &[Atom]) -> Result<(), AllocError>
     ensures { OnOk result (out.new.items ≡ out.old.items ++ line_text (response.Flags keywords.now)) }
 {
     out.extend_from_slice(b"* FLAGS ")?;

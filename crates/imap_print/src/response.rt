@@ -11,7 +11,7 @@ use crate::search::SearchResults;
 use crate::status::StatusValue;
 use imap_lex::{Octets, Tag};
 use imap_rights::Rights;
-use imap_syntax::Items;
+use imap_syntax::{Atom, Items};
 
 /// One line to a client (RFC 9051, section 7). A mailbox is named as the client's user sees it.
 #[derive(Debug, Drop)]
@@ -71,7 +71,7 @@ pub enum Response {
     },
     /// The flags of the selected mailbox (section 7.3.5).
     Flags {
-        keywords: Items<Octets>,
+        keywords: Items<Atom>,
     },
     /// The flags that may be changed (section 7.1).
     PermanentFlags {
@@ -99,7 +99,8 @@ pub enum Response {
     HighestModSeq(u64),
     /// The UIDs of messages that were moved (section 7.1, of COPYUID).
     Moved(CopiedUids),
-    /// Items of the message of this number: those that a command requested, or those that changed (section 7.5.2).
+    /// Items of the message of this number: those that a command requested, or those that changed (section
+    /// 7.5.2).
     Fetch {
         number: u32,
         items: FetchedItems,

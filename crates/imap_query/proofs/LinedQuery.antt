@@ -1,5 +1,5 @@
 -- What FETCH and SEARCH ask for is written as lines and literals.
-use Rattle.std.proofs.Common.{◌≡◌, ℕ, zero, suc, Bool, true, false, cond, not, List, [], ◌∷◌, ◌++◌, codes, Option, Some, None, refl, arith}
+use Rattle.std.proofs.Common.{◌≡◌, ℕ, zero, suc, Bool, true, false, cond, List, [], ◌∷◌, ◌++◌, codes, Option, Some, None, refl, arith}
 use Rattle.std.specs.Fmt.{decimal as decimal_text}
 use Rattle.std.specs.Char.{is_ascii_alphabetic}
 use Rattle.std.proofs.lemmas.Bool.Decides.{nat_tests}
@@ -15,14 +15,14 @@ use Rattle.imap_query.specs.declared.fetch.FetchItem.TheVariants as item
 use Rattle.imap_query.specs.declared.search.SearchReturn.{SearchReturn}
 use Rattle.imap_query.specs.declared.search_word.SearchWord.{SearchWord}
 use Rattle.imap_query.specs.declared.search_word.SearchWord.TheVariants as word
-use Rattle.imap_query.specs.Sections.{has_line_end}
+use Rattle.imap_syntax.specs.FieldNames.{written_name}
 use Rattle.imap_query.specs.SearchWords.{search_return_name, search_name}
 use Rattle.imap_query.specs.Keys.{Plain, all, flagged, contains, header, dated, larger, smaller, mod_seq, numbers, uids, unserved, Key, plain, negated, either, group, Keys, end, more, Token}
 use Rattle.imap_syntax.specs.Writing as writing
 use Rattle.imap_syntax.specs.Writing.{joined, listed, listed_or_none}
 use Rattle.imap_syntax.specs.Written.{is_quotable, quoted_text, atom, astring, mod_sequence, number64, message_set}
 use Rattle.imap_syntax.specs.WrittenDates.{date}
-use Rattle.imap_query.specs.WrittenFetch.{field_name, section_fits, section_text, partial_fits, partial_text, peek_text, body_text, item_fits, single_text, is_fast, fetch_item, fetch_items, changed_fits, modifiers_text}
+use Rattle.imap_query.specs.WrittenFetch.{section_fits, section_text, partial_fits, partial_text, peek_text, body_text, item_fits, single_text, is_fast, fetch_item, fetch_items, changed_fits, modifiers_text}
 use Rattle.imap_query.specs.WrittenSearch.{keys_from, search_flag_fits, flag_word, keyword_text, place_word, relation_word, plain_fits, plain_text, row_fits, fits_over, key_fits, key_text, row_text, further_text, search_key, keys_fit, keys_text, search_keys, returns_text, charset_fits, charset_name_text, charset_text}
 use Rattle.imap_query.proofs.Tables.{search_table, search_return_table}
 use Rattle.imap_syntax.proofs.Writing.{both_true}
@@ -31,11 +31,14 @@ use Rattle.imap_syntax.proofs.Lined.{IsLined, Lines, is_safe, none_lined, append
 
 -- ---- FETCH
 
-name_lined : Lines field_name
-name_lined octets h = astring_lined octets (both_true (astring.fits octets) (not (has_line_end octets)) h).0
+name_lined : Lines written_name
+name_lined octets h = astring_lined octets (quotable_fits octets h)
+  where
+    quotable_fits : (name : List ℕ) → is_quotable name ≡ true → astring.fits name ≡ true
+    quotable_fits name h = rw h refl
 
-names_lined : (names : List (List ℕ)) → (listed field_name).fits names ≡ true → IsLined ((listed field_name).text names)
-names_lined names h = listed_lined field_name name_lined names (both_true _ _ h).1
+names_lined : (names : List (List ℕ)) → (listed written_name).fits names ≡ true → IsLined ((listed written_name).text names)
+names_lined names h = listed_lined written_name name_lined names (both_true _ _ h).1
 
 section_lined : (s : Section) → section_fits s ≡ true → IsLined (section_text s)
 section_lined section.Whole h = none_lined
@@ -120,7 +123,7 @@ plain_lined all h = key_word_lined word.All
 plain_lined (flagged f set) h = append_lined (search_name (flag_word f set)) (keyword_text f) (key_word_lined (flag_word f set)) (keyword_lined f h)
 plain_lined (contains where_it_is text) h = about_lined (place_word where_it_is) (astring.text text) (astring_lined text h)
 plain_lined (header field text) h =
-    let q = both_true (field_name.fits field) (astring.fits text) h in
+    let q = both_true (written_name.fits field) (astring.fits text) h in
     about_lined word.Header (astring.text field ++ (32 ∷ astring.text text)) (append_lined (astring.text field) (32 ∷ astring.text text) (name_lined field q.0) (octet_lined 32 (astring.text text) refl (astring_lined text q.1)))
 plain_lined (dated how day) h = about_lined (relation_word how) (date.text day) (date_lined day)
 plain_lined (larger n) h = about_lined word.Larger (decimal_text n) (number64_lined n h)

@@ -1,5 +1,5 @@
 -- What FETCH asks for is written as it is spelt.
-use Rattle.std.proofs.Common.{◌≡◌, ℕ, Bool, true, false, cond, not, ◌&&◌, List, [], ◌∷◌, ◌++◌, codes, Option, Some, None, refl, sym, arith, inl, inr}
+use Rattle.std.proofs.Common.{◌≡◌, ℕ, Bool, true, false, cond, ◌&&◌, List, [], ◌∷◌, ◌++◌, codes, Option, Some, None, refl, sym, arith, inl, inr}
 use Rattle.std.specs.Fmt.{decimal as decimal_text}
 use Rattle.std.specs.Char.{is_ascii_digit}
 use Rattle.std.proofs.lemmas.List.{append-nil}
@@ -21,43 +21,45 @@ use Rattle.imap_syntax.specs.Rule.{give, ◌>>=◌}
 use Rattle.imap_syntax.specs.First.{begins}
 use Rattle.imap_syntax.specs.Lexical as lexical
 use Rattle.imap_query.specs.Sections as sections
-use Rattle.imap_query.specs.Sections.{has_line_end}
+use Rattle.imap_syntax.specs.FieldNames.{field_name, written_name}
 use Rattle.imap_query.specs.Fetch as fetch
 use Rattle.imap_syntax.specs.Writing.{separated, listed}
-use Rattle.imap_syntax.specs.Written.{astring, mod_sequence, number64}
-use Rattle.imap_query.specs.WrittenFetch.{field_name, section_fits, section_text, partial_fits, partial_text, body_text, item_fits, item_text, single_text, is_flags, is_internal_date, is_size, is_fast, fetch_item, fetch_items, changed_fits, modifiers_text}
+use Rattle.imap_syntax.specs.Written.{is_quotable, astring, mod_sequence, number64}
+use Rattle.imap_query.specs.WrittenFetch.{section_fits, section_text, partial_fits, partial_text, body_text, item_fits, item_text, single_text, is_flags, is_internal_date, is_size, is_fast, fetch_item, fetch_items, changed_fits, modifiers_text}
 use Rattle.imap_syntax.proofs.Writing.{Writes, both_true, both, separated_writes, listed_writes}
 use Rattle.imap_syntax.proofs.Written.{astring_writes, nz_number_writes, mod_sequence_writes, number64_writes}
 
 -- ---- sections
 
-field_name_made : (name : List ℕ) → field_name.fits name ≡ true → sections.field_name.spells name (field_name.text name)
-field_name_made name h =
-    let q = both_true (astring.fits name) (not (has_line_end name)) h in
-    (name, astring.text name, [], astring_writes.made name q.0, (q.1, refl, refl), sym (append-nil (astring.text name)))
+quotable_fits : (name : List ℕ) → is_quotable name ≡ true → astring.fits name ≡ true
+quotable_fits name h = rw h refl
 
-pub field_name_writes : Writes sections.field_name field_name
+name_made : (name : List ℕ) → written_name.fits name ≡ true → field_name.spells name (written_name.text name)
+name_made name h =
+    (name, astring.text name, [], astring_writes.made name (quotable_fits name h), (h, refl, refl), sym (append-nil (astring.text name)))
+
+pub field_name_writes : Writes field_name written_name
 field_name_writes = record {
-  made = field_name_made;
-  fits = λ name text h. rw (h.4.1) (both _ _ (astring_writes.fits h.0 h.1 h.3) h.4.0);
+  made = name_made;
+  fits = λ name text h. rw (h.4.1) (h.4.0);
 }
 
-names_writes : Writes (rule.listed sections.field_name) (listed field_name)
-names_writes = listed_writes sections.field_name field_name field_name_writes
+names_writes : Writes (rule.listed field_name) (listed written_name)
+names_writes = listed_writes field_name written_name field_name_writes
 
 -- the names behind their word
-names_made : (f : List (List ℕ) → Section) (names : List (List ℕ)) → (listed field_name).fits names ≡ true
-    → (lexical.space >>= λ u. rule.listed sections.field_name >>= λ n. give (f n)).spells (f names) (32 ∷ (listed field_name).text names)
+names_made : (f : List (List ℕ) → Section) (names : List (List ℕ)) → (listed written_name).fits names ≡ true
+    → (lexical.space >>= λ u. rule.listed field_name >>= λ n. give (f n)).spells (f names) (32 ∷ (listed written_name).text names)
 names_made f names h =
-    let text = (listed field_name).text names in
+    let text = (listed written_name).text names in
     (tt, 32 ∷ [], text, refl, (names, text, [], names_writes.made names h, (refl, refl), sym (append-nil text)), refl)
 
 section_made : (s : Section) → section_fits s ≡ true → (s ≡ section.Whole → ⊥) → sections.section_message.spells s (section_text s)
 section_made section.Whole h some = absurd (some refl)
 section_made section.Header h some = (part.Header, codes "HEADER", [], refl, (refl, refl), refl)
 section_made section.Text h some = (part.Text, codes "TEXT", [], refl, (refl, refl), refl)
-section_made (section.Fields names) h some = (part.Fields, codes "HEADER.FIELDS", 32 ∷ (listed field_name).text names, refl, names_made section.Fields names h, refl)
-section_made (section.FieldsNot names) h some = (part.FieldsNot, codes "HEADER.FIELDS.NOT", 32 ∷ (listed field_name).text names, refl, names_made section.FieldsNot names h, refl)
+section_made (section.Fields names) h some = (part.Fields, codes "HEADER.FIELDS", 32 ∷ (listed written_name).text names, refl, names_made section.Fields names h, refl)
+section_made (section.FieldsNot names) h some = (part.FieldsNot, codes "HEADER.FIELDS.NOT", 32 ∷ (listed written_name).text names, refl, names_made section.FieldsNot names h, refl)
 
 section_word_fits : (w : SectionWord) (s : Section) (text : List ℕ) → (sections.section_text w).spells s text → section_fits s ≡ true
 section_word_fits part.Header s text h = rw (h.0) refl

@@ -36,7 +36,7 @@ use Rattle.imap_syntax.specs.Writing as writing
 use Rattle.imap_syntax.specs.Writing.{Writing, joined, separated, listed_or_none}
 use Rattle.imap_syntax.specs.Written.{is_quotable, quoted_text, quoted, astring, atom, number64, message_set}
 use Rattle.imap_syntax.specs.WrittenDates.{date}
-use Rattle.imap_query.specs.WrittenFetch.{field_name}
+use Rattle.imap_syntax.specs.FieldNames.{written_name}
 use Rattle.imap_query.specs.WrittenSearch.{keys_from, search_flag_fits, plain_fits, plain_text, fits_over, key_fits, key_text, search_key, keys, keys_fit, keys_text, search_keys, returns_text, charset_fits, charset_name_text, charset_text}
 use Rattle.imap_syntax.proofs.Opens.{Opens, then_opens}
 use Rattle.imap_syntax.proofs.Ends.{differs, keyword_opens}
@@ -125,7 +125,7 @@ mod_seq_made n h =
     let digits = decimal_text n in
     (tt, 32 ∷ [], digits, refl, (tt, [], digits, (false, [], [], refl, (refl, refl), refl), (n, digits, [], number64_writes.made n h, (refl, refl), sym (append-nil digits)), refl), refl)
 
-header_made : (field text : List ℕ) → field_name.fits field ≡ true → astring.fits text ≡ true → search.header_key.spells (header field text) (32 ∷ (astring.text field ++ 32 ∷ astring.text text))
+header_made : (field text : List ℕ) → written_name.fits field ≡ true → astring.fits text ≡ true → search.header_key.spells (header field text) (32 ∷ (astring.text field ++ 32 ∷ astring.text text))
 header_made field text h k =
     let wanted = astring.text text in
     (tt, 32 ∷ [], astring.text field ++ 32 ∷ wanted, refl, (field, astring.text field, 32 ∷ wanted, field_name_writes.made field h, (tt, 32 ∷ [], wanted, refl, (text, wanted, [], astring_writes.made text k, (refl, refl), sym (append-nil wanted)), refl), refl), refl)
@@ -151,7 +151,7 @@ plain_key_made : (inner : Rule Key) (p : Plain) → plain_fits p ≡ true → (k
 plain_key_made inner all h = plain_made inner word.All _ [] refl refl (refl, refl)
 plain_key_made inner (flagged f set) h = flagged_made inner f set h
 plain_key_made inner (contains where_it_is text) h = contains_made inner where_it_is text h
-plain_key_made inner (header field text) h = let q = both_true (field_name.fits field) (astring.fits text) h in plain_made inner word.Header _ (32 ∷ (astring.text field ++ 32 ∷ astring.text text)) refl refl (header_made field text q.0 q.1)
+plain_key_made inner (header field text) h = let q = both_true (written_name.fits field) (astring.fits text) h in plain_made inner word.Header _ (32 ∷ (astring.text field ++ 32 ∷ astring.text text)) refl refl (header_made field text q.0 q.1)
 plain_key_made inner (dated how day) h = dated_made inner how day h
 plain_key_made inner (larger n) h = plain_made inner word.Larger _ (32 ∷ decimal_text n) refl refl (sized_made larger n h)
 plain_key_made inner (smaller n) h = plain_made inner word.Smaller _ (32 ∷ decimal_text n) refl refl (sized_made smaller n h)

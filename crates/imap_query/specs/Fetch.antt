@@ -68,7 +68,8 @@ one_item name = do
 -- one item, or a macro
 abbrev pub single : FetchWord → Rule (List FetchItem)
 single name =
-    cond (is_fast name) (give fast_items) (cond (is_unserved name) (give (item.Unserved ∷ [])) (one_item name))
+    cond (is_fast name) (give fast_items)
+    (cond (is_unserved name) (give (item.Unserved ∷ [])) (one_item name))
 
 abbrev pub items_behind : Bool → Rule (List FetchItem)
 items_behind true = do

@@ -61,7 +61,7 @@ abbrev mutual
   row_of end_of-SearchKey = end
   row_of (more_of-SearchKey key others) = more (key_of key) (row_of others)
 
--- ---- keys as a list of tokens, each operator before its operands (`keys_from` in WrittenSearch reads them back)
+-- ---- keys as a list of tokens, each operator before its operands (WrittenSearch reads them back)
 
 pub data Token : Type 0 where
   one : (key : Plain) → Token

@@ -1,6 +1,5 @@
 -- SEARCH (RFC 9051, section 9; RFC 7162, section 7).
 use Rattle.std.specs.Prelude.{ℕ, Bool, true, false, cond, ◌==◌, ◌&&◌, List, [], ◌∷◌, take, drop, codes}
-use Rattle.std.specs.List.{list_all}
 use Rattle.std.specs.Char.{is_ascii_alphabetic}
 use Rattle.std.specs.Str.{str_eq_ignore_ascii_case}
 use Rattle.imap_syntax.specs.declared.flag.Flag.TheVariants as flag
@@ -17,7 +16,8 @@ use Rattle.imap_syntax.specs.Lexical.{is_atom_char, space, number, quoted_end, a
 use Rattle.imap_query.specs.SearchWords.{entry_type_name}
 use Rattle.imap_syntax.specs.Sets.{message_set}
 use Rattle.imap_syntax.specs.Dates.{date}
-use Rattle.imap_query.specs.Sections.{field_name}
+use Rattle.imap_syntax.specs.Atoms.{atom}
+use Rattle.imap_syntax.specs.FieldNames.{field_name}
 use Rattle.imap_query.specs.Keys.{Plain, all, flagged, contains, header, dated, larger, smaller, mod_seq, uids, unserved, Key, plain}
 
 -- ---- keys without others within them
@@ -68,13 +68,9 @@ uid_key = do
   give (uids messages)
 
 -- an atom, and perhaps a backslash before it
-abbrev pub is_atom : List ℕ → Bool
-is_atom [] = false
-is_atom (b ∷ text) = list_all is_atom_char (b ∷ text)
-
 abbrev pub is_flag : List ℕ → Bool
 is_flag [] = false
-is_flag (b ∷ text) = cond (b == 92) (is_atom text) (is_atom (b ∷ text))
+is_flag (b ∷ text) = cond (b == 92) (atom.fits text) (atom.fits (b ∷ text))
 
 -- `entry-name`: /flags/ and a flag (RFC 7162, section 3.1.5)
 abbrev pub is_entry : List ℕ → Bool

@@ -1,7 +1,6 @@
 -- Sections of messages, as FETCH names them (RFC 9051, section 9).
 use Rattle.std.specs.Prelude.{ℕ, ◌+◌, ◌*◌, ◌-◌, Bool, true, false, cond, ◌==◌, ◌&&◌, ◌||◌, not, nat_lt, List, [], ◌∷◌, Option, Some, None}
 use Rattle.std.specs.Char.{is_ascii_digit}
-use Rattle.std.specs.List.{list_any}
 use Rattle.imap_query.specs.declared.fetch.Partial.{Partial}
 use Rattle.imap_query.specs.declared.fetch.Section.{Section}
 use Rattle.imap_query.specs.declared.fetch.Section.TheVariants as section
@@ -12,7 +11,8 @@ use Rattle.imap_query.specs.declared.fetch_word.SectionWord.TheVariants as part
 use Rattle.imap_query.specs.declared.fetch_word.TheConstants.{SECTION_WORDS}
 use Rattle.imap_syntax.specs.Rule.{Rule, fail, give, ◌>>=◌, ◌>>◌, octet, some_of, when, flag, keyword, listed, judged}
 use Rattle.imap_syntax.specs.First.{by_first}
-use Rattle.imap_syntax.specs.Lexical.{space, number, nz_number, astring}
+use Rattle.imap_syntax.specs.Lexical.{space, number, nz_number}
+pub use Rattle.imap_syntax.specs.FieldNames.{field_name}
 use Rattle.imap_query.specs.FetchWords.{section_name, is_section_char}
 
 abbrev pub partial_behind : Bool → Rule (Option Partial)
@@ -29,15 +29,6 @@ abbrev pub partial : Rule (Option Partial)
 partial = do
   angle ← flag 60
   partial_behind angle
-
-abbrev pub has_line_end : List ℕ → Bool
-has_line_end text = list_any (λ b. b == 13 || b == 10) text
-
--- `header-fld-name`: an astring without CR and LF
-abbrev pub field_name : Rule (List ℕ)
-field_name = do
-  name ← astring
-  when (not (has_line_end name)) name
 
 abbrev pub section_text : SectionWord → Rule Section
 section_text part.Header = give section.Header

@@ -1,30 +1,26 @@
 -- How the items of FETCH are written (RFC 9051, section 9; RFC 7162, section 7).
-use Rattle.std.specs.Prelude.{ℕ, Bool, true, false, not, ◌&&◌, List, [], ◌∷◌, ◌++◌, codes, decimal, if◌then◌else◌, Option, Some, None}
+use Rattle.std.specs.Prelude.{ℕ, Bool, true, false, ◌&&◌, List, [], ◌∷◌, ◌++◌, codes, decimal, if◌then◌else◌, Option, Some, None}
 use Rattle.imap_query.specs.declared.fetch.Partial.{Partial}
 use Rattle.imap_query.specs.declared.fetch.Section.{Section}
 use Rattle.imap_query.specs.declared.fetch.Section.TheVariants as section
 use Rattle.imap_query.specs.declared.fetch.BodySection.{BodySection}
 use Rattle.imap_query.specs.declared.fetch.FetchItem.{FetchItem}
 use Rattle.imap_query.specs.declared.fetch.FetchItem.TheVariants as item
-use Rattle.imap_query.specs.Sections.{has_line_end}
+use Rattle.imap_syntax.specs.FieldNames.{written_name}
 use Rattle.imap_syntax.specs.Writing.{Writing, listed}
-use Rattle.imap_syntax.specs.Written.{astring, mod_sequence, number64}
-
--- `header-fld-name`: neither CR nor LF stands in it
-abbrev pub field_name : Writing (List ℕ)
-field_name = record { fits = λ name. astring.fits name && not (has_line_end name); text = astring.text }
+use Rattle.imap_syntax.specs.Written.{mod_sequence, number64}
 
 abbrev pub section_fits : Section → Bool
-section_fits (section.Fields names) = (listed field_name).fits names
-section_fits (section.FieldsNot names) = (listed field_name).fits names
+section_fits (section.Fields names) = (listed written_name).fits names
+section_fits (section.FieldsNot names) = (listed written_name).fits names
 section_fits _ = true
 
 abbrev pub section_text : Section → List ℕ
 section_text section.Whole = []
 section_text section.Header = codes "HEADER"
 section_text section.Text = codes "TEXT"
-section_text (section.Fields names) = codes "HEADER.FIELDS " ++ (listed field_name).text names
-section_text (section.FieldsNot names) = codes "HEADER.FIELDS.NOT " ++ (listed field_name).text names
+section_text (section.Fields names) = codes "HEADER.FIELDS " ++ (listed written_name).text names
+section_text (section.FieldsNot names) = codes "HEADER.FIELDS.NOT " ++ (listed written_name).text names
 
 abbrev pub partial_fits : Option Partial → Bool
 partial_fits None = true

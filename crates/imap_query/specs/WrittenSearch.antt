@@ -19,7 +19,7 @@ use Rattle.imap_syntax.specs.Writing.{Writing, separated, listed_or_none, in_par
 use Rattle.imap_syntax.specs.Written.{is_quotable, quoted_text, astring, atom, number64, message_set}
 use Rattle.imap_syntax.specs.WrittenDates.{date}
 use Rattle.imap_query.specs.Searching.{max_key_levels}
-use Rattle.imap_query.specs.WrittenFetch.{field_name}
+use Rattle.imap_syntax.specs.FieldNames.{written_name}
 
 -- ---- tokens, read as the keys that they are
 
@@ -83,7 +83,7 @@ abbrev pub plain_fits : Plain → Bool
 plain_fits all = true
 plain_fits (flagged f set) = search_flag_fits f
 plain_fits (contains where_it_is text) = astring.fits text
-plain_fits (header field text) = field_name.fits field && astring.fits text
+plain_fits (header field text) = written_name.fits field && astring.fits text
 plain_fits (dated how day) = date.fits day
 plain_fits (larger size) = number64.fits size
 plain_fits (smaller size) = number64.fits size
@@ -99,7 +99,8 @@ abbrev pub text_key_text : SearchWord → List ℕ → List ℕ
 text_key_text name text = search_name name ++ (32 ∷ astring.text text)
 
 abbrev pub header_key_text : (field text : List ℕ) → List ℕ
-header_key_text field text = search_name word.Header ++ (32 ∷ (astring.text field ++ (32 ∷ astring.text text)))
+header_key_text field text =
+    search_name word.Header ++ (32 ∷ (astring.text field ++ (32 ∷ astring.text text)))
 
 abbrev pub date_key_text : SearchWord → Day → List ℕ
 date_key_text name day = search_name name ++ (32 ∷ date.text day)
@@ -176,7 +177,10 @@ keys_text None = []
 keys_text (Some all_of_them) = keys.text all_of_them
 
 abbrev pub search_keys : Writing (List Token)
-search_keys = record { fits = λ tokens. keys_fit (keys_from tokens); text = λ tokens. keys_text (keys_from tokens) }
+search_keys = record {
+  fits = λ tokens. keys_fit (keys_from tokens);
+  text = λ tokens. keys_text (keys_from tokens);
+}
 
 -- ---- what stands before the keys
 

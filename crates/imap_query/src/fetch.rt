@@ -1,7 +1,6 @@
 //! The items of FETCH (RFC 9051, section 6.4.5).
 
-use imap_lex::Octets;
-use imap_syntax::Items;
+use imap_syntax::{FieldName, Items, NzNumber64};
 use imap_values::{Same, TryCopy};
 use std::alloc::{AllocError, Global};
 
@@ -9,8 +8,7 @@ use std::alloc::{AllocError, Global};
 #[derive(Clone, Copy, Debug, PartialEq, Eq)]
 pub struct Partial {
     pub offset: u64,
-    /// At least 1.
-    pub count: u64,
+    pub count: NzNumber64,
 }
 
 /// A part of the message (RFC 9051, section 9, `section-msgtext`).
@@ -20,9 +18,9 @@ pub enum Section {
     Header,
     Text,
     /// The header fields of these names.
-    Fields(Items<Octets>),
+    Fields(Items<FieldName>),
     /// The header fields of other names.
-    FieldsNot(Items<Octets>),
+    FieldsNot(Items<FieldName>),
 }
 
 /// A section of the message, or a range of its octets (RFC 9051, section 6.4.5.1).
@@ -44,8 +42,8 @@ pub enum FetchItem {
     /// RFC 7162, section 3.1.4.2.
     ModSeq,
     Section(BodySection),
-    /// An item of RFC 9051 that is read and not served: ENVELOPE, BODYSTRUCTURE, BINARY, a part of a message's body, or
-    /// a macro with such an item.
+    /// An item of RFC 9051 that is read and not served: ENVELOPE, BODYSTRUCTURE, BINARY, a part of a
+    /// message's body, or a macro with such an item.
     Unserved,
 }
 

@@ -161,7 +161,7 @@ pub fn read_fetch_items(
     if cursor.has(b'(') {
         let items = cursor.separated::<FetchItem>(alloc, b' ')?;
         cursor.octet(b')')?;
-        return Ok(items);
+        return Ok(items.into_items());
     }
     let word = cursor.keyword::<FetchWord>()?;
     read_single(cursor, alloc, word)

@@ -1,7 +1,7 @@
 //! The arguments of FETCH, SEARCH and STATUS: items, sections of messages, and search keys.
 //!
-//! Each is read from a frame, and written, by its production of RFC 9051, section 9, or of RFC 7162. `specs/` defines
-//! the octets that spell it.
+//! Each is read from a frame, and written, by its production of RFC 9051, section 9, or of RFC 7162. `specs/`
+//! defines the octets that spell it.
 #![tactic(auto)]
 
 mod fetch;

@@ -4,7 +4,7 @@ ghost use Rattle.std.specs.Prelude.{◌≡◌, map};
 ghost use Rattle.imap_query.specs.Keys.{key_of, all_tokens};
 
 use imap_lex::{AstringChar, Octets};
-use imap_syntax::{Date, Flag, Keyword, MessageSet};
+use imap_syntax::{Date, FieldName, Flag, Keyword, MessageSet};
 use imap_values::{Same, TryCopy};
 use std::alloc::{AllocError, Global};
 use std::marker::Model;
@@ -71,7 +71,7 @@ pub enum SearchKey {
     Flag { flag: Flag, set: bool },
     Contains { place: SearchIn, text: Octets },
     /// The text is searched in the header fields of this name.
-    Header { field: Octets, text: Octets },
+    Header { field: FieldName, text: Octets },
     Date { relation: SearchDate, date: Date },
     Larger(u64),
     Smaller(u64),
@@ -136,12 +136,14 @@ impl Model for SearchKeys {
 }
 
 impl SearchKeys {
+    /// Returns these keys, without copying them.
     pub fn from_vec(keys: Vec<SearchKey>) -> SearchKeys
         ensures { result ≡ all_tokens (map key_of keys.items) }
     {
         SearchKeys(keys)
     }
 
+    /// Returns the keys.
     pub fn as_slice(&self) -> &[SearchKey]
         ensures { all_tokens (map key_of result.now) ≡ self.now }
     {

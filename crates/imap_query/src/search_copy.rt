@@ -9,7 +9,7 @@ ghost use Rattle.imap_query.specs.Keys.{key_of, keys_of, group};
 use crate::search::{SearchIn, SearchKey, SearchKeys};
 use crate::search_keys::group;
 use imap_lex::Octets;
-use imap_syntax::{Flag, MessageSet};
+use imap_syntax::{FieldName, Flag, MessageSet};
 use imap_values::{Same, TryCopy, same_two};
 use std::alloc::{AllocError, Global};
 
@@ -46,7 +46,7 @@ fn copy_key(key: &SearchKey, alloc: Global) -> Result<SearchKey, AllocError>
         SearchKey::All => Ok(SearchKey::All),
         SearchKey::Flag { flag, set } => copy_flag_key(flag, *set, alloc),
         SearchKey::Contains { place, text } => copy_text_key(*place, text),
-        SearchKey::Header { field, text } => copy_header_key(field, text),
+        SearchKey::Header { field, text } => copy_header_key(alloc, field, text),
         SearchKey::Date { relation, date } => Ok(SearchKey::Date {
             relation: *relation,
             date: *date,
@@ -81,10 +81,10 @@ fn copy_text_key(place: SearchIn, text: &Octets) -> Result<SearchKey, AllocError
     Ok(SearchKey::Contains { place, text })
 }
 
-fn copy_header_key(field: &Octets, text: &Octets) -> Result<SearchKey, AllocError>
+fn copy_header_key(alloc: Global, field: &FieldName, text: &Octets) -> Result<SearchKey, AllocError>
     ensures { IfOk result (λ copy. copy ≡ SearchKey.Header field.now text.now) }
 {
-    let field = field.try_copy()?;
+    let field = field.try_copy(alloc)?;
     let text = text.try_copy()?;
     Ok(SearchKey::Header { field, text })
 }

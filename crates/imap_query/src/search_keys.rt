@@ -172,7 +172,7 @@ fn read_charset_name(cursor: &mut Cursor<'_>, alloc: Global) -> Result<Octets, R
 {
     match cursor.rest() {
         [b'"', ..] => cursor.quoted(alloc),
-        _ => Ok(Octets::from_slice(alloc, cursor.atom()?)?),
+        _ => Ok(Octets::from_slice(alloc, cursor.atom_octets()?)?),
     }
 }
 

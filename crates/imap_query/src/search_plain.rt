@@ -1,38 +1,19 @@
 //! Reading keys without others within them (RFC 9051, section 9, `search-key`).
 
 ghost use Rattle.std.specs.Prelude.{◌≡◌};
-ghost use Rattle.std.specs.List.{list_all};
 ghost use Rattle.imap_syntax.specs.Reading.{ReadsIfMemory, Reads};
-ghost use Rattle.imap_syntax.specs.Lexical.{is_atom_char};
 ghost use Rattle.imap_query.specs.Keys.{key_of, as_flagged};
-ghost use Rattle.imap_query.specs.Search.{text_key, date_key, sent_key, header_key, keyword_key, size, is_atom, is_flag, is_entry, entry, mod_seq_key, uid_key, as_plain, plain_behind};
+ghost use Rattle.imap_query.specs.Search.{text_key, date_key, sent_key, header_key, keyword_key, size, is_flag, is_entry, entry, mod_seq_key, uid_key, as_plain, plain_behind};
 
 use crate::search::{SearchDate, SearchIn, SearchKey};
 use crate::search_word::{EntryType, SearchWord};
-use crate::section::read_field_name;
-use imap_lex::Octets;
-use imap_syntax::{Cursor, Flag, ReadError, is_atom_char};
+use imap_syntax::{Cursor, Flag, ReadError, is_atom};
 use std::alloc::Global;
 
 fn flagged(flag: Flag, set: bool) -> SearchKey
     ensures { key_of result ≡ as_flagged flag set }
 {
     SearchKey::Flag { flag, set }
-}
-
-fn are_atom_chars(text: &[u8]) -> bool
-    ensures { result ≡ list_all is_atom_char text.now }
-{
-    text.iter().all(|octet| is_atom_char(*octet))
-}
-
-fn is_atom(text: &[u8]) -> bool
-    ensures { result ≡ is_atom text.now }
-{
-    match text {
-        [] => false,
-        _ => are_atom_chars(text),
-    }
 }
 
 fn is_flag(text: &[u8]) -> bool
@@ -87,7 +68,7 @@ fn read_header_key(cursor: &mut Cursor<'_>, alloc: Global) -> Result<SearchKey, 
     ensures { ReadsIfMemory key_of result cursor.new ((as_plain header_key).read cursor.old) }
 {
     cursor.space()?;
-    let field = read_field_name(cursor, alloc)?;
+    let field = cursor.field_name(alloc)?;
     cursor.space()?;
     let text = cursor.astring(alloc)?;
     Ok(SearchKey::Header { field, text })
@@ -101,7 +82,7 @@ fn read_keyword_key(
     ensures { ReadsIfMemory key_of result cursor.new ((as_plain (keyword_key set)).read cursor.old) }
 {
     cursor.space()?;
-    let name = Octets::from_slice(alloc, cursor.atom()?)?;
+    let name = cursor.atom(alloc)?;
     Ok(flagged(Flag::Keyword(name), set))
 }
 

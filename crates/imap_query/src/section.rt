@@ -2,34 +2,13 @@
 
 ghost use Rattle.std.specs.Prelude.{◌≡◌, None};
 ghost use Rattle.imap_syntax.specs.Reading.{ReadsIfMemory, Reads};
-ghost use Rattle.imap_query.specs.Sections.{partial, has_line_end, field_name, section_text, section_message, part_ends, is_part_char, part_numbers, part_text, section_part, section_end, body_section, section_binary};
+ghost use Rattle.imap_query.specs.Sections.{partial, section_text, section_message, part_ends, is_part_char, part_numbers, part_text, section_part, section_end, body_section, section_binary};
 
 use crate::fetch::{BodySection, FetchItem, Partial, Section};
 use crate::fetch_word::SectionWord;
-use imap_lex::{OctetClass, Octets, leading};
-use imap_syntax::{Cursor, Item, ReadError};
+use imap_lex::{OctetClass, leading};
+use imap_syntax::{Cursor, FieldName, ReadError};
 use std::alloc::Global;
-
-/// The name of a header field.
-pub(crate) struct FieldName;
-
-impl Item for FieldName {
-    ghost use Rattle.imap_query.specs.Sections.{field_name};
-
-    type Read = Octets;
-
-    ghost item_read = { field_name.read };
-
-    fn item(cursor: &mut Cursor<'_>, alloc: Global) -> Result<Octets, ReadError> {
-        read_field_name(cursor, alloc)
-    }
-}
-
-pub(crate) fn has_line_end(text: &[u8]) -> bool
-    ensures { result ≡ has_line_end text.now }
-{
-    text.iter().any(|octet| matches!(*octet, b'\r' | b'\n'))
-}
 
 fn is_part_char(octet: u8) -> bool
     ensures { result ≡ is_part_char octet }
@@ -48,7 +27,8 @@ impl OctetClass for PartChar {
     }
 }
 
-/// Whether a dot follows the last of nz-numbers with dots between them. `None` if the octets are no such numbers.
+/// Whether a dot follows the last of nz-numbers with dots between them. `None` if the octets are no such
+/// numbers.
 fn part_ends(octets: &[u8]) -> Option<bool>
     ensures { result ≡ part_ends None octets.now }
 {
@@ -78,19 +58,9 @@ pub(crate) fn read_partial(cursor: &mut Cursor<'_>) -> Result<Option<Partial>, R
     }
     let offset = cursor.number(0, i64::MAX as u64)?;
     cursor.octet(b'.')?;
-    let count = cursor.nz_number(i64::MAX as u64)?;
+    let count = cursor.nz_number64()?;
     cursor.octet(b'>')?;
     Ok(Some(Partial { offset, count }))
-}
-
-pub(crate) fn read_field_name(cursor: &mut Cursor<'_>, alloc: Global) -> Result<Octets, ReadError>
-    ensures { ReadsIfMemory (λ o. o) result cursor.new (field_name.read cursor.old) }
-{
-    let name = cursor.astring(alloc)?;
-    if has_line_end(name.as_slice()) {
-        return Err(ReadError::Syntax);
-    }
-    Ok(name)
 }
 
 /// Reads the part of a section after its word.

@@ -1,32 +1,13 @@
 //! Writing the items and modifiers of FETCH.
 
 ghost use Rattle.std.specs.Prelude.{◌≡◌, ◌++◌, ◌∷◌, [], OnOk, codes, decimal};
-ghost use Rattle.imap_query.specs.WrittenFetch.{field_name, section_fits, section_text, partial_fits, partial_text, peek_text, body_text, single_text, is_flags, is_internal_date, is_size, is_fast, several_text, fetch_items, changed_fits, modifiers_text};
+ghost use Rattle.imap_query.specs.WrittenFetch.{section_fits, section_text, partial_fits, partial_text, peek_text, body_text, single_text, is_flags, is_internal_date, is_size, is_fast, several_text, fetch_items, changed_fits, modifiers_text};
 
 use crate::fetch::{BodySection, FetchItem, Partial, Section};
-use crate::section::{FieldName, has_line_end};
-use imap_lex::Octets;
 use imap_syntax::{
-    Spelling, mod_sequence_fits, number64_fits, push_astring, push_between, push_listed,
-    push_number, some_fit, string_fits,
+    FieldName, Spelling, mod_sequence_fits, number64_fits, push_between, push_listed, some_fit,
 };
 use std::alloc::AllocError;
-
-impl Spelling for FieldName {
-    ghost use Rattle.imap_query.specs.WrittenFetch.{field_name};
-
-    type Value = Octets;
-
-    ghost writing = { field_name };
-
-    fn fits(name: &Octets) -> bool {
-        string_fits(name) && !has_line_end(name.as_slice())
-    }
-
-    fn push(out: &mut Vec<u8>, name: &Octets) -> Result<(), AllocError> {
-        push_astring(out, name)
-    }
-}
 
 fn section_fits(section: &Section) -> bool
     ensures { result ≡ section_fits section.now }
@@ -61,7 +42,7 @@ fn partial_fits(range: &Option<Partial>) -> bool
     ensures { result ≡ partial_fits range.now }
 {
     match range {
-        Some(range) => number64_fits(range.offset) && mod_sequence_fits(range.count),
+        Some(range) => number64_fits(range.offset) && mod_sequence_fits(range.count.get()),
         None => true,
     }
 }
@@ -72,7 +53,7 @@ fn push_partial(out: &mut Vec<u8>, range: &Option<Partial>) -> Result<(), AllocE
     match range {
         Some(range) => {
             push_between(out, b"<", range.offset, b".")?;
-            push_between(out, b"", range.count, b">")
+            push_between(out, b"", range.count.get(), b">")
         }
         None => Ok(()),
     }

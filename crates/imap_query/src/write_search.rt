@@ -9,12 +9,11 @@ ghost use Rattle.imap_query.specs.WrittenSearch.{search_flag_fits, flag_word, ke
 use crate::search::{SearchDate, SearchIn, SearchKey, SearchKeys, SearchReturn};
 use crate::search_keys::MAX_KEY_LEVELS;
 use crate::search_word::SearchWord;
-use crate::section::FieldName;
 use imap_lex::Octets;
 use imap_syntax::{
-    Date, Flag, Keyword, MessageSet, Spelling, Word, atom_fits, date_fits, is_quotable,
-    number64_fits, push_astring, push_date, push_listed, push_number, push_quoted, push_set,
-    set_fits, string_fits,
+    Atom, Date, FieldName, Flag, Keyword, MessageSet, Spelling, Word, date_fits, is_atom,
+    is_quotable, number64_fits, push_astring, push_date, push_listed, push_number, push_quoted,
+    push_set, set_fits, string_fits,
 };
 use std::alloc::AllocError;
 
@@ -25,7 +24,7 @@ fn search_flag_fits(flag: &Flag) -> bool
 {
     match flag {
         Flag::Other(_) => false,
-        Flag::Keyword(name) => atom_fits(name.as_slice()),
+        Flag::Keyword(name) => Atom::fits(name),
         _ => true,
     }
 }
@@ -183,10 +182,12 @@ fn push_text_key(out: &mut Vec<u8>, word: SearchWord, text: &Octets) -> Result<(
     push_astring(out, text)
 }
 
-fn push_header_key(out: &mut Vec<u8>, field: &Octets, text: &Octets) -> Result<(), AllocError>
+fn push_header_key(out: &mut Vec<u8>, field: &FieldName, text: &Octets) -> Result<(), AllocError>
     ensures { OnOk result (out.new.items ≡ out.old.items ++ header_key_text field.now text.now) }
 {
-    push_text_key(out, SearchWord::Header, field)?;
+    push_word(out, SearchWord::Header)?;
+    out.push(b' ')?;
+    FieldName::push(out, field)?;
     out.push(b' ')?;
     push_astring(out, text)
 }
@@ -309,7 +310,7 @@ fn push_some_returns(out: &mut Vec<u8>, returns: &[SearchReturn]) -> Result<(), 
 fn push_charset_name(out: &mut Vec<u8>, name: &[u8]) -> Result<(), AllocError>
     ensures { OnOk result (out.new.items ≡ out.old.items ++ charset_name_text name.now) }
 {
-    if atom_fits(name) {
+    if is_atom(name) {
         out.extend_from_slice(name)
     } else {
         push_quoted(out, name)

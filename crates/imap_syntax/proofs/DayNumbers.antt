@@ -1,5 +1,5 @@
 -- Days of the calendar of `jiff` and their numbers.
-use Rattle.std.proofs.Common.{◌≡◌, ◌∙◌, ap, subst, sym, refl, inl, rules, ℕ, ◌+◌, ◌*◌, ◌/◌, ◌%◌, ◌<◌, ◌≤◌, Bool, true, ℤ, pos, negsuc, ◌≤ℤ◌, unsigned_abs, to_z, of_z, FitsSigned, w8, w16, w32, w64, Result, Ok, Err, IfOk, Option, Some, MatchOption, arith}
+use Rattle.std.proofs.Common.{◌≡◌, ◌∙◌, ap, subst, sym, refl, inl, rules, ℕ, ◌<◌, true, ℤ, pos, negsuc, ◌≤ℤ◌, unsigned_abs, to_z, of_z, FitsSigned, w8, w16, w32, w64, Result, Ok, Err, IfOk, Option, Some, MatchOption, arith}
 use Rattle.std.specs.Int.{IsInRange}
 use Rattle.std.proofs.lemmas.Int.{by_lt_z, to_z_pos, to_z-of_z}
 use Rattle.std.specs.Result.{result_ok}

@@ -15,6 +15,8 @@ pub mod Pushes
 pub mod Writing
 pub mod Written
 pub mod WrittenDates
+pub mod Atoms
+pub mod NzNumbers
 pub mod Lined
 pub mod Texts
 pub mod SyntaxTexts

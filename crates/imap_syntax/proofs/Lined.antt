@@ -13,7 +13,7 @@ use Rattle.imap_syntax.specs.declared.set.SeqNumber.{SeqNumber}
 use Rattle.imap_syntax.specs.declared.set.SeqNumber.TheVariants as seq
 use Rattle.imap_syntax.specs.declared.set.MessageSet.TheVariants as messages
 use Rattle.imap_syntax.specs.declared.flag.Flag.TheVariants as flag
-use Rattle.imap_syntax.specs.declared.flag.SystemFlag.TheVariants as system
+use Rattle.imap_syntax.specs.declared.system_flag.SystemFlag.TheVariants as system
 use Rattle.imap_syntax.specs.declared.month.Month.{Month}
 use Rattle.imap_syntax.specs.declared.set.SeqRange.{SeqRange}
 use Rattle.imap_syntax.specs.Calendar.{month_name}

@@ -1,5 +1,5 @@
 -- A moment that is written is read as itself.
-use Rattle.std.proofs.Common.{◌≡◌, ◌∙◌, ap, sym, refl, true, List, ℕ, [], Option, Some, append-nil}
+use Rattle.std.proofs.Common.{◌≡◌, ◌∙◌, ap, sym, true, [], Some, append-nil}
 use Rattle.std.specs.Option.{option_and_then}
 use Rattle.imap_syntax.specs.Dates as dates
 use Rattle.imap_syntax.specs.Dates.{nothing_left, date_time_read}

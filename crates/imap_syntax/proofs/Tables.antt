@@ -9,9 +9,9 @@ use Rattle.imap_syntax.specs.Lexical.{is_astring_char, is_atom_char, is_word_cha
 use Rattle.imap_syntax.proofs.Words.{IsTable}
 use Rattle.imap_syntax.specs.Flags.{flag_name}
 use Rattle.imap_syntax.specs.Calendar.{month_name}
-use Rattle.imap_syntax.specs.declared.flag.SystemFlag.{SystemFlag}
-use Rattle.imap_syntax.specs.declared.flag.SystemFlag.TheVariants as flag
-use Rattle.imap_syntax.specs.declared.flag.TheConstants.{SYSTEM_FLAGS}
+use Rattle.imap_syntax.specs.declared.system_flag.SystemFlag.{SystemFlag}
+use Rattle.imap_syntax.specs.declared.system_flag.SystemFlag.TheVariants as flag
+use Rattle.imap_syntax.specs.declared.system_flag.TheConstants.{SYSTEM_FLAGS}
 use Rattle.imap_syntax.specs.declared.month.TheConstants.{MONTHS}
 use Rattle.imap_syntax.specs.declared.month.Month.{Month}
 use Rattle.imap_syntax.specs.declared.month.Month.TheVariants as month_word

@@ -19,10 +19,10 @@ use Rattle.imap_syntax.specs.declared.set.MessageSet.{MessageSet}
 use Rattle.imap_syntax.specs.declared.set.MessageSet.TheVariants as messages
 use Rattle.imap_syntax.specs.declared.flag.Flag.{Flag}
 use Rattle.imap_syntax.specs.declared.flag.Flag.TheVariants as flag
-use Rattle.imap_syntax.specs.declared.flag.SystemFlag.{SystemFlag}
-use Rattle.imap_syntax.specs.declared.flag.SystemFlag.TheVariants as system
+use Rattle.imap_syntax.specs.declared.system_flag.SystemFlag.{SystemFlag}
+use Rattle.imap_syntax.specs.declared.system_flag.SystemFlag.TheVariants as system
 use Rattle.imap_syntax.specs.Sets as sets
-use Rattle.imap_syntax.specs.declared.flag.TheConstants.{SYSTEM_FLAGS}
+use Rattle.imap_syntax.specs.declared.system_flag.TheConstants.{SYSTEM_FLAGS}
 use Rattle.imap_syntax.specs.Flags as flags
 use Rattle.imap_syntax.specs.Flags.{system_flag, known_or, flag_of}
 use Rattle.imap_syntax.specs.Flags.{flag_name}
@@ -198,7 +198,7 @@ positive_value (d ∷ digits) h some z = let above : 48 < d = above_zero d h.0 z
     above_zero : (d : ℕ) → is_ascii_digit d ≡ true → not (eqb d 48) ≡ true → 48 < d
     above_zero d h z = grind (arith, nat_tests)
 
-nz_number_fits : (high n : ℕ) (text : List ℕ) → (lexical.nz_number high).spells n text → (number 1 high).fits n ≡ true
+pub nz_number_fits : (high n : ℕ) (text : List ℕ) → (lexical.nz_number high).spells n text → (number 1 high).fits n ≡ true
 nz_number_fits high n text h =
     let q = both_true (not (begins_with_zero h.0)) (not (ltb high (decimal h.0))) h.4.0 in
     let positive = positive_value h.0 (subst (ConsistsOf is_ascii_digit) h.3.0 h.3.1) (λ e. h.3.2 (h.3.0 ∙ e)) q.0 in

@@ -3,11 +3,14 @@ pub mod First
 pub mod Reading
 pub mod Lexical
 pub mod Sets
+pub mod Writing
+pub mod Atoms
+pub mod SystemFlags
 pub mod Flags
 pub mod Moments
 pub mod Calendar
 pub mod Dates
-pub mod Writing
 pub mod Written
+pub mod FieldNames
 pub mod WrittenDates
 pub mod DayNumbers

@@ -8,9 +8,10 @@ abbrev pub Fails : {Y : Type 0} → ReadError → Option Y → Type 0
 Fails Memory read = Unit {0}
 Fails Syntax read = read ≡ None
 
--- The code returned a result and left the rest of its input. Unless memory ran out, this is what was to be read. `view`
--- gives the value that the code's value stands for.
-abbrev pub ReadsIfMemory : {X Y : Type 0} → (X → Y) → Result X ReadError → List ℕ → Option (Y × List ℕ) → Type 0
+-- The code returned a result and left the rest of its input. Unless memory ran out, this is what was to be
+-- read. `view` gives the value that the code's value stands for.
+abbrev pub ReadsIfMemory : {X Y : Type 0} → (X → Y) → Result X ReadError → List ℕ → Option (Y × List ℕ)
+    → Type 0
 ReadsIfMemory view (Ok x) rest read = read ≡ Some (view x, rest)
 ReadsIfMemory view (Err error) rest read = Fails error read
 

@@ -138,19 +138,22 @@ abbrev pub with_front : {A : Type 0} → List A → Option (List A × List ℕ) 
 with_front front read = option_map (λ found. (front ++ found.0, found.1)) read
 
 -- after the item a: the others, if there are any
-abbrev pub others_read : {A : Type 0} → ℕ → A → (List ℕ → Option (List A × List ℕ)) → List ℕ → Option (List A × List ℕ)
+abbrev pub others_read : {A : Type 0} → ℕ → A → (List ℕ → Option (List A × List ℕ)) → List ℕ
+    → Option (List A × List ℕ)
 others_read b a read rest =
     option_and_then
     (λ found. cond found.0 (with_front (a ∷ []) (read found.1)) (Some (a ∷ [], found.1)))
     (flag_read b rest)
 
 -- n items at most
-abbrev pub separated_read : {A : Type 0} → ℕ → (List ℕ → Option (A × List ℕ)) → ℕ → List ℕ → Option (List A × List ℕ)
+abbrev pub separated_read : {A : Type 0} → ℕ → (List ℕ → Option (A × List ℕ)) → ℕ → List ℕ
+    → Option (List A × List ℕ)
 separated_read b read zero input = None
 separated_read b read (suc n) input =
     option_and_then (λ found. others_read b found.0 (separated_read b read n) found.1) (read input)
 
-unfoldable pub items_read : {A : Type 0} → ℕ → (List ℕ → Option (A × List ℕ)) → List ℕ → Option (List A × List ℕ)
+unfoldable pub items_read : {A : Type 0} → ℕ → (List ℕ → Option (A × List ℕ)) → List ℕ
+    → Option (List A × List ℕ)
 items_read b read input = separated_read b read (suc (length input)) input
 
 abbrev pub separated : {A : Type 0} → ℕ → Rule A → Rule (List A)

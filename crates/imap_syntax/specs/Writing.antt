@@ -30,7 +30,10 @@ joined b text (item ∷ items) = text item ++ further b text items
 
 -- one item or more
 abbrev pub separated : {A : Type 0} → ℕ → Writing A → Writing (List A)
-separated b w = record { fits = λ items. not (length items == 0) && list_all w.fits items; text = joined b w.text }
+separated b w = record {
+  fits = λ items. not (length items == 0) && list_all w.fits items;
+  text = joined b w.text;
+}
 
 abbrev pub in_parentheses : List ℕ → List ℕ
 in_parentheses text = 40 ∷ text ++ 41 ∷ []

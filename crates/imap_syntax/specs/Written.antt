@@ -1,7 +1,6 @@
 -- How strings, sets and flags are written.
-use Rattle.std.specs.Prelude.{ℕ, Bool, true, false, not, ◌==◌, ◌&&◌, ◌||◌, nat_lt, List, [], ◌∷◌, ◌++◌, length, codes, decimal, flat_map, find, is_none, if◌then◌else◌}
+use Rattle.std.specs.Prelude.{◌≡◌, ℕ, Bool, true, false, not, ◌==◌, ◌&&◌, ◌||◌, nat_lt, List, [], ◌∷◌, ◌++◌, length, codes, decimal, flat_map, if◌then◌else◌}
 use Rattle.std.specs.List.{list_any}
-use Rattle.std.specs.Str.{str_eq_ignore_ascii_case}
 use Rattle.imap_syntax.specs.declared.set.SeqNumber.{SeqNumber}
 use Rattle.imap_syntax.specs.declared.set.SeqNumber.TheVariants as number
 use Rattle.imap_syntax.specs.declared.set.SeqRange.{SeqRange}
@@ -9,9 +8,10 @@ use Rattle.imap_syntax.specs.declared.set.MessageSet.{MessageSet}
 use Rattle.imap_syntax.specs.declared.set.MessageSet.TheVariants as messages
 use Rattle.imap_syntax.specs.declared.flag.Flag.{Flag}
 use Rattle.imap_syntax.specs.declared.flag.Flag.TheVariants as flag
-use Rattle.imap_syntax.specs.declared.flag.SystemFlag.TheVariants as system
-use Rattle.imap_syntax.specs.declared.flag.TheConstants.{SYSTEM_FLAGS}
-use Rattle.imap_syntax.specs.Lexical.{is_astring_char, is_atom_char, is_quoted_special, has_nul}
+use Rattle.imap_syntax.specs.declared.system_flag.SystemFlag.TheVariants as system
+use Rattle.imap_syntax.specs.Lexical.{is_astring_char, is_quoted_special, has_nul}
+pub use Rattle.imap_syntax.specs.Atoms.{atom}
+pub use Rattle.imap_syntax.specs.SystemFlags.{is_other, other_fits}
 use Rattle.imap_syntax.specs.Flags.{flag_name}
 use Rattle.imap_syntax.specs.Writing as writing
 use Rattle.imap_syntax.specs.Writing.{Writing, some_of, separated}
@@ -46,7 +46,8 @@ max_quoted_octets = 255
 abbrev pub max_announced_octets : ℕ
 max_announced_octets = 18446744073709551615
 
--- The octets are written in quotes: they are quotable and few, or too many for a literal, as no octets in memory are.
+-- The octets are written in quotes: they are quotable and few, or too many for a literal, as no octets in
+-- memory are.
 abbrev pub is_written_quoted : List ℕ → Bool
 is_written_quoted octets =
     (not (nat_lt max_quoted_octets (length octets)) || nat_lt max_announced_octets (length octets))
@@ -55,7 +56,8 @@ is_written_quoted octets =
 -- `string`: a short quotable text in quotes, all else as a literal
 abbrev pub string : Writing (List ℕ)
 string = record {
-  fits = λ octets. is_quotable octets || (not (has_nul octets) && nat_lt (length octets) 18446744073709551616);
+  fits = λ octets.
+      is_quotable octets || (not (has_nul octets) && nat_lt (length octets) 18446744073709551616);
   text = λ octets. if is_written_quoted octets then quoted_text octets else literal_text octets;
 }
 
@@ -70,13 +72,16 @@ bare_or_string test = record {
 abbrev pub astring : Writing (List ℕ)
 astring = bare_or_string is_astring_char
 
--- `atom`
-abbrev pub atom : Writing (List ℕ)
-atom = some_of is_atom_char
+-- `nz-number64`
+abbrev pub nz_number64 : Writing ℕ
+nz_number64 = writing.number 1 9223372036854775807
+
+abbrev pub IsNzNumber64 : ℕ → Type 0
+IsNzNumber64 n = nz_number64.fits n ≡ true
 
 -- `mod-sequence-value` (RFC 7162, section 7)
 abbrev pub mod_sequence : Writing ℕ
-mod_sequence = writing.number 1 9223372036854775807
+mod_sequence = nz_number64
 
 -- `mod-sequence-valzer`, and `number64`
 abbrev pub number64 : Writing ℕ
@@ -124,12 +129,8 @@ message_set = record { fits = set_fits; text = set_text }
 
 -- ---- flags
 
--- none of the words that have a meaning of their own
-abbrev pub is_other : List ℕ → Bool
-is_other word = is_none (find (λ known. str_eq_ignore_ascii_case word (flag_name known)) SYSTEM_FLAGS)
-
 abbrev pub flag_fits : Flag → Bool
-flag_fits (flag.Other word) = atom.fits word && is_other word
+flag_fits (flag.Other word) = other_fits word
 flag_fits (flag.Keyword word) = atom.fits word
 flag_fits _ = true
 

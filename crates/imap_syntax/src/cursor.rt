@@ -8,6 +8,7 @@ ghost use Rattle.imap_syntax.specs.Reading.{ReadsIfMemory, Reads};
 
 use crate::error::ReadError;
 use crate::items::Items;
+use crate::one_or_more::OneOrMore;
 use imap_lex::{OctetClass, Octets, leading};
 use std::alloc::{AllocError, Global};
 use std::marker::{Model, PhantomData};
@@ -173,7 +174,7 @@ impl<'a> Cursor<'a> {
         &mut self,
         alloc: Global,
         separator: u8,
-    ) -> Result<Items<I::Read>, ReadError>
+    ) -> Result<OneOrMore<I::Read>, ReadError>
         ensures { ReadsIfMemory (λ items. items) result self.new (items_read separator I.item_read self.old) }
     {
         let mut items = Vec::new(alloc);
@@ -182,7 +183,7 @@ impl<'a> Cursor<'a> {
             let item = I::item(self, alloc)?;
             items.push(item)?;
             if !self.has(separator) {
-                return Ok(Items::from_vec(items));
+                return Ok(OneOrMore::of(items));
             }
             if left == 0 {
                 return Err(ReadError::Syntax);
@@ -193,12 +194,13 @@ impl<'a> Cursor<'a> {
 
     /// Reads one item or more in parentheses, with spaces between them.
     pub fn listed<I: Item>(&mut self, alloc: Global) -> Result<Items<I::Read>, ReadError>
-        ensures { ReadsIfMemory (λ items. items) result self.new ((listed (reading I.item_read)).read self.old) }
+        ensures { let list = listed (reading I.item_read) in
+            ReadsIfMemory (λ items. items) result self.new (list.read self.old) }
     {
         self.octet(b'(')?;
         let all = self.separated::<I>(alloc, b' ')?;
         self.octet(b')')?;
-        Ok(all)
+        Ok(all.into_items())
     }
 
     /// Reads items in parentheses with spaces between them, or `()`.
@@ -212,14 +214,15 @@ impl<'a> Cursor<'a> {
 
     /// As `listed_or_none`, after the first parenthesis.
     pub fn listed_end<I: Item>(&mut self, alloc: Global) -> Result<Items<I::Read>, ReadError>
-        ensures { ReadsIfMemory (λ items. items) result self.new ((listed_end (reading I.item_read)).read self.old) }
+        ensures { let end = listed_end (reading I.item_read) in
+            ReadsIfMemory (λ items. items) result self.new (end.read self.old) }
     {
         if self.has(b')') {
             return Ok(Items::from_vec(Vec::new(alloc)));
         }
         let items = self.separated::<I>(alloc, b' ')?;
         self.octet(b')')?;
-        Ok(items)
+        Ok(items.into_items())
     }
 }
 

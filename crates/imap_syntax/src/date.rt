@@ -52,18 +52,21 @@ impl Date {
         Some(Date { year, month, day })
     }
 
+    /// Returns the year, at most 9999.
     pub fn year(self) -> u16
         ensures { result ≡ self.year }
     {
         self.year
     }
 
+    /// Returns the month.
     pub fn month(self) -> Month
         ensures { result ≡ self.month }
     {
         self.month
     }
 
+    /// Returns the day of the month, from 1.
     pub fn day(self) -> u8
         ensures { result ≡ self.day }
     {
@@ -117,13 +120,15 @@ impl Model for Zone {
 
     ghost view = { λ z. record { west = z.west; hours = z.hours; minutes = z.minutes } };
 
-    ghost invariant = { λ z. zone_fits (record { west = z.west; hours = z.hours; minutes = z.minutes }) ≡ true };
+    ghost invariant = { λ z.
+        zone_fits (record { west = z.west; hours = z.hours; minutes = z.minutes }) ≡ true };
 
     ghost inverse = { λ z. record { west = z.west; hours = z.hours; minutes = z.minutes } };
 }
 
 impl Zone {
-    /// Returns the zone, with the sign `-` if `west`, or `None` if there are over 23 `hours` or over 59 `minutes`.
+    /// Returns the zone, with the sign `-` if `west`, or `None` if there are over 23 `hours` or over 59
+    /// `minutes`.
     pub fn new(west: bool, hours: u8, minutes: u8) -> Option<Zone>
         ensures { result ≡ offset_of west hours minutes }
     {
@@ -145,12 +150,14 @@ impl Zone {
         self.west
     }
 
+    /// Returns the hours from UTC, at most 23.
     pub fn hours(self) -> u8
         ensures { result ≡ self.hours }
     {
         self.hours
     }
 
+    /// Returns the minutes beside the hours, at most 59.
     pub fn minutes(self) -> u8
         ensures { result ≡ self.minutes }
     {
@@ -175,7 +182,13 @@ impl Model for DateTime {
 
     ghost Value = { Moment };
 
-    ghost view = { λ t. record { date = t.date; hour = t.hour; minute = t.minute; second = t.second; zone = t.zone } };
+    ghost view = { λ t. record {
+      date = t.date;
+      hour = t.hour;
+      minute = t.minute;
+      second = t.second;
+      zone = t.zone;
+    } };
 
     ghost invariant = { λ t. clock_fits t.hour t.minute t.second ≡ true };
 
@@ -206,30 +219,35 @@ impl DateTime {
         }
     }
 
+    /// Returns the day in the zone.
     pub fn date(self) -> Date
         ensures { result ≡ self.date }
     {
         self.date
     }
 
+    /// Returns the hour of the day, at most 23.
     pub fn hour(self) -> u8
         ensures { result ≡ self.hour }
     {
         self.hour
     }
 
+    /// Returns the minute of the hour, at most 59.
     pub fn minute(self) -> u8
         ensures { result ≡ self.minute }
     {
         self.minute
     }
 
+    /// Returns the second of the minute, at most 59.
     pub fn second(self) -> u8
         ensures { result ≡ self.second }
     {
         self.second
     }
 
+    /// Returns the zone.
     pub fn zone(self) -> Zone
         ensures { result ≡ self.zone }
     {
@@ -256,15 +274,16 @@ impl DateTime {
         push_date_time_text(out, &self)
     }
 
-    /// Returns the number of the day that is written, whatever the zone: 0 for 1-Jan-1970, and less before it.
+    /// Returns the number of the day that is written, whatever the zone: 0 for 1-Jan-1970, and less before
+    /// it.
     pub fn day(self) -> i64
         ensures { result ≡ day_number self.date }
     {
         self.date.day_number()
     }
 
-    /// Returns the moment `seconds` after the beginning of 1-Jan-1970 in UTC, written at `+0000`, or `None` if it is
-    /// after the year 9999.
+    /// Returns the moment `seconds` after the beginning of 1-Jan-1970 in UTC, written at `+0000`, or `None`
+    /// if it is after the year 9999.
     pub fn of_moment(seconds: u64) -> Option<DateTime>
         ensures { MatchOption result (max_moment < seconds) (IsMomentAt seconds) }
     {

@@ -2,13 +2,15 @@
 
 ghost use Rattle.std.specs.Prelude.{◌≡◌, IfOk};
 ghost use Rattle.imap_syntax.specs.Reading.{ReadsIfMemory};
+ghost use Rattle.imap_syntax.specs.Atoms.{IsAtom};
 ghost use Rattle.imap_syntax.specs.Flags.{system_flag, flag_of, message_flag};
 
-use crate::cursor::{Cursor, Item, Keyword, word_of};
+use crate::atom::Atom;
+use crate::cursor::{Cursor, Item, word_of};
 use crate::error::ReadError;
 use crate::items::Items;
-use crate::lexical::AtomChar;
-use imap_lex::Octets;
+use crate::other_flag::OtherFlag;
+use crate::system_flag::SystemFlag;
 use imap_values::{Same, TryCopy};
 use std::alloc::{AllocError, Global};
 
@@ -20,23 +22,24 @@ pub enum Flag {
     Draft,
     Flagged,
     Seen,
-    /// Another word after a backslash, without the backslash.
-    Other(Octets),
-    Keyword(Octets),
+    /// Another word after a backslash.
+    Other(OtherFlag),
+    Keyword(Atom),
 }
 
+/// Flags in the order of the command.
 pub type Flags = Items<Flag>;
 
 impl TryCopy for Flag {
-    fn try_copy(&self, _alloc: Global) -> Result<Flag, AllocError> {
+    fn try_copy(&self, alloc: Global) -> Result<Flag, AllocError> {
         match self {
             Flag::Answered => Ok(Flag::Answered),
             Flag::Deleted => Ok(Flag::Deleted),
             Flag::Draft => Ok(Flag::Draft),
             Flag::Flagged => Ok(Flag::Flagged),
             Flag::Seen => Ok(Flag::Seen),
-            Flag::Other(word) => Ok(Flag::Other(word.try_copy()?)),
-            Flag::Keyword(word) => Ok(Flag::Keyword(word.try_copy()?)),
+            Flag::Other(word) => Ok(Flag::Other(word.try_copy(alloc)?)),
+            Flag::Keyword(word) => Ok(Flag::Keyword(word.try_copy(alloc)?)),
         }
     }
 }
@@ -49,53 +52,10 @@ impl Same for Flag {
             | (Flag::Draft, Flag::Draft)
             | (Flag::Flagged, Flag::Flagged)
             | (Flag::Seen, Flag::Seen) => true,
-            (Flag::Other(word), Flag::Other(other)) | (Flag::Keyword(word), Flag::Keyword(other)) =>
-                word.is_same(other),
+            (Flag::Other(word), Flag::Other(other)) => word.is_same(other),
+            (Flag::Keyword(word), Flag::Keyword(other)) => word.is_same(other),
             _ => false,
         }
-    }
-}
-
-/// The flags of RFC 9051, section 2.3.2.
-#[derive(Clone, Copy)]
-pub(crate) enum SystemFlag {
-    Answered,
-    Deleted,
-    Draft,
-    Flagged,
-    Seen,
-}
-
-pub(crate) const SYSTEM_FLAGS: [SystemFlag; 5] = [
-    SystemFlag::Answered,
-    SystemFlag::Deleted,
-    SystemFlag::Draft,
-    SystemFlag::Flagged,
-    SystemFlag::Seen,
-];
-
-impl Keyword for SystemFlag {
-    ghost use Rattle.imap_syntax.specs.Flags.{flag_name};
-    ghost use Rattle.imap_syntax.specs.declared.flag.TheConstants.{SYSTEM_FLAGS};
-
-    type Class = AtomChar;
-
-    ghost name_of = { flag_name };
-
-    ghost table = { SYSTEM_FLAGS };
-
-    fn name(self) -> &'static [u8] {
-        match self {
-            SystemFlag::Answered => b"ANSWERED",
-            SystemFlag::Deleted => b"DELETED",
-            SystemFlag::Draft => b"DRAFT",
-            SystemFlag::Flagged => b"FLAGGED",
-            SystemFlag::Seen => b"SEEN",
-        }
-    }
-
-    fn all() -> &'static [SystemFlag] {
-        &SYSTEM_FLAGS
     }
 }
 
@@ -114,14 +74,15 @@ impl SystemFlag {
 }
 
 fn flag_of(alloc: Global, backslash: bool, word: &[u8]) -> Result<Flag, AllocError>
+    requires { IsAtom word.now }
     ensures { IfOk result (λ flag. flag ≡ flag_of backslash word.now) }
 {
     if !backslash {
-        return Ok(Flag::Keyword(Octets::from_slice(alloc, word)?));
+        return Ok(Flag::Keyword(Atom::of(alloc, word)?));
     }
     match word_of::<SystemFlag>(word) {
         Some(known) => Ok(known.flag()),
-        None => Ok(Flag::Other(Octets::from_slice(alloc, word)?)),
+        None => Ok(Flag::Other(OtherFlag::of(alloc, word)?)),
     }
 }
 
@@ -142,7 +103,7 @@ impl Cursor<'_> {
         ensures { ReadsIfMemory (λ f. f) result self.new (message_flag.read self.old) }
     {
         let backslash = self.has(b'\\');
-        let word = self.atom()?;
+        let word = self.atom_octets()?;
         Ok(flag_of(alloc, backslash, word)?)
     }
 }

@@ -19,18 +19,21 @@ impl<T> Model for Items<T> {
 }
 
 impl<T> Items<T> {
+    /// Returns these values, without copying them.
     pub fn from_vec(items: Vec<T>) -> Items<T>
         ensures { result ≡ items.items }
     {
         Items(items)
     }
 
+    /// Returns the values.
     pub fn as_slice(&self) -> &[T]
         ensures { result.now ≡ self.now }
     {
         self.0.as_slice()
     }
 
+    /// Returns the list of the values.
     pub fn into_vec(self) -> Vec<T>
         ensures { result.items ≡ self }
     {

@@ -9,6 +9,7 @@ ghost use Rattle.imap_syntax.specs.Lexical.{is_astring_char, is_atom_char, is_wo
 
 use crate::cursor::Cursor;
 use crate::error::ReadError;
+use crate::nz_number::NzNumber64;
 use imap_lex::{AstringChar, OctetClass, Octets, TagChar, is_astring_char, leading};
 use std::alloc::Global;
 
@@ -116,13 +117,6 @@ impl<'a> Cursor<'a> {
         self.front(leading::<AstringChar>(self.rest()))
     }
 
-    /// Reads `atom`.
-    pub fn atom(&mut self) -> Result<&'a [u8], ReadError>
-        ensures { Reads (λ s. s.now) result self.new ((some_of is_atom_char).read self.old) }
-    {
-        self.front(leading::<AtomChar>(self.rest()))
-    }
-
     /// Reads `tag`.
     pub fn tag(&mut self) -> Result<&'a [u8], ReadError>
         ensures { Reads (λ s. s.now) result self.new ((some_of is_tag_char).read self.old) }
@@ -189,6 +183,14 @@ impl<'a> Cursor<'a> {
             Some(number) if number <= high => Ok(number),
             _ => Err(ReadError::Syntax),
         }
+    }
+
+    /// Reads `nz-number64`.
+    #[tactic(auto, using(crate::proofs::NzNumbers::number_in_range))]
+    pub fn nz_number64(&mut self) -> Result<NzNumber64, ReadError>
+        ensures { Reads (λ n. n) result self.new ((nz_number 9223372036854775807).read self.old) }
+    {
+        Ok(NzNumber64::of(self.nz_number(i64::MAX as u64)?))
     }
 
     /// Reads the part of a literal before its octets. Returns their number.

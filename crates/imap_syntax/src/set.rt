@@ -6,14 +6,15 @@ ghost use Rattle.imap_syntax.specs.Sets.{seq_number, seq_range, seq_set, message
 
 use crate::cursor::{Cursor, Item};
 use crate::error::ReadError;
-use crate::items::Items;
+use crate::nz_number::NzNumber;
+use crate::one_or_more::OneOrMore;
 use imap_values::{Same, TryCopy};
 use std::alloc::{AllocError, Global};
 
-/// The number or UID of a message, from 1, or `*` for the greatest in the mailbox.
+/// The number or UID of a message, or `*` for the greatest in the mailbox.
 #[derive(Clone, Copy, Debug, PartialEq, Eq)]
 pub enum SeqNumber {
-    Number(u32),
+    Number(NzNumber),
     Last,
 }
 
@@ -25,7 +26,7 @@ pub struct SeqRange {
 }
 
 /// One range or more.
-pub type SeqSet = Items<SeqRange>;
+pub type SeqSet = OneOrMore<SeqRange>;
 
 /// The messages of a command.
 #[derive(Debug, Drop)]
@@ -92,6 +93,7 @@ impl Item for SeqRange {
 }
 
 impl Cursor<'_> {
+    #[tactic(auto, using(crate::proofs::NzNumbers::number_from_one))]
     fn seq_number(&mut self) -> Result<SeqNumber, ReadError>
         ensures { Reads (λ n. n) result self.new (seq_number.read self.old) }
     {
@@ -99,7 +101,7 @@ impl Cursor<'_> {
             return Ok(SeqNumber::Last);
         }
         let number = self.nz_number(u64::from(u32::MAX))?;
-        Ok(SeqNumber::Number(number as u32))
+        Ok(SeqNumber::Number(NzNumber::of(number as u32)))
     }
 
     fn seq_range(&mut self) -> Result<SeqRange, ReadError>
@@ -107,7 +109,8 @@ impl Cursor<'_> {
     {
         let first = self.seq_number()?;
         if !self.has(b':') {
-            return Ok(SeqRange { first, last: first });
+            let last = first;
+            return Ok(SeqRange { first, last });
         }
         let last = self.seq_number()?;
         Ok(SeqRange { first, last })

@@ -92,7 +92,8 @@ pub fn push_separated<S: Spelling>(
 
 /// Appends the values in parentheses, with spaces between them.
 pub fn push_listed<S: Spelling>(out: &mut Vec<u8>, values: &[S::Value]) -> Result<(), AllocError>
-    ensures { OnOk result (out.new.items ≡ out.old.items ++ in_parentheses (joined 32 S.writing.text values.now)) }
+    ensures { OnOk result (out.new.items
+        ≡ out.old.items ++ in_parentheses (joined 32 S.writing.text values.now)) }
 {
     out.push(b'(')?;
     push_separated::<S>(out, b' ', values)?;

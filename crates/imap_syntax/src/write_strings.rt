@@ -4,9 +4,9 @@ ghost use Rattle.std.specs.Prelude.{◌≡◌, ◌++◌, ◌∷◌, OnOk, flat_m
 ghost use Rattle.std.specs.List.{list_all, list_any};
 ghost use Rattle.imap_syntax.specs.Lexical.{is_astring_char};
 ghost use Rattle.imap_syntax.specs.Writing.{some_of};
-ghost use Rattle.imap_syntax.specs.Written.{is_unquotable, is_quotable, is_written_quoted, escaped, quoted_text, literal_text, string, bare_or_string, astring, atom};
+ghost use Rattle.imap_syntax.specs.Written.{is_unquotable, is_quotable, is_written_quoted, escaped, quoted_text, literal_text, string, bare_or_string, astring};
 
-use crate::lexical::{AtomChar, is_quoted_special};
+use crate::lexical::is_quoted_special;
 use crate::spelling::{Spelling, push_number};
 use imap_lex::{AstringChar, OctetClass, Octets};
 use std::alloc::AllocError;
@@ -107,13 +107,6 @@ pub fn is_atom_string(octets: &[u8]) -> bool
     is_bare::<AstringChar>(octets)
 }
 
-/// Whether the octets are an atom.
-pub fn atom_fits(octets: &[u8]) -> bool
-    ensures { result ≡ atom.fits octets.now }
-{
-    is_bare::<AtomChar>(octets)
-}
-
 /// Appends octets that are all of the class `C` as they are, and all else as a string.
 pub fn push_bare_or_string<C: OctetClass>(
     out: &mut Vec<u8>,
@@ -172,25 +165,5 @@ impl Spelling for AstringText {
 
     fn push(out: &mut Vec<u8>, octets: &Octets) -> Result<(), AllocError> {
         push_astring(out, octets)
-    }
-}
-
-/// An atom, as it is.
-#[derive(Drop)]
-pub struct Atom;
-
-impl Spelling for Atom {
-    ghost use Rattle.imap_syntax.specs.Written.{atom};
-
-    type Value = Octets;
-
-    ghost writing = { atom };
-
-    fn fits(word: &Octets) -> bool {
-        atom_fits(word.as_slice())
-    }
-
-    fn push(out: &mut Vec<u8>, word: &Octets) -> Result<(), AllocError> {
-        out.extend_from_slice(word.as_slice())
     }
 }

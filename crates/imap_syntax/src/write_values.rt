@@ -1,13 +1,15 @@
 //! Numbers, sets and flags, written.
 
 ghost use Rattle.std.specs.Prelude.{◌≡◌, ◌++◌, ◌∷◌, OnOk};
-ghost use Rattle.imap_syntax.specs.Written.{number64, mod_sequence, number_fits, number_text, is_same, seq_range, message_set, is_other, message_flag};
+ghost use Rattle.imap_syntax.specs.Written.{number64, mod_sequence, number_fits, number_text, is_same, seq_range, message_set, message_flag};
 
-use crate::cursor::{Keyword, word_of};
-use crate::flag::{Flag, SystemFlag};
+use crate::atom::Atom;
+use crate::cursor::Keyword;
+use crate::flag::Flag;
+use crate::nz_number::NzNumber;
 use crate::set::{MessageSet, SeqNumber, SeqRange};
 use crate::spelling::{Spelling, push_number, push_separated, some_fit};
-use crate::write_strings::atom_fits;
+use crate::system_flag::SystemFlag;
 use std::alloc::AllocError;
 
 /// The greatest mod-sequence (RFC 7162, section 7).
@@ -31,7 +33,10 @@ impl SeqNumber {
     fn fits(self) -> bool
         ensures { result ≡ number_fits self }
     {
-        !matches!(self, SeqNumber::Number(0))
+        match self {
+            SeqNumber::Last => true,
+            SeqNumber::Number(number) => number.get() != 0,
+        }
     }
 
     fn is_same(self, other: SeqNumber) -> bool
@@ -43,12 +48,12 @@ impl SeqNumber {
         }
     }
 
-    fn is_number(self, number: u32) -> bool
+    fn is_number(self, number: NzNumber) -> bool
         ensures { result ≡ is_same (SeqNumber.Number number) self }
     {
         match self {
             SeqNumber::Last => false,
-            SeqNumber::Number(own) => number == own,
+            SeqNumber::Number(own) => number.get() == own.get(),
         }
     }
 
@@ -56,7 +61,7 @@ impl SeqNumber {
         ensures { OnOk result (out.new.items ≡ out.old.items ++ number_text self) }
     {
         match self {
-            SeqNumber::Number(number) => push_number(out, u64::from(number)),
+            SeqNumber::Number(number) => push_number(out, u64::from(number.get())),
             SeqNumber::Last => out.extend_from_slice(b"*"),
         }
     }
@@ -103,13 +108,6 @@ pub fn push_set(out: &mut Vec<u8>, set: &MessageSet) -> Result<(), AllocError>
     }
 }
 
-/// Whether the word, after a backslash, is no flag with a meaning of its own.
-fn is_other(word: &[u8]) -> bool
-    ensures { result ≡ is_other word.now }
-{
-    word_of::<SystemFlag>(word).is_none()
-}
-
 impl Spelling for Flag {
     ghost use Rattle.imap_syntax.specs.Written.{message_flag};
 
@@ -119,8 +117,11 @@ impl Spelling for Flag {
 
     fn fits(flag: &Flag) -> bool {
         match flag {
-            Flag::Other(word) => atom_fits(word.as_slice()) && is_other(word.as_slice()),
-            Flag::Keyword(word) => atom_fits(word.as_slice()),
+            Flag::Other(word) => {
+                let _ = word.as_slice();
+                true
+            }
+            Flag::Keyword(word) => Atom::fits(word),
             _ => true,
         }
     }

@@ -1,4 +1,5 @@
--- The text that SEARCH looks for (RFC 9051, section 6.4.4; The Unicode Standard, sections 3.9, 3.11 and 3.13).
+-- The text that SEARCH looks for (RFC 9051, section 6.4.4; The Unicode Standard, sections 3.9, 3.11 and
+-- 3.13).
 use Rattle.std.specs.Prelude.{◌≡◌, ℕ, List, ◌++◌, chars, encode_utf8_all}
 use Rattle.std.specs.Str.Lossy.{utf8_lossy}
 use Rattle.unicode_normalization.specs.Forms.{nfc}

@@ -27,7 +27,8 @@ pub record IsFirstField (octets line field after : List ℕ) : Type 0 where
   pub some : 0 < length field
   pub continuations : List (List ℕ)
   pub lines : field ≡ line ++ concat continuations
-  pub fields : header_fields octets ≡ record { first = line; continuations = continuations } ∷ header_fields after
+  pub fields :
+      header_fields octets ≡ record { first = line; continuations = continuations } ∷ header_fields after
   pub end : (sections octets).end ≡ (sections after).end
 
 -- the text of a field with this first line and these octets, which has the name

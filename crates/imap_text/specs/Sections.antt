@@ -45,7 +45,8 @@ HeaderAndText = (message : List ℕ) → header message ++ text message ≡ mess
 abbrev pub EndsWithEmptyLine : List ℕ → Type 0
 EndsWithEmptyLine octets = (octets ≡ crlf) ⊎ ((front : List ℕ) × (octets ≡ front ++ (crlf ++ crlf)))
 
--- The header is the shortest beginning of the message that ends with an empty line, or the message if none does.
+-- The header is the shortest beginning of the message that ends with an empty line, or the message if none
+-- does.
 pub record IsShortest (message header : List ℕ) : Type 0 where
   pub ends : EndsWithEmptyLine header ⊎ (header ≡ message)
   pub shortest : (front back : List ℕ) → message ≡ front ++ back → EndsWithEmptyLine front →

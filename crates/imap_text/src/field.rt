@@ -6,7 +6,7 @@ ghost use Rattle.imap_text.specs.Fields.{is_continuation, is_colon, is_among, is
 ghost use Rattle.imap_text.specs.Found.{IsAfterContinuations, IsFirstField};
 
 use crate::line::{is_empty_line, split_line};
-use imap_lex::Octets;
+use imap_syntax::FieldName;
 
 /// A field of a header.
 #[derive(Clone, Copy)]
@@ -65,7 +65,7 @@ pub(crate) fn colon_of(line: &[u8]) -> Option<usize>
     line.iter().position(|octet| *octet == b':')
 }
 
-fn is_among(names: &[Octets], name: &[u8]) -> bool
+fn is_among(names: &[FieldName], name: &[u8]) -> bool
     ensures { result ≡ is_among names.now name.now }
 {
     names
@@ -74,7 +74,7 @@ fn is_among(names: &[Octets], name: &[u8]) -> bool
 }
 
 /// Whether the field that begins with `line` has one of the names, in any ASCII case.
-pub(crate) fn is_named(names: &[Octets], line: &[u8]) -> bool
+pub(crate) fn is_named(names: &[FieldName], line: &[u8]) -> bool
     ensures { result ≡ is_named names.now line.now }
 {
     match colon_of(line) {

@@ -22,8 +22,8 @@ impl Model for Folded {
 }
 
 impl Folded {
-    /// Reads `octets` as UTF-8, with U+FFFD for each maximal part that is none, brings them to NFC and folds them by
-    /// default case folding.
+    /// Reads `octets` as UTF-8, with U+FFFD for each maximal part that is none, brings them to NFC and folds
+    /// them by default case folding.
     pub fn new(alloc: Global, octets: &[u8]) -> Result<Folded, AllocError>
         ensures { IfOk result (λ folded. folded ≡ fold octets.now) }
     {
@@ -40,7 +40,8 @@ impl Folded {
     }
 }
 
-/// Whether the fold of `wanted` stands in the fold of `octets`. To look for several texts in one message, fold it once.
+/// Whether the fold of `wanted` stands in the fold of `octets`. To look for several texts in one message,
+/// fold it once.
 pub fn contains_fold(alloc: Global, octets: &[u8], wanted: &[u8]) -> Result<bool, AllocError>
     ensures { IfOk result (λ found. IsTrue found ↔ IsWithin (fold wanted.now) (fold octets.now)) }
 {

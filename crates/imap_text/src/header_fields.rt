@@ -8,7 +8,7 @@ ghost use Rattle.imap_text.specs.Found.{IsTextNamed};
 use crate::field::{Field, colon_of, is_named, split_field};
 use crate::section::header_length;
 use imap_lex::Octets;
-use imap_syntax::Items;
+use imap_syntax::{FieldName, Items};
 use std::alloc::{AllocError, Global};
 
 /// Appends to `parts` the octets of `message` from `start` up to `end`, if there are any.
@@ -20,7 +20,8 @@ fn push_part(
 ) -> Result<(), AllocError>
     requires order { start ≤ end }
     requires within { end ≤ length message.now }
-    ensures { OnOk result (concat parts.new.items ≡ concat parts.old.items ++ slice_range message.now start end) }
+    ensures { OnOk result (concat parts.new.items
+        ≡ concat parts.old.items ++ slice_range message.now start end) }
 {
     if start < end {
         parts.push(message.slice(start, end)?)?;
@@ -28,16 +29,16 @@ fn push_part(
     Ok(())
 }
 
-/// Returns the fields of the header that have one of `names`, or if `not` those that have none of them, and the empty
-/// line after the header, if there is one. Names are compared without ASCII case. A field's name is what stands before
-/// the first colon of its first line; a field without a colon has no name.
+/// Returns the fields of the header that have one of `names`, or if `not` those that have none of them, and
+/// the empty line after the header, if there is one. Names are compared without ASCII case. A field's name is
+/// what stands before the first colon of its first line; a field without a colon has no name.
 ///
-/// The parts share the octets of the message, one part for each run of adjacent fields: a response can keep them as
-/// long as it lives, and a printer writes one after the other.
+/// The parts share the octets of the message, one part for each run of adjacent fields: a response can keep
+/// them as long as it lives, and a printer writes one after the other.
 pub fn fields(
     alloc: Global,
     message: &Octets,
-    names: &[Octets],
+    names: &[FieldName],
     not: bool,
 ) -> Result<Items<Octets>, AllocError>
     ensures { IfOk result (λ parts. concat parts ≡ fields names.now not message.now) }
@@ -74,8 +75,8 @@ fn text_named<'a>(field: Field<'a>, name: &[u8]) -> Option<&'a [u8]>
     }
 }
 
-/// Returns the texts of the header's fields with this name, compared without ASCII case: what follows the colon, from
-/// its first space to its last CRLF, with the lines that continue the field.
+/// Returns the texts of the header's fields with this name, compared without ASCII case: what follows the
+/// colon, from its first space to its last CRLF, with the lines that continue the field.
 pub fn field_texts<'a>(
     alloc: Global,
     message: &'a [u8],

@@ -14,8 +14,8 @@ pub fn header_and_text()
     ensures { HeaderAndText }
 {}
 
-/// A header ends with the first CRLF at the start of the message or right after a CRLF. Without one it is the whole
-/// message.
+/// A header ends with the first CRLF at the start of the message or right after a CRLF. Without one it is the
+/// whole message.
 pub fn headers_are_shortest()
     ensures { HeadersAreShortest }
 {}

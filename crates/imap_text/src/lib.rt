@@ -1,5 +1,5 @@
-//! What a message is as octets: its header and its text, the fields of the header, the text that SEARCH looks for, and
-//! the internal date.
+//! What a message is as octets: its header and its text, the fields of the header, the text that SEARCH looks
+//! for, and the internal date.
 //!
 //! Lines end with CRLF alone. Sections share the octets of the message.
 #![tactic(auto)]

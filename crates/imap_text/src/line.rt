@@ -8,8 +8,8 @@ use imap_lex::line_length;
 
 const CRLF: &[u8] = b"\r\n";
 
-/// Splits the first line of `octets`, its CRLF with it, from what follows. Octets without a CRLF are one line. Returns
-/// `None` if there are no octets.
+/// Splits the first line of `octets`, its CRLF with it, from what follows. Octets without a CRLF are one
+/// line. Returns `None` if there are no octets.
 pub(crate) fn split_line(octets: &[u8]) -> Option<(&[u8], &[u8])>
     ensures { MatchOption result (octets.now ≡ []) (λ split. IsFirstLine octets.now split.0.now split.1.now) }
 {

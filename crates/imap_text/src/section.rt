@@ -7,8 +7,8 @@ use crate::line::{is_empty_line, split_line};
 use imap_lex::Octets;
 use std::alloc::AllocError;
 
-/// Returns the number of octets of the header: those up to the first empty line, with it. Without an empty line the
-/// header is the whole message.
+/// Returns the number of octets of the header: those up to the first empty line, with it. Without an empty
+/// line the header is the whole message.
 pub fn header_length(octets: &[u8]) -> usize
     ensures length { result ≡ length (header octets.now) }
     ensures within { result ≤ length octets.now }
@@ -38,7 +38,8 @@ pub fn text(message: &Octets) -> Result<Octets, AllocError>
     message.slice(header_length(octets), octets.len())
 }
 
-/// Returns at most `count` octets from `origin`, without copying them. There are none if `origin` is past the end.
+/// Returns at most `count` octets from `origin`, without copying them. There are none if `origin` is past the
+/// end.
 pub fn partial(octets: &Octets, origin: u64, count: u64) -> Result<Octets, AllocError>
     ensures { IfOk result (λ part. part ≡ partial octets.now origin count) }
 {

@@ -61,7 +61,7 @@ pub fn same_three<A: Same, B: Same, C: Same>(
     ensures all { first.now ≡ other_first.now → second.now ≡ other_second.now → third.now ≡ other_third.now
         → IsTrue result }
 {
-    first.is_same(other_first) && second.is_same(other_second) && third.is_same(other_third)
+    same_two(first, other_first, second, other_second) && third.is_same(other_third)
 }
 
 /// As [`same_two`], of four values.

@@ -71,7 +71,8 @@ date_text (Some date) = dates.date_time.text date ++ 32 ∷ []
 
 -- `literal8` where a NUL stands in the message, else `literal` (RFC 9051, section 4.3.1)
 abbrev pub message_text : List ℕ → List ℕ
-message_text octets = if has_nul octets then 126 ∷ written.literal_text octets else written.literal_text octets
+message_text octets =
+    if has_nul octets then 126 ∷ written.literal_text octets else written.literal_text octets
 
 -- flags in parentheses and a space, or nothing
 abbrev pub flags_text : List Flag → List ℕ
@@ -81,7 +82,8 @@ flags_text (flag ∷ flags) = (writing.listed_or_none written.message_flag).text
 abbrev pub append_fits : List ℕ → List Flag → Option Moment → List ℕ → Bool
 append_fits mailbox flags date message =
     written.string.fits mailbox
-    && (list_all written.message_flag.fits flags && (date_fits date && nat_lt (length message) 18446744073709551616))
+    && (list_all written.message_flag.fits flags
+    && (date_fits date && nat_lt (length message) 18446744073709551616))
 
 abbrev pub append_text : List ℕ → List Flag → Option Moment → List ℕ → List ℕ
 append_text mailbox flags date message =

@@ -174,7 +174,8 @@ returns_text (Some all) = codes " RETURN " ++ (writing.listed_or_none list_retur
 
 abbrev pub list_fits : Option (List Selection) → List ℕ → Patterns → Option (List ListReturn) → Bool
 list_fits selection reference patterns returns =
-    selection_fits selection && (written.string.fits reference && (patterns_fit patterns && returns_fit returns))
+    selection_fits selection
+    && (written.string.fits reference && (patterns_fit patterns && returns_fit returns))
 
 abbrev pub list_text : Option (List Selection) → List ℕ → Patterns → Option (List ListReturn) → List ℕ
 list_text selection reference patterns returns =

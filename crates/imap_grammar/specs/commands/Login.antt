@@ -41,7 +41,8 @@ pub record IsLines (text : List ℕ) : Type 0 where
 abbrev pub line_rest : Rule (List ℕ)
 line_rest = record {
   spells = λ a text. (text ≡ a) × ConsistsOf is_line_char text;
-  read = λ input. Some (take (prefix_len is_line_char input) input, drop (prefix_len is_line_char input) input);
+  read = λ input.
+      Some (take (prefix_len is_line_char input) input, drop (prefix_len is_line_char input) input);
 }
 
 -- CRLF and n octets without NUL

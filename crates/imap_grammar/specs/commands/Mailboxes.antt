@@ -24,10 +24,12 @@ status = do
 -- ---- as they are written
 
 abbrev pub status_fits : (mailbox : List ℕ) → List StatusItem → Bool
-status_fits mailbox items = written.string.fits mailbox && (writing.listed (writing.word status_name)).fits items
+status_fits mailbox items =
+    written.string.fits mailbox && (writing.listed (writing.word status_name)).fits items
 
 abbrev pub status_text : List ℕ → List StatusItem → List ℕ
-status_text mailbox items = argument_text mailbox ++ 32 ∷ (writing.listed (writing.word status_name)).text items
+status_text mailbox items =
+    argument_text mailbox ++ 32 ∷ (writing.listed (writing.word status_name)).text items
 
 -- whether the arguments of a command on mailboxes, or of one on messages, can be written
 abbrev pub mailbox_fits : Command → Bool
@@ -39,9 +41,11 @@ mailbox_fits (command.Unsubscribe mailbox) = written.string.fits mailbox
 mailbox_fits (command.Status mailbox items) = status_fits mailbox items
 mailbox_fits (command.SetAcl mailbox identifier rights) =
     written.string.fits mailbox && (written.string.fits identifier && written.string.fits rights)
-mailbox_fits (command.DeleteAcl mailbox identifier) = written.string.fits mailbox && written.string.fits identifier
+mailbox_fits (command.DeleteAcl mailbox identifier) =
+    written.string.fits mailbox && written.string.fits identifier
 mailbox_fits (command.GetAcl mailbox) = written.string.fits mailbox
-mailbox_fits (command.ListRights mailbox identifier) = written.string.fits mailbox && written.string.fits identifier
+mailbox_fits (command.ListRights mailbox identifier) =
+    written.string.fits mailbox && written.string.fits identifier
 mailbox_fits (command.MyRights mailbox) = written.string.fits mailbox
 mailbox_fits c = messages_fit c
 

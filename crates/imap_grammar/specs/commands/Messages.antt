@@ -94,7 +94,8 @@ fetch_text messages items changed_since vanished =
     ++ (32 ∷ (written_fetch.fetch_items.text items ++ modifiers_text changed_since vanished)))
 
 abbrev pub search_text : List SearchReturn → Option (List ℕ) → List Token → List ℕ
-search_text returns charset tokens = 32 ∷ (returns_text returns ++ (charset_text charset ++ search_keys.text tokens))
+search_text returns charset tokens =
+    32 ∷ (returns_text returns ++ (charset_text charset ++ search_keys.text tokens))
 
 abbrev pub copy_text : MessageSet → List ℕ → List ℕ
 copy_text messages mailbox = 32 ∷ written.message_set.text messages ++ argument_text mailbox
@@ -105,9 +106,12 @@ store_text messages spec = 32 ∷ (written.message_set.text messages ++ (32 ∷ 
 -- whether the arguments of a command on messages can be written
 abbrev pub messages_fit : Command → Bool
 messages_fit (command.UidExpunge messages) = written.message_set.fits messages
-messages_fit (command.Search numbering returns charset tokens) = charset_fits charset && search_keys.fits tokens
-messages_fit (command.Fetch numbering messages items changed_since vanished) = fetch_fits messages items changed_since
-messages_fit (command.Store numbering messages spec) = written.message_set.fits messages && store_spec_writing.fits spec
+messages_fit (command.Search numbering returns charset tokens) =
+    charset_fits charset && search_keys.fits tokens
+messages_fit (command.Fetch numbering messages items changed_since vanished) =
+    fetch_fits messages items changed_since
+messages_fit (command.Store numbering messages spec) =
+    written.message_set.fits messages && store_spec_writing.fits spec
 messages_fit (command.Copy numbering messages mailbox) =
     written.message_set.fits messages && written.string.fits mailbox
 messages_fit (command.Move numbering messages mailbox) =
@@ -120,8 +124,12 @@ messages_text (command.Fetch numbering messages items changed_since vanished) =
     uid_text numbering uid.Fetch ++ fetch_text messages items changed_since vanished
 messages_text (command.Search numbering returns charset tokens) =
     uid_text numbering uid.Search ++ search_text returns charset tokens
-messages_text (command.UidExpunge messages) = uid_text Uid uid.Expunge ++ 32 ∷ written.message_set.text messages
-messages_text (command.Store numbering messages spec) = uid_text numbering uid.Store ++ store_text messages spec
-messages_text (command.Copy numbering messages mailbox) = uid_text numbering uid.Copy ++ copy_text messages mailbox
-messages_text (command.Move numbering messages mailbox) = uid_text numbering uid.Move ++ copy_text messages mailbox
+messages_text (command.UidExpunge messages) =
+    uid_text Uid uid.Expunge ++ 32 ∷ written.message_set.text messages
+messages_text (command.Store numbering messages spec) =
+    uid_text numbering uid.Store ++ store_text messages spec
+messages_text (command.Copy numbering messages mailbox) =
+    uid_text numbering uid.Copy ++ copy_text messages mailbox
+messages_text (command.Move numbering messages mailbox) =
+    uid_text numbering uid.Move ++ copy_text messages mailbox
 messages_text _ = []

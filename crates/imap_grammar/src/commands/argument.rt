@@ -46,7 +46,8 @@ pub(crate) fn push_three(
     third: &Octets,
 ) -> Result<(), AllocError>
     ensures { OnOk result (out.new.items
-        ≡ out.old.items ++ (argument_text first.now ++ (argument_text second.now ++ argument_text third.now))) }
+        ≡ out.old.items
+        ++ (argument_text first.now ++ (argument_text second.now ++ argument_text third.now))) }
 {
     push_argument(out, first)?;
     push_two(out, second, third)

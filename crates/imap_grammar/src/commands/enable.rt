@@ -7,8 +7,7 @@ ghost use Rattle.imap_syntax.specs.Written.{atom};
 ghost use Rattle.imap_grammar.specs.commands.Enable.{enable, enable_text};
 
 use crate::command::Command;
-use imap_lex::Octets;
-use imap_syntax::{Atom, Cursor, Item, Items, ReadError, push_separated, some_fit};
+use imap_syntax::{Atom, Cursor, Item, OneOrMore, ReadError, push_separated, some_fit};
 use std::alloc::{AllocError, Global};
 
 /// A word of ENABLE.
@@ -18,12 +17,12 @@ impl Item for Capability {
     ghost use Rattle.imap_syntax.specs.Rule.{some_of};
     ghost use Rattle.imap_syntax.specs.Lexical.{is_atom_char};
 
-    type Read = Octets;
+    type Read = Atom;
 
     ghost item_read = { (some_of is_atom_char).read };
 
-    fn item(cursor: &mut Cursor<'_>, alloc: Global) -> Result<Octets, ReadError> {
-        Ok(Octets::from_slice(alloc, cursor.atom()?)?)
+    fn item(cursor: &mut Cursor<'_>, alloc: Global) -> Result<Atom, ReadError> {
+        cursor.atom(alloc)
     }
 }
 
@@ -35,13 +34,16 @@ pub(crate) fn read_enable(cursor: &mut Cursor<'_>, alloc: Global) -> Result<Comm
     Ok(Command::Enable { capabilities })
 }
 
-pub(crate) fn enable_fits(capabilities: &Items<Octets>) -> bool
+pub(crate) fn enable_fits(capabilities: &OneOrMore<Atom>) -> bool
     ensures { result ≡ (separated 32 atom).fits capabilities.now }
 {
     some_fit::<Atom>(capabilities.as_slice())
 }
 
-pub(crate) fn push_enable(out: &mut Vec<u8>, capabilities: &Items<Octets>) -> Result<(), AllocError>
+pub(crate) fn push_enable(
+    out: &mut Vec<u8>,
+    capabilities: &OneOrMore<Atom>,
+) -> Result<(), AllocError>
     ensures { OnOk result (out.new.items ≡ out.old.items ++ enable_text capabilities.now) }
 {
     out.push(b' ')?;

@@ -245,7 +245,7 @@ fn read_patterns(cursor: &mut Cursor<'_>, alloc: Global) -> Result<Patterns, Rea
     }
     let all = cursor.separated::<Pattern>(alloc, b' ')?;
     cursor.octet(b')')?;
-    Ok(Patterns::Many(all))
+    Ok(Patterns::Many(all.into_items()))
 }
 
 fn read_list_return(cursor: &mut Cursor<'_>, alloc: Global) -> Result<ListReturn, ReadError>

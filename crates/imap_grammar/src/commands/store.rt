@@ -167,7 +167,8 @@ fn read_store_flags(cursor: &mut Cursor<'_>, alloc: Global) -> Result<Flags, Rea
     if cursor.has(b'(') {
         cursor.listed_end::<Flag>(alloc)
     } else {
-        cursor.separated::<Flag>(alloc, b' ')
+        let flags = cursor.separated::<Flag>(alloc, b' ')?;
+        Ok(flags.into_items())
     }
 }
 

@@ -1,6 +1,8 @@
 //! The items of a message (RFC 9051, section 7.5.2).
 
 ghost use Rattle.std.specs.Prelude.{◌≡◌, ◌++◌, IfOk, OnOk, map, false};
+ghost use Rattle.std.specs.List.{concat};
+ghost use Rattle.imap_syntax.specs.Written.{literal_text};
 ghost use Rattle.imap_print.specs.Words.{GoesOn};
 ghost use Rattle.imap_print.specs.Fetched.{section_text, origin_text, body_text};
 ghost use Rattle.imap_print.specs.Fetched.{flags_words, date_words, mod_seq_words, fetched_words, fetched_text};
@@ -10,8 +12,10 @@ use super::strings::push_names;
 use super::words::{push_named, push_space, widened};
 use crate::fetch::{FetchedItems, FetchedSection};
 use crate::flag::FlagSet;
+use crate::literal_parts::LiteralParts;
+use imap_lex::Octets;
 use imap_query::Section;
-use imap_syntax::{DateTime, push_date_time, push_literal, push_number};
+use imap_syntax::{DateTime, push_date_time, push_number};
 use std::alloc::AllocError;
 
 fn push_section(out: &mut Vec<u8>, section: &Section) -> Result<(), AllocError>
@@ -51,7 +55,28 @@ fn push_body(out: &mut Vec<u8>, body: &FetchedSection) -> Result<(), AllocError>
     out.push(b']')?;
     push_origin(out, body.origin)?;
     out.push(b' ')?;
-    push_literal(out, body.octets.as_slice())?;
+    push_parts_literal(out, &body.octets)?;
+    Ok(())
+}
+
+/// Appends the octets of all parts as one literal.
+fn push_parts_literal(out: &mut Vec<u8>, octets: &LiteralParts) -> Result<(), AllocError>
+    ensures { OnOk result (out.new.items ≡ out.old.items ++ literal_text (concat octets.now)) }
+{
+    out.push(b'{')?;
+    push_number(out, octets.len())?;
+    out.extend_from_slice(b"}\r\n")?;
+    push_parts(out, octets.as_slice())?;
+    Ok(())
+}
+
+/// Appends the parts one after another.
+fn push_parts(out: &mut Vec<u8>, parts: &[Octets]) -> Result<(), AllocError>
+    ensures { OnOk result (out.new.items ≡ out.old.items ++ concat parts.now) }
+{
+    for part in parts {
+        out.extend_from_slice(part.as_slice())?;
+    }
     Ok(())
 }
 

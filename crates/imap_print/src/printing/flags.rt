@@ -6,7 +6,7 @@ ghost use Rattle.imap_print.specs.Flags.{system_flags, flag_words, flags_text, p
 
 use super::words::{push_given, push_words};
 use crate::flag::FlagSet;
-use imap_lex::Octets;
+use imap_syntax::Atom;
 use std::alloc::AllocError;
 
 fn push_system_flags(out: &mut Vec<u8>, flags: &FlagSet) -> Result<bool, AllocError>
@@ -50,7 +50,7 @@ pub(super) fn push_permanent(
 }
 
 /// The five flags of the standard, and these keywords.
-pub(super) fn push_all_flags(out: &mut Vec<u8>, keywords: &[Octets]) -> Result<(), AllocError>
+pub(super) fn push_all_flags(out: &mut Vec<u8>, keywords: &[Atom]) -> Result<(), AllocError>
     ensures { OnOk result (out.new.items ≡ out.old.items
         ++ in_parentheses (every_system_flag ++ keywords.now)) }
 {

@@ -49,7 +49,7 @@ pub(super) fn push_list(
     out.extend_from_slice(b"* LIST ")?;
     push_attributes(out, attributes)?;
     out.extend_from_slice(b" \"/\" ")?;
-    push_name(out, mailbox)?;
+    push_name(out, mailbox.as_slice())?;
     Ok(())
 }
 
@@ -93,7 +93,7 @@ pub(super) fn push_status(
         ++ line_text (response.Status mailbox.now items.now)) }
 {
     out.extend_from_slice(b"* STATUS ")?;
-    push_name(out, mailbox)?;
+    push_name(out, mailbox.as_slice())?;
     out.push(b' ')?;
     push_values(out, items)?;
     Ok(())
@@ -102,7 +102,7 @@ pub(super) fn push_status(
 fn push_entry(out: &mut Vec<u8>, entry: &AclEntry) -> Result<(), AllocError>
     ensures { OnOk result (out.new.items ≡ out.old.items ++ entry_text entry.now) }
 {
-    push_name(out, &entry.identifier)?;
+    push_name(out, entry.identifier.as_slice())?;
     out.push(b' ')?;
     entry.rights.push_letters(out)?;
     Ok(())
@@ -127,7 +127,7 @@ pub(super) fn push_acl(
         ++ line_text (response.Acl mailbox.now entries.now)) }
 {
     out.extend_from_slice(b"* ACL ")?;
-    push_name(out, mailbox)?;
+    push_name(out, mailbox.as_slice())?;
     push_entries(out, entries)?;
     Ok(())
 }
@@ -141,7 +141,7 @@ pub(super) fn push_my_rights(
         ++ line_text (response.MyRights mailbox.now rights)) }
 {
     out.extend_from_slice(b"* MYRIGHTS ")?;
-    push_name(out, mailbox)?;
+    push_name(out, mailbox.as_slice())?;
     out.push(b' ')?;
     rights.push_letters(out)?;
     Ok(())
@@ -167,9 +167,9 @@ pub(super) fn push_list_rights(
         ++ line_text (response.ListRights mailbox.now identifier.now owner)) }
 {
     out.extend_from_slice(b"* LISTRIGHTS ")?;
-    push_name(out, mailbox)?;
+    push_name(out, mailbox.as_slice())?;
     out.push(b' ')?;
-    push_name(out, identifier)?;
+    push_name(out, identifier.as_slice())?;
     out.push(b' ')?;
     push_grantable(out, owner)?;
     Ok(())

@@ -3,8 +3,7 @@
 ghost use Rattle.std.specs.Prelude.{◌≡◌, ◌++◌, IfOk, OnOk, decimal};
 ghost use Rattle.imap_print.specs.Words.{space, given, given_by, GoesOn};
 
-use imap_lex::Octets;
-use imap_syntax::push_number;
+use imap_syntax::{Atom, push_number};
 use std::alloc::AllocError;
 
 /// Appends a space if `begun` says that there is a word already.
@@ -35,12 +34,8 @@ pub(super) fn push_given(
     }
 }
 
-/// Appends the words of a list. Returns whether there is a word by now.
-pub(super) fn push_words(
-    out: &mut Vec<u8>,
-    begun: bool,
-    words: &[Octets],
-) -> Result<bool, AllocError>
+/// Appends the atoms of a list. Returns whether there is a word by now.
+pub(super) fn push_words(out: &mut Vec<u8>, begun: bool, words: &[Atom]) -> Result<bool, AllocError>
     ensures { IfOk result (λ now. GoesOn out.old.items begun words.now out.new.items now) }
 {
     let mut begun = begun;

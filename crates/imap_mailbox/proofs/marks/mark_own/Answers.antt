@@ -1,10 +1,21 @@
-use Rattle.std.proofs.Common.{◌≡◌, false, is_some}
-use Rattle.std.specs.FinMap as fin
-use Rattle.std.specs.String.{string_bytes}
-use Rattle.imap_mailbox.proofs.Marking.{first_one}
+use Rattle.std.proofs.Common.{◌≤◌, ◌+◌, List, length, subst, arith}
+use Rattle.imap_modseq.specs.Numbers.{max_events}
+use Rattle.imap_mailbox.specs.declared.own.SeenChange.{SeenChange}
+use Rattle.imap_mailbox.proofs.Marking.{has_room, list_found, one_more, room_before}
 use Rattle.imap_mailbox.proofs.marks.mark_own.Goals as goal
 
-pub returns-else-contains-clause-lists : goal.returns-else-contains-clause-lists
-returns-else-contains-clause-lists c =
-    let none : is_some (fin.get c.args.own.now.map (string_bytes c.args.user)) ≡ false = cc (c.if-contains.ensures, c.as_str.ensures.value) in
-    first_one c.args.own.now c.insert_reserved.new.self.map (string_bytes c.args.user) c.args.first c.push_reserved.new.self c.args.change none c.requires.first c.push_reserved.ensures.list c.insert_reserved.ensures.map
+pub push_reserved-requires-clause-room : goal.push_reserved-requires-clause-room
+push_reserved-requires-clause-room c =
+    let had = room_before c.args.own.now c.args.user.now c.in-Some.list c.get_mut.result c.in-Some.is c.get_mut.ensures.value 1 c.requires.room in
+    omega (arith, had)
+
+pub push_reserved-requires-clause-few : goal.push_reserved-requires-clause-few
+push_reserved-requires-clause-few c = subst (λ (l : List SeenChange). length l ≤ max_events) (list_found c.args.own.now c.args.user.now c.in-Some.list c.get_mut.result c.in-Some.is c.get_mut.ensures.value) c.requires.few
+
+pub returns-in-Some-clause-lists : goal.returns-in-Some-clause-lists
+returns-in-Some-clause-lists c = one_more c.args.own.now _ c.args.user.now c.in-Some.list _ c.get_mut.result c.in-Some.is c.get_mut.ensures.value (c.get_mut.follows.holds c.push_reserved.new.self) c.args.change c.push_reserved.ensures.list
+
+pub returns-in-Some-clause-room : goal.returns-in-Some-clause-room
+returns-in-Some-clause-room c = λ more h.
+    let had = room_before c.args.own.now c.args.user.now c.in-Some.list c.get_mut.result c.in-Some.is c.get_mut.ensures.value (more + 1) h in
+    has_room c.args.own.now _ c.args.user.now c.in-Some.list c.push_reserved.new.self c.get_mut.result c.in-Some.is c.get_mut.ensures.value (c.get_mut.follows.holds c.push_reserved.new.self) more (omega (arith, had, c.push_reserved.ensures.room))

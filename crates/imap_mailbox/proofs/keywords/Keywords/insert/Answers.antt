@@ -1,31 +1,43 @@
-use Rattle.std.proofs.Common.{◌≡◌, ◌∙◌, Err, Ok, ap, sym, arith}
+use Rattle.std.proofs.Common.{◌≡◌, ◌∙◌, ℕ, List, Err, Ok, ap, sym, subst, length, arith}
 use Rattle.std.specs.List.{insert}
-use Rattle.imap_mailbox.specs.Words.{lower_case, with_word, word_place}
-use Rattle.imap_mailbox.proofs.Words.{place_there, place_for, words_after}
+use Rattle.std.specs.Str.{str_to_ascii_lowercase}
+use Rattle.imap_syntax.specs.Atoms.{IsAtom}
+use Rattle.imap_mailbox.specs.Words.{with_word, word_place, AreKeywords}
+use Rattle.imap_mailbox.proofs.Marking.{on_ok}
+use Rattle.imap_mailbox.proofs.Words.{place_there, place_for, words_put}
 use Rattle.imap_mailbox.proofs.keywords.Keywords.insert.Goals as goal
+
+made_by : (word k : List ℕ) (ws copies new : List (List ℕ)) (i : ℕ) → word_place (str_to_ascii_lowercase word) ws ≡ Err i → copies ≡ ws → k ≡ str_to_ascii_lowercase word → new ≡ insert copies i k → new ≡ with_word word ws
+made_by word k ws copies new i at had is made =
+    made ∙ (λ j. insert (had j) i (is j)) ∙ sym (place_for (str_to_ascii_lowercase word) ws i at).1
 
 pub insert-requires : goal.insert-requires
 insert-requires c =
-    let at : word_place (lower_case c.args.word.now) c.self.inside.0.items ≡ Err c.in-Err.place
-    = (λ i. word_place (sym (c.as_slice-2.ensures.value ∙ c.in_ok-lower.ensures.ok) i) (sym c.as_slice.ensures.value i)) ∙ sym c.place_of.ensures ∙ c.in-Err.is in
-    let within = (place_for (lower_case c.args.word.now) c.self.inside.0.items c.in-Err.place at).0 in
-    omega (arith, within, c.self.inside.0.ok.0)
+    let at : word_place (str_to_ascii_lowercase c.args.word.now) c.args.self.now ≡ Err c.in-Err.place
+    = (λ i. word_place (sym (c.as_slice-2.ensures.octets ∙ c.in_ok-lower.ensures) i) (sym c.as_slice.ensures.words i)) ∙ sym c.place_of.ensures.place ∙ c.in-Err.is in
+    let had : c.in_ok-words-in-Err.words.items ≡ c.args.self.now = c.in_ok-words-in-Err.ensures ∙ c.as_slice-in-Err.ensures.words in
+    let within = (place_for (str_to_ascii_lowercase c.args.word.now) c.args.self.now c.in-Err.place at).0 in
+    omega (arith, within, ap length had, c.in_ok-words-in-Err.words.ok.0)
 
-pub invariant_of-self-in-Err : goal.invariant_of-self-in-Err
-invariant_of-self-in-Err c =
-    let at : word_place (lower_case c.args.word.now) c.self.inside.0.items ≡ Err c.in-Err.place
-    = (λ i. word_place (sym (c.as_slice-2.ensures.value ∙ c.in_ok-lower.ensures.ok) i) (sym c.as_slice.ensures.value i)) ∙ sym c.place_of.ensures ∙ c.in-Err.is in
-    words_after _ c.args.word.now _ c.self.inside.0.items c.insert.new.self.items c.in-Err.place at (c.in_ok-word-in-Err.ensures ∙ c.in_ok-lower.ensures.ok) c.insert.ensures.items c.self.invariant
+pub set-requires : goal.set-requires
+set-requires c =
+    let at : word_place (str_to_ascii_lowercase c.args.word.now) c.args.self.now ≡ Err c.in-Err.place
+    = (λ i. word_place (sym (c.as_slice-2.ensures.octets ∙ c.in_ok-lower.ensures) i) (sym c.as_slice.ensures.words i)) ∙ sym c.place_of.ensures.place ∙ c.in-Err.is in
+    let had : c.in_ok-words-in-Err.words.items ≡ c.args.self.now = c.in_ok-words-in-Err.ensures ∙ c.as_slice-in-Err.ensures.words in
+    let atom : IsAtom (str_to_ascii_lowercase c.args.word.now) = subst IsAtom (c.as_slice-2.ensures.octets ∙ c.in_ok-lower.ensures) c.as_slice-2.ensures.valid in
+    let made : c.insert.new.self.items ≡ with_word c.args.word.now c.args.self.now = made_by c.args.word.now c.in_ok-lower.lower c.args.self.now c.in_ok-words-in-Err.words.items c.insert.new.self.items c.in-Err.place at had c.in_ok-lower.ensures c.in_ok-insert-in-Err.ensures.items in
+    subst AreKeywords (sym made) (words_put c.args.word.now c.args.self.now atom c.as_slice.ensures.valid)
 
 pub returns-in-Ok-clause-ok : goal.returns-in-Ok-clause-ok
 returns-in-Ok-clause-ok c =
-    let at : word_place (lower_case c.args.word.now) c.self.inside.0.items ≡ Ok c.in-Ok.field-0
-    = (λ i. word_place (sym (c.as_slice-2.ensures.value ∙ c.in_ok-lower.ensures.ok) i) (sym c.as_slice.ensures.value i)) ∙ sym c.place_of.ensures ∙ c.in-Ok.is in
-    sym c.self.view_is ∙ sym (place_there (lower_case c.args.word.now) c.self.inside.0.items c.in-Ok.field-0 at) ∙ ap (with_word c.args.word.now) c.self.view_is
+    let at : word_place (str_to_ascii_lowercase c.args.word.now) c.args.self.now ≡ Ok c.in-Ok.field-0
+    = (λ i. word_place (sym (c.as_slice-2.ensures.octets ∙ c.in_ok-lower.ensures) i) (sym c.as_slice.ensures.words i)) ∙ sym c.place_of.ensures.place ∙ c.in-Ok.is in
+    sym (place_there (str_to_ascii_lowercase c.args.word.now) c.args.self.now c.in-Ok.field-0 at)
 
 pub returns-in_ok-insert-in-Err-clause-ok : goal.returns-in_ok-insert-in-Err-clause-ok
 returns-in_ok-insert-in-Err-clause-ok c =
-    let at : word_place (lower_case c.args.word.now) c.self.inside.0.items ≡ Err c.in-Err.place
-    = (λ i. word_place (sym (c.as_slice-2.ensures.value ∙ c.in_ok-lower.ensures.ok) i) (sym c.as_slice.ensures.value i)) ∙ sym c.place_of.ensures ∙ c.in-Err.is in
-    c.in_ok-insert-in-Err.ensures.items ∙ ap (insert c.self.inside.0.items c.in-Err.place) (c.in_ok-word-in-Err.ensures ∙ c.in_ok-lower.ensures.ok)
-    ∙ sym (place_for (lower_case c.args.word.now) c.self.inside.0.items c.in-Err.place at).1 ∙ ap (with_word c.args.word.now) c.self.view_is
+    let at : word_place (str_to_ascii_lowercase c.args.word.now) c.args.self.now ≡ Err c.in-Err.place
+    = (λ i. word_place (sym (c.as_slice-2.ensures.octets ∙ c.in_ok-lower.ensures) i) (sym c.as_slice.ensures.words i)) ∙ sym c.place_of.ensures.place ∙ c.in-Err.is in
+    let had : c.in_ok-words-in-Err.words.items ≡ c.args.self.now = c.in_ok-words-in-Err.ensures ∙ c.as_slice-in-Err.ensures.words in
+    let made : c.insert.new.self.items ≡ with_word c.args.word.now c.args.self.now = made_by c.args.word.now c.in_ok-lower.lower c.args.self.now c.in_ok-words-in-Err.words.items c.insert.new.self.items c.in-Err.place at had c.in_ok-lower.ensures c.in_ok-insert-in-Err.ensures.items in
+    on_ok (c.set.new.self ≡ c.insert.new.self.items) (c.set.new.self ≡ with_word c.args.word.now c.args.self.now) c.set.result (λ e. e ∙ made) c.set.ensures.ok

@@ -10,4 +10,4 @@ pub invariant_of-self : goal.invariant_of-self
 invariant_of-self c =
     let few : c.self.inside.shared < max_events = subst (λ (h : Held). h.shared < max_events) (sym c.self.view_is) c.requires.few in
     subst (λ messages. IsKept (summary_with messages c.self.inside.gone.items (c.self.inside.next + 1) (c.self.inside.shared + 1) c.self.inside.own)) (sym c.push_reserved.ensures.items)
-    (kept_step (Added (arrival c.self.inside.next c.args.date c.args.octets c.args.flags)) (summary_with c.self.inside.messages.items c.self.inside.gone.items c.self.inside.next c.self.inside.shared c.self.inside.own) refl tt few c.self.invariant)
+    (kept_step (Added (arrival c.self.inside.next c.args.date c.args.octets c.args.flags)) (summary_with c.self.inside.messages.items c.self.inside.gone.items c.self.inside.next c.self.inside.shared c.self.inside.own) refl tt c.requires.keywords few c.self.invariant)

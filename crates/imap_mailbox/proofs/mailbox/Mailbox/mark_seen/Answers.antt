@@ -4,7 +4,7 @@ use Rattle.imap_mailbox.proofs.mailbox.Mailbox.mark_seen.Goals as goal
 
 pub put_seen-requires-clause-few : goal.put_seen-requires-clause-few
 put_seen-requires-clause-few c =
-    let same = (λ i. length (own_at (c.reserve_seen.ensures.contents i).own (c.in-Ok.ensures.parts.0 i))) ∙ sym c.own_len.ensures.events in
+    let same = (λ i. length (own_at (c.reserve_seen.ensures.contents i).own c.args.user.now)) ∙ sym c.own_len.ensures.events in
     let few = c.own_len.ensures.few in
     let other = c.if-own_len-eq-MAX_EVENTS.false in
     omega (arith, same, few, other)

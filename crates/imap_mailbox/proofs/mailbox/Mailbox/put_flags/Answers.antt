@@ -9,4 +9,4 @@ pub invariant_of-self : goal.invariant_of-self
 invariant_of-self c =
     let few : c.self.inside.shared < max_events = subst (λ (h : Held). h.shared < max_events) (sym c.self.view_is) c.requires.few in
     subst (λ messages. IsKept (summary_with messages c.self.inside.gone.items c.self.inside.next (c.self.inside.shared + 1) c.self.inside.own)) (sym c.set_message_flags.ensures.items)
-    (kept_step (FlagsSet c.args.uid c.args.flags) (summary_with c.self.inside.messages.items c.self.inside.gone.items c.self.inside.next c.self.inside.shared c.self.inside.own) tt tt few c.self.invariant)
+    (kept_step (FlagsSet c.args.uid c.args.flags) (summary_with c.self.inside.messages.items c.self.inside.gone.items c.self.inside.next c.self.inside.shared c.self.inside.own) tt tt c.requires.keywords few c.self.invariant)

@@ -12,4 +12,4 @@ invariant_of-self c =
     let there : is_there c.args.uid (summary_with c.self.inside.messages.items c.self.inside.gone.items c.self.inside.next c.self.inside.shared c.self.inside.own) ≡ true =
     subst (λ (h : Held). is_there c.args.uid (summary_in h) ≡ true) (sym c.self.view_is) c.requires.there in
     subst IsKept (λ i. summary_with (sym c.remove_message.ensures.items i) (sym c.push_reserved.ensures.items i) c.self.inside.next (c.self.inside.shared + 1) c.self.inside.own)
-    (kept_step (Expunged c.args.uid) (summary_with c.self.inside.messages.items c.self.inside.gone.items c.self.inside.next c.self.inside.shared c.self.inside.own) tt there few c.self.invariant)
+    (kept_step (Expunged c.args.uid) (summary_with c.self.inside.messages.items c.self.inside.gone.items c.self.inside.next c.self.inside.shared c.self.inside.own) tt there tt few c.self.invariant)

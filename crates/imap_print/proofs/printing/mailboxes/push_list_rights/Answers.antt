@@ -1,4 +1,4 @@
-use Rattle.std.proofs.Common.{codes, ◌++◌}
+use Rattle.std.proofs.Common.{ℕ, List, codes, ◌++◌, ap, ◌∙◌}
 use Rattle.imap_print.specs.Strings.{name_text}
 use Rattle.imap_print.specs.Mailboxes.{grantable_text}
 use Rattle.imap_print.proofs.Wording.{appended}
@@ -14,8 +14,9 @@ returns c =
     (appended out (front ++ mailbox ++ codes " " ++ identifier) (codes " ")
     (appended out (front ++ mailbox ++ codes " ") identifier
     (appended out (front ++ mailbox) (codes " ")
-    (appended out front mailbox c.in_ok-extend_from_slice.ensures.items c.in_ok-push_name.ensures)
+    (appended out front mailbox c.in_ok-extend_from_slice.ensures.items
+    (c.in_ok-push_name.ensures ∙ ap (λ (t : List ℕ). c.extend_from_slice.new.self.items ++ name_text t) c.as_slice.ensures))
     c.in_ok-push.ensures.items)
-    c.in_ok-push_name-2.ensures)
+    (c.in_ok-push_name-2.ensures ∙ ap (λ (t : List ℕ). c.push.new.self.items ++ name_text t) c.as_slice-2.ensures))
     c.in_ok-push-2.ensures.items)
     c.in_ok-push_grantable.ensures

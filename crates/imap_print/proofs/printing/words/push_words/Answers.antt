@@ -9,4 +9,4 @@ loop-word-preserved c =
     rw (take_more c.args.words.now c.loop-word.word-index c.word-item.result (omega arith))
     (goes_on-append c.loop-word.invariant
     (goes_on_word c.loop-word.out.items c.loop-word.begun _ spaced _ c.in_ok-push_space.ensures
-    (c.in_ok-extend_from_slice.ensures.items ∙ ap (λ (t : List ℕ). spaced ++ t) (c.as_slice.ensures ∙ c.word-item.is))))
+    (c.in_ok-extend_from_slice.ensures.items ∙ ap (λ (t : List ℕ). spaced ++ t) (c.as_slice.ensures.octets ∙ c.word-item.is))))
