@@ -6,12 +6,13 @@ use Rattle.imap_print.specs.declared.response.Refusal.{Refusal}
 use Rattle.imap_world.specs.declared.effect.Effect.{Effect}
 
 pub record Answer : Type 0 where
-  pub replies : List Response
+  pub untagged : List Response
+  pub last : Response
   pub effect : Option Effect
 
--- nothing is asked for
-abbrev pub answer_of : List Response → Answer
-answer_of replies = record { replies = replies; effect = None }
+-- all its lines, in their order
+abbrev pub lines_of : Answer → List Response
+lines_of answer = answer.untagged ++ answer.last ∷ []
 
 -- the tagged line of a command that was carried out
 abbrev pub done_line : (tag : List ℕ) → Response
@@ -19,15 +20,15 @@ done_line tag = response.Done tag None
 
 -- a command that was carried out, after these responses
 abbrev pub done_after : (untagged : List Response) → (tag : List ℕ) → Answer
-done_after untagged tag = answer_of (untagged ++ done_line tag ∷ [])
+done_after untagged tag = record { untagged = untagged; last = done_line tag; effect = None }
 
 -- a command that was carried out and has no other response
 abbrev pub done : (tag : List ℕ) → Answer
-done tag = answer_of (done_line tag ∷ [])
+done tag = done_after [] tag
 
 -- the same of a command that changes the mailboxes
 abbrev pub done_with : (tag : List ℕ) → Effect → Answer
-done_with tag effect = record { replies = done_line tag ∷ []; effect = Some effect }
+done_with tag effect = record { untagged = []; last = done_line tag; effect = Some effect }
 
 -- the tagged line of a command that was not carried out
 abbrev pub refused_line : (tag : List ℕ) → Refusal → Response
@@ -35,4 +36,4 @@ refused_line tag refusal = response.Refused (Some tag) refusal
 
 -- a command that was not carried out
 abbrev pub refusal : (tag : List ℕ) → Refusal → Answer
-refusal tag reason = answer_of (refused_line tag reason ∷ [])
+refusal tag reason = record { untagged = []; last = refused_line tag reason; effect = None }

@@ -8,7 +8,7 @@ use Rattle.imap_print.specs.declared.response.Response.TheVariants as response
 use Rattle.imap_view.specs.After.{MayAsk}
 use Rattle.imap_view.specs.View.{View}
 use Rattle.imap_world.specs.declared.effect.Effect.{Effect}
-use Rattle.imap_answer.specs.Answer.{Answer}
+use Rattle.imap_answer.specs.Answer.{Answer, lines_of}
 
 abbrev pub is_refusal : Response → Bool
 is_refusal (response.Refused tag refusal) = true
@@ -25,5 +25,5 @@ MayBeAsked view (Some effect) = MayAsk view effect
 
 pub record IsFit (view : View) (answer : Answer) : Type 0 where
   pub asks : MayBeAsked view answer.effect
-  pub refused : list_any is_refusal answer.replies ≡ true → answer.effect ≡ None
-  pub available : list_any is_unavailable answer.replies ≡ false
+  pub refused : list_any is_refusal (lines_of answer) ≡ true → answer.effect ≡ None
+  pub available : list_any is_unavailable (lines_of answer) ≡ false

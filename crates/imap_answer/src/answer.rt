@@ -1,21 +1,19 @@
 //! The answer to a command.
 
-ghost use Rattle.std.specs.Prelude.{◌≡◌, ◌∷◌, [], IfOk};
+ghost use Rattle.std.specs.Prelude.{◌≡◌};
 ghost use Rattle.std.specs.List.{AllByRecursion};
 ghost use Rattle.imap_print.specs.Lines.{IsPrintable};
-ghost use Rattle.imap_answer.specs.Answer as specs;
 
-use imap_lex::Tag;
-use imap_print::{Refusal, Response};
+use imap_print::Response;
 use imap_world::Effect;
-use std::alloc::{AllocError, Global};
 use std::marker::Model;
 
-/// The responses to a command, and what it asks of the mailboxes. A client reads each response as one line, whatever
-/// names and tags are in it.
+/// The untagged responses to a command, its last line, and what it asks of the mailboxes. A client reads each response
+/// as one line, whatever names and tags are in it.
 #[derive(Drop)]
 pub struct Answer {
-    replies: Vec<Response>,
+    untagged: Vec<Response>,
+    last: Response,
     effect: Option<Effect>,
 }
 
@@ -32,96 +30,46 @@ impl Model for Answer {
 
     ghost Value = { specs.Answer };
 
-    ghost coded = { code_by (List Response × Option Effect)
+    ghost coded = { code_by (List Response × (Response × Option Effect))
         (Prim.hlevel (codes, response_row.coded, effect_row.coded))
-        (λ answer. (answer.replies, answer.effect)) (λ p. record { replies = p.0; effect = p.1 }) (λ _. refl) };
+        (λ answer. (answer.untagged, (answer.last, answer.effect)))
+        (λ p. record { untagged = p.0; last = p.1.0; effect = p.1.1 }) (λ _. refl) };
 
-    ghost view = { λ answer. record { replies = answer.replies.items; effect = answer.effect } };
+    ghost view = { λ answer. record {
+      untagged = answer.untagged.items;
+      last = answer.last;
+      effect = answer.effect;
+    } };
 
-    ghost invariant = { λ answer. AllByRecursion IsPrintable answer.replies.items };
+    ghost invariant = { λ answer. AllByRecursion IsPrintable answer.untagged.items × IsPrintable answer.last };
 }
 
 impl Answer {
-    /// Asks for nothing.
-    pub fn of(replies: Vec<Response>) -> Answer
-        requires { AllByRecursion IsPrintable replies.items }
-        ensures { result ≡ specs.answer_of replies.items }
+    /// The responses `untagged` and then the line `last`, and what the command asks of the mailboxes.
+    pub fn new(untagged: Vec<Response>, last: Response, effect: Option<Effect>) -> Answer
+        requires untagged { AllByRecursion IsPrintable untagged.items }
+        requires last { IsPrintable last }
+        ensures { result ≡ record { untagged = untagged.items; last = last; effect = effect } }
     {
         Answer {
-            replies,
-            effect: None,
+            untagged,
+            last,
+            effect,
         }
     }
 
-    /// The command was carried out and has no other response.
-    pub fn done(alloc: Global, tag: &Tag) -> Result<Answer, AllocError>
-        ensures { IfOk result (λ answer. answer ≡ specs.done tag.now) }
+    /// Returns the untagged responses, the last line and the effect.
+    pub fn into_parts(self) -> (Vec<Response>, Response, Option<Effect>)
+        ensures untagged { result.0.items ≡ self.untagged }
+        ensures last { result.1 ≡ self.last }
+        ensures effect { result.2 ≡ self.effect }
+        ensures printable { AllByRecursion IsPrintable result.0.items × IsPrintable result.1 }
     {
-        Answer::done_after(alloc, Vec::new(alloc), tag)
+        let Answer {
+            untagged,
+            last,
+            effect,
+        } = self;
+        (untagged, last, effect)
     }
-
-    /// The command was carried out, after these responses.
-    pub fn done_after(
-        alloc: Global,
-        untagged: Vec<Response>,
-        tag: &Tag,
-    ) -> Result<Answer, AllocError>
-        requires { AllByRecursion IsPrintable untagged.items }
-        ensures { IfOk result (λ answer. answer ≡ specs.done_after untagged.items tag.now) }
-    {
-        let mut replies = untagged;
-        replies.push(done_line(alloc, tag)?)?;
-        Ok(Answer::of(replies))
-    }
-
-    /// The command is carried out by the effect and has no other response.
-    pub fn done_with(alloc: Global, tag: &Tag, effect: Effect) -> Result<Answer, AllocError>
-        ensures { IfOk result (λ answer. answer ≡ specs.done_with tag.now effect) }
-    {
-        let Answer { replies, effect: _ } = Answer::done(alloc, tag)?;
-        Ok(Answer {
-            replies,
-            effect: Some(effect),
-        })
-    }
-
-    /// The command was not carried out.
-    pub fn refusal(alloc: Global, tag: &Tag, refusal: Refusal) -> Result<Answer, AllocError>
-        ensures { IfOk result (λ answer. answer ≡ specs.refusal tag.now refusal) }
-    {
-        let replies = vec![in alloc; refused_line(alloc, tag, refusal)?]?;
-        Ok(Answer::of(replies))
-    }
-
-    /// Returns the responses and the effect.
-    pub fn into_parts(self) -> (Vec<Response>, Option<Effect>)
-        ensures replies { result.0.items ≡ self.replies }
-        ensures effect { result.1 ≡ self.effect }
-        ensures printable { AllByRecursion IsPrintable result.0.items }
-    {
-        let Answer { replies, effect } = self;
-        (replies, effect)
-    }
-}
-
-/// The tagged line of a command that was carried out.
-fn done_line(alloc: Global, tag: &Tag) -> Result<Response, AllocError>
-    ensures line { IfOk result (λ response. response ≡ specs.done_line tag.now) }
-    ensures printable { IsPrintable (specs.done_line tag.now) }
-{
-    Ok(Response::Done {
-        tag: tag.try_copy(alloc)?,
-        code: None,
-    })
-}
-
-/// The tagged line of a command that was not carried out.
-fn refused_line(alloc: Global, tag: &Tag, refusal: Refusal) -> Result<Response, AllocError>
-    ensures line { IfOk result (λ response. response ≡ specs.refused_line tag.now refusal) }
-    ensures printable { IsPrintable (specs.refused_line tag.now refusal) }
-{
-    Ok(Response::Refused {
-        tag: Some(tag.try_copy(alloc)?),
-        refusal,
-    })
 }

@@ -1,11 +1,12 @@
 //! Answers to commands.
 //!
-//! Each command is a function from what its user may see (`imap_view`) to an [`Answer`]: the responses, and what the
-//! command asks of the mailboxes. The crates of commands make answers; the machine (`imap_core`) carries them out.
+//! Each command is a function from a [`Call`], which has what its user may see (`imap_view`) and its tag, to an
+//! [`Answer`]: the responses, and what the command asks of the mailboxes. The crates of commands make answers; the
+//! machine (`imap_core`) carries them out.
 #![tactic(auto)]
 
 mod answer;
-mod name;
+mod call;
 
 pub use answer::Answer;
-pub use name::named;
+pub use call::{Call, refused_line};

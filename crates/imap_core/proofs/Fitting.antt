@@ -5,7 +5,7 @@ use Rattle.std.specs.Prelude.{nat_le}
 use Rattle.std.proofs.lemmas.Bool.{leb-false}
 use Rattle.std.specs.List.{list_any}
 use Rattle.std.specs.FinMap as map
-use Rattle.imap_answer.specs.Answer.{Answer, answer_of}
+use Rattle.imap_answer.specs.Answer.{Answer}
 use Rattle.imap_answer.specs.Fit.{IsFit, MayBeAsked, is_refusal, is_unavailable}
 use Rattle.imap_answer.proofs.Fits.{fits_alone}
 use Rattle.imap_grammar.specs.declared.request.Request.{Request}
@@ -18,13 +18,12 @@ use Rattle.imap_print.specs.declared.response.Response.{Response}
 use Rattle.imap_print.specs.declared.response.Response.TheVariants as response
 use Rattle.imap_tree.proofs.Fitting as tree
 use Rattle.imap_view.specs.View.{View}
-use Rattle.imap_core.specs.declared.outcome.Outcome.{Outcome}
 use Rattle.imap_core.specs.declared.sessions.SessionChange.TheVariants as session
 use Rattle.imap_core.specs.declared.step.Act.{Act}
 use Rattle.imap_core.specs.declared.step.Act.TheVariants as act
 use Rattle.imap_core.specs.declared.step.Step.{Step}
 use Rattle.imap_core.specs.Machine.{outcome_for}
-use Rattle.imap_core.specs.Outcome.{ending, staying}
+use Rattle.imap_core.specs.Outcome.{Outcome, answered, said}
 use Rattle.imap_core.specs.Planned.{HasRoom}
 use Rattle.imap_core.specs.Reply.{command_answer, command_outcome, opened, reply_when_closed, reply_when_open, request_outcome}
 use Rattle.imap_core.specs.Sessions.{Own, max_sessions}
@@ -32,13 +31,13 @@ use Rattle.imap_core.specs.Sessions.{Own, max_sessions}
 -- nothing is asked for, and the session stays
 pub record IsIdle (outcome : Outcome) : Type 0 where
   pub session : outcome.session ≡ session.Keep
-  pub effect : outcome.answer.effect ≡ None
+  pub effect : outcome.effect ≡ None
 
 pub record Fits (view : View) (own : Option Own) (number : ℕ) (outcome : Outcome) : Type 0 where
-  pub asks : MayBeAsked view outcome.answer.effect
+  pub asks : MayBeAsked view outcome.effect
   pub room : HasRoom own number outcome.session
-  pub refused : list_any is_refusal outcome.answer.replies ≡ true → IsIdle outcome
-  pub available : list_any is_unavailable outcome.answer.replies ≡ false
+  pub refused : list_any is_refusal outcome.replies ≡ true → IsIdle outcome
+  pub available : list_any is_unavailable outcome.replies ≡ false
 
 room_to_keep : (own : Option Own) (number : ℕ) → HasRoom own number session.Keep
 room_to_keep None number = tt
@@ -49,7 +48,7 @@ room_to_end None number = tt
 room_to_end (Some own) number = tt
 
 module _ (view : View) (own : Option Own) (number : ℕ) where
-  stays : (answer : Answer) → IsFit view answer → Fits view own number (staying answer)
+  stays : (answer : Answer) → IsFit view answer → Fits view own number (answered answer session.Keep)
   stays answer fit = record {
     asks = fit.asks;
     room = room_to_keep own number;
@@ -57,10 +56,15 @@ module _ (view : View) (own : Option Own) (number : ℕ) where
     available = fit.available;
   }
 
-  stays_with : (replies : List Response) → list_any is_unavailable replies ≡ false → Fits view own number (staying (answer_of replies))
-  stays_with replies available = stays (answer_of replies) (fits_alone view replies available)
+  says : (replies : List Response) → list_any is_unavailable replies ≡ false → Fits view own number (said replies session.Keep)
+  says replies available = record {
+    asks = tt;
+    room = room_to_keep own number;
+    refused = λ e. record { session = refl; effect = refl };
+    available = available;
+  }
 
-  ends : (replies : List Response) → list_any is_refusal replies ≡ false → list_any is_unavailable replies ≡ false → Fits view own number (ending (answer_of replies))
+  ends : (replies : List Response) → list_any is_refusal replies ≡ false → list_any is_unavailable replies ≡ false → Fits view own number (said replies session.End)
   ends replies carried_out available = record {
     asks = tt;
     room = room_to_end own number;
@@ -71,10 +75,10 @@ module _ (view : View) (own : Option Own) (number : ℕ) where
   -- ---- commands
 
   answer_fits : (tag : List ℕ) (what : Command) → IsFit view (command_answer view tag what)
-  answer_fits tag command.Capability = fits_alone view _ refl
-  answer_fits tag command.Noop = fits_alone view _ refl
-  answer_fits tag command.Logout = fits_alone view _ refl
-  answer_fits tag command.Authenticate = fits_alone view _ refl
+  answer_fits tag command.Capability = fits_alone view _ _ refl
+  answer_fits tag command.Noop = fits_alone view _ _ refl
+  answer_fits tag command.Logout = fits_alone view _ _ refl
+  answer_fits tag command.Authenticate = fits_alone view _ _ refl
   answer_fits tag command.Namespace = list.namespace_fits view tag
   answer_fits tag (command.List selection reference patterns returns) =
       list.list_fits view tag (record { selection = selection; reference = reference; patterns = patterns; returns = returns })
@@ -88,7 +92,7 @@ module _ (view : View) (own : Option Own) (number : ℕ) where
   answer_fits tag (command.GetAcl mailbox) = tree.get_acl_fits view tag mailbox
   answer_fits tag (command.ListRights mailbox identifier) = tree.list_rights_fits view tag mailbox identifier
   answer_fits tag (command.MyRights mailbox) = tree.my_rights_fits view tag mailbox
-  answer_fits tag _ = fits_alone view _ refl
+  answer_fits tag _ = fits_alone view _ _ refl
 
   command_fits : (tag : List ℕ) (what : Command) → Fits view own number (command_outcome view tag what)
   command_fits tag command.Logout = ends _ refl refl
@@ -96,8 +100,8 @@ module _ (view : View) (own : Option Own) (number : ℕ) where
 
   request_fits : (what : Request) → Fits view own number (request_outcome view what)
   request_fits (request.Command tag what) = command_fits tag what
-  request_fits (request.Malformed tag) = stays_with _ refl
-  request_fits (request.TooBig tag) = stays_with _ refl
+  request_fits (request.Malformed tag) = says _ refl
+  request_fits (request.TooBig tag) = says _ refl
 
 -- ---- sessions
 
@@ -113,25 +117,25 @@ module _ (view : View) (own : Own) (number : ℕ) where
   open_fits : map.contains_key own number ≡ true → (what : Act) → Fits view (Some own) number (reply_when_open view what)
   open_fits is act.Open = opening (inr is)
   open_fits is (act.Do what) = request_fits view (Some own) number what
-  open_fits is act.Poll = stays_with view (Some own) number [] refl
-  open_fits is act.Done = stays_with view (Some own) number _ refl
+  open_fits is act.Poll = says view (Some own) number [] refl
+  open_fits is act.Done = says view (Some own) number _ refl
   open_fits is act.Leave = ends view (Some own) number [] refl refl
 
-  by_count : (b : Bool) → nat_le max_sessions (map.len own) ≡ b → Fits view (Some own) number (cond b (staying (answer_of (response.Bye LimitReached ∷ []))) opened)
-  by_count true e = stays_with view (Some own) number _ refl
+  by_count : (b : Bool) → nat_le max_sessions (map.len own) ≡ b → Fits view (Some own) number (cond b (said (response.Bye LimitReached ∷ []) session.Keep) opened)
+  by_count true e = says view (Some own) number _ refl
   by_count false e = opening (inl (leb-false max_sessions (map.len own) e))
 
   closed_fits : (what : Act) → Fits view (Some own) number (reply_when_closed own what)
   closed_fits act.Open = by_count _ refl
-  closed_fits (act.Do what) = stays_with view (Some own) number [] refl
-  closed_fits act.Poll = stays_with view (Some own) number [] refl
-  closed_fits act.Done = stays_with view (Some own) number [] refl
-  closed_fits act.Leave = stays_with view (Some own) number [] refl
+  closed_fits (act.Do what) = says view (Some own) number [] refl
+  closed_fits act.Poll = says view (Some own) number [] refl
+  closed_fits act.Done = says view (Some own) number [] refl
+  closed_fits act.Leave = says view (Some own) number [] refl
 
   by_session : (what : Act) (b : Bool) → map.contains_key own number ≡ b → Fits view (Some own) number (cond b (reply_when_open view what) (reply_when_closed own what))
   by_session what true e = open_fits e what
   by_session what false e = closed_fits what
 
 pub outcome_fits : (view : View) (own : Option Own) (step : Step) → Fits view own step.who.number (outcome_for view own step)
-outcome_fits view None step = stays_with view None step.who.number [] refl
+outcome_fits view None step = says view None step.who.number [] refl
 outcome_fits view (Some own) step = by_session view own step.who.number step.act _ refl

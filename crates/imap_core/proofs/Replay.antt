@@ -20,7 +20,7 @@ use Rattle.imap_core.proofs.Steps.{own_after, own_after_change, own_in-next, own
 
 abbrev replay : View → Option Own → List Event → List (ℕ × List ℕ)
 replay view own [] = []
-replay view own (Acts step ∷ events) = with_replies step.who.number (outcome_for view own step).answer.replies (replay (view_next view own step) (own_after view own step) events)
+replay view own (Acts step ∷ events) = with_replies step.who.number (outcome_for view own step).replies (replay (view_next view own step) (own_after view own step) events)
 replay view own (Sees other ∷ events) = replay other own events
 
 equal_views : (v w : View) → same_view v w ≡ true → v ≡ w

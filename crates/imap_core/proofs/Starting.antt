@@ -1,8 +1,11 @@
 -- What a host starts with.
-use Rattle.std.proofs.Common.{◌≡◌, ◌≢◌, inr, ℕ, Bool, true, false, cond, not, ◌&&◌, ◌||◌, eqb, nat_lt, List, [], ◌∷◌, ◌++◌, map as map_list, Some, None, Ok, Err, is_some, refl, sym, ap, subst, ◌∙◌, arith}
+use Rattle.std.proofs.Common.{◌≡◌, ◌≢◌, inr, ℕ, ◌+◌, Bool, true, false, true≢false, cond, not, ◌&&◌, ◌||◌, eqb, nat_lt, List, [], ◌∷◌, ◌++◌, append-nil, map as map_list, Some, None, Ok, Err, is_some, refl, sym, ap, subst, ◌∙◌, arith}
 use Rattle.std.specs.Str.{bytes_eq}
-use Rattle.std.specs.List.{list_all}
+use Rattle.std.specs.Cmp.{IsEquivalence}
+use Rattle.std.specs.List.{IsDistinct, filter_map, list_all}
+use Rattle.std.proofs.lemmas.Bool.{not-true}
 use Rattle.std.proofs.lemmas.Bool.Decides.{nat_tests}
+use Rattle.std.proofs.lemmas.Map.Keys.{IsDistinct-push}
 use Rattle.std.proofs.lemmas.List.{map-append}
 use Rattle.std.proofs.lemmas.List.Folds.{list_all-append, list_any-append}
 use Rattle.std.proofs.lemmas.Slice.Eq.{bytes_eq-Decides}
@@ -11,17 +14,20 @@ use Rattle.std.specs.FinMap.{get-empty, get-insert}
 use Rattle.std.specs.Cmp.Lexicographic.{nat_list_cmp_total, slice_cmp}
 use Rattle.std.proofs.lemmas.Map.Text.{is_eq-slice_cmp}
 use Rattle.std.specs.Ordering.{nat_cmp}
-use Rattle.std.specs.Prelude.{codes}
+use Rattle.std.specs.Prelude.{codes, unwrap_or}
 use Rattle.imap_names.specs.Name.{Name}
+use Rattle.imap_names.specs.Order.{Names}
 use Rattle.imap_names.proofs.NameLaws.{equal_names, get_put, is_name_at, is_name_at-same, named-same}
 use Rattle.imap_world.specs.declared.change.Write.{Write}
 use Rattle.imap_world.specs.declared.change.Write.TheVariants as write
 use Rattle.imap_world.specs.declared.effect.Effect.{Effect}
 use Rattle.imap_world.specs.declared.effect.Effect.TheVariants as effect
-use Rattle.imap_world.specs.declared.error.WorldError.TheVariants.{Limit}
+use Rattle.imap_world.specs.declared.error.WorldError.TheVariants.{Limit, Taken}
+use Rattle.imap_rights.specs.Acl.{owner_acl}
+use Rattle.imap_world.specs.Tree.{new_row}
 use Rattle.imap_world.specs.Effects.{after_all, after_result, after_writes, put_of, puts, with_row, writes_of, writes_then}
-use Rattle.imap_world.specs.Ready.{AreApart, is_plain}
-use Rattle.imap_world.specs.Row.{Row}
+use Rattle.imap_world.specs.Ready.{AreApart, inbox_owner, is_plain}
+use Rattle.imap_world.specs.NewMailbox.{NewMailbox}
 use Rattle.imap_world.specs.World.{World, epoch, inbox, max_validity}
 use Rattle.imap_core.specs.Accounts.{Accounts}
 use Rattle.imap_core.specs.Opening.{Admission, admission, inbox_for, needs_inbox, nobody, with_user, with_users}
@@ -46,6 +52,19 @@ or_true false = refl
 or_three : (a b c : Bool) → ((a || b) || c) ≡ (a || (b || c))
 or_three true b c = refl
 or_three false b c = refl
+
+same_bytes : IsEquivalence bytes_eq
+same_bytes = record {
+  refl = λ x. (bytes_eq-Decides x x).1 refl;
+  symm = λ x y. by x y (bytes_eq x y) refl (bytes_eq y x) refl;
+  congr = λ x y z e. ap (λ u. bytes_eq u z) (equal_users x y e);
+}
+  where
+    by : (x y : List ℕ) (a : Bool) → bytes_eq x y ≡ a → (b : Bool) → bytes_eq y x ≡ b → bytes_eq x y ≡ bytes_eq y x
+    by x y true e true f = e ∙ sym f
+    by x y false e false f = e ∙ sym f
+    by x y true e false f = absurd (true≢false (sym ((bytes_eq-Decides y x).1 (sym (equal_users x y e))) ∙ f))
+    by x y false e true f = absurd (true≢false (sym ((bytes_eq-Decides x y).1 (sym (equal_users y x f))) ∙ e))
 
 -- ---- the users
 
@@ -102,6 +121,7 @@ record IsFair (world : World) (so_far : Admission) : Type 0 where
   effects : so_far.effects ≡ creations owners
   asked : (user : List ℕ) → is_one_of owners user ≡ (map.contains_key so_far.accounts user && needs_inbox world user)
   needed : list_all (needs_inbox world) owners ≡ true
+  distinct : IsDistinct bytes_eq owners
   closed : (user : List ℕ) (own : Own) → map.get so_far.accounts user ≡ Some own → own ≡ map.empty
 
 one_creation : (user : List ℕ) (needs : Bool) → cond needs (effect.CreateInbox user ∷ []) [] ≡ creations (cond needs (user ∷ []) [])
@@ -149,6 +169,13 @@ module _ (world : World) (so_far : Admission) (fair : IsFair world so_far) (user
       ∙ ap (λ b. b && list_all (needs_inbox world) (owner_for world user)) fair.needed
       ∙ one_owner_needed world user (needs_inbox world user) refl
 
+  distinct_by : (needs : Bool) → is_one_of fair.owners user ≡ false → IsDistinct bytes_eq (fair.owners ++ cond needs (user ∷ []) [])
+  distinct_by true absent = IsDistinct-push same_bytes fair.owners user fair.distinct absent
+  distinct_by false absent = subst (IsDistinct bytes_eq) (sym (append-nil fair.owners)) fair.distinct
+
+  distinct_grown : map.contains_key so_far.accounts user ≡ false → IsDistinct bytes_eq (fair.owners ++ owner_for world user)
+  distinct_grown unknown = distinct_by (needs_inbox world user) (fair.asked user ∙ ap (λ b. b && needs_inbox world user) unknown)
+
   closed_grown : (other : List ℕ) (own : Own) → map.get (grown world so_far user).accounts other ≡ Some own → own ≡ map.empty
   closed_grown other own is = by (bytes_eq other user) (sym (account_put so_far.accounts user other) ∙ is)
     where
@@ -166,6 +193,7 @@ module _ (world : World) (so_far : Admission) (fair : IsFair world so_far) (user
         effects = effects_grown;
         asked = asked_grown unknown;
         needed = needed_grown;
+        distinct = distinct_grown unknown;
         closed = closed_grown;
       }
 
@@ -177,11 +205,13 @@ no_account : (user : List ℕ) → map.get nobody.accounts user ≡ None
 no_account user = get-empty (slice_cmp nat_cmp) user
 
 nobody_is_fair : (world : World) → IsFair world nobody
+unfolding IsDistinct
 nobody_is_fair world = record {
   owners = [];
   effects = refl;
   asked = λ user. ap (λ o. is_some o && needs_inbox world user) (sym (no_account user));
   needed = refl;
+  distinct = tt;
   closed = λ user own is. absurd (cc (sym (no_account user) ∙ is));
 }
 
@@ -189,9 +219,13 @@ all_plain : (users : List (List ℕ)) → list_all is_plain (creations users) �
 all_plain [] = refl
 all_plain (user ∷ users) = all_plain users
 
+owners_of : (users : List (List ℕ)) → filter_map inbox_owner (creations users) ≡ users
+owners_of [] = refl
+owners_of (user ∷ users) = ap (λ others. user ∷ others) (owners_of users)
+
 -- ---- what is written
 
-abbrev inbox_row : World → List ℕ → Row
+abbrev inbox_row : World → List ℕ → NewMailbox
 inbox_row base user = record { name = inbox user; mailbox = new_inbox base user }
 
 abbrev inboxes : World → List (List ℕ) → List Write
@@ -205,7 +239,9 @@ all_written base [] h = refl
 all_written base (user ∷ users) h =
     let parts = both (needs_inbox base user) (list_all (needs_inbox base) users) h in
     let room = both (not (map.contains_key base.mailboxes (inbox user))) (nat_lt (epoch base.epochs (inbox user)) max_validity) parts.0 in
-    ap (λ b. writes_then (put_of (cond b (Err Limit) (Ok (inbox_row base user)))) (writes_of (creations users) base)) (room_left (epoch base.epochs (inbox user)) room.1)
+    let absent : map.contains_key base.mailboxes (inbox user) ≡ false = not-true (map.contains_key base.mailboxes (inbox user)) room.0 in
+    ap (λ b. writes_then (cond b (Err Taken) (put_of (new_row base.epochs (inbox user) (owner_acl user)))) (writes_of (creations users) base)) absent
+    ∙ ap (λ b. writes_then (put_of (cond b (Err Limit) (Ok (inbox_row base user)))) (writes_of (creations users) base)) (room_left (epoch base.epochs (inbox user)) room.1)
     ∙ ap (writes_then (Ok (write.Put (inbox_row base user) ∷ []))) (all_written base users parts.1)
 
 same_subscriptions : (base : World) (users : List (List ℕ)) (world : World) → (after_writes (inboxes base users) world).subscriptions ≡ world.subscriptions
@@ -215,47 +251,62 @@ same_subscriptions base (user ∷ users) world = same_subscriptions base users (
 one_owner : (user owner : List ℕ) → inbox user ≡ inbox owner → user ≡ owner
 one_owner user owner e = (named-same user owner (codes "INBOX" ∷ []) (codes "INBOX" ∷ []) e).0
 
--- an INBOX that was made stays when others are made
-inbox_stays : (base : World) (user : List ℕ) (owners : List (List ℕ)) (world : World) → map.get world.mailboxes (inbox user) ≡ Some (new_inbox base user)
-    → map.get (after_writes (inboxes base owners) world).mailboxes (inbox user) ≡ Some (new_inbox base user)
-inbox_stays base user [] world is = is
-inbox_stays base user (owner ∷ owners) world is =
-    inbox_stays base user owners (with_row world (inbox_row base owner))
-    (get_put world.mailboxes (inbox owner) (new_inbox base owner) (inbox user) ∙ by (is_name_at (inbox user) (inbox owner)) refl)
-  where
-    by : (b : Bool) → is_name_at (inbox user) (inbox owner) ≡ b → cond b (Some (new_inbox base owner)) (map.get world.mailboxes (inbox user)) ≡ Some (new_inbox base user)
-    by true e = ap (λ u. Some (new_inbox base u)) (sym (one_owner user owner (equal_names (inbox user) (inbox owner) e)))
-    by false e = is
+-- what is put under the name of each INBOX
+abbrev put_each : {X : Type 0} → (List ℕ → X) → List (List ℕ) → Names X → Names X
+put_each value [] m = m
+put_each value (owner ∷ owners) m = put_each value owners (map.insert m (inbox owner) (value owner))
 
-inbox_made : (base : World) (user : List ℕ) (owners : List (List ℕ)) (world : World) → is_one_of owners user ≡ true
-    → map.get (after_writes (inboxes base owners) world).mailboxes (inbox user) ≡ Some (new_inbox base user)
-inbox_made base user [] world h = absurd (cc h)
-inbox_made base user (owner ∷ owners) world h = by (bytes_eq user owner) refl (inbox_made base user owners (with_row world (inbox_row base owner)))
-  where
-    here : user ≡ owner → map.get (with_row world (inbox_row base owner)).mailboxes (inbox user) ≡ Some (new_inbox base user)
-    here same = subst (λ o. map.get (with_row world (inbox_row base o)).mailboxes (inbox user) ≡ Some (new_inbox base user)) same
-        (get_put world.mailboxes (inbox user) (new_inbox base user) (inbox user)
-        ∙ ap (λ b. cond b (Some (new_inbox base user)) (map.get world.mailboxes (inbox user))) (is_name_at-same (inbox user)))
+mailboxes_are : (base : World) (owners : List (List ℕ)) (world : World) → (after_writes (inboxes base owners) world).mailboxes ≡ put_each (new_inbox base) owners world.mailboxes
+mailboxes_are base [] world = refl
+mailboxes_are base (owner ∷ owners) world = mailboxes_are base owners (with_row world (inbox_row base owner))
 
-    Made : Type 0
-    Made = map.get (after_writes (inboxes base owners) (with_row world (inbox_row base owner))).mailboxes (inbox user) ≡ Some (new_inbox base user)
+abbrev next_epoch : World → List ℕ → ℕ
+next_epoch base user = epoch base.epochs (inbox user) + 1
 
-    by : (b : Bool) → bytes_eq user owner ≡ b → (is_one_of owners user ≡ true → Made) → Made
-    by true e later = inbox_stays base user owners (with_row world (inbox_row base owner)) (here (equal_users user owner e))
-    by false e later = later (sym (ap (λ b. b || is_one_of owners user) e) ∙ h)
+epochs_are : (base : World) (owners : List (List ℕ)) (world : World) → (after_writes (inboxes base owners) world).epochs ≡ put_each (next_epoch base) owners world.epochs
+epochs_are base [] world = refl
+epochs_are base (owner ∷ owners) world = epochs_are base owners (with_row world (inbox_row base owner))
 
-other_kept : (base : World) (name : Name) (owners : List (List ℕ)) (world : World) → ((user : List ℕ) → is_one_of owners user ≡ true → name ≢ inbox user)
-    → map.get (after_writes (inboxes base owners) world).mailboxes name ≡ map.get world.mailboxes name
-other_kept base name [] world apart = refl
-other_kept base name (owner ∷ owners) world apart =
-    other_kept base name owners (with_row world (inbox_row base owner))
-    (λ user asked. apart user (ap (λ b. bytes_eq user owner || b) asked ∙ or_true (bytes_eq user owner)))
-    ∙ get_put world.mailboxes (inbox owner) (new_inbox base owner) name
-    ∙ by (is_name_at name (inbox owner)) refl
-  where
-    by : (b : Bool) → is_name_at name (inbox owner) ≡ b → cond b (Some (new_inbox base owner)) (map.get world.mailboxes name) ≡ map.get world.mailboxes name
-    by true e = absurd (apart owner (ap (λ b. b || is_one_of owners owner) ((bytes_eq-Decides owner owner).1 refl)) (equal_names name (inbox owner) e))
-    by false e = refl
+module _ {X : Type 0} (value : List ℕ → X) where
+  -- what was put for one user stays when others are put
+  put_stays : (user : List ℕ) (owners : List (List ℕ)) (m : Names X) → map.get m (inbox user) ≡ Some (value user) → map.get (put_each value owners m) (inbox user) ≡ Some (value user)
+  put_stays user [] m is = is
+  put_stays user (owner ∷ owners) m is =
+      put_stays user owners (map.insert m (inbox owner) (value owner))
+      (get_put m (inbox owner) (value owner) (inbox user) ∙ by (is_name_at (inbox user) (inbox owner)) refl)
+    where
+      by : (b : Bool) → is_name_at (inbox user) (inbox owner) ≡ b → cond b (Some (value owner)) (map.get m (inbox user)) ≡ Some (value user)
+      by true e = ap (λ u. Some (value u)) (sym (one_owner user owner (equal_names (inbox user) (inbox owner) e)))
+      by false e = is
+
+  put_made : (user : List ℕ) (owners : List (List ℕ)) (m : Names X) → is_one_of owners user ≡ true → map.get (put_each value owners m) (inbox user) ≡ Some (value user)
+  put_made user [] m h = absurd (cc h)
+  put_made user (owner ∷ owners) m h = by (bytes_eq user owner) refl (put_made user owners (map.insert m (inbox owner) (value owner)))
+    where
+      here : user ≡ owner → map.get (map.insert m (inbox owner) (value owner)) (inbox user) ≡ Some (value user)
+      here same = subst (λ o. map.get (map.insert m (inbox o) (value o)) (inbox user) ≡ Some (value user)) same
+          (get_put m (inbox user) (value user) (inbox user)
+          ∙ ap (λ b. cond b (Some (value user)) (map.get m (inbox user))) (is_name_at-same (inbox user)))
+
+      Made : Type 0
+      Made = map.get (put_each value owners (map.insert m (inbox owner) (value owner))) (inbox user) ≡ Some (value user)
+
+      by : (b : Bool) → bytes_eq user owner ≡ b → (is_one_of owners user ≡ true → Made) → Made
+      by true e later = put_stays user owners (map.insert m (inbox owner) (value owner)) (here (equal_users user owner e))
+      by false e later = later (sym (ap (λ b. b || is_one_of owners user) e) ∙ h)
+
+  other_kept : (name : Name) (owners : List (List ℕ)) (m : Names X) → ((user : List ℕ) → is_one_of owners user ≡ true → name ≢ inbox user)
+      → map.get (put_each value owners m) name ≡ map.get m name
+  other_kept name [] m apart = refl
+  other_kept name (owner ∷ owners) m apart =
+      other_kept name owners (map.insert m (inbox owner) (value owner))
+      (λ user asked. apart user (ap (λ b. bytes_eq user owner || b) asked ∙ or_true (bytes_eq user owner)))
+      ∙ get_put m (inbox owner) (value owner) name
+      ∙ by (is_name_at name (inbox owner)) refl
+    where
+      by : (b : Bool) → is_name_at name (inbox owner) ≡ b → cond b (Some (value owner)) (map.get m name) ≡ map.get m name
+      by true e = absurd (apart owner (ap (λ b. b || is_one_of owners owner) ((bytes_eq-Decides owner owner).1 refl)) (equal_names name (inbox owner) e))
+      by false e = refl
 
 -- ---- the start
 
@@ -270,7 +321,10 @@ module _ (world : World) (administrator : List ℕ) (users : List (List ℕ)) wh
   fair = fair_all world all nobody (nobody_is_fair world)
 
   pub admission_apart : AreApart admitted.effects
-  admission_apart = inr (ap (list_all is_plain) fair.effects ∙ all_plain fair.owners)
+  admission_apart = inr (record {
+    plain = ap (list_all is_plain) fair.effects ∙ all_plain fair.owners;
+    owners = subst (IsDistinct bytes_eq) (sym (ap (filter_map inbox_owner) fair.effects ∙ owners_of fair.owners)) fair.distinct;
+  })
 
   written : after_all admitted.effects world ≡ after_writes (inboxes world fair.owners) world
   written = ap (λ r. after_result r world) (ap (λ effects. writes_of effects world) fair.effects ∙ all_written world fair.owners fair.needed)
@@ -285,11 +339,20 @@ pub starts_so : StartsWithInboxes
 starts_so world administrator users limits =
     let owners = (fair world administrator users).owners in
     let made = written world administrator users in
+    let mailboxes : (after_all (admission world administrator users).effects world).mailboxes ≡ put_each (new_inbox world) owners world.mailboxes =
+    ap (λ w. w.mailboxes) made ∙ mailboxes_are world owners world in
+    let epochs : (after_all (admission world administrator users).effects world).epochs ≡ put_each (next_epoch world) owners world.epochs =
+    ap (λ w. w.epochs) made ∙ epochs_are world owners world in
     record {
-      new_inboxes = λ user gets. ap (λ w. map.get w.mailboxes (inbox user)) made
-          ∙ inbox_made world user owners world (asked_users world administrator users user ∙ gets);
-      other_mailboxes = λ name apart. ap (λ w. map.get w.mailboxes name) made
-          ∙ other_kept world name owners world (λ user asked. apart user (sym (asked_users world administrator users user) ∙ asked));
+      same_site = refl;
+      new_inboxes = λ user gets. ap (λ m. map.get m (inbox user)) mailboxes
+          ∙ put_made (new_inbox world) user owners world.mailboxes (asked_users world administrator users user ∙ gets);
+      other_mailboxes = λ name apart. ap (λ m. map.get m name) mailboxes
+          ∙ other_kept (new_inbox world) name owners world.mailboxes (λ user asked. apart user (sym (asked_users world administrator users user) ∙ asked));
+      new_validities = λ user gets. ap (λ m. epoch m (inbox user)) epochs
+          ∙ ap (λ o. unwrap_or o 0) (put_made (next_epoch world) user owners world.epochs (asked_users world administrator users user ∙ gets));
+      other_validities = λ name apart. ap (λ m. epoch m name) epochs
+          ∙ ap (λ o. unwrap_or o 0) (other_kept (next_epoch world) name owners world.epochs (λ user asked. apart user (sym (asked_users world administrator users user) ∙ asked)));
       subscriptions = ap (λ w. w.subscriptions) made ∙ same_subscriptions world owners world;
       accounts = known_users world administrator users;
       sessions = (fair world administrator users).closed;

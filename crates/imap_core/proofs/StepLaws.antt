@@ -8,12 +8,17 @@ use Rattle.std.proofs.lemmas.Slice.Eq.{bytes_eq-Decides}
 use Rattle.std.specs.FinMap as map
 use Rattle.std.specs.FinMap.{get-insert, get-remove}
 use Rattle.std.specs.Cmp.{nat_cmp_total}
+use Rattle.imap_view.proofs.Asked.{own_effects_made}
+use Rattle.imap_view.specs.View.{view_of}
+use Rattle.imap_world.specs.declared.effect.Effect.{Effect}
 use Rattle.imap_world.specs.Effects.{after_all}
+use Rattle.imap_world.specs.World.{World}
 use Rattle.imap_core.specs.declared.sessions.Session.{Session}
 use Rattle.imap_core.specs.declared.sessions.SessionChange.{SessionChange}
 use Rattle.imap_core.specs.declared.sessions.SessionChange.TheVariants as session
-use Rattle.imap_core.specs.Laws.{NeverUnavailable, OtherSessionsStay, RefusalsChangeNothing, StepsAreAlike}
+use Rattle.imap_core.specs.Laws.{EffectsAreMade, IsMadeIfAsked, NeverUnavailable, OtherSessionsStay, OtherUsersStay, RefusalsChangeNothing, StepsAreAlike}
 use Rattle.imap_answer.specs.Alike.{effects_of}
+use Rattle.imap_answer.specs.Fit.{MayBeAsked}
 use Rattle.imap_core.specs.Machine.{accounts_after, next, outcome, outcome_for, own_in, view_in}
 use Rattle.imap_core.specs.Sessions.{Own}
 use Rattle.imap_core.proofs.Fitting.{outcome_fits}
@@ -22,7 +27,7 @@ use Rattle.imap_core.proofs.Steps.{own_after, own_after_change, own_in-next, own
 
 pub alike_on : StepsAreAlike
 alike_on s t step alike = (
-  λ i. (outcome_for (alike.views i) (alike.sessions i) step).answer.replies,
+  λ i. (outcome_for (alike.views i) (alike.sessions i) step).replies,
   record {
     views = view_in-next s step ∙ (λ i. view_next (alike.views i) (alike.sessions i) step) ∙ sym (view_in-next t step);
     sessions = own_in-next s step ∙ (λ i. own_after (alike.views i) (alike.sessions i) step) ∙ sym (own_in-next t step);
@@ -66,6 +71,20 @@ others_stay state step user number apart = by (bytes_eq step.who.user user) refl
     by : (b : Bool) → bytes_eq step.who.user user ≡ b → Stays user
     by true e = subst Stays ((bytes_eq-Decides step.who.user user).0 e) (same_user (of_same (bytes_eq step.who.user user) e apart))
     by false e = ap (of_number number) (own_in-other state step user e)
+
+pub other_users_stay : OtherUsersStay
+other_users_stay state step user apart = own_in-other state step user apart
+
+-- ---- effects
+
+made_if_asked : (administrator user : List ℕ) (world : World) (asked : Option Effect) → MayBeAsked (view_of administrator user world) asked → IsMadeIfAsked asked world
+made_if_asked administrator user world None may = tt
+made_if_asked administrator user world (Some effect) may = own_effects_made administrator user world effect may
+
+pub effects_made : EffectsAreMade
+effects_made state step =
+    made_if_asked state.site.administrator step.who.user state.world (outcome state step).effect
+    (outcome_fits (view_in state step.who.user) (own_in state step.who.user) step).asks
 
 -- ---- refusals
 

@@ -21,11 +21,11 @@ use Rattle.imap_core.proofs.Fitting.{outcome_fits}
 
 -- the acting user's view after a step is a function of the view before, the user's sessions and the step
 abbrev pub view_next : View → Option Own → Step → View
-view_next view own step = view_after_asking (outcome_for view own step).answer.effect view
+view_next view own step = view_after_asking (outcome_for view own step).effect view
 
 pub view_in-next : (state : State) (step : Step) → view_in (next state step) step.who.user ≡ view_next (view_in state step.who.user) (own_in state step.who.user) step
 view_in-next state step =
-    after_asking state.site.administrator step.who.user state.world (outcome state step).answer.effect
+    after_asking state.site.administrator step.who.user state.world (outcome state step).effect
     (outcome_fits (view_in state step.who.user) (own_in state step.who.user) step).asks
 
 -- ---- sessions

@@ -1,11 +1,14 @@
 -- What holds of every step.
-use Rattle.std.specs.Prelude.{◌≡◌, ℕ, true, false, ◌==◌, ◌&&◌, List, Option, bytes_eq, option_and_then}
+use Rattle.std.specs.Prelude.{◌≡◌, ℕ, true, false, ◌==◌, ◌&&◌, List, Option, Some, None, bytes_eq, option_and_then}
 use Rattle.std.specs.List.{list_any}
 use Rattle.std.specs.FinMap as map
 use Rattle.imap_answer.specs.Fit.{is_refusal, is_unavailable}
 use Rattle.imap_core.specs.declared.sessions.Session.{Session}
 use Rattle.imap_core.specs.declared.step.Step.{Step}
-use Rattle.imap_core.specs.Machine.{State, answer, next, own_in}
+use Rattle.imap_view.specs.After.{DifferInHidden, IsMade}
+use Rattle.imap_world.specs.declared.effect.Effect.{Effect}
+use Rattle.imap_world.specs.World.{World}
+use Rattle.imap_core.specs.Machine.{State, answer, next, outcome, own_in}
 use Rattle.imap_core.specs.Trace.{Alike}
 
 -- A step in two states that are alike to its user is answered alike, and leaves them alike to that user.
@@ -13,15 +16,29 @@ abbrev pub StepsAreAlike : Type 0
 StepsAreAlike = (s t : State) (step : Step) → Alike step.who.user s t
     → (answer s step ≡ answer t step) × Alike step.who.user (next s step) (next t step)
 
+-- A step leaves all sessions of every other user as they are.
+abbrev pub OtherUsersStay : Type 0
+OtherUsersStay = (state : State) (step : Step) (user : List ℕ)
+    → bytes_eq step.who.user user ≡ false → own_in (next state step) user ≡ own_in state user
+
 -- a session, if it is open
 abbrev pub session_in : State → (user : List ℕ) → (number : ℕ) → Option Session
 session_in state user number = option_and_then (λ own. map.get own number) (own_in state user)
 
--- A step changes no session but its own.
+-- A step changes no session but its own: no other one of its user either.
 abbrev pub OtherSessionsStay : Type 0
 OtherSessionsStay = (state : State) (step : Step) (user : List ℕ) (number : ℕ)
     → (bytes_eq step.who.user user && (step.who.number == number)) ≡ false
     → session_in (next state step) user number ≡ session_in state user number
+
+-- it is nothing, or values can be written for it
+abbrev pub IsMadeIfAsked : Option Effect → World → Type 0
+IsMadeIfAsked None world = Unit {0}
+IsMadeIfAsked (Some effect) world = IsMade effect world
+
+-- What a step asks of the mailboxes can be made in every state: no reply says OK to an effect that is dropped.
+abbrev pub EffectsAreMade : Type 0
+EffectsAreMade = (state : State) (step : Step) → IsMadeIfAsked (outcome state step).effect state.world
 
 -- A step that is answered by a refusal changes nothing.
 abbrev pub RefusalsChangeNothing : Type 0
@@ -31,3 +48,8 @@ RefusalsChangeNothing = (state : State) (step : Step)
 -- UNAVAILABLE (RFC 5530) is for a host to say, when it can't save a change.
 abbrev pub NeverUnavailable : Type 0
 NeverUnavailable = (state : State) (step : Step) → list_any is_unavailable (answer state step) ≡ false
+
+-- To a user, states are alike that differ in hidden mailboxes alone, and in their used validities.
+abbrev pub HiddenIsAlike : Type 0
+HiddenIsAlike = (user : List ℕ) (s t : State) → s.site ≡ t.site → own_in s user ≡ own_in t user
+    → DifferInHidden s.site.administrator user s.world t.world → Alike user s t

@@ -14,8 +14,7 @@ use Rattle.imap_core.specs.declared.sessions.SessionChange.TheVariants as sessio
 use Rattle.imap_core.specs.declared.session_id.SessionId.{SessionId}
 use Rattle.imap_core.specs.declared.step.Step.{Step}
 use Rattle.imap_core.specs.Accounts.{Accounts, accounts_code}
-use Rattle.imap_core.specs.declared.outcome.Outcome.{Outcome}
-use Rattle.imap_core.specs.Outcome.{silence}
+use Rattle.imap_core.specs.Outcome.{Outcome, silence}
 use Rattle.imap_core.specs.Reply.{reply}
 use Rattle.imap_core.specs.Sessions.{Own}
 
@@ -64,7 +63,7 @@ abbrev pub outcome : State → Step → Outcome
 outcome state step = outcome_for (view_in state step.who.user) (own_in state step.who.user) step
 
 abbrev pub answer : State → Step → List Response
-answer state step = (outcome state step).answer.replies
+answer state step = (outcome state step).replies
 
 -- ---- after a step
 
@@ -82,7 +81,7 @@ accounts_after accounts who session.End =
 abbrev pub next : State → Step → State
 next state step = record {
   site = state.site;
-  world = after_all (effects_of (outcome state step).answer.effect) state.world;
+  world = after_all (effects_of (outcome state step).effect) state.world;
   accounts = accounts_after state.accounts step.who (outcome state step).session;
 }
 

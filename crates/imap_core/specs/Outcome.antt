@@ -1,17 +1,25 @@
 -- What comes of a step.
-use Rattle.std.specs.Prelude.{[]}
-use Rattle.imap_answer.specs.Answer.{Answer, answer_of}
-use Rattle.imap_core.specs.declared.outcome.Outcome.{Outcome}
+use Rattle.std.specs.Prelude.{List, [], ◌∷◌, Option, None, refl}
+use Rattle.imap_answer.specs.Answer.{Answer, lines_of}
+use Rattle.imap_print.specs.declared.response.Response.{Response}
+use Rattle.imap_world.specs.declared.effect.Effect.{Effect}
+use Rattle.imap_core.specs.declared.sessions.SessionChange.{SessionChange}
 use Rattle.imap_core.specs.declared.sessions.SessionChange.TheVariants as session
 
--- the session stays as it is
-abbrev pub staying : Answer → Outcome
-staying answer = record { answer = answer; session = session.Keep }
+-- the replies, what is asked of the mailboxes, and what becomes of the session
+pub record Outcome : Type 0 where
+  pub replies : List Response
+  pub effect : Option Effect
+  pub session : SessionChange
 
--- the session ends
-abbrev pub ending : Answer → Outcome
-ending answer = record { answer = answer; session = session.End }
+-- of a command with this answer
+abbrev pub answered : Answer → SessionChange → Outcome
+answered answer change = record { replies = lines_of answer; effect = answer.effect; session = change }
 
--- nothing is answered
+-- of a step that is no command
+abbrev pub said : List Response → SessionChange → Outcome
+said replies change = record { replies = replies; effect = None; session = change }
+
+-- nothing is said, and the session stays as it is
 abbrev pub silence : Outcome
-silence = staying (answer_of [])
+silence = said [] session.Keep

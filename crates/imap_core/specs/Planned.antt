@@ -8,6 +8,7 @@ use Rattle.imap_print.specs.declared.response.Response.{Response}
 use Rattle.imap_world.specs.declared.change.Write.{Write}
 use Rattle.imap_world.specs.Effects.{after_writes}
 use Rattle.imap_world.specs.Ready as world
+use Rattle.imap_core.specs.declared.session_id.SessionId.{SessionId}
 use Rattle.imap_core.specs.declared.sessions.SessionChange.{SessionChange}
 use Rattle.imap_core.specs.declared.sessions.SessionChange.TheVariants as session
 use Rattle.imap_core.specs.declared.machine.Prepared.{Prepared}
@@ -28,6 +29,13 @@ replies_of prepared = prepared.replies.items
 abbrev pub change_of : Prepared → List Write
 change_of prepared = prepared.change
 
+-- the session whose step it is, and what becomes of it
+abbrev pub who_of : Prepared → SessionId
+who_of prepared = prepared.who
+
+abbrev pub session_of : Prepared → SessionChange
+session_of prepared = prepared.session
+
 -- the state once it is made
 abbrev pub state_after : Prepared → State → State
 state_after prepared state = record {
@@ -35,6 +43,11 @@ state_after prepared state = record {
   world = after_writes (change_of prepared) state.world;
   accounts = accounts_after state.accounts prepared.who prepared.session;
 }
+
+abbrev pub is_put : SessionChange → Bool
+is_put session.Keep = false
+is_put (session.Put fresh) = true
+is_put session.End = false
 
 abbrev pub is_end : SessionChange → Bool
 is_end session.Keep = false

@@ -1,8 +1,8 @@
 -- What a step is answered, what becomes of its session, and what it asks of the mailboxes: by what the user sees, and
 -- the user's own sessions, alone.
-use Rattle.std.specs.Prelude.{ℕ, nat_le, List, [], ◌∷◌, Option, None, if◌then◌else◌}
+use Rattle.std.specs.Prelude.{ℕ, nat_le, List, [], ◌∷◌, Option, Some, None, if◌then◌else◌}
 use Rattle.std.specs.FinMap as map
-use Rattle.imap_answer.specs.Answer.{Answer, answer_of, refusal}
+use Rattle.imap_answer.specs.Answer.{Answer, refusal}
 use Rattle.imap_grammar.specs.declared.request.Request.{Request}
 use Rattle.imap_grammar.specs.declared.request.Request.TheVariants as request
 use Rattle.imap_grammar.specs.declared.command.Command.{Command}
@@ -11,6 +11,7 @@ use Rattle.imap_list.specs.ListCommand.{list_answer, namespace_answer}
 use Rattle.imap_list.specs.Subscriptions.{subscribe_answer, unsubscribe_answer}
 use Rattle.imap_print.specs.declared.response.Response.TheVariants as response
 use Rattle.imap_print.specs.declared.response.Farewell.TheVariants.{LimitReached}
+use Rattle.imap_print.specs.declared.response.Refusal.{Refusal}
 use Rattle.imap_print.specs.declared.response.Refusal.TheVariants.{Cannot, Limit, Malformed}
 use Rattle.imap_tree.specs.Create.{create_answer}
 use Rattle.imap_tree.specs.Delete.{delete_answer}
@@ -20,13 +21,13 @@ use Rattle.imap_tree.specs.MyRights.{my_rights_answer}
 use Rattle.imap_tree.specs.Rename.{rename_answer}
 use Rattle.imap_tree.specs.SetAcl.{delete_acl_answer, set_acl_answer}
 use Rattle.imap_view.specs.View.{View}
-use Rattle.imap_core.specs.declared.outcome.Outcome.{Outcome}
+use Rattle.imap_core.specs.declared.sessions.SessionChange.{SessionChange}
 use Rattle.imap_core.specs.declared.sessions.SessionChange.TheVariants as session
 use Rattle.imap_core.specs.declared.step.Act.{Act}
 use Rattle.imap_core.specs.declared.step.Act.TheVariants as act
 use Rattle.imap_core.specs.declared.step.Step.{Step}
 use Rattle.imap_core.specs.Commands.Session.{capability_answer, noop_answer, logout_answer, authenticate_answer}
-use Rattle.imap_core.specs.Outcome.{staying, ending, silence}
+use Rattle.imap_core.specs.Outcome.{Outcome, answered, said, silence}
 use Rattle.imap_core.specs.Sessions.{Own, max_sessions}
 
 -- a command that isn't built yet can't be done
@@ -56,34 +57,38 @@ command_answer view tag (command.MyRights mailbox) = my_rights_answer view tag m
 command_answer view tag _ = refusal tag Cannot
 
 -- LOGOUT ends the session
-abbrev pub command_outcome : View → (tag : List ℕ) → Command → Outcome
-command_outcome view tag command.Logout = ending (logout_answer tag)
-command_outcome view tag command = staying (command_answer view tag command)
+abbrev pub session_change : Command → SessionChange
+session_change command.Logout = session.End
+session_change _ = session.Keep
 
-abbrev pub malformed : Option (List ℕ) → Answer
-malformed tag = answer_of (response.Refused tag Malformed ∷ [])
+abbrev pub command_outcome : View → (tag : List ℕ) → Command → Outcome
+command_outcome view tag command = answered (command_answer view tag command) (session_change command)
+
+-- the line that refuses a request, with its tag if it has one
+abbrev pub refused : Option (List ℕ) → Refusal → Outcome
+refused tag refusal = said (response.Refused tag refusal ∷ []) session.Keep
 
 abbrev pub request_outcome : View → Request → Outcome
 request_outcome view (request.Command tag command) = command_outcome view tag command
-request_outcome view (request.Malformed tag) = staying (malformed tag)
-request_outcome view (request.TooBig tag) = staying (refusal tag Limit)
+request_outcome view (request.Malformed tag) = refused tag Malformed
+request_outcome view (request.TooBig tag) = refused (Some tag) Limit
 
 -- the session begins
 abbrev pub opened : Outcome
-opened = record { answer = answer_of (response.Greeting ∷ []); session = session.Put (record {}) }
+opened = said (response.Greeting ∷ []) (session.Put (record {}))
 
 -- a session that is open begins anew; DONE where no IDLE runs (RFC 2177) is malformed, and has no tag
 abbrev pub reply_when_open : View → Act → Outcome
 reply_when_open view act.Open = opened
 reply_when_open view (act.Do request) = request_outcome view request
 reply_when_open view act.Poll = silence
-reply_when_open view act.Done = staying (malformed None)
-reply_when_open view act.Leave = ending (answer_of [])
+reply_when_open view act.Done = refused None Malformed
+reply_when_open view act.Leave = said [] session.End
 
 -- of one user no more than the limit are open
 abbrev pub open_outcome : Own → Outcome
 open_outcome own =
-    if nat_le max_sessions (map.len own) then staying (answer_of (response.Bye LimitReached ∷ [])) else opened
+    if nat_le max_sessions (map.len own) then said (response.Bye LimitReached ∷ []) session.Keep else opened
 
 -- what a client says to a session that isn't open is lost
 abbrev pub reply_when_closed : Own → Act → Outcome

@@ -4,8 +4,9 @@ use Rattle.std.specs.List.{list_any}
 use Rattle.std.specs.FinMap as map
 use Rattle.imap_names.specs.Name.{Name}
 use Rattle.imap_rights.specs.Acl.{owner_acl}
-use Rattle.imap_world.specs.declared.mailbox.Mailbox.{Mailbox}
+use Rattle.imap_world.specs.declared.mailbox_entry.MailboxEntry.{MailboxEntry}
 use Rattle.imap_world.specs.declared.site.Limits.{Limits}
+use Rattle.imap_world.specs.declared.site.Site.{Site}
 use Rattle.imap_world.specs.World.{World, epoch, inbox}
 use Rattle.imap_core.specs.Machine.{State}
 use Rattle.imap_core.specs.Opening.{needs_inbox, state_at_start}
@@ -19,22 +20,30 @@ abbrev pub gets_inbox : World → List (List ℕ) → List ℕ → Bool
 gets_inbox world users user = is_one_of users user && needs_inbox world user
 
 -- it has the next UIDVALIDITY (RFC 9051, section 2.3.1.1), and is its owner's alone
-abbrev pub new_inbox : World → List ℕ → Mailbox
+abbrev pub new_inbox : World → List ℕ → MailboxEntry
 new_inbox world user = record { validity = epoch world.epochs (inbox user) + 1; acl = owner_acl user }
 
--- The state has a new INBOX for each user who gets one. All other mailboxes, also an INBOX that is there, and
--- the subscriptions are the world's. It knows the users and nobody else, and none of them has an open session.
-pub record IsStart (world : World) (users : List (List ℕ)) (start : State) : Type 0 where
+-- The state has a new INBOX for each user who gets one, and counts its UIDVALIDITY as used. All other mailboxes, also an
+-- INBOX that is there, all other used UIDVALIDITYs and the subscriptions are the world's. The state's site is the one that
+-- is asked for. It knows the users and nobody else, and none of them has an open session.
+pub record IsStart (world : World) (site : Site) (users : List (List ℕ)) (start : State) : Type 0 where
+  pub same_site : start.site ≡ site
   pub new_inboxes : (user : List ℕ) → gets_inbox world users user ≡ true
       → map.get start.world.mailboxes (inbox user) ≡ Some (new_inbox world user)
   pub other_mailboxes : (name : Name)
       → ((user : List ℕ) → gets_inbox world users user ≡ true → name ≢ inbox user)
       → map.get start.world.mailboxes name ≡ map.get world.mailboxes name
+  pub new_validities : (user : List ℕ) → gets_inbox world users user ≡ true
+      → epoch start.world.epochs (inbox user) ≡ epoch world.epochs (inbox user) + 1
+  pub other_validities : (name : Name)
+      → ((user : List ℕ) → gets_inbox world users user ≡ true → name ≢ inbox user)
+      → epoch start.world.epochs name ≡ epoch world.epochs name
   pub subscriptions : start.world.subscriptions ≡ world.subscriptions
   pub accounts : (user : List ℕ) → map.contains_key start.accounts user ≡ is_one_of users user
   pub sessions : (user : List ℕ) (own : Own) → map.get start.accounts user ≡ Some own → own ≡ map.empty
 
 -- The administrator is a user like the others.
 abbrev pub StartsWithInboxes : Type 0
-StartsWithInboxes = (world : World) (administrator : List ℕ) (users : List (List ℕ)) (limits : Limits)
-    → IsStart world (administrator ∷ users) (state_at_start world administrator users limits)
+StartsWithInboxes = (world : World) (administrator : List ℕ) (users : List (List ℕ)) (limits : Limits) →
+    let site : Site = record { administrator = administrator; limits = limits } in
+    IsStart world site (administrator ∷ users) (state_at_start world administrator users limits)

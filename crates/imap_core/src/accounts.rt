@@ -10,7 +10,11 @@ use crate::sessions::{OwnSessions, Session, SessionChange};
 use imap_user_map::UserMap;
 
 /// Makes the change of a session. Nothing happens if nobody knows the user.
-pub(crate) fn settle(accounts: &mut UserMap<OwnSessions>, who: &SessionId, change: SessionChange)
+pub(crate) fn change_session(
+    accounts: &mut UserMap<OwnSessions>,
+    who: &SessionId,
+    change: SessionChange,
+)
     requires { HasRoom (map.get accounts.old.map who.now.user) who.now.number change }
     ensures { accounts.new.map ≡ accounts_after accounts.old.map who.now change }
 {

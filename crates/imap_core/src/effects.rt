@@ -10,7 +10,7 @@ use std::alloc::{AllocError, Global};
 
 /// Finds the values to be written for the effects, and makes room for them. Each effect can be made as far as the
 /// protocol's limits go, so that only memory can run out.
-pub(crate) fn resolved(
+pub(crate) fn resolve_effects(
     alloc: Global,
     world: &mut World,
     effects: &[Effect],
@@ -37,7 +37,7 @@ pub(crate) fn with_effects(
     ensures change { IfOk result (λ made. writes_of effects.now (world_of world) ≡ Ok made.1) }
 {
     let mut world = world;
-    let change = resolved(alloc, &mut world, effects)?;
+    let change = resolve_effects(alloc, &mut world, effects)?;
     let copy = change.try_copy(alloc)?;
     world.commit(change);
     Ok((world, copy))

@@ -1,6 +1,7 @@
 //! What holds at the start, of every step and of every run.
 
-ghost use Rattle.imap_core.specs.Laws.{NeverUnavailable, OtherSessionsStay, RefusalsChangeNothing, StepsAreAlike};
+ghost use Rattle.imap_core.specs.Laws.{EffectsAreMade, HiddenIsAlike, NeverUnavailable, OtherSessionsStay};
+ghost use Rattle.imap_core.specs.Laws.{OtherUsersStay, RefusalsChangeNothing, StepsAreAlike};
 ghost use Rattle.imap_core.specs.Starting.{StartsWithInboxes};
 ghost use Rattle.imap_core.specs.Trace.{EqualViewsAreSame, Isolation};
 
@@ -20,9 +21,21 @@ pub fn steps_are_alike()
     ensures { StepsAreAlike }
 {}
 
+/// Mailboxes that are hidden from a user can come and go, and leave their used UIDVALIDITYs, and the states are alike to
+/// the user: so what the user is answered from then on is the same, by [`isolation`].
+pub fn hidden_is_alike()
+    ensures { HiddenIsAlike }
+{}
+
 /// A step changes no session but its own: neither another user's, nor another one of the same user.
 pub fn other_sessions_stay()
-    ensures { OtherSessionsStay }
+    ensures users { OtherUsersStay }
+    ensures own { OtherSessionsStay }
+{}
+
+/// What a step asks of the mailboxes can be made in every state: no reply says OK to an effect that is dropped.
+pub fn effects_are_made()
+    ensures { EffectsAreMade }
 {}
 
 /// A step that is answered by a refusal leaves all mailboxes, subscriptions and sessions as they were.
@@ -36,7 +49,8 @@ pub fn never_unavailable()
 {}
 
 /// A host starts with the mailboxes and subscriptions that it is given, a new INBOX for each user who lacks one while
-/// a UIDVALIDITY is left (RFC 9051, section 5.1), and no open session. It knows the administrator and the users only.
+/// a UIDVALIDITY is left (RFC 9051, section 5.1), and no open session. It counts the UIDVALIDITYs of the new INBOXes as
+/// used, and all others stay counted as they were. It knows the administrator and the users only.
 pub fn starts_with_inboxes()
     ensures { StartsWithInboxes }
 {}

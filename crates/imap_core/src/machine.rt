@@ -10,11 +10,12 @@ ghost use Rattle.imap_core.specs.Machine as specs;
 ghost use Rattle.imap_answer.specs.Alike.{effects_of};
 ghost use Rattle.imap_core.specs.Machine.{IsPartWay, after_steps, answer, answers, next};
 ghost use Rattle.imap_core.specs.Opening.{admission, state_at_start};
-ghost use Rattle.imap_core.specs.Planned.{ArePrintable, HasRoom, IsReady, change_of, is_end, replies_in, replies_of, state_after};
+ghost use Rattle.imap_core.specs.Planned.{ArePrintable, HasRoom, IsReady, change_of, is_end, is_put};
+ghost use Rattle.imap_core.specs.Planned.{replies_in, replies_of, session_of, state_after, who_of};
 ghost use Rattle.imap_core.specs.Trace.{sent_to, transcript};
 
-use crate::accounts::settle;
-use crate::effects::{resolved, with_effects};
+use crate::accounts::change_session;
+use crate::effects::{resolve_effects, with_effects};
 use crate::opening::Opening;
 use crate::outcome::Outcome;
 use crate::reply::step_outcome;
@@ -77,6 +78,13 @@ impl Prepared {
         &self.change
     }
 
+    /// Whether the step opens its session, or lets it begin anew.
+    pub fn opens_session(&self) -> bool
+        ensures { result ≡ is_put self.now.session }
+    {
+        matches!(self.session, SessionChange::Put(_))
+    }
+
     /// Whether the step ends its session.
     pub fn ends_session(&self) -> bool
         ensures { result ≡ is_end self.now.session }
@@ -135,14 +143,18 @@ impl Core {
     /// Finds what the step is answered and what it changes, and changes nothing yet.
     pub fn prepare(&mut self, alloc: Global, step: &Step) -> Result<Prepared, AllocError>
         ensures unchanged { self.new.state ≡ self.old.state }
+        ensures who { IfOk result (λ prepared. who_of prepared ≡ step.now.who) }
         ensures replies { IfOk result (λ prepared. replies_of prepared ≡ answer self.old.state step.now) }
+        ensures session { let meant = (specs.outcome self.old.state step.now).session in
+            IfOk result (λ prepared. session_of prepared ≡ meant) }
+        ensures change { let asked = effects_of (specs.outcome self.old.state step.now).effect in
+            IfOk result (λ prepared. writes_of asked self.old.state.world ≡ Ok (change_of prepared)) }
         ensures next { IfOk result (λ prepared. state_after prepared self.old.state ≡ next self.old.state step.now) }
         ensures ready { IfOk result (λ prepared. IsReady prepared self.new) }
         ensures printable { IfOk result (λ prepared. ArePrintable prepared.replies) }
     {
         let who = step.who.try_copy()?;
-        let Outcome { answer, session } = self.outcome_of(alloc, step)?;
-        let (replies, effect) = answer.into_parts();
+        let (replies, effect, session) = self.outcome_of(alloc, step)?.into_parts();
         let change = self.resolve(alloc, &effect)?;
         Ok(Prepared {
             who,
@@ -181,7 +193,7 @@ impl Core {
             session,
             change,
         } = prepared;
-        settle(&mut self.accounts, &who, session);
+        change_session(&mut self.accounts, &who, session);
         self.world.commit(change);
         replies
     }
@@ -207,7 +219,7 @@ impl Core {
         ensures ready { IfOk result (λ change. world.IsReady change self.new.stored) }
     {
         match effect {
-            Some(effect) => resolved(alloc, &mut self.world, slice::from_ref(effect)),
+            Some(effect) => resolve_effects(alloc, &mut self.world, slice::from_ref(effect)),
             None => Ok(Change::none(alloc)),
         }
     }

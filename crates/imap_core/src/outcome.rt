@@ -1,44 +1,100 @@
 //! What comes of a step, before it is made.
 
-ghost use Rattle.std.specs.Prelude.{◌≡◌};
+ghost use Rattle.std.specs.Prelude.{◌≡◌, IfOk};
+ghost use Rattle.std.specs.List.{AllByRecursion};
+ghost use Rattle.imap_print.specs.Lines.{IsPrintable};
 ghost use Rattle.imap_core.specs.Outcome as specs;
 
 use crate::sessions::SessionChange;
 use imap_answer::Answer;
-use std::alloc::Global;
+use imap_print::Response;
+use imap_world::Effect;
+use std::alloc::{AllocError, Global};
+use std::marker::Model;
 
-/// The answer to a step, and what becomes of its session.
+/// The replies to a step, what it asks of the mailboxes, and what becomes of its session. A client reads each reply as
+/// one line.
 #[derive(Drop)]
 pub(crate) struct Outcome {
-    pub(crate) answer: Answer,
-    pub(crate) session: SessionChange,
+    replies: Vec<Response>,
+    effect: Option<Effect>,
+    session: SessionChange,
+}
+
+impl Model for Outcome {
+    ghost use Rattle.std.specs.Prelude.{List, Option, refl};
+    ghost use Rattle.std.specs.Coded.{code_by, coded×, codes};
+    ghost use Rattle.std.specs.List.{AllByRecursion};
+    ghost use Rattle.imap_print.specs.Lines.{IsPrintable};
+    ghost use Rattle.imap_print.specs.contracts.response.Response.{the_row as response_row};
+    ghost use Rattle.imap_print.specs.declared.response.Response.{Response};
+    ghost use Rattle.imap_world.specs.contracts.effect.Effect.{the_row as effect_row};
+    ghost use Rattle.imap_world.specs.declared.effect.Effect.{Effect};
+    ghost use Rattle.imap_core.specs.contracts.sessions.SessionChange.{the_row as session_row};
+    ghost use Rattle.imap_core.specs.declared.sessions.SessionChange.{SessionChange};
+    ghost use Rattle.imap_core.specs.Outcome as specs;
+
+    ghost Value = { specs.Outcome };
+
+    ghost coded = { code_by (List Response × (Option Effect × SessionChange))
+        (Prim.hlevel (codes, response_row.coded, effect_row.coded, session_row.coded))
+        (λ outcome. (outcome.replies, (outcome.effect, outcome.session)))
+        (λ p. record { replies = p.0; effect = p.1.0; session = p.1.1 }) (λ _. refl) };
+
+    ghost view = { λ outcome. record {
+      replies = outcome.replies.items;
+      effect = outcome.effect;
+      session = outcome.session;
+    } };
+
+    ghost invariant = { λ outcome. AllByRecursion IsPrintable outcome.replies.items };
 }
 
 impl Outcome {
-    /// The session stays as it is.
-    pub(crate) fn staying(answer: Answer) -> Outcome
-        ensures { result ≡ specs.staying answer }
+    /// Of a command with this answer.
+    pub(crate) fn answered(answer: Answer, session: SessionChange) -> Result<Outcome, AllocError>
+        ensures { IfOk result (λ outcome. outcome ≡ specs.answered answer session) }
+    {
+        let (mut replies, last, effect) = answer.into_parts();
+        replies.push(last)?;
+        Ok(Outcome {
+            replies,
+            effect,
+            session,
+        })
+    }
+
+    /// Of a step that is no command.
+    pub(crate) fn said(replies: Vec<Response>, session: SessionChange) -> Outcome
+        requires { AllByRecursion IsPrintable replies.items }
+        ensures { result ≡ specs.said replies.items session }
     {
         Outcome {
-            answer,
-            session: SessionChange::Keep,
+            replies,
+            effect: None,
+            session,
         }
     }
 
-    /// The session ends.
-    pub(crate) fn ending(answer: Answer) -> Outcome
-        ensures { result ≡ specs.ending answer }
-    {
-        Outcome {
-            answer,
-            session: SessionChange::End,
-        }
-    }
-
-    /// Nothing is answered, and the session stays as it is.
+    /// Nothing is said, and the session stays as it is.
     pub(crate) fn silence(alloc: Global) -> Outcome
         ensures { result ≡ specs.silence }
     {
-        Outcome::staying(Answer::of(Vec::new(alloc)))
+        Outcome::said(Vec::new(alloc), SessionChange::Keep)
+    }
+
+    /// Returns the replies, the effect and what becomes of the session.
+    pub(crate) fn into_parts(self) -> (Vec<Response>, Option<Effect>, SessionChange)
+        ensures replies { result.0.items ≡ self.replies }
+        ensures effect { result.1 ≡ self.effect }
+        ensures session { result.2 ≡ self.session }
+        ensures printable { AllByRecursion IsPrintable result.0.items }
+    {
+        let Outcome {
+            replies,
+            effect,
+            session,
+        } = self;
+        (replies, effect, session)
     }
 }

@@ -1,13 +1,15 @@
 //! What a step is answered.
 
 ghost use Rattle.std.specs.Prelude.{◌≡◌, IfOk};
+ghost use Rattle.imap_print.specs.Lines.{IsPrintable};
+ghost use Rattle.imap_print.specs.declared.response.Response.TheVariants as response;
 ghost use Rattle.imap_core.specs.Reply as specs;
 
 use crate::commands::command_outcome;
 use crate::outcome::Outcome;
 use crate::sessions::{OwnSessions, Session, SessionChange};
 use crate::step::{Act, Step};
-use imap_answer::Answer;
+use imap_answer::{Call, refused_line};
 use imap_grammar::Request;
 use imap_lex::Tag;
 use imap_print::{Farewell, Refusal, Response};
@@ -36,8 +38,8 @@ fn outcome_when_open(alloc: Global, view: &View<'_>, act: &Act) -> Result<Outcom
         Act::Open => greeting(alloc),
         Act::Do(request) => request_outcome(alloc, view, request),
         Act::Poll => Ok(Outcome::silence(alloc)),
-        Act::Done => Ok(Outcome::staying(malformed(alloc, &None)?)),
-        Act::Leave => Ok(Outcome::ending(Answer::of(Vec::new(alloc)))),
+        Act::Done => refused(alloc, &None, Refusal::Malformed),
+        Act::Leave => Ok(Outcome::said(Vec::new(alloc), SessionChange::End)),
     }
 }
 
@@ -56,7 +58,7 @@ fn open_outcome(alloc: Global, own: &OwnSessions) -> Result<Outcome, AllocError>
 {
     if own.is_full() {
         let bye = vec![in alloc; Response::Bye(Farewell::LimitReached)]?;
-        return Ok(Outcome::staying(Answer::of(bye)));
+        return Ok(Outcome::said(bye, SessionChange::Keep));
     }
     greeting(alloc)
 }
@@ -64,36 +66,38 @@ fn open_outcome(alloc: Global, own: &OwnSessions) -> Result<Outcome, AllocError>
 fn greeting(alloc: Global) -> Result<Outcome, AllocError>
     ensures { IfOk result (λ outcome. outcome ≡ specs.opened) }
 {
-    Ok(Outcome {
-        answer: Answer::of(vec![in alloc; Response::Greeting]?),
-        session: SessionChange::Put(Session),
-    })
+    let greeting = vec![in alloc; Response::Greeting]?;
+    Ok(Outcome::said(greeting, SessionChange::Put(Session)))
 }
 
 fn request_outcome(alloc: Global, view: &View<'_>, request: &Request) -> Result<Outcome, AllocError>
     ensures { IfOk result (λ outcome. outcome ≡ specs.request_outcome view.now request.now) }
 {
     match request {
-        Request::Command { tag, body } => command_outcome(alloc, view, tag, body),
-        Request::Malformed { tag } => Ok(Outcome::staying(malformed(alloc, tag)?)),
-        Request::TooBig { tag } => {
-            Ok(Outcome::staying(Answer::refusal(alloc, tag, Refusal::Limit)?))
-        }
+        Request::Command { tag, body } => command_outcome(&Call::new(alloc, view, tag), body),
+        Request::Malformed { tag } => refused(alloc, tag, Refusal::Malformed),
+        Request::TooBig { tag } => refused(alloc, &Some(tag.try_copy(alloc)?), Refusal::Limit),
     }
 }
 
-/// Answers octets that are no command, or a DONE where no IDLE runs (RFC 2177), which has no tag.
-fn malformed(alloc: Global, tag: &Option<Tag>) -> Result<Answer, AllocError>
-    ensures { IfOk result (λ answer. answer ≡ specs.malformed tag.now) }
+/// Refuses octets that are no command, or a DONE where no IDLE runs (RFC 2177), which has no tag.
+fn refused(alloc: Global, tag: &Option<Tag>, refusal: Refusal) -> Result<Outcome, AllocError>
+    ensures { IfOk result (λ outcome. outcome ≡ specs.refused (tag.now) refusal) }
+{
+    let line = line_of_refusal(alloc, tag, refusal)?;
+    Ok(Outcome::said(vec![in alloc; line]?, SessionChange::Keep))
+}
+
+fn line_of_refusal(
+    alloc: Global,
+    tag: &Option<Tag>,
+    refusal: Refusal,
+) -> Result<Response, AllocError>
+    ensures line { IfOk result (λ line. line ≡ response.Refused tag.now refusal) }
+    ensures printable { IfOk result IsPrintable }
 {
     match tag {
-        Some(tag) => Answer::refusal(alloc, tag, Refusal::Malformed),
-        None => {
-            let refused = Response::Refused {
-                tag: None,
-                refusal: Refusal::Malformed,
-            };
-            Ok(Answer::of(vec![in alloc; refused]?))
-        }
+        Some(tag) => refused_line(alloc, tag, refusal),
+        None => Ok(Response::Refused { tag: None, refusal }),
     }
 }

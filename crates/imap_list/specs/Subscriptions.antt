@@ -2,7 +2,7 @@
 use Rattle.std.specs.Prelude.{ℕ, Bool, false, not, nat_le, List, Option, Some, None, if◌then◌else◌}
 use Rattle.std.specs.FinMap as map
 use Rattle.imap_answer.specs.Answer.{Answer, done, done_with, refusal}
-use Rattle.imap_answer.specs.Name.{named}
+use Rattle.imap_answer.specs.Name.{if_named}
 use Rattle.imap_names.specs.Name.{Name}
 use Rattle.imap_print.specs.declared.response.Refusal.TheVariants.{Limit, NonExistent}
 use Rattle.imap_view.specs.Seen.{Seen}
@@ -33,17 +33,8 @@ abbrev pub unsubscribe_of_name : View → (tag : List ℕ) → Name → Answer
 unsubscribe_of_name view tag name =
     if map.contains_key view.subscribed name then done_with tag (Unsubscribe view.user name) else done tag
 
--- of the name that a text means to the user, if it means one
-abbrev pub subscribe_of : View → (tag : List ℕ) → Option Name → Answer
-subscribe_of view tag None = refusal tag NonExistent
-subscribe_of view tag (Some name) = subscribe_of_name view tag name
-
-abbrev pub unsubscribe_of : View → (tag : List ℕ) → Option Name → Answer
-unsubscribe_of view tag None = refusal tag NonExistent
-unsubscribe_of view tag (Some name) = unsubscribe_of_name view tag name
-
 abbrev pub subscribe_answer : View → (tag mailbox : List ℕ) → Answer
-subscribe_answer view tag mailbox = subscribe_of view tag (named view mailbox)
+subscribe_answer view tag mailbox = if_named view tag mailbox (subscribe_of_name view tag)
 
 abbrev pub unsubscribe_answer : View → (tag mailbox : List ℕ) → Answer
-unsubscribe_answer view tag mailbox = unsubscribe_of view tag (named view mailbox)
+unsubscribe_answer view tag mailbox = if_named view tag mailbox (unsubscribe_of_name view tag)

@@ -8,30 +8,25 @@ ghost use Rattle.imap_list.specs.ListCommand as specs;
 use crate::line::Line;
 use crate::listing::{list, list_subscribed};
 use crate::query::Query;
-use imap_answer::Answer;
-use imap_lex::{Octets, Tag};
+use imap_answer::{Answer, Call};
+use imap_lex::Octets;
 use imap_print::{Children, ListAttributes, Refusal, Response};
 use imap_view::View;
 use std::alloc::{AllocError, Global};
 
 /// Answers LIST.
-pub fn list_answer(
-    alloc: Global,
-    view: &View<'_>,
-    tag: &Tag,
-    query: &Query<'_>,
-) -> Result<Answer, AllocError>
-    ensures { IfOk result (λ answer. answer ≡ specs.list_answer view.now tag.now query.now) }
+pub fn list_answer(call: &Call<'_>, query: &Query<'_>) -> Result<Answer, AllocError>
+    ensures { IfOk result (λ answer. answer ≡ specs.list_answer call.now.view call.now.tag query.now) }
 {
     if query.is_unbuilt() {
-        return Answer::refusal(alloc, tag, Refusal::Cannot);
+        return call.refuse(Refusal::Cannot);
     }
     if query.asks_for_root() {
-        return Answer::done_after(alloc, vec![in alloc; Response::ListRoot]?, tag);
+        return call.done_after(vec![in call.alloc(); Response::ListRoot]?);
     }
-    let lines = lines_of(alloc, view, query)?;
-    let responses = list_lines(alloc, query.shows_subscribed(), lines)?;
-    Answer::done_after(alloc, responses, tag)
+    let lines = lines_of(call.alloc(), call.view(), query)?;
+    let responses = list_lines(call.alloc(), query.shows_subscribed(), lines)?;
+    call.done_after(responses)
 }
 
 fn lines_of(alloc: Global, view: &View<'_>, query: &Query<'_>) -> Result<Vec<Line>, AllocError>
@@ -93,8 +88,8 @@ fn children_of(has_children: bool) -> Children
 }
 
 /// Answers NAMESPACE.
-pub fn namespace_answer(alloc: Global, tag: &Tag) -> Result<Answer, AllocError>
-    ensures { IfOk result (λ answer. answer ≡ specs.namespace_answer tag.now) }
+pub fn namespace_answer(call: &Call<'_>) -> Result<Answer, AllocError>
+    ensures { IfOk result (λ answer. answer ≡ specs.namespace_answer call.now.tag) }
 {
-    Answer::done_after(alloc, vec![in alloc; Response::Namespace]?, tag)
+    call.done_after(vec![in call.alloc(); Response::Namespace]?)
 }

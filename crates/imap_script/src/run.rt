@@ -54,14 +54,14 @@ impl<O: Write + Drop> Run<O> {
 
     /// Begins a stream, unless the session is refused.
     fn open(&mut self, alloc: Global, step: &ScriptStep) -> Result<(), ScriptError> {
-        let replies = self.replies(alloc, step, Act::Open)?;
-        if is_greeted(replies.as_slice()) {
+        let made = self.made(alloc, step, Act::Open)?;
+        if made.opens_session {
             let label = String::from_str(alloc, step.label.as_str())?;
             self.framers
                 .insert(label, Framer::new(alloc, self.max_octets))?;
         }
         self.transcript
-            .tell(alloc, step.label.as_str(), replies.as_slice())
+            .tell(alloc, step.label.as_str(), made.replies.as_slice())
     }
 
     fn leave(&mut self, alloc: Global, step: &ScriptStep) -> Result<(), ScriptError> {
@@ -139,53 +139,48 @@ impl<O: Write + Drop> Run<O> {
 
     /// Makes an act of an open session.
     fn act(&mut self, alloc: Global, step: &ScriptStep, act: Act) -> Result<(), ScriptError> {
-        let replies = self.replies(alloc, step, act)?;
-        if is_dismissed(replies.as_slice()) {
+        let made = self.made(alloc, step, act)?;
+        if made.ends_session {
             self.framers.remove(step.label.as_str());
         }
         self.transcript
-            .tell(alloc, step.label.as_str(), replies.as_slice())
+            .tell(alloc, step.label.as_str(), made.replies.as_slice())
     }
 
-    /// Makes the act, and returns its replies.
-    fn replies(
-        &mut self,
-        alloc: Global,
-        step: &ScriptStep,
-        act: Act,
-    ) -> Result<Vec<Response>, ScriptError> {
-        let (who, act) = named(&step.who, act)?;
+    /// Makes the act, and returns what came of it.
+    fn made(&mut self, alloc: Global, step: &ScriptStep, act: Act) -> Result<Made, ScriptError> {
+        let (who, act) = beside(&step.who, act)?;
         let step = Step {
             who,
             at: step.at,
             act,
         };
-        let replies = self.answers(alloc, &step);
+        let made = self.made_of(alloc, &step);
         drop(step);
-        replies
+        made
     }
 
-    fn answers(&mut self, alloc: Global, step: &Step) -> Result<Vec<Response>, ScriptError> {
+    fn made_of(&mut self, alloc: Global, step: &Step) -> Result<Made, ScriptError> {
         let prepared = self.core.prepare(alloc, step)?;
-        Ok(self.core.commit(prepared))
+        let opens_session = prepared.opens_session();
+        let ends_session = prepared.ends_session();
+        Ok(Made {
+            replies: self.core.commit(prepared),
+            opens_session,
+            ends_session,
+        })
     }
+}
+
+/// What came of an act.
+#[derive(Drop)]
+struct Made {
+    replies: Vec<Response>,
+    opens_session: bool,
+    ends_session: bool,
 }
 
 /// A copy of `who` beside `act`. It is generic, since the proof that a request is dropped is long.
-fn named<A: Drop>(who: &SessionId, act: A) -> Result<(SessionId, A), ScriptError> {
+fn beside<A: Drop>(who: &SessionId, act: A) -> Result<(SessionId, A), ScriptError> {
     Ok((who.try_copy()?, act))
-}
-
-/// Whether the replies open a session.
-fn is_greeted(replies: &[Response]) -> bool {
-    replies
-        .iter()
-        .any(|reply| matches!(reply, Response::Greeting))
-}
-
-/// Whether the replies end a session.
-fn is_dismissed(replies: &[Response]) -> bool {
-    replies
-        .iter()
-        .any(|reply| matches!(reply, Response::Bye(_)))
 }

@@ -6,5 +6,5 @@ use Rattle.imap_rights.specs.Rights.{has_any, lookup}
 
 -- why a command is refused whose user holds these rights and lacks another. Without `l` it is as if there were no
 -- mailbox (section 6)
-abbrev pub lacking : (rights : ℕ) → Refusal
-lacking rights = if has_any rights lookup then NoPerm else NonExistent
+abbrev pub missing_right_refusal : (rights : ℕ) → Refusal
+missing_right_refusal rights = if has_any rights lookup then NoPerm else NonExistent

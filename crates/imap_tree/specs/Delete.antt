@@ -1,27 +1,23 @@
 -- DELETE (RFC 9051, section 6.3.5; RFC 4314, section 4).
-use Rattle.std.specs.Prelude.{ℕ, List, not, Option, Some, None, if◌then◌else◌}
+use Rattle.std.specs.Prelude.{ℕ, List, not, if◌then◌else◌}
 use Rattle.imap_answer.specs.Answer.{Answer, done_with, refusal}
-use Rattle.imap_answer.specs.Name.{named}
+use Rattle.imap_answer.specs.Name.{if_named}
 use Rattle.imap_names.specs.Name.{Name, is_inbox}
 use Rattle.imap_name_map.specs.Rows.{has_below}
-use Rattle.imap_print.specs.declared.response.Refusal.TheVariants.{Cannot, HasChildren, NonExistent}
+use Rattle.imap_print.specs.declared.response.Refusal.TheVariants.{Cannot, HasChildren}
 use Rattle.imap_rights.specs.Rights.{delete_mailbox, has_any}
 use Rattle.imap_view.specs.View.{View, rights_in}
 use Rattle.imap_world.specs.declared.effect.Effect.TheVariants.{Delete}
-use Rattle.imap_tree.specs.Access.{lacking}
+use Rattle.imap_tree.specs.Access.{missing_right_refusal}
 
 -- No INBOX is deleted, and no mailbox that has names below it.
 abbrev pub delete_of_name : View → (tag : List ℕ) → Name → Answer
 delete_of_name view tag name =
-    if not (has_any (rights_in view name) delete_mailbox) then refusal tag (lacking (rights_in view name))
+    if not (has_any (rights_in view name) delete_mailbox)
+    then refusal tag (missing_right_refusal (rights_in view name))
     else if is_inbox name then refusal tag Cannot
     else if has_below name view.taken then refusal tag HasChildren
     else done_with tag (Delete name)
 
--- of the name that a text means to the user, if it means one
-abbrev pub delete_of : View → (tag : List ℕ) → Option Name → Answer
-delete_of view tag None = refusal tag NonExistent
-delete_of view tag (Some name) = delete_of_name view tag name
-
 abbrev pub delete_answer : View → (tag mailbox : List ℕ) → Answer
-delete_answer view tag mailbox = delete_of view tag (named view mailbox)
+delete_answer view tag mailbox = if_named view tag mailbox (delete_of_name view tag)

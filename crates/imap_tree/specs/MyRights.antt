@@ -2,7 +2,7 @@
 use Rattle.std.specs.Prelude.{ℕ, List, [], ◌∷◌, Option, Some, None}
 use Rattle.std.specs.FinMap as map
 use Rattle.imap_answer.specs.Answer.{Answer, done_after, refusal}
-use Rattle.imap_answer.specs.Name.{named}
+use Rattle.imap_answer.specs.Name.{if_named}
 use Rattle.imap_names.specs.Name.{Name}
 use Rattle.imap_names.specs.Showing.{shown}
 use Rattle.imap_print.specs.declared.response.Response.TheVariants as response
@@ -19,10 +19,5 @@ my_rights_of_seen user tag name (Some seen) =
 abbrev pub my_rights_of_name : View → (tag : List ℕ) → Name → Answer
 my_rights_of_name view tag name = my_rights_of_seen view.user tag name (map.get view.seen name)
 
--- of the name that a text means to the user, if it means one
-abbrev pub my_rights_of : View → (tag : List ℕ) → Option Name → Answer
-my_rights_of view tag None = refusal tag NonExistent
-my_rights_of view tag (Some name) = my_rights_of_name view tag name
-
 abbrev pub my_rights_answer : View → (tag mailbox : List ℕ) → Answer
-my_rights_answer view tag mailbox = my_rights_of view tag (named view mailbox)
+my_rights_answer view tag mailbox = if_named view tag mailbox (my_rights_of_name view tag)

@@ -8,8 +8,8 @@ use imap_print::Refusal;
 use imap_rights::Rights;
 
 /// Why a command is refused whose user holds these rights on the mailbox, and lacks another.
-pub(crate) fn lacking(rights: Rights) -> Refusal
-    ensures { result ≡ specs.lacking (bits rights) }
+pub(crate) fn missing_right_refusal(rights: Rights) -> Refusal
+    ensures { result ≡ specs.missing_right_refusal (bits rights) }
 {
     if rights.has_any(Rights::LOOKUP) {
         Refusal::NoPerm

@@ -6,26 +6,22 @@ ghost use Rattle.imap_view.specs.Seen.{is_root};
 ghost use Rattle.imap_view.specs.TreeAfter.{missing_in, validities_left};
 
 use crate::new_name::read_new_name;
-use imap_answer::Answer;
-use imap_lex::{Octets, Tag};
+use imap_answer::{Answer, Call};
+use imap_lex::Octets;
 use imap_names::{Name, NameRef};
 use imap_print::Refusal;
 use imap_view::View;
 use imap_world::Effect;
-use std::alloc::{AllocError, Global};
+use std::alloc::AllocError;
 
 /// Answers CREATE of a mailbox, as it is named in the command.
-pub fn create_answer(
-    alloc: Global,
-    view: &View<'_>,
-    tag: &Tag,
-    mailbox: &Octets,
-) -> Result<Answer, AllocError>
-    ensures { IfOk result (λ answer. answer ≡ specs.create_answer view.now tag.now mailbox.now) }
+pub fn create_answer(call: &Call<'_>, mailbox: &Octets) -> Result<Answer, AllocError>
+    ensures { let meant = specs.create_answer call.now.view call.now.tag mailbox.now in
+        IfOk result (λ answer. answer ≡ meant) }
 {
-    match read_new_name(alloc, view, without_delimiter(mailbox.as_slice()))? {
-        Ok(name) => create_of_name(alloc, view, tag, name),
-        Err(refusal) => Answer::refusal(alloc, tag, refusal),
+    match read_new_name(call, without_delimiter(mailbox.as_slice()))? {
+        Ok(name) => create_of_name(call, name),
+        Err(refusal) => call.refuse(refusal),
     }
 }
 
@@ -40,25 +36,21 @@ fn without_delimiter(text: &[u8]) -> &[u8]
     }
 }
 
-fn create_of_name(
-    alloc: Global,
-    view: &View<'_>,
-    tag: &Tag,
-    name: Name,
-) -> Result<Answer, AllocError>
-    ensures { IfOk result (λ answer. answer ≡ specs.create_of_name view.now tag.now name) }
+fn create_of_name(call: &Call<'_>, name: Name) -> Result<Answer, AllocError>
+    ensures { IfOk result (λ answer. answer ≡ specs.create_of_name call.now.view call.now.tag name) }
 {
+    let view = call.view();
     if !view.may_create(&name.as_ref()) {
-        return Answer::refusal(alloc, tag, Refusal::NoPerm);
+        return call.refuse(Refusal::NoPerm);
     }
     if view.is_taken(&name.as_ref()) {
-        return Answer::refusal(alloc, tag, Refusal::AlreadyExists);
+        return call.refuse(Refusal::AlreadyExists);
     }
     if !are_validities_left(view, &name.as_ref()) {
-        return Answer::refusal(alloc, tag, Refusal::Limit);
+        return call.refuse(Refusal::Limit);
     }
     let owner = view.owner(&name).try_copy()?;
-    Answer::done_with(alloc, tag, Effect::Create(owner, name))
+    call.done_with(Effect::Create(owner, name))
 }
 
 /// Whether a UIDVALIDITY is left for each mailbox that is made with the name.

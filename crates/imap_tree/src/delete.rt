@@ -3,48 +3,38 @@
 ghost use Rattle.std.specs.Prelude.{◌≡◌, IfOk};
 ghost use Rattle.imap_tree.specs.Delete as specs;
 
-use crate::access::lacking;
-use imap_answer::{Answer, named};
-use imap_lex::{Octets, Tag};
+use crate::access::missing_right_refusal;
+use imap_answer::{Answer, Call};
+use imap_lex::Octets;
 use imap_names::Name;
 use imap_print::Refusal;
 use imap_rights::Rights;
-use imap_view::View;
 use imap_world::Effect;
-use std::alloc::{AllocError, Global};
+use std::alloc::AllocError;
 
 /// Answers DELETE of a mailbox, as it is named in the command.
-pub fn delete_answer(
-    alloc: Global,
-    view: &View<'_>,
-    tag: &Tag,
-    mailbox: &Octets,
-) -> Result<Answer, AllocError>
-    ensures { IfOk result (λ answer. answer ≡ specs.delete_answer view.now tag.now mailbox.now) }
+pub fn delete_answer(call: &Call<'_>, mailbox: &Octets) -> Result<Answer, AllocError>
+    ensures { let meant = specs.delete_answer call.now.view call.now.tag mailbox.now in
+        IfOk result (λ answer. answer ≡ meant) }
 {
-    match named(alloc, view, mailbox)? {
-        Some(name) => delete_of_name(alloc, view, tag, name),
-        None => Answer::refusal(alloc, tag, Refusal::NonExistent),
+    match call.name(mailbox)? {
+        Some(name) => delete_of_name(call, name),
+        None => call.refuse(Refusal::NonExistent),
     }
 }
 
-fn delete_of_name(
-    alloc: Global,
-    view: &View<'_>,
-    tag: &Tag,
-    name: Name,
-) -> Result<Answer, AllocError>
-    ensures { IfOk result (λ answer. answer ≡ specs.delete_of_name view.now tag.now name) }
+fn delete_of_name(call: &Call<'_>, name: Name) -> Result<Answer, AllocError>
+    ensures { IfOk result (λ answer. answer ≡ specs.delete_of_name call.now.view call.now.tag name) }
 {
-    let rights = view.rights(&name.as_ref());
+    let rights = call.view().rights(&name.as_ref());
     if !rights.has_any(Rights::DELETE_MAILBOX) {
-        return Answer::refusal(alloc, tag, lacking(rights));
+        return call.refuse(missing_right_refusal(rights));
     }
     if name.is_inbox() {
-        return Answer::refusal(alloc, tag, Refusal::Cannot);
+        return call.refuse(Refusal::Cannot);
     }
-    if view.taken_below(&name.as_ref()) {
-        return Answer::refusal(alloc, tag, Refusal::HasChildren);
+    if call.view().taken_below(&name.as_ref()) {
+        return call.refuse(Refusal::HasChildren);
     }
-    Answer::done_with(alloc, tag, Effect::Delete(name))
+    call.done_with(Effect::Delete(name))
 }

@@ -6,51 +6,43 @@ ghost use Rattle.imap_rights.specs.Entries.{pairs_of};
 ghost use Rattle.imap_rights.specs.Rights.{bits};
 ghost use Rattle.imap_tree.specs.GetAcl as specs;
 
-use crate::access::lacking;
+use crate::access::missing_right_refusal;
 use crate::shown_mailbox::shown_mailbox;
-use imap_answer::{Answer, named};
-use imap_lex::{Octets, Tag};
+use imap_answer::{Answer, Call};
+use imap_lex::Octets;
 use imap_names::Name;
 use imap_print::{AclEntry, Refusal, Response};
 use imap_rights::{Acl, Entry};
 use imap_syntax::Items;
-use imap_view::View;
 use std::alloc::{AllocError, Global};
 
 /// Answers GETACL of a mailbox, as it is named in the command.
-pub fn get_acl_answer(
-    alloc: Global,
-    view: &View<'_>,
-    tag: &Tag,
-    mailbox: &Octets,
-) -> Result<Answer, AllocError>
-    ensures { IfOk result (λ answer. answer ≡ specs.get_acl_answer view.now tag.now mailbox.now) }
+pub fn get_acl_answer(call: &Call<'_>, mailbox: &Octets) -> Result<Answer, AllocError>
+    ensures { let meant = specs.get_acl_answer call.now.view call.now.tag mailbox.now in
+        IfOk result (λ answer. answer ≡ meant) }
 {
-    match named(alloc, view, mailbox)? {
-        Some(name) => get_acl_of(alloc, view, tag, &name),
-        None => Answer::refusal(alloc, tag, Refusal::NonExistent),
+    match call.name(mailbox)? {
+        Some(name) => get_acl_of_name(call, &name),
+        None => call.refuse(Refusal::NonExistent),
     }
 }
 
-fn get_acl_of(alloc: Global, view: &View<'_>, tag: &Tag, name: &Name) -> Result<Answer, AllocError>
-    ensures { IfOk result (λ answer. answer ≡ specs.get_acl_of_name view.now tag.now name.now) }
+fn get_acl_of_name(call: &Call<'_>, name: &Name) -> Result<Answer, AllocError>
+    ensures { IfOk result (λ answer. answer ≡ specs.get_acl_of_name call.now.view call.now.tag name.now) }
 {
-    match view.acl(&name.as_ref()) {
-        Some(acl) => {
-            let line = acl_line(alloc, view, name, acl)?;
-            Answer::done_after(alloc, vec![in alloc; line]?, tag)
-        }
-        None => Answer::refusal(alloc, tag, lacking(view.rights(&name.as_ref()))),
+    match call.view().acl(&name.as_ref()) {
+        Some(acl) => call.done_after(vec![in call.alloc(); acl_line(call, name, acl)?]?),
+        None => call.refuse(missing_right_refusal(call.view().rights(&name.as_ref()))),
     }
 }
 
-fn acl_line(alloc: Global, view: &View<'_>, name: &Name, acl: &Acl) -> Result<Response, AllocError>
-    ensures line { IfOk result (λ line. line ≡ specs.acl_line view.now.user name.now acl.now) }
+fn acl_line(call: &Call<'_>, name: &Name, acl: &Acl) -> Result<Response, AllocError>
+    ensures line { IfOk result (λ line. line ≡ specs.acl_line call.now.view.user name.now acl.now) }
     ensures printable { IfOk result IsPrintable }
 {
-    let entries = printed_entries(alloc, acl.entries())?;
+    let entries = printed_entries(call.alloc(), acl.entries())?;
     Ok(Response::Acl {
-        mailbox: shown_mailbox(alloc, view, name)?,
+        mailbox: shown_mailbox(call, name)?,
         entries: Items::from_vec(entries),
     })
 }

@@ -5,70 +5,61 @@ ghost use Rattle.imap_print.specs.Lines.{IsPrintable};
 ghost use Rattle.imap_rights.specs.Identifier.{identifier_read};
 ghost use Rattle.imap_tree.specs.ListRights as specs;
 
-use crate::access::lacking;
+use crate::access::missing_right_refusal;
 use crate::identifier::identifier;
 use crate::shown_mailbox::shown_mailbox;
-use imap_answer::{Answer, named};
-use imap_lex::{Octets, Tag};
+use imap_answer::{Answer, Call};
+use imap_lex::Octets;
 use imap_names::Name;
 use imap_print::{Refusal, Response};
 use imap_rights::{Identifier, Rights};
-use imap_view::View;
-use std::alloc::{AllocError, Global};
+use std::alloc::AllocError;
 
 /// Answers LISTRIGHTS of an identifier on a mailbox, both as they stand in the command.
 pub fn list_rights_answer(
-    alloc: Global,
-    view: &View<'_>,
-    tag: &Tag,
+    call: &Call<'_>,
     mailbox: &Octets,
     identifier: &Octets,
 ) -> Result<Answer, AllocError>
-    ensures { let meant = specs.list_rights_answer view.now tag.now mailbox.now identifier.now in
+    ensures { let meant = specs.list_rights_answer call.now.view call.now.tag mailbox.now identifier.now in
         IfOk result (λ answer. answer ≡ meant) }
 {
-    match named(alloc, view, mailbox)? {
-        Some(name) => list_rights_of(alloc, view, tag, &name, identifier),
-        None => Answer::refusal(alloc, tag, Refusal::NonExistent),
+    match call.name(mailbox)? {
+        Some(name) => list_rights_of_name(call, &name, identifier),
+        None => call.refuse(Refusal::NonExistent),
     }
 }
 
-fn list_rights_of(
-    alloc: Global,
-    view: &View<'_>,
-    tag: &Tag,
-    name: &Name,
-    text: &Octets,
-) -> Result<Answer, AllocError>
-    ensures { let meant = specs.list_rights_of_name view.now tag.now name.now text.now in
+fn list_rights_of_name(call: &Call<'_>, name: &Name, text: &Octets) -> Result<Answer, AllocError>
+    ensures { let meant = specs.list_rights_of_name call.now.view call.now.tag text.now name.now in
         IfOk result (λ answer. answer ≡ meant) }
 {
-    let rights = view.rights(&name.as_ref());
+    let rights = call.view().rights(&name.as_ref());
     if !rights.has_any(Rights::ADMINISTER) {
-        return Answer::refusal(alloc, tag, lacking(rights));
+        return call.refuse(missing_right_refusal(rights));
     }
-    match identifier(alloc, text)? {
+    match identifier(call.alloc(), text)? {
         Some(identifier) => {
-            let line = list_rights_line(alloc, view, name, &identifier)?;
-            Answer::done_after(alloc, vec![in alloc; line]?, tag)
+            let line = list_rights_line(call, name, &identifier)?;
+            call.done_after(vec![in call.alloc(); line]?)
         }
-        None => Answer::refusal(alloc, tag, Refusal::Cannot),
+        None => call.refuse(Refusal::Cannot),
     }
 }
 
 fn list_rights_line(
-    alloc: Global,
-    view: &View<'_>,
+    call: &Call<'_>,
     name: &Name,
     identifier: &Identifier,
 ) -> Result<Response, AllocError>
-    ensures line { IfOk result (λ line. line ≡ specs.list_rights_line view.now name.now identifier.now) }
+    ensures line { let meant = specs.list_rights_line call.now.view name.now identifier.now in
+        IfOk result (λ line. line ≡ meant) }
     ensures printable { IfOk result IsPrintable }
 {
-    let owner = view.owner(name);
+    let owner = call.view().owner(name);
     Ok(Response::ListRights {
-        mailbox: shown_mailbox(alloc, view, name)?,
-        identifier: Octets::from_slice(alloc, identifier.as_bytes())?,
+        mailbox: shown_mailbox(call, name)?,
+        identifier: Octets::from_slice(call.alloc(), identifier.as_bytes())?,
         owner: identifier.as_bytes() == owner.as_str().as_bytes(),
     })
 }

@@ -10,11 +10,11 @@ ghost use Rattle.imap_view.specs.RenameAfter.{can_all_arrive, missing_above, nam
 ghost use Rattle.imap_view.specs.TreeAfter.{validities_left};
 ghost use Rattle.imap_world.specs.Moving.{can_arrive};
 
-use crate::access::lacking;
+use crate::access::missing_right_refusal;
 use crate::create::are_validities_left;
 use crate::new_name::read_new_name;
-use imap_answer::{Answer, named};
-use imap_lex::{Octets, Tag};
+use imap_answer::{Answer, Call};
+use imap_lex::Octets;
 use imap_names::Name;
 use imap_print::Refusal;
 use imap_rights::Rights;
@@ -23,63 +23,47 @@ use imap_world::{Effect, can_move};
 use std::alloc::{AllocError, Global};
 
 /// Answers RENAME of a mailbox to a new name, both as they stand in the command.
-pub fn rename_answer(
-    alloc: Global,
-    view: &View<'_>,
-    tag: &Tag,
-    old: &Octets,
-    new: &Octets,
-) -> Result<Answer, AllocError>
-    ensures { IfOk result (λ answer. answer ≡ specs.rename_answer view.now tag.now old.now new.now) }
+pub fn rename_answer(call: &Call<'_>, old: &Octets, new: &Octets) -> Result<Answer, AllocError>
+    ensures { let meant = specs.rename_answer call.now.view call.now.tag old.now new.now in
+        IfOk result (λ answer. answer ≡ meant) }
 {
-    match named(alloc, view, old)? {
-        Some(old) => rename_of(alloc, view, tag, old, new),
-        None => Answer::refusal(alloc, tag, Refusal::NonExistent),
+    match call.name(old)? {
+        Some(old) => rename_of_name(call, old, new),
+        None => call.refuse(Refusal::NonExistent),
     }
 }
 
-fn rename_of(
-    alloc: Global,
-    view: &View<'_>,
-    tag: &Tag,
-    old: Name,
-    new: &Octets,
-) -> Result<Answer, AllocError>
-    ensures { IfOk result (λ answer. answer ≡ specs.rename_of view.now tag.now (Some old) new.now) }
+fn rename_of_name(call: &Call<'_>, old: Name, new: &Octets) -> Result<Answer, AllocError>
+    ensures { IfOk result (λ answer. answer ≡ specs.rename_of_name call.now.view call.now.tag new.now old) }
 {
-    match read_new_name(alloc, view, new.as_slice())? {
-        Ok(new) => rename_of_names(alloc, view, tag, old, new),
-        Err(refusal) => Answer::refusal(alloc, tag, refusal),
+    match read_new_name(call, new.as_slice())? {
+        Ok(new) => rename_of_names(call, old, new),
+        Err(refusal) => call.refuse(refusal),
     }
 }
 
-fn rename_of_names(
-    alloc: Global,
-    view: &View<'_>,
-    tag: &Tag,
-    old: Name,
-    new: Name,
-) -> Result<Answer, AllocError>
-    ensures { IfOk result (λ answer. answer ≡ specs.rename_of_names view.now tag.now old new) }
+fn rename_of_names(call: &Call<'_>, old: Name, new: Name) -> Result<Answer, AllocError>
+    ensures { IfOk result (λ answer. answer ≡ specs.rename_of_names call.now.view call.now.tag old new) }
 {
+    let view = call.view();
     let rights = view.rights(&old.as_ref());
     if !rights.has_any(Rights::DELETE_MAILBOX) {
-        return Answer::refusal(alloc, tag, lacking(rights));
+        return call.refuse(missing_right_refusal(rights));
     }
     if !can_move(&old, &new) {
-        return Answer::refusal(alloc, tag, Refusal::Cannot);
+        return call.refuse(Refusal::Cannot);
     }
     if !view.may_create(&new.as_ref()) {
-        return Answer::refusal(alloc, tag, Refusal::NoPerm);
+        return call.refuse(Refusal::NoPerm);
     }
     if is_in_use(view, &new) {
-        return Answer::refusal(alloc, tag, Refusal::AlreadyExists);
+        return call.refuse(Refusal::AlreadyExists);
     }
-    if !can_all_arrive(alloc, view, &old, &new)? {
-        return Answer::refusal(alloc, tag, Refusal::Limit);
+    if !can_all_arrive(call.alloc(), view, &old, &new)? {
+        return call.refuse(Refusal::Limit);
     }
     let owner = view.owner(&new).try_copy()?;
-    Answer::done_with(alloc, tag, Effect::Rename(owner, old, new))
+    call.done_with(Effect::Rename(owner, old, new))
 }
 
 /// Whether the name or one below it is in use, as far as the user may know.

@@ -1,96 +1,113 @@
 //! SETACL and DELETEACL (RFC 4314, sections 3.1 and 3.2).
 
-ghost use Rattle.std.specs.Prelude.{◌≡◌, IfOk};
-ghost use Rattle.imap_answer.specs.Name as answer;
+ghost use Rattle.std.specs.Prelude.{◌≡◌, IfOk, Some};
 ghost use Rattle.imap_tree.specs.SetAcl as specs;
 ghost use Rattle.imap_view.specs.TreeAfter.{may_set_rights};
+ghost use Rattle.imap_view.specs.View.{acl_in};
 
-use crate::access::lacking;
+use crate::access::missing_right_refusal;
 use crate::identifier::identifier;
 use bitflags::Flags;
-use imap_answer::{Answer, named};
-use imap_lex::{Octets, Tag};
+use imap_answer::{Answer, Call};
+use imap_lex::Octets;
 use imap_names::Name;
 use imap_print::Refusal;
 use imap_rights::{Identifier, Rights, RightsChange, read_rights};
 use imap_view::View;
 use imap_world::Effect;
-use std::alloc::{AllocError, Global};
+use std::alloc::AllocError;
 
 /// Answers SETACL of an identifier's rights on a mailbox, all as they stand in the command.
 pub fn set_acl_answer(
-    alloc: Global,
-    view: &View<'_>,
-    tag: &Tag,
+    call: &Call<'_>,
     mailbox: &Octets,
     identifier: &Octets,
     rights: &Octets,
 ) -> Result<Answer, AllocError>
-    ensures { let meant = specs.set_acl_answer view.now tag.now mailbox.now identifier.now rights.now in
-        IfOk result (λ answer. answer ≡ meant) }
+    ensures { let answer = specs.set_acl_answer call.now.view call.now.tag in
+        IfOk result (λ given. given ≡ answer mailbox.now identifier.now rights.now) }
 {
     match read_rights(rights.as_slice()) {
-        Some(change) => set_rights(alloc, view, tag, mailbox, identifier, change),
-        None => Answer::refusal(alloc, tag, Refusal::Malformed),
+        Some(change) => set_rights(call, mailbox, identifier, change),
+        None => call.refuse(Refusal::Malformed),
     }
 }
 
 /// Answers DELETEACL of an identifier on a mailbox, both as they stand in the command.
 pub fn delete_acl_answer(
-    alloc: Global,
-    view: &View<'_>,
-    tag: &Tag,
+    call: &Call<'_>,
     mailbox: &Octets,
     identifier: &Octets,
 ) -> Result<Answer, AllocError>
-    ensures { let meant = specs.delete_acl_answer view.now tag.now mailbox.now identifier.now in
+    ensures { let meant = specs.delete_acl_answer call.now.view call.now.tag mailbox.now identifier.now in
         IfOk result (λ answer. answer ≡ meant) }
 {
     let none = RightsChange::Replace(Rights::empty());
-    set_rights(alloc, view, tag, mailbox, identifier, none)
+    set_rights(call, mailbox, identifier, none)
 }
 
 fn set_rights(
-    alloc: Global,
-    view: &View<'_>,
-    tag: &Tag,
+    call: &Call<'_>,
     mailbox: &Octets,
     identifier: &Octets,
     change: RightsChange,
 ) -> Result<Answer, AllocError>
-    ensures { let named = answer.named view.now mailbox.now in
-        IfOk result (λ answer. answer ≡ specs.set_rights_of view.now tag.now named identifier.now change) }
+    ensures { let answer = specs.set_rights_answer call.now.view call.now.tag in
+        IfOk result (λ given. given ≡ answer mailbox.now identifier.now change) }
 {
-    match named(alloc, view, mailbox)? {
-        Some(name) => set_rights_of_name(alloc, view, tag, name, identifier, change),
-        None => Answer::refusal(alloc, tag, Refusal::NonExistent),
+    match call.name(mailbox)? {
+        Some(name) => set_rights_of_name(call, name, identifier, change),
+        None => call.refuse(Refusal::NonExistent),
     }
 }
 
 fn set_rights_of_name(
-    alloc: Global,
-    view: &View<'_>,
-    tag: &Tag,
+    call: &Call<'_>,
     name: Name,
     text: &Octets,
     change: RightsChange,
 ) -> Result<Answer, AllocError>
-    ensures { let meant = specs.set_rights_of_name view.now tag.now name text.now change in
+    ensures { let meant = specs.set_rights_of_name call.now.view call.now.tag text.now change name in
         IfOk result (λ answer. answer ≡ meant) }
 {
-    let rights = view.rights(&name.as_ref());
+    let rights = call.view().rights(&name.as_ref());
     if !rights.has_any(Rights::ADMINISTER) {
-        return Answer::refusal(alloc, tag, lacking(rights));
+        return call.refuse(missing_right_refusal(rights));
     }
-    match identifier(alloc, text)? {
-        Some(identifier) => {
-            if may_set_rights(view, &name, &identifier, change) {
-                Answer::done_with(alloc, tag, Effect::SetRights(name, identifier, change))
-            } else {
-                Answer::refusal(alloc, tag, Refusal::Limit)
-            }
+    match identifier(call.alloc(), text)? {
+        Some(identifier) => set_rights_of_identifier(call, name, identifier, change),
+        None => call.refuse(Refusal::Cannot),
+    }
+}
+
+fn set_rights_of_identifier(
+    call: &Call<'_>,
+    name: Name,
+    identifier: Identifier,
+    change: RightsChange,
+) -> Result<Answer, AllocError>
+    ensures { let meant = specs.set_rights_by call.now.view call.now.tag name change (Some identifier) in
+        IfOk result (λ answer. answer ≡ meant) }
+{
+    if !may_set_rights(call.view(), &name, &identifier, change) {
+        return call.refuse(Refusal::Limit);
+    }
+    if keeps_entry(call.view(), &name, &identifier, change) {
+        return call.done();
+    }
+    call.done_with(Effect::SetRights(name, identifier, change))
+}
+
+/// Whether the identifier's rights in the list, if the user sees it, stay as they are.
+fn keeps_entry(view: &View<'_>, name: &Name, identifier: &Identifier, change: RightsChange) -> bool
+    ensures { result ≡ specs.keeps_entry identifier.now change (acl_in view.now name.now) }
+{
+    match view.acl(&name.as_ref()) {
+        Some(acl) => {
+            let rights = acl.rights_of(identifier);
+            change.applied(rights).bits() == rights.bits()
         }
-        None => Answer::refusal(alloc, tag, Refusal::Cannot),
+        None => true,
     }
 }
 

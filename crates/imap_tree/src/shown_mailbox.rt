@@ -4,20 +4,16 @@ ghost use Rattle.std.specs.Prelude.{◌≡◌, IfOk};
 ghost use Rattle.imap_names.specs.Showing.{shown};
 ghost use Rattle.imap_print.specs.Lines.{IsPlain};
 
+use imap_answer::Call;
 use imap_lex::Octets;
 use imap_names::{Name, show_name};
-use imap_view::View;
-use std::alloc::{AllocError, Global};
+use std::alloc::AllocError;
 
-/// The octets by which the user of the view names the mailbox.
-pub(crate) fn shown_mailbox(
-    alloc: Global,
-    view: &View<'_>,
-    name: &Name,
-) -> Result<Octets, AllocError>
-    ensures octets { IfOk result (λ mailbox. mailbox ≡ shown view.now.user name.now) }
-    ensures plain { IsPlain (shown view.now.user name.now) }
+/// The octets by which the user names the mailbox.
+pub(crate) fn shown_mailbox(call: &Call<'_>, name: &Name) -> Result<Octets, AllocError>
+    ensures octets { IfOk result (λ mailbox. mailbox ≡ shown call.now.view.user name.now) }
+    ensures plain { IsPlain (shown call.now.view.user name.now) }
 {
-    let text = show_name(alloc, view.user(), name)?;
+    let text = show_name(call.alloc(), call.view().user(), name)?;
     Octets::from_vec(text.into_bytes())
 }

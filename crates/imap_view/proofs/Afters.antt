@@ -1,19 +1,21 @@
 -- Views after a change.
-use Rattle.std.proofs.Common.{◌≡◌, ◌≢◌, ℕ, Bool, true, false, cond, List, Option, Some, None, refl, sym, ap, ◌∙◌, true≢false}
+use Rattle.std.proofs.Common.{◌≡◌, ◌≢◌, ◌⊎◌, inl, inr, ℕ, Bool, true, false, cond, List, Option, Some, None, refl, sym, ap, ◌∙◌, true≢false}
 use Rattle.std.specs.Prelude.{option_and_then}
 use Rattle.std.specs.FinMap as map
 use Rattle.imap_names.specs.Name.{Name}
 use Rattle.imap_names.specs.Order.{Names, name_cmp}
-use Rattle.imap_names.proofs.NameLaws.{same_names, get_where}
+use Rattle.imap_names.proofs.NameLaws.{same_names}
 use Rattle.imap_names.proofs.OrderLaws.{name_antisymmetric}
-use Rattle.imap_world.specs.declared.mailbox.Mailbox.{Mailbox}
+use Rattle.imap_world.specs.declared.mailbox_entry.MailboxEntry.{MailboxEntry}
 use Rattle.imap_world.specs.Effects.{if_filled, with_subscribed}
+use Rattle.imap_world.specs.Finite.{keep}
 use Rattle.imap_world.specs.World.{World, NameSet, set_of, subscribed_by}
 use Rattle.imap_world.proofs.Finding.{get-keep}
 use Rattle.imap_world.proofs.Sets.{is_user, equal_users, user_itself, get_with_option, set_of-if_filled}
-use Rattle.imap_view.specs.After.{OthersSubscriptionsAreHidden, HiddenIsAbsent}
+use Rattle.imap_view.specs.After.{DifferInHidden, HiddenIsAbsent, IsHidden, OthersSubscriptionsAreHidden}
 use Rattle.imap_view.specs.Seen.{Seen, seen_at}
-use Rattle.imap_view.specs.View.{view_of, view_by, seen_in, if_true, is_below_place}
+use Rattle.imap_view.specs.View.{view_of, view_by, seen_in, if_true, may_know_name}
+use Rattle.imap_view.proofs.Views.{get_seen}
 
 -- ---- subscriptions
 
@@ -69,41 +71,63 @@ others_subscriptions administrator user other world name differ =
 
 -- ---- hidden mailboxes
 
-module _ (administrator user : List ℕ) (world : World) (left : Name → Bool) where
+-- what is kept of nothing that may be known
+nothing : {X Y : Type 0} (b : Bool) (f : X → Y) (o : Option X) → b ≡ false → option_and_then (λ x. if_true b (f x)) o ≡ None
+nothing true f o e = absurd (true≢false e)
+nothing false f None e = refl
+nothing false f (Some x) e = refl
+
+module _ (administrator user : List ℕ) (one other : World) (differ : DifferInHidden administrator user one other) where
   abbrev seen : Names Seen
-  seen = seen_in administrator user world
+  seen = seen_in administrator user one
 
-  abbrev rest : World
-  rest = record world { mailboxes = map.retain_keys world.mailboxes left }
+  -- what is seen at each name
+  seen_at_each : (q : Name) → map.get (view_of administrator user one).seen q ≡ map.get (view_of administrator user other).seen q
+  seen_at_each q = by (differ.mailboxes q)
+    where
+      by : (map.get one.mailboxes q ≡ map.get other.mailboxes q) ⊎ IsHidden administrator user one other q
+          → map.get (view_of administrator user one).seen q ≡ map.get (view_of administrator user other).seen q
+      by (inl same) = get_seen administrator user one q ∙ ap (option_and_then (seen_at administrator user q)) same ∙ sym (get_seen administrator user other q)
+      by (inr hidden) = hidden.unseen ∙ sym hidden.unseen_other
 
-  module _ (hidden : (name : Name) → left name ≡ false → (map.get seen name ≡ None) × (is_below_place administrator user seen name ≡ false)) where
-    seen_same : seen_in administrator user rest ≡ seen
-    seen_same = same_names _ _ (λ q. get-keep name_cmp (seen_at administrator user) name_antisymmetric rest.mailboxes q
-        ∙ ap (option_and_then (seen_at administrator user q)) (get_where world.mailboxes left q) ∙ by q (left q) refl)
-      where
-        by : (q : Name) (b : Bool) → left q ≡ b → option_and_then (seen_at administrator user q) (cond b (map.get world.mailboxes q) None) ≡ map.get seen q
-        by q true e = sym (get-keep name_cmp (seen_at administrator user) name_antisymmetric world.mailboxes q)
-        by q false e = sym (hidden q e).0
+  seen_same : seen ≡ seen_in administrator user other
+  unfolding view_of
+  seen_same = same_names seen (seen_in administrator user other) seen_at_each
 
-    abbrev taken_by : Name → Mailbox → Option (Unit {0})
-    taken_by name mailbox = if_true (is_below_place administrator user seen name) tt
+  -- what is kept of maps that differ at names of which the user may not know
+  kept_known : {X Y : Type 0} (f : X → Y) (m n : Names X) → ((q : Name) → (map.get m q ≡ map.get n q) ⊎ (may_know_name administrator user seen q ≡ false))
+      → keep (λ name x. if_true (may_know_name administrator user seen name) (f x)) m ≡ keep (λ name x. if_true (may_know_name administrator user seen name) (f x)) n
+  kept_known {X} {Y} f m n each =
+      same_names _ _ (λ q. get-keep name_cmp kept name_antisymmetric m q ∙ by q (each q) ∙ sym (get-keep name_cmp kept name_antisymmetric n q))
+    where
+      kept : Name → X → Option Y
+      kept name x = if_true (may_know_name administrator user seen name) (f x)
 
-    taken_same : (view_by administrator user seen rest).taken ≡ (view_by administrator user seen world).taken
-    taken_same = same_names _ _ (λ q. get-keep name_cmp taken_by name_antisymmetric rest.mailboxes q
-        ∙ ap (option_and_then (taken_by q)) (get_where world.mailboxes left q) ∙ by q (left q) refl ∙ sym (get-keep name_cmp taken_by name_antisymmetric world.mailboxes q))
-      where
-        nothing : (o : Option Mailbox) (b : Bool) → b ≡ false → ◌≡◌ {A = Option (Unit {0})} None (option_and_then (λ m. if_true {X = Unit {0}} b tt) o)
-        nothing o true e = absurd (true≢false e)
-        nothing None false e = refl
-        nothing (Some m) false e = refl
+      by : (q : Name) → (map.get m q ≡ map.get n q) ⊎ (may_know_name administrator user seen q ≡ false) → option_and_then (kept q) (map.get m q) ≡ option_and_then (kept q) (map.get n q)
+      by q (inl same) = ap (option_and_then (kept q)) same
+      by q (inr unknown) = nothing (may_know_name administrator user seen q) f (map.get m q) unknown ∙ sym (nothing (may_know_name administrator user seen q) f (map.get n q) unknown)
 
-        by : (q : Name) (b : Bool) → left q ≡ b → option_and_then (taken_by q) (cond b (map.get world.mailboxes q) None) ≡ option_and_then (taken_by q) (map.get world.mailboxes q)
-        by q true e = refl
-        by q false e = nothing (map.get world.mailboxes q) (is_below_place administrator user seen q) (hidden q e).1
+  known_mailboxes : (q : Name) → (map.get one.mailboxes q ≡ map.get other.mailboxes q) ⊎ (may_know_name administrator user seen q ≡ false)
+  unfolding view_of
+  known_mailboxes q = by (differ.mailboxes q)
+    where
+      by : (map.get one.mailboxes q ≡ map.get other.mailboxes q) ⊎ IsHidden administrator user one other q
+          → (map.get one.mailboxes q ≡ map.get other.mailboxes q) ⊎ (may_know_name administrator user seen q ≡ false)
+      by (inl same) = inl same
+      by (inr hidden) = inr hidden.unknown
 
-    view_same : view_by administrator user (seen_in administrator user rest) rest ≡ view_by administrator user seen world
-    view_same = ap (λ s. view_by administrator user s rest) seen_same ∙ λ i. record (view_by administrator user seen world) { taken = taken_same i }
+  taken_same : (view_by administrator user seen one).taken ≡ (view_by administrator user seen other).taken
+  taken_same = kept_known (λ (m : MailboxEntry). tt) one.mailboxes other.mailboxes known_mailboxes
+
+  epochs_same : (view_by administrator user seen one).epochs ≡ (view_by administrator user seen other).epochs
+  unfolding view_of
+  epochs_same = kept_known (λ (n : ℕ). n) one.epochs other.epochs differ.epochs
+
+  view_same : view_by administrator user seen one ≡ view_by administrator user (seen_in administrator user other) other
+  view_same =
+      (λ i. record (view_by administrator user seen one) { taken = taken_same i; epochs = epochs_same i; subscribed = differ.subscribed i })
+      ∙ ap (λ s. view_by administrator user s other) seen_same
 
 pub hidden_absent : HiddenIsAbsent
 unfolding view_of
-hidden_absent administrator user world left hidden = view_same administrator user world left hidden
+hidden_absent administrator user one other differ = view_same administrator user one other differ

@@ -14,12 +14,12 @@ use Rattle.imap_names.specs.Valid.{fits}
 use Rattle.imap_names.proofs.MovedLaws.{moved_within}
 use Rattle.imap_world.specs.declared.error.WorldError.{WorldError}
 use Rattle.imap_world.specs.declared.error.WorldError.TheVariants.{Limit}
-use Rattle.imap_world.specs.declared.mailbox.Mailbox.{Mailbox}
+use Rattle.imap_world.specs.declared.mailbox_entry.MailboxEntry.{MailboxEntry}
 use Rattle.imap_world.specs.Moving.{arrivals, arrivals_at, can_arrive}
 use Rattle.imap_world.specs.World.{World, epoch, max_validity}
 use Rattle.imap_view.specs.Listing.{known_among}
 use Rattle.imap_view.specs.RenameAfter.{names_after}
-use Rattle.imap_view.specs.View.{View, view_of, is_below_place_in}
+use Rattle.imap_view.specs.View.{View, view_of, may_know_name_in}
 use Rattle.imap_view.proofs.Deleting.{known_below}
 use Rattle.imap_view.proofs.Listings.{names_taken}
 use Rattle.imap_view.proofs.Moving.{IsMove, place, there, known, known_within, epochs_there}
@@ -30,11 +30,11 @@ module _ (administrator user : List ℕ) (world : World) (old new : Name) (move 
   abbrev view : View
   view = view_of administrator user world
 
-  all_known : (q : Name) → is_below old q ≡ true → is_below_place_in view q ≡ true
+  all_known : (q : Name) → is_below old q ≡ true → may_know_name_in view q ≡ true
   unfolding view_of
   all_known q below = known_below administrator user world old (place administrator user world old new move) q below
 
-  known_names : (es : List (Name × Mailbox)) → known_among view (entries_below old es) ≡ map_list (λ e. e.0) (entries_below old es)
+  known_names : (es : List (Name × MailboxEntry)) → known_among view (entries_below old es) ≡ map_list (λ e. e.0) (entries_below old es)
   known_names [] = refl
   known_names (e ∷ es) = by (is_below old e.0) refl (known_names es)
     where

@@ -12,7 +12,7 @@ use Rattle.imap_world.specs.declared.effect.Effect.TheVariants as effect
 use Rattle.imap_world.specs.declared.error.WorldError.TheVariants.{Below, Cannot, NoSuch, Taken}
 use Rattle.imap_world.specs.Effects.{after_all, after_result, after_write, after_writes, list_changed, list_set, move_after, puts, puts_of, removal, renaming as move_to, writes_for, writes_then}
 use Rattle.imap_world.specs.Moving.{arrivals, arrivals_at, superior_rows}
-use Rattle.imap_world.specs.Row.{Row}
+use Rattle.imap_world.specs.NewMailbox.{NewMailbox}
 use Rattle.imap_world.specs.Tree.{created_rows, with_rows}
 use Rattle.imap_world.specs.World.{World}
 use Rattle.imap_view.specs.After.{MayAsk, OwnEffectsAreMade, OwnEffectsAreSeen, view_after}
@@ -27,12 +27,12 @@ use Rattle.imap_view.proofs.Renaming.{renaming}
 use Rattle.imap_view.proofs.SettingRights.{setting_rights}
 use Rattle.imap_view.proofs.Views.{administrator_of}
 
-rows_put : (rows : List Row) (world : World) → after_writes (puts rows) world ≡ with_rows world rows
+rows_put : (rows : List NewMailbox) (world : World) → after_writes (puts rows) world ≡ with_rows world rows
 rows_put [] world = refl
 rows_put (row ∷ rows) world = rows_put rows _
 
 -- and after them one write more
-rows_then : (rows : List Row) (last : Write) (world : World) → after_writes (puts rows ++ last ∷ []) world ≡ after_write last (with_rows world rows)
+rows_then : (rows : List NewMailbox) (last : Write) (world : World) → after_writes (puts rows ++ last ∷ []) world ≡ after_write last (with_rows world rows)
 rows_then [] last world = refl
 rows_then (row ∷ rows) last world = rows_then rows last _
 

@@ -12,14 +12,14 @@ use Rattle.imap_rights.specs.Acl.{AclMap, owner_acl}
 use Rattle.imap_rights.specs.Effective.{effective}
 use Rattle.imap_rights.specs.Rights.{create, has_any}
 use Rattle.imap_world.specs.declared.error.WorldError.TheVariants.{Limit}
-use Rattle.imap_world.specs.declared.mailbox.Mailbox.{Mailbox}
+use Rattle.imap_world.specs.declared.mailbox_entry.MailboxEntry.{MailboxEntry}
 use Rattle.imap_world.specs.Effects.{new_row}
-use Rattle.imap_world.specs.Row.{Row}
+use Rattle.imap_world.specs.NewMailbox.{NewMailbox}
 use Rattle.imap_world.specs.Tree.{acl_or, inherited, with_last, rows_for}
 use Rattle.imap_world.specs.World.{World, epoch, max_validity}
 use Rattle.imap_view.specs.Seen.{Seen, is_root, owner_by_root, owner_of, seen_at, seen_with}
 use Rattle.imap_view.specs.TreeAfter.{is_known, missing_in, new_seen, seen_or, validities_left, may_make, IsCreation, CreatingIsSeen}
-use Rattle.imap_view.specs.View.{View, view_of, seen_in, is_below_place, is_below_place_in, creatable_below, may_create, rights_of}
+use Rattle.imap_view.specs.View.{View, view_of, seen_in, may_know_name, may_know_name_in, creatable_below, may_create, rights_of}
 use Rattle.imap_view.proofs.Narrowing.{makes_place, place_below, deeper_below, get_epochs}
 use Rattle.imap_view.proofs.Placed.{each_weaker, each_push, each_mapped, row_of, IsNew, rows_seen}
 use Rattle.imap_view.proofs.Views.{administrator_of, user_of, get_seen, contains_taken}
@@ -34,15 +34,15 @@ unknown : (o : Option Seen) (taken rest : Bool) → is_some o ≡ false → crea
 unknown None taken rest none e = not-true taken (and_parts (not taken) rest e).0
 unknown (Some s) taken rest none e = absurd (true≢false none)
 
-pub creatable_is_below : (view : View) (name : Name) → may_create view name ≡ true → is_below_place_in view name ≡ true
+pub creatable_is_below : (view : View) (name : Name) → may_create view name ≡ true → may_know_name_in view name ≡ true
 creatable_is_below view [] e = e
 creatable_is_below view (root ∷ []) e = absurd (true≢false (sym e))
 creatable_is_below view (deepest ∷ root ∷ []) e = place_below view.administrator view.user view.seen deepest (root ∷ []) e
 creatable_is_below view (deepest ∷ above ∷ next ∷ more) e =
     by (map.get view.seen (above ∷ next ∷ more)) refl (creatable_is_below view (above ∷ next ∷ more))
   where
-    by : (o : Option Seen) → map.get view.seen (above ∷ next ∷ more) ≡ o → (may_create view (above ∷ next ∷ more) ≡ true → is_below_place_in view (above ∷ next ∷ more) ≡ true)
-        → is_below_place_in view (deepest ∷ above ∷ next ∷ more) ≡ true
+    by : (o : Option Seen) → map.get view.seen (above ∷ next ∷ more) ≡ o → (may_create view (above ∷ next ∷ more) ≡ true → may_know_name_in view (above ∷ next ∷ more) ≡ true)
+        → may_know_name_in view (deepest ∷ above ∷ next ∷ more) ≡ true
     by None is rest =
         deeper_below view.administrator view.user view.seen deepest (above ∷ next ∷ more)
         (rest (deeper None (map.contains_key view.taken (above ∷ next ∷ more)) (may_create view (above ∷ next ∷ more)) refl
@@ -82,7 +82,7 @@ module _ (administrator user : List ℕ) (world : World) where
       by (inl h) = was_some (seen_at administrator user name) (map.get world.mailboxes name) (ap is_some (sym (get_seen administrator user world name)) ∙ h)
       by (inr h) = (and_parts (map.contains_key world.mailboxes name) _ (sym (contains_taken administrator user world name) ∙ h)).0
 
-  pub creatable_there : (name : Name) → may_create view name ≡ true → is_below_place administrator user (seen_in administrator user world) name ≡ true
+  pub creatable_there : (name : Name) → may_create view name ≡ true → may_know_name administrator user (seen_in administrator user world) name ≡ true
   unfolding view_of
   creatable_there name may = creatable_is_below (view_of administrator user world) name may
 
@@ -90,7 +90,7 @@ module _ (administrator user : List ℕ) (world : World) where
   unfolding view_of
   taken_is_there name may =
       contains_taken administrator user world name
-      ∙ without_other (map.contains_key world.mailboxes name) (is_below_place administrator user (seen_in administrator user world) name) (creatable_there name may)
+      ∙ without_other (map.contains_key world.mailboxes name) (may_know_name administrator user (seen_in administrator user world) name) (creatable_there name may)
 
   counted_there : (name : Name) → may_create view name ≡ true → epoch world.epochs name ≡ epoch view.epochs name
   unfolding view_of
@@ -171,16 +171,16 @@ module _ (administrator user : List ℕ) (world : World) where
       rest_free : is_some (map.get view.seen (above ∷ next ∷ more)) ≡ false → map.contains_key view.taken (above ∷ next ∷ more) ≡ false
       rest_free none = unknown (map.get view.seen (above ∷ next ∷ more)) (map.contains_key view.taken (above ∷ next ∷ more)) (may_create view (above ∷ next ∷ more)) none may
 
-      there : (o : Option Mailbox) → map.get world.mailboxes (above ∷ next ∷ more) ≡ o → map.get view.seen (above ∷ next ∷ more) ≡ option_and_then (seen_at administrator user (above ∷ next ∷ more)) o
+      there : (o : Option MailboxEntry) → map.get world.mailboxes (above ∷ next ∷ more) ≡ o → map.get view.seen (above ∷ next ∷ more) ≡ option_and_then (seen_at administrator user (above ∷ next ∷ more)) o
       there o is = get_seen administrator user world (above ∷ next ∷ more) ∙ ap (option_and_then (seen_at administrator user (above ∷ next ∷ more))) is
 
-      shown : (m : Mailbox) → map.get world.mailboxes (above ∷ next ∷ more) ≡ Some m → (o : Option Seen) → map.get view.seen (above ∷ next ∷ more) ≡ o
+      shown : (m : MailboxEntry) → map.get world.mailboxes (above ∷ next ∷ more) ≡ Some m → (o : Option Seen) → map.get view.seen (above ∷ next ∷ more) ≡ o
           → seen_by owner m.acl ≡ seen_or o (new_seen view (above ∷ next ∷ more))
       shown m is (Some s) at = sym (there (Some m) is) ∙ at
       shown m is None at =
           absurd (true≢false (sym (sym (rest_free (ap is_some at)) ∙ taken_is_there (above ∷ next ∷ more) (rest_may (ap is_some at)) ∙ ap is_some is)))
 
-      by : (o : Option Mailbox) → map.get world.mailboxes (above ∷ next ∷ more) ≡ o → (may_create view (above ∷ next ∷ more) ≡ true → seen_by owner (inherited world.mailboxes owner (above ∷ next ∷ more)) ≡ new_seen view (above ∷ next ∷ more))
+      by : (o : Option MailboxEntry) → map.get world.mailboxes (above ∷ next ∷ more) ≡ o → (may_create view (above ∷ next ∷ more) ≡ true → seen_by owner (inherited world.mailboxes owner (above ∷ next ∷ more)) ≡ new_seen view (above ∷ next ∷ more))
           → seen_by owner (acl_or o (inherited world.mailboxes owner (above ∷ next ∷ more))) ≡ seen_or (map.get view.seen (above ∷ next ∷ more)) (new_seen view (above ∷ next ∷ more))
       by None is rest = rest (rest_may (ap is_some (there None is))) ∙ ap (λ o. seen_or o (new_seen view (above ∷ next ∷ more))) (sym (there None is))
       by (Some m) is rest = shown m is (map.get view.seen (above ∷ next ∷ more)) refl
@@ -192,8 +192,8 @@ module _ (administrator user : List ℕ) (world : World) where
       ∙ inherits name may
 
 -- the row is of a name below a place that isn't there, and no longer than this
-pub record IsFresh (administrator user : List ℕ) (world : World) (longest : ℕ) (row : Row) : Type 0 where
-  pub below : is_below_place administrator user (seen_in administrator user world) row.name ≡ true
+pub record IsFresh (administrator user : List ℕ) (world : World) (longest : ℕ) (row : NewMailbox) : Type 0 where
+  pub below : may_know_name administrator user (seen_in administrator user world) row.name ≡ true
   pub absent : map.contains_key world.mailboxes row.name ≡ false
   pub short : length row.name ≤ longest
 

@@ -11,14 +11,14 @@ use Rattle.imap_names.proofs.NameLaws.{is_name_at, get_without}
 use Rattle.imap_names.proofs.OrderLaws.{IsAbove_from_below}
 use Rattle.imap_name_map.specs.Rows.{has_below}
 use Rattle.imap_rights.specs.Rights.{has_any, delete_mailbox}
-use Rattle.imap_world.specs.declared.mailbox.Mailbox.{Mailbox}
+use Rattle.imap_world.specs.declared.mailbox_entry.MailboxEntry.{MailboxEntry}
 use Rattle.imap_world.specs.Finite.{kept_entry}
 use Rattle.imap_world.specs.Tree.{without}
 use Rattle.imap_world.specs.World.{World}
 use Rattle.imap_world.proofs.Finding.{entries-keep}
 use Rattle.imap_view.specs.Seen.{seen_at}
 use Rattle.imap_view.specs.TreeAfter.{view_without, DeletingIsSeen}
-use Rattle.imap_view.specs.View.{view_of, seen_in, if_true, is_place_with, is_place, is_below_place, rights_of, rights_in}
+use Rattle.imap_view.specs.View.{view_of, seen_in, if_true, shows_names_with, shows_names_below, may_know_name, rights_of, rights_in}
 use Rattle.imap_view.proofs.Narrowing.{in_use, seen_is, makes_place, place_below, deeper_below, below_within, put_within, get_taken, get_epochs, view_is_narrowed, seen_changed}
 use Rattle.imap_view.proofs.Views.{get_seen}
 
@@ -31,20 +31,20 @@ none_held some has = true≢false (sym has ∙ ap (λ m. not (m == 0)) (and_zero
 pub held_is_there : (administrator user : List ℕ) (world : World) (name : Name) (some : ℕ) → has_any (rights_in (view_of administrator user world) name) some ≡ true → fin.contains_key world.mailboxes name ≡ true
 held_is_there administrator user world name some has = by (fin.get world.mailboxes name) refl
   where
-    by : (o : Option Mailbox) → fin.get world.mailboxes name ≡ o → is_some o ≡ true
+    by : (o : Option MailboxEntry) → fin.get world.mailboxes name ≡ o → is_some o ≡ true
     by None is = absurd (none_held some (ap (λ o. has_any (rights_of o) some) (sym (get_seen administrator user world name ∙ ap (option_and_then (seen_at administrator user name)) is)) ∙ has))
     by (Some m) is = refl
 
 -- what is seen makes a place by its rights alone, as a root is no mailbox
-pub place_seen : (administrator user : List ℕ) (world : World) (name : Name) → is_place_with (fin.get (view_of administrator user world).seen name) ≡ true → is_place administrator user (view_of administrator user world).seen name ≡ true
-place_seen administrator user world [] e = absurd (true≢false (sym e ∙ ap is_place_with (get_seen administrator user world [] ∙ none (fin.get world.mailboxes []))))
+pub place_seen : (administrator user : List ℕ) (world : World) (name : Name) → shows_names_with (fin.get (view_of administrator user world).seen name) ≡ true → shows_names_below administrator user (view_of administrator user world).seen name ≡ true
+place_seen administrator user world [] e = absurd (true≢false (sym e ∙ ap shows_names_with (get_seen administrator user world [] ∙ none (fin.get world.mailboxes []))))
   where
-    none : (o : Option Mailbox) → option_and_then (seen_at administrator user []) o ≡ None
+    none : (o : Option MailboxEntry) → option_and_then (seen_at administrator user []) o ≡ None
     none None = refl
     none (Some m) = refl
-place_seen administrator user world (root ∷ []) e = absurd (true≢false (sym e ∙ ap is_place_with (get_seen administrator user world (root ∷ []) ∙ none (fin.get world.mailboxes (root ∷ [])))))
+place_seen administrator user world (root ∷ []) e = absurd (true≢false (sym e ∙ ap shows_names_with (get_seen administrator user world (root ∷ []) ∙ none (fin.get world.mailboxes (root ∷ [])))))
   where
-    none : (o : Option Mailbox) → option_and_then (seen_at administrator user (root ∷ [])) o ≡ None
+    none : (o : Option MailboxEntry) → option_and_then (seen_at administrator user (root ∷ [])) o ≡ None
     none None = refl
     none (Some m) = refl
 place_seen administrator user world (deepest ∷ above ∷ more) e = e
@@ -53,12 +53,12 @@ place_seen administrator user world (deepest ∷ above ∷ more) e = e
 
 module _ (administrator user : List ℕ) (world : World) (name : Name) where
   abbrev is_known_below : Name → Bool
-  is_known_below = is_below_place administrator user (seen_in administrator user world)
+  is_known_below = may_know_name administrator user (seen_in administrator user world)
 
-  abbrev known_entry : Name → Mailbox → Option (Unit {0})
+  abbrev known_entry : Name → MailboxEntry → Option (Unit {0})
   known_entry q mailbox = if_true (is_known_below q) tt
 
-  module _ (place : is_place administrator user (seen_in administrator user world) name ≡ true) where
+  module _ (place : shows_names_below administrator user (seen_in administrator user world) name ≡ true) where
     pub below_between : (deepest : List ℕ) (between : List (List ℕ)) → is_known_below (deepest ∷ between ++ name) ≡ true
     below_between deepest [] = place_below administrator user (seen_in administrator user world) deepest name place
     below_between deepest (part ∷ between) = deeper_below administrator user (seen_in administrator user world) deepest (part ∷ between ++ name) (below_between part between)
@@ -67,7 +67,7 @@ module _ (administrator user : List ℕ) (world : World) (name : Name) where
     pub known_below : (q : Name) → is_below name q ≡ true → is_known_below q ≡ true
     known_below q below = let above = IsAbove_from_below name q below in ap is_known_below above.2 ∙ below_between above.0 above.1
 
-    any_known : (es : List (Name × Mailbox)) → list_any (λ e. is_below name e.0) (filter_map (kept_entry known_entry) es) ≡ list_any (λ e. is_below name e.0) es
+    any_known : (es : List (Name × MailboxEntry)) → list_any (λ e. is_below name e.0) (filter_map (kept_entry known_entry) es) ≡ list_any (λ e. is_below name e.0) es
     any_known [] = refl
     any_known (e ∷ es) = by (is_known_below e.0) refl (is_below name e.0) refl (any_known es)
       where
@@ -87,7 +87,7 @@ module _ (administrator user : List ℕ) (world : World) (name : Name) where
 -- ---- the view after it
 
 module _ (administrator user : List ℕ) (world : World) (name : Name) where
-  module _ (place : is_place administrator user (seen_in administrator user world) name ≡ true) where
+  module _ (place : shows_names_below administrator user (seen_in administrator user world) name ≡ true) where
     pub without_seen : view_of administrator user (without world name) ≡ view_without (view_of administrator user world) name
     unfolding view_of
     without_seen =
@@ -97,10 +97,10 @@ module _ (administrator user : List ℕ) (world : World) (name : Name) where
         (λ q h. ap in_use (get_without world.mailboxes name q) ∙ by q (within q h) (is_name_at q name) ∙ sym (get_without (view_of administrator user world).taken name q))
         (λ q h. sym (get_epochs administrator user (seen_in administrator user world) world q ∙ ap (λ b. cond b (fin.get world.epochs q) None) (within q h)))
       where
-        within : (q : Name) → is_below_place administrator user (fin.remove (seen_in administrator user world) name) q ≡ true → is_below_place administrator user (seen_in administrator user world) q ≡ true
+        within : (q : Name) → may_know_name administrator user (fin.remove (seen_in administrator user world) name) q ≡ true → may_know_name administrator user (seen_in administrator user world) q ≡ true
         within = below_within administrator user (fin.remove (seen_in administrator user world) name) (seen_in administrator user world) (put_within administrator user (seen_in administrator user world) name None (inl place))
 
-        by : (q : Name) → is_below_place administrator user (seen_in administrator user world) q ≡ true → (b : Bool) → in_use (cond b None (fin.get world.mailboxes q)) ≡ cond b None (fin.get (view_of administrator user world).taken q)
+        by : (q : Name) → may_know_name administrator user (seen_in administrator user world) q ≡ true → (b : Bool) → in_use (cond b None (fin.get world.mailboxes q)) ≡ cond b None (fin.get (view_of administrator user world).taken q)
         by q h true = refl
         by q h false = sym (get_taken administrator user (seen_in administrator user world) world q ∙ ap (λ b. cond b (in_use (fin.get world.mailboxes q)) None) h)
 
@@ -108,7 +108,7 @@ pub deleting : DeletingIsSeen
 deleting administrator user world name may =
     let parts = and_parts _ _ may in
     let more = and_parts _ _ parts.1 in
-    let place = ap (λ s. is_place administrator user s name) (sym (seen_is administrator user world))
+    let place = ap (λ s. shows_names_below administrator user s name) (sym (seen_is administrator user world))
     ∙ place_seen administrator user world name (makes_place (fin.get (view_of administrator user world).seen name) delete_mailbox refl parts.0) in
     record {
       there = held_is_there administrator user world name delete_mailbox parts.0;

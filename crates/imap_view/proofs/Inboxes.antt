@@ -18,17 +18,17 @@ use Rattle.imap_names.proofs.UserLaws.{user_name_facts}
 use Rattle.imap_rights.specs.Acl.{AclMap, owner_acl}
 use Rattle.imap_rights.specs.Effective.{anyone, negative, entry, granted, effective, owner_rights}
 use Rattle.imap_rights.specs.Rights.{no_rights, all_rights, union, less, visible_rights, administer, has_any}
-use Rattle.imap_world.specs.declared.mailbox.Mailbox.{Mailbox}
-use Rattle.imap_world.specs.declared.error.WorldError.TheVariants.{Limit}
+use Rattle.imap_world.specs.declared.mailbox_entry.MailboxEntry.{MailboxEntry}
+use Rattle.imap_world.specs.declared.error.WorldError.TheVariants.{Limit, Taken}
 use Rattle.imap_world.specs.Effects.{with_row, put_of, writes_then, after_result}
 use Rattle.imap_world.specs.Finite.{keep}
-use Rattle.imap_world.specs.Row.{Row}
+use Rattle.imap_world.specs.NewMailbox.{NewMailbox}
 use Rattle.imap_world.specs.World.{World, epoch, inbox, max_validity}
 use Rattle.imap_world.proofs.Finding.{get-keep}
 use Rattle.imap_world.proofs.Sets.{is_user, equal_users}
 use Rattle.imap_view.specs.After.{OthersInboxesAreHidden}
 use Rattle.imap_view.specs.Seen.{seen_at, seen_with, owner_by_root}
-use Rattle.imap_view.specs.View.{view_of, view_by, seen_in, if_true, is_below_place}
+use Rattle.imap_view.specs.View.{view_of, view_by, seen_in, if_true, may_know_name}
 
 -- ---- a mailbox of which nothing is seen
 
@@ -41,19 +41,19 @@ kept_same f m k x new old = same_names _ _ (λ q. get-keep name_cmp f name_antis
     by q true at = ap (λ n. f n x) (equal_names q k at) ∙ new ∙ sym (ap (λ n. option_and_then (f n) (map.get m n)) (equal_names q k at) ∙ old)
     by q false at = refl
 
-module _ (administrator user : List ℕ) (world : World) (row : Row) where
-  module _ (absent : map.get world.mailboxes row.name ≡ None) (unseen : seen_at administrator user row.name row.mailbox ≡ None) (unknown : is_below_place administrator user (seen_in administrator user world) row.name ≡ false) where
+module _ (administrator user : List ℕ) (world : World) (row : NewMailbox) where
+  module _ (absent : map.get world.mailboxes row.name ≡ None) (unseen : seen_at administrator user row.name row.mailbox ≡ None) (unknown : may_know_name administrator user (seen_in administrator user world) row.name ≡ false) where
     seen_same : seen_in administrator user (with_row world row) ≡ seen_in administrator user world
     seen_same = kept_same (seen_at administrator user) world.mailboxes row.name row.mailbox unseen (ap (option_and_then (seen_at administrator user row.name)) absent)
 
     abbrev if_known : {X Y : Type 0} → (X → Y) → Name → X → Option Y
-    if_known f name x = if_true (is_below_place administrator user (seen_in administrator user world) name) (f x)
+    if_known f name x = if_true (may_know_name administrator user (seen_in administrator user world) name) (f x)
 
     nothing_known : {X Y : Type 0} (f : X → Y) (o : Option X) → option_and_then (if_known f row.name) o ≡ None
     nothing_known f None = refl
     nothing_known f (Some x) = ap (λ b. if_true b (f x)) unknown
 
-    taken_same : keep (if_known {X = Mailbox} {Y = Unit {0}} (λ mailbox. tt)) (with_row world row).mailboxes ≡ keep (if_known {X = Mailbox} {Y = Unit {0}} (λ mailbox. tt)) world.mailboxes
+    taken_same : keep (if_known {X = MailboxEntry} {Y = Unit {0}} (λ mailbox. tt)) (with_row world row).mailboxes ≡ keep (if_known {X = MailboxEntry} {Y = Unit {0}} (λ mailbox. tt)) world.mailboxes
     taken_same = kept_same (if_known (λ mailbox. tt)) world.mailboxes row.name row.mailbox (ap (λ b. if_true b tt) unknown) (nothing_known (λ mailbox. tt) (map.get world.mailboxes row.name))
 
     epochs_same : keep (if_known {X = ℕ} {Y = ℕ} (λ validity. validity)) (with_row world row).epochs ≡ keep (if_known {X = ℕ} {Y = ℕ} (λ validity. validity)) world.epochs
@@ -103,16 +103,17 @@ module _ (other : List ℕ) where
         ∙ ap (λ b. seen_with (cond b (union (granted user (owner_acl other)) owner_rights) (granted user (owner_acl other))) (owner_acl other)) (not_bytes user other (λ e. differ (sym e)))
         ∙ ap (λ r. seen_with r (owner_acl other)) (nothing_granted user differ someone) ∙ seen_without (owner_acl other)
 
-    inbox_unknown : (world : World) → is_below_place administrator user (seen_in administrator user world) (inbox other) ≡ false
+    inbox_unknown : (world : World) → may_know_name administrator user (seen_in administrator user world) (inbox other) ≡ false
     inbox_unknown world =
         ap (λ o. bytes_eq o user || (false || false)) (own_root administrator other some)
         ∙ ap (λ b. b || (false || false)) (not_bytes other user differ)
 
-    inbox_hidden : (world : World) → map.get world.mailboxes (inbox other) ≡ None → (b : Bool)
-        → view_of administrator user (after_result (writes_then (put_of (cond b (Err Limit) (Ok (record { name = inbox other; mailbox = record { validity = epoch world.epochs (inbox other) + 1; acl = owner_acl other } })))) (Ok [])) world) ≡ view_of administrator user world
-    inbox_hidden world absent true = refl
-    inbox_hidden world absent false =
-        put_is_hidden administrator user world (record { name = inbox other; mailbox = record { validity = epoch world.epochs (inbox other) + 1; acl = owner_acl other } }) absent (inbox_unseen (epoch world.epochs (inbox other) + 1)) (inbox_unknown world)
+    inbox_hidden : (world : World) (there : Bool) → map.contains_key world.mailboxes (inbox other) ≡ there → (b : Bool)
+        → view_of administrator user (after_result (writes_then (cond there (Err Taken) (put_of (cond b (Err Limit) (Ok (record { name = inbox other; mailbox = record { validity = epoch world.epochs (inbox other) + 1; acl = owner_acl other } }))))) (Ok [])) world) ≡ view_of administrator user world
+    inbox_hidden world true is b = refl
+    inbox_hidden world false is true = refl
+    inbox_hidden world false is false =
+        put_is_hidden administrator user world (record { name = inbox other; mailbox = record { validity = epoch world.epochs (inbox other) + 1; acl = owner_acl other } }) (none_of (map.get world.mailboxes (inbox other)) is) (inbox_unseen (epoch world.epochs (inbox other) + 1)) (inbox_unknown world)
 
 not_anyone : (other : List ℕ) → is_user_name other ≡ true → other ≢ anyone
 not_anyone other valid e =
@@ -121,5 +122,5 @@ not_anyone other valid e =
     absurd (cc (sym word.0 ∙ (bytes_eq-Decides other anyone).1 e))
 
 pub others_inboxes : OthersInboxesAreHidden
-others_inboxes administrator user other world valid differ absent =
-    inbox_hidden other administrator user (user_name_facts other valid).some (not_anyone other valid) differ world (none_of (map.get world.mailboxes (inbox other)) absent) (epoch world.epochs (inbox other) == max_validity)
+others_inboxes administrator user other world valid differ =
+    inbox_hidden other administrator user (user_name_facts other valid).some (not_anyone other valid) differ world (map.contains_key world.mailboxes (inbox other)) refl (epoch world.epochs (inbox other) == max_validity)

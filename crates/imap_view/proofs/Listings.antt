@@ -8,16 +8,16 @@ use Rattle.std.specs.FinMap as fin
 use Rattle.imap_names.specs.Name.{Name}
 use Rattle.imap_names.specs.Order.{name_cmp, is_below}
 use Rattle.imap_name_map.specs.Rows.{entries_below, below_of, has_below}
-use Rattle.imap_world.specs.declared.mailbox.Mailbox.{Mailbox}
+use Rattle.imap_world.specs.declared.mailbox_entry.MailboxEntry.{MailboxEntry}
 use Rattle.imap_world.specs.Finite.{kept_entry}
 use Rattle.imap_world.specs.World.{World, NameSet}
 use Rattle.imap_world.proofs.Finding.{entries-keep}
 use Rattle.imap_view.specs.Listing.{names_below, known_among, seen_among}
 use Rattle.imap_view.specs.Seen.{seen_at}
-use Rattle.imap_view.specs.View.{View, view_of, is_below_place_in, if_true}
+use Rattle.imap_view.specs.View.{View, view_of, may_know_name_in, if_true}
 
-abbrev known_entry : View → Name → Mailbox → Option (Unit {0})
-known_entry view name mailbox = if_true (is_below_place_in view name) tt
+abbrev known_entry : View → Name → MailboxEntry → Option (Unit {0})
+known_entry view name mailbox = if_true (may_know_name_in view name) tt
 
 module _ (administrator user : List ℕ) (world : World) where
   entries_taken : fin.entries (view_of administrator user world).taken ≡ filter_map (kept_entry (known_entry (view_of administrator user world))) (fin.entries world.mailboxes)
@@ -29,18 +29,18 @@ module _ (administrator user : List ℕ) (world : World) where
   entries_seen = sym (entries-keep name_cmp (seen_at administrator user) world.mailboxes)
 
 module _ (view : View) (top : Name) where
-  known_below : (es : List (Name × Mailbox)) → known_among view (entries_below top es) ≡ map (λ e. e.0) (entries_below top (filter_map (kept_entry (known_entry view)) es))
+  known_below : (es : List (Name × MailboxEntry)) → known_among view (entries_below top es) ≡ map (λ e. e.0) (entries_below top (filter_map (kept_entry (known_entry view)) es))
   known_below [] = refl
   known_below (e ∷ es) =
       known_first (is_below top e.0)
-      ∙ both (is_below_place_in view e.0) (is_below top e.0) (known_below es)
-      ∙ sym (kept_first (is_below_place_in view e.0))
+      ∙ both (may_know_name_in view e.0) (is_below top e.0) (known_below es)
+      ∙ sym (kept_first (may_know_name_in view e.0))
     where
       kept : List (Name × Unit {0})
       kept = filter_map (kept_entry (known_entry view)) es
 
       known_first : (below : Bool) → known_among view (cond below (e ∷ entries_below top es) (entries_below top es))
-          ≡ cond below (cond (is_below_place_in view e.0) (e.0 ∷ known_among view (entries_below top es)) (known_among view (entries_below top es))) (known_among view (entries_below top es))
+          ≡ cond below (cond (may_know_name_in view e.0) (e.0 ∷ known_among view (entries_below top es)) (known_among view (entries_below top es))) (known_among view (entries_below top es))
       known_first true = refl
       known_first false = refl
 

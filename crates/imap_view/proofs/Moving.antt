@@ -14,13 +14,13 @@ use Rattle.imap_names.proofs.NameLaws.{is_name_at, is_name_at-same, equal_names,
 use Rattle.imap_names.proofs.OrderLaws.{name_antisymmetric, below_from_within}
 use Rattle.imap_rights.specs.Effective.{effective}
 use Rattle.imap_rights.specs.Rights.{delete_mailbox, has_any}
-use Rattle.imap_world.specs.declared.mailbox.Mailbox.{Mailbox}
+use Rattle.imap_world.specs.declared.mailbox_entry.MailboxEntry.{MailboxEntry}
 use Rattle.imap_world.specs.Moving.{with_moved}
 use Rattle.imap_world.specs.World.{World, NameSet}
 use Rattle.imap_world.proofs.Finding.{get-keep}
 use Rattle.imap_view.specs.RenameAfter.{view_with_moved}
 use Rattle.imap_view.specs.Seen.{is_root, owner_by_root, seen_at, seen_with, Seen}
-use Rattle.imap_view.specs.View.{view_of, seen_in, is_place, is_place_with, is_below_place, is_below_place_in, rights_in}
+use Rattle.imap_view.specs.View.{view_of, seen_in, shows_names_below, shows_names_with, may_know_name, may_know_name_in, rights_in}
 use Rattle.imap_view.proofs.Arriving.{all_arrived, inserted_alike}
 use Rattle.imap_view.proofs.Deleting.{held_is_there, place_seen, below_between}
 use Rattle.imap_view.proofs.Narrowing.{in_use, seen_is, makes_place, deeper_below, IsWithin, IsCovered, below_within, get_taken, get_epochs, view_is_narrowed}
@@ -28,7 +28,7 @@ use Rattle.imap_view.proofs.Narrowing.{in_use, seen_is, makes_place, deeper_belo
 -- The user holds x on the mailbox, and the new name lies in its tree, below a place, and no mailbox is there or below.
 pub record IsMove (administrator user : List ℕ) (world : World) (old new : Name) : Type 0 where
   pub deletable : has_any (rights_in (view_of administrator user world) old) delete_mailbox ≡ true
-  pub known : is_below_place_in (view_of administrator user world) new ≡ true
+  pub known : may_know_name_in (view_of administrator user world) new ≡ true
   -- neither is the root of the tree
   pub old_named : 1 < length old
   pub new_named : 1 < length new
@@ -69,7 +69,7 @@ within_one_root : (top q : Name) → 1 < length top → is_within top q ≡ true
 within_one_root top q long e = root_of-within top q (omega (arith, long)) e
 
 -- what is seen of a mailbox is the same under any name of the tree
-seen_alike : (administrator user : List ℕ) (q p : Name) → is_root q ≡ false → is_root p ≡ false → root_of q ≡ root_of p → (o : Option Mailbox) → option_and_then (seen_at administrator user q) o ≡ option_and_then (seen_at administrator user p) o
+seen_alike : (administrator user : List ℕ) (q p : Name) → is_root q ≡ false → is_root p ≡ false → root_of q ≡ root_of p → (o : Option MailboxEntry) → option_and_then (seen_at administrator user q) o ≡ option_and_then (seen_at administrator user p) o
 seen_alike administrator user q p a b e None = refl
 seen_alike administrator user q p a b e (Some m) =
     (λ i. cond (a i) None (seen_with (effective user (owner_by_root administrator (e i)) m.acl) m.acl))
@@ -78,14 +78,14 @@ seen_alike administrator user q p a b e (Some m) =
 -- ---- the view, by look-ups
 
 module _ (administrator user : List ℕ) (world : World) where
-  pub taken_at : (q : Name) → map.get (view_of administrator user world).taken q ≡ cond (is_below_place administrator user (seen_in administrator user world) q) (in_use (map.get world.mailboxes q)) None
+  pub taken_at : (q : Name) → map.get (view_of administrator user world).taken q ≡ cond (may_know_name administrator user (seen_in administrator user world) q) (in_use (map.get world.mailboxes q)) None
   unfolding view_of
   taken_at q = get_taken administrator user (seen_in administrator user world) world q
 
-  pub taken_there : (q : Name) → is_below_place administrator user (seen_in administrator user world) q ≡ true → in_use (map.get world.mailboxes q) ≡ map.get (view_of administrator user world).taken q
+  pub taken_there : (q : Name) → may_know_name administrator user (seen_in administrator user world) q ≡ true → in_use (map.get world.mailboxes q) ≡ map.get (view_of administrator user world).taken q
   taken_there q h = sym (taken_at q ∙ ap (λ b. cond b (in_use (map.get world.mailboxes q)) None) h)
 
-  pub epochs_there : (q : Name) → is_below_place administrator user (seen_in administrator user world) q ≡ true → map.get world.epochs q ≡ map.get (view_of administrator user world).epochs q
+  pub epochs_there : (q : Name) → may_know_name administrator user (seen_in administrator user world) q ≡ true → map.get world.epochs q ≡ map.get (view_of administrator user world).epochs q
   unfolding view_of
   epochs_there q h = sym (get_epochs administrator user (seen_in administrator user world) world q ∙ ap (λ b. cond b (map.get world.epochs q) None) h)
 
@@ -93,10 +93,10 @@ module _ (administrator user : List ℕ) (world : World) where
   get_seen_in q = get-keep name_cmp (seen_at administrator user) name_antisymmetric world.mailboxes q
 
   -- all names at or below one that is known are known
-  pub known_within : (top : Name) → is_below_place administrator user (seen_in administrator user world) top ≡ true → (q : Name) → is_within top q ≡ true → is_below_place administrator user (seen_in administrator user world) q ≡ true
-  known_within top known q e = let (x, is) = below_from_within top q e in ap (is_below_place administrator user (seen_in administrator user world)) is ∙ by x
+  pub known_within : (top : Name) → may_know_name administrator user (seen_in administrator user world) top ≡ true → (q : Name) → is_within top q ≡ true → may_know_name administrator user (seen_in administrator user world) q ≡ true
+  known_within top known q e = let (x, is) = below_from_within top q e in ap (may_know_name administrator user (seen_in administrator user world)) is ∙ by x
     where
-      by : (x : Name) → is_below_place administrator user (seen_in administrator user world) (x ++ top) ≡ true
+      by : (x : Name) → may_know_name administrator user (seen_in administrator user world) (x ++ top) ≡ true
       by [] = known
       by (part ∷ x) = deeper_below administrator user (seen_in administrator user world) part (x ++ top) (by x)
 
@@ -115,17 +115,17 @@ module _ (administrator user : List ℕ) (world : World) (old new : Name) (move 
   pub there : map.contains_key world.mailboxes old ≡ true
   there = held_is_there administrator user world old delete_mailbox move.deletable
 
-  pub place : is_place administrator user seen old ≡ true
+  pub place : shows_names_below administrator user seen old ≡ true
   place =
-      ap (λ s. is_place administrator user s old) (sym (seen_is administrator user world))
+      ap (λ s. shows_names_below administrator user s old) (sym (seen_is administrator user world))
       ∙ place_seen administrator user world old (makes_place (map.get (view_of administrator user world).seen old) delete_mailbox refl move.deletable)
 
-  pub known : is_below_place administrator user seen new ≡ true
+  pub known : may_know_name administrator user seen new ≡ true
   unfolding view_of
   known = move.known
 
   -- all names at or below the new one are known
-  known_below : (q : Name) → is_within new q ≡ true → is_below_place administrator user seen q ≡ true
+  known_below : (q : Name) → is_within new q ≡ true → may_know_name administrator user seen q ≡ true
   known_below q e = known_within administrator user world new known q e
 
   -- ---- nothing is at or below the new name
@@ -148,8 +148,8 @@ module _ (administrator user : List ℕ) (world : World) (old new : Name) (move 
       by q e true at = absurd (old_apart q e at)
       by q e false at =
           taken_at administrator user world q
-          ∙ ap (λ o. cond (is_below_place administrator user seen q) (in_use o) None) (none_found new world.mailboxes q move.free e)
-          ∙ none (is_below_place administrator user seen q)
+          ∙ ap (λ o. cond (may_know_name administrator user seen q) (in_use o) None) (none_found new world.mailboxes q move.free e)
+          ∙ none (may_know_name administrator user seen q)
 
   -- ---- what is seen
 
@@ -173,8 +173,8 @@ module _ (administrator user : List ℕ) (world : World) (old new : Name) (move 
       ∙ seen_case q (is_within new q) refl (is_within old q)
       ∙ sym (get_renamed old new seen q free_seen))
 
-  place_case : (q : Name) (b : Bool) → is_within new q ≡ b → (d : Bool) → is_place_with (cond b (map.get seen (moved new old q)) (cond d None (map.get seen q))) ≡ true
-      → (is_place_with (map.get seen q) ≡ true → IsCovered administrator user seen q) → IsCovered administrator user seen q
+  place_case : (q : Name) (b : Bool) → is_within new q ≡ b → (d : Bool) → shows_names_with (cond b (map.get seen (moved new old q)) (cond d None (map.get seen q))) ≡ true
+      → (shows_names_with (map.get seen q) ≡ true → IsCovered administrator user seen q) → IsCovered administrator user seen q
   place_case q true is d e stays = inr (known_below q is)
   place_case q false is true e stays = absurd (true≢false (sym e))
   place_case q false is false e stays = stays e
@@ -185,9 +185,9 @@ module _ (administrator user : List ℕ) (world : World) (old new : Name) (move 
   within (root ∷ []) e = inl e
   within (deepest ∷ above ∷ more) e =
       place_case (deepest ∷ above ∷ more) (is_within new (deepest ∷ above ∷ more)) refl (is_within old (deepest ∷ above ∷ more))
-      (ap is_place_with (sym (get_renamed old new seen (deepest ∷ above ∷ more) free_seen)) ∙ e) (λ h. inl h)
+      (ap shows_names_with (sym (get_renamed old new seen (deepest ∷ above ∷ more) free_seen)) ∙ e) (λ h. inl h)
 
-  known_before : (q : Name) → is_below_place administrator user seen_after q ≡ true → is_below_place administrator user seen q ≡ true
+  known_before : (q : Name) → may_know_name administrator user seen_after q ≡ true → may_know_name administrator user seen q ≡ true
   known_before q h = below_within administrator user seen_after seen within q h
 
   -- ---- the names in use
@@ -198,23 +198,23 @@ module _ (administrator user : List ℕ) (world : World) (old new : Name) (move 
       let (x, is) = below_from_within old p e in
       by x is (is_name_at p old) refl ∙ sym (get_put (view_of administrator user world).taken old tt p)
     where
-      used : (o : Option Mailbox) → is_some o ≡ true → in_use o ≡ Some tt
+      used : (o : Option MailboxEntry) → is_some o ≡ true → in_use o ≡ Some tt
       used None h = absurd (true≢false (sym h))
       used (Some m) h = refl
 
       by : (x : Name) → p ≡ x ++ old → (b : Bool) → is_name_at p old ≡ b → in_use (map.get world.mailboxes p) ≡ cond b (Some tt) (map.get (view_of administrator user world).taken p)
       by x is true at = ap (λ n. in_use (map.get world.mailboxes n)) (equal_names p old at) ∙ used (map.get world.mailboxes old) there
       by [] is false at = absurd (true≢false (sym (is_name_at-same p) ∙ ap (is_name_at p) is ∙ at))
-      by (part ∷ x) is false at = taken_there administrator user world p (ap (is_below_place administrator user seen) is ∙ below_between administrator user world old place part x)
+      by (part ∷ x) is false at = taken_there administrator user world p (ap (may_know_name administrator user seen) is ∙ below_between administrator user world old place part x)
 
-  taken_apart : (q : Name) → is_within old q ≡ false → is_below_place administrator user seen q ≡ true → in_use (map.get world.mailboxes q) ≡ map.get taken q
+  taken_apart : (q : Name) → is_within old q ≡ false → may_know_name administrator user seen q ≡ true → in_use (map.get world.mailboxes q) ≡ map.get taken q
   taken_apart q out h = by (is_name_at q old) refl ∙ sym (get_put (view_of administrator user world).taken old tt q)
     where
       by : (b : Bool) → is_name_at q old ≡ b → in_use (map.get world.mailboxes q) ≡ cond b (Some tt) (map.get (view_of administrator user world).taken q)
       by true at = absurd (true≢false (sym (within_itself old) ∙ ap (is_within old) (sym (equal_names q old at)) ∙ out))
       by false at = taken_there administrator user world q h
 
-  taken_case : (q : Name) → is_below_place administrator user seen q ≡ true → (b : Bool) → is_within new q ≡ b → (d : Bool) → is_within old q ≡ d
+  taken_case : (q : Name) → may_know_name administrator user seen q ≡ true → (b : Bool) → is_within new q ≡ b → (d : Bool) → is_within old q ≡ d
       → in_use (cond b (map.get world.mailboxes (moved new old q)) (cond d None (map.get world.mailboxes q))) ≡ cond b (map.get taken (moved new old q)) (cond d None (map.get taken q))
   taken_case q h true e d out = taken_within (moved new old q) (moved_within new old q e)
   taken_case q h false e true out = refl
@@ -233,14 +233,14 @@ module _ (administrator user : List ℕ) (world : World) (old new : Name) (move 
         ∙ sym (get_seen_in administrator user (record world { mailboxes = renamed old new world.mailboxes }) q))
         ∙ moved_seen
 
-    all_taken : (q : Name) → is_below_place administrator user seen_after q ≡ true → in_use (map.get after.mailboxes q) ≡ map.get (renamed old new taken) q
+    all_taken : (q : Name) → may_know_name administrator user seen_after q ≡ true → in_use (map.get after.mailboxes q) ≡ map.get (renamed old new taken) q
     all_taken q h =
         all_arrived in_use (λ m validity. refl) (renamed old new world.mailboxes) arrivals q
         ∙ ap in_use (get_renamed old new world.mailboxes q move.free)
         ∙ taken_case q (known_before q h) (is_within new q) refl (is_within old q) refl
         ∙ sym (get_renamed old new taken q free_taken)
 
-    all_epochs : (q : Name) → is_below_place administrator user seen_after q ≡ true → map.get after.epochs q ≡ map.get (inserted_all (view_of administrator user world).epochs arrivals) q
+    all_epochs : (q : Name) → may_know_name administrator user seen_after q ≡ true → map.get after.epochs q ≡ map.get (inserted_all (view_of administrator user world).epochs arrivals) q
     all_epochs q h =
         inserted_alike world.epochs (view_of administrator user world).epochs arrivals q (epochs_there administrator user world q (known_before q h))
 

@@ -7,15 +7,15 @@ use Rattle.imap_names.specs.Name.{Name}
 use Rattle.imap_names.specs.Order.{Names}
 use Rattle.imap_names.proofs.NameLaws.{is_name_at, equal_names, same_names, get_put}
 use Rattle.imap_rights.specs.Acl.{AclMap}
-use Rattle.imap_world.specs.declared.mailbox.Mailbox.{Mailbox}
+use Rattle.imap_world.specs.declared.mailbox_entry.MailboxEntry.{MailboxEntry}
 use Rattle.imap_world.specs.Effects.{with_row}
 use Rattle.imap_world.specs.Finite.{keep}
-use Rattle.imap_world.specs.Row.{Row}
+use Rattle.imap_world.specs.NewMailbox.{NewMailbox}
 use Rattle.imap_world.specs.Tree.{with_rows}
 use Rattle.imap_world.specs.World.{World, epoch}
 use Rattle.imap_view.specs.Seen.{Seen, seen_at}
 use Rattle.imap_view.specs.TreeAfter.{put_option, view_with_mailbox, view_with_mailboxes}
-use Rattle.imap_view.specs.View.{view_of, view_by, seen_in, if_true, is_below_place}
+use Rattle.imap_view.specs.View.{view_of, view_by, seen_in, if_true, may_know_name}
 use Rattle.imap_view.proofs.Narrowing.{get_kept, below_same, seen_changed}
 
 -- ---- lists of which each item is such
@@ -49,8 +49,8 @@ kept_with f m k x after before same holds =
     by q true at = ap (λ b. cond b (Some (f x)) None) (ap before (equal_names q k at) ∙ holds)
     by q false at = refl
 
-module _ (administrator user : List ℕ) (world : World) (row : Row) where
-  module _ (below : is_below_place administrator user (seen_in administrator user world) row.name ≡ true) where
+module _ (administrator user : List ℕ) (world : World) (row : NewMailbox) where
+  module _ (below : may_know_name administrator user (seen_in administrator user world) row.name ≡ true) where
     abbrev new : Option Seen
     new = seen_at administrator user row.name row.mailbox
 
@@ -58,20 +58,20 @@ module _ (administrator user : List ℕ) (world : World) (row : Row) where
     seen_new = seen_changed administrator user world (with_row world row) row.name (Some row.mailbox) (get_put world.mailboxes row.name row.mailbox)
 
     abbrev after : Name → Bool
-    after = is_below_place administrator user (put_option (seen_in administrator user world) row.name new)
+    after = may_know_name administrator user (put_option (seen_in administrator user world) row.name new)
 
     abbrev before : Name → Bool
-    before = is_below_place administrator user (seen_in administrator user world)
+    before = may_know_name administrator user (seen_in administrator user world)
 
     same : (q : Name) → after q ≡ before q
     same = below_same administrator user (seen_in administrator user world) row.name new below
 
     -- the same names lie below places
-    pub places_same : (q : Name) → is_below_place administrator user (seen_in administrator user (with_row world row)) q ≡ before q
-    places_same q = ap (λ s. is_below_place administrator user s q) seen_new ∙ same q
+    pub places_same : (q : Name) → may_know_name administrator user (seen_in administrator user (with_row world row)) q ≡ before q
+    places_same q = ap (λ s. may_know_name administrator user s q) seen_new ∙ same q
 
     takens : (view_by administrator user (put_option (seen_in administrator user world) row.name new) (with_row world row)).taken ≡ map.insert (view_by administrator user (seen_in administrator user world) world).taken row.name tt
-    takens = kept_with (λ (m : Mailbox). tt) world.mailboxes row.name row.mailbox after before same below
+    takens = kept_with (λ (m : MailboxEntry). tt) world.mailboxes row.name row.mailbox after before same below
 
     all_epochs : (view_by administrator user (put_option (seen_in administrator user world) row.name new) (with_row world row)).epochs ≡ map.insert (view_by administrator user (seen_in administrator user world) world).epochs row.name row.mailbox.validity
     all_epochs = kept_with (λ (n : ℕ). n) world.epochs row.name row.mailbox.validity after before same below
@@ -85,12 +85,12 @@ module _ (administrator user : List ℕ) (world : World) (row : Row) where
 -- ---- several
 
 module _ (administrator user : List ℕ) where
-  abbrev pub IsBelow : World → Row → Type 0
-  IsBelow world row = is_below_place administrator user (seen_in administrator user world) row.name ≡ true
+  abbrev pub IsBelow : World → NewMailbox → Type 0
+  IsBelow world row = may_know_name administrator user (seen_in administrator user world) row.name ≡ true
 
   -- below places no place comes and none goes
-  pub rows_places_same : (rows : List Row) (world : World) → AllByRecursion (IsBelow world) rows → (q : Name)
-      → is_below_place administrator user (seen_in administrator user (with_rows world rows)) q ≡ is_below_place administrator user (seen_in administrator user world) q
+  pub rows_places_same : (rows : List NewMailbox) (world : World) → AllByRecursion (IsBelow world) rows → (q : Name)
+      → may_know_name administrator user (seen_in administrator user (with_rows world rows)) q ≡ may_know_name administrator user (seen_in administrator user world) q
   rows_places_same [] world each q = refl
   rows_places_same (row ∷ rows) world each q =
       rows_places_same rows (with_row world row)
@@ -98,7 +98,7 @@ module _ (administrator user : List ℕ) where
       ∙ places_same administrator user world row each.0 q
 
 -- under other names all stays
-pub rows_elsewhere : (rows : List Row) (world : World) (q : Name) → AllByRecursion (λ row. is_name_at q row.name ≡ false) rows → map.get (with_rows world rows).mailboxes q ≡ map.get world.mailboxes q
+pub rows_elsewhere : (rows : List NewMailbox) (world : World) (q : Name) → AllByRecursion (λ row. is_name_at q row.name ≡ false) rows → map.get (with_rows world rows).mailboxes q ≡ map.get world.mailboxes q
 rows_elsewhere [] world q each = refl
 rows_elsewhere (row ∷ rows) world q each =
     rows_elsewhere rows (with_row world row) q each.1
@@ -108,13 +108,13 @@ rows_elsewhere (row ∷ rows) world q each =
 -- ---- several, that are seen alike
 
 -- the mailbox that is made under a name
-abbrev pub row_of : Names ℕ → AclMap → Name → Row
+abbrev pub row_of : Names ℕ → AclMap → Name → NewMailbox
 row_of epochs acl name = record { name = name; mailbox = record { validity = epoch epochs name + 1; acl = acl } }
 
 module _ (administrator user : List ℕ) (epochs known : Names ℕ) (acl : AclMap) (seen : Option Seen) where
   -- below a place, with a list by which it is seen so, and the user knows the validities
   pub record IsNew (world : World) (name : Name) : Type 0 where
-    pub below : is_below_place administrator user (seen_in administrator user world) name ≡ true
+    pub below : may_know_name administrator user (seen_in administrator user world) name ≡ true
     pub shown : (validity : ℕ) → seen_at administrator user name (record { validity = validity; acl = acl }) ≡ seen
     pub counted : epoch epochs name ≡ epoch known name
 
@@ -122,7 +122,7 @@ module _ (administrator user : List ℕ) (epochs known : Names ℕ) (acl : AclMa
       → view_of administrator user (with_rows world (map_list (row_of epochs acl) names)) ≡ view_with_mailboxes (view_of administrator user world) seen known names
   rows_seen [] world each = refl
   rows_seen (name ∷ names) world each =
-      let row : Row = row_of epochs acl name in
+      let row : NewMailbox = row_of epochs acl name in
       let first = each.0 in
       rows_seen names (with_row world row)
       (each_weaker (IsNew world) (IsNew (with_row world row)) names

@@ -11,15 +11,15 @@ use Rattle.imap_names.proofs.MovedLaws.{within_no_shorter}
 use Rattle.imap_names.proofs.NameLaws.{is_name_at, equal_names}
 use Rattle.imap_rights.specs.Acl.{AclMap}
 use Rattle.imap_rights.specs.Rights.{delete_mailbox, has_any}
-use Rattle.imap_world.specs.declared.mailbox.Mailbox.{Mailbox}
+use Rattle.imap_world.specs.declared.mailbox_entry.MailboxEntry.{MailboxEntry}
 use Rattle.imap_world.specs.Moving.{arrivals_at, can_move, superior_rows}
-use Rattle.imap_world.specs.Row.{Row}
+use Rattle.imap_world.specs.NewMailbox.{NewMailbox}
 use Rattle.imap_world.specs.Tree.{inherited, new_row, rows_for, with_last, with_rows}
 use Rattle.imap_world.specs.World.{World}
 use Rattle.imap_view.specs.RenameAfter.{missing_above, names_after, view_with_above, view_with_moved, RenamingIsSeen}
 use Rattle.imap_view.specs.Seen.{owner_of, seen_at}
 use Rattle.imap_view.specs.TreeAfter.{is_known, missing_in, new_seen, validities_left, view_with_mailboxes}
-use Rattle.imap_view.specs.View.{View, view_of, seen_in, is_below_place, is_below_place_in, may_create, rights_of, rights_in}
+use Rattle.imap_view.specs.View.{View, view_of, seen_in, may_know_name, may_know_name_in, may_create, rights_of, rights_in}
 use Rattle.imap_view.proofs.ArrivalsKnown.{arrivals_known}
 use Rattle.imap_view.proofs.Creating.{creatable_is_below, creatable_there, above_creatable, equal_octets, known_is_there, creates, IsFresh}
 use Rattle.imap_view.proofs.Moving.{IsMove, none_found, no_run, taken_there, known_within, moved_is_seen, there}
@@ -49,7 +49,7 @@ can_move_parts old new can =
 
 -- Rows are made for those that aren't there, all of names shorter than the new one. The view after them is as said.
 record Superiors (administrator user : List ℕ) (world : World) (new : Name) : Type 0 where
-  rows : List Row
+  rows : List NewMailbox
   made : superior_rows world (owner_of administrator new) new ≡ Ok rows
   longest : ℕ
   longer : longest < length new
@@ -102,14 +102,14 @@ superiors administrator user world (deepest ∷ part ∷ next ∷ more) named ma
 
 module _ (administrator user : List ℕ) (world : World) (new : Name) where
   -- nothing is there if the user knows of nothing
-  free_there : is_below_place administrator user (seen_in administrator user world) new ≡ true → has_within new (view_of administrator user world).taken ≡ false → run_of new world.mailboxes ≡ []
+  free_there : may_know_name administrator user (seen_in administrator user world) new ≡ true → has_within new (view_of administrator user world).taken ≡ false → run_of new world.mailboxes ≡ []
   free_there known free =
       no_run new world.mailboxes
       (λ q e. unused (map.get world.mailboxes q)
       (taken_there administrator user world q (known_within administrator user world new known q e)
       ∙ none_found new (view_of administrator user world).taken q (run_is_empty new (view_of administrator user world).taken free) e))
     where
-      unused : (o : Option Mailbox) → in_use o ≡ None → o ≡ None
+      unused : (o : Option MailboxEntry) → in_use o ≡ None → o ≡ None
       unused None e = refl
       unused (Some m) e = cc
 
@@ -141,7 +141,7 @@ module _ (administrator user : List ℕ) (world : World) (old new : Name) (move 
       (get_seen administrator user between old ∙ ap (option_and_then (seen_at administrator user old)) old_stays ∙ sym (get_seen administrator user world old))
       ∙ move.deletable
 
-  known_still : is_below_place_in (view_of administrator user between) new ≡ true
+  known_still : may_know_name_in (view_of administrator user between) new ≡ true
   unfolding view_of
   known_still =
       rows_places_same administrator user superior.rows world

@@ -11,12 +11,12 @@ use Rattle.imap_rights.specs.Change.{applied}
 use Rattle.imap_rights.specs.Effective.{entry, effective}
 use Rattle.imap_rights.specs.Rights.{has_any, visible_rights, administer}
 use Rattle.imap_world.specs.declared.error.WorldError.TheVariants.{Limit}
-use Rattle.imap_world.specs.declared.mailbox.Mailbox.{Mailbox}
+use Rattle.imap_world.specs.declared.mailbox_entry.MailboxEntry.{MailboxEntry}
 use Rattle.imap_world.specs.Tree.{with_acl, mailboxes_with_list}
 use Rattle.imap_world.specs.World.{World}
 use Rattle.imap_view.specs.Seen.{Seen, is_root, owner_of, seen_at, seen_with}
 use Rattle.imap_view.specs.TreeAfter.{has_room_for, put_option, narrowed, seen_with_rights, IsRightsChange, SettingRightsIsSeen}
-use Rattle.imap_view.specs.View.{View, view_of, seen_in, is_place, is_below_place, rights_of, acl_of, acl_in}
+use Rattle.imap_view.specs.View.{View, view_of, seen_in, shows_names_below, may_know_name, rights_of, acl_of, acl_in}
 use Rattle.imap_view.proofs.Deleting.{place_seen}
 use Rattle.imap_view.proofs.Narrowing.{in_use, seen_is, makes_place, below_within, put_within, get_taken, get_epochs, view_is_narrowed, seen_changed}
 use Rattle.imap_view.proofs.Views.{administrator_of, user_of, get_seen}
@@ -43,7 +43,7 @@ shown_by rights mine shown e = by (has_any rights visible_rights) refl (has_any 
           administers = ap (λ b. has_any (rights_of (cond b (Some (record { rights = rights; acl = cond (has_any rights administer) (Some mine) None })) None)) administer) is ∙ at;
         }
 
-shown_at : (administrator user : List ℕ) (name : Name) (m : Mailbox) (shown : AclMap) → acl_of (seen_at administrator user name m) ≡ Some shown → ShowsList (seen_at administrator user name m) (is_root name) m.acl shown
+shown_at : (administrator user : List ℕ) (name : Name) (m : MailboxEntry) (shown : AclMap) → acl_of (seen_at administrator user name m) ≡ Some shown → ShowsList (seen_at administrator user name m) (is_root name) m.acl shown
 shown_at administrator user name m shown e = by (is_root name) refl
   where
     by : (b : Bool) → is_root name ≡ b → ShowsList (seen_at administrator user name m) (is_root name) m.acl shown
@@ -59,15 +59,15 @@ shown_at administrator user name m shown e = by (is_root name) refl
 
 -- ---- the view after it
 
-module _ (administrator user : List ℕ) (world : World) (name : Name) (m : Mailbox) (acl : AclMap) where
-  module _ (there : map.get world.mailboxes name ≡ Some m) (named : is_root name ≡ false) (place : is_place administrator user (seen_in administrator user world) name ≡ true) where
+module _ (administrator user : List ℕ) (world : World) (name : Name) (m : MailboxEntry) (acl : AclMap) where
+  module _ (there : map.get world.mailboxes name ≡ Some m) (named : is_root name ≡ false) (place : shows_names_below administrator user (seen_in administrator user world) name ≡ true) where
     after : World
     after = record world { mailboxes = map.insert world.mailboxes name (record m { acl = acl }) }
 
     abbrev new : Option Seen
     new = seen_with (effective user (owner_of administrator name) acl) acl
 
-    within : (q : Name) → is_below_place administrator user (put_option (seen_in administrator user world) name new) q ≡ true → is_below_place administrator user (seen_in administrator user world) q ≡ true
+    within : (q : Name) → may_know_name administrator user (put_option (seen_in administrator user world) name new) q ≡ true → may_know_name administrator user (seen_in administrator user world) q ≡ true
     within = below_within administrator user (put_option (seen_in administrator user world) name new) (seen_in administrator user world) (put_within administrator user (seen_in administrator user world) name new (inl place))
 
     still : (q : Name) (b : Bool) → is_name_at q name ≡ b → in_use (cond b (Some (record m { acl = acl })) (map.get world.mailboxes q)) ≡ in_use (map.get world.mailboxes q)
@@ -104,13 +104,13 @@ module _ (administrator user : List ℕ) (world : World) (name : Name) (identifi
   abbrev as_seen : Option Seen → View
   as_seen o = narrowed (record (view_of administrator user world) { seen = put_option (view_of administrator user world).seen name o })
 
-  with_list : (m : Mailbox) (acl : AclMap) → map.get world.mailboxes name ≡ Some m
+  with_list : (m : MailboxEntry) (acl : AclMap) → map.get world.mailboxes name ≡ Some m
       → acl_in (view_of administrator user world) name ≡ Some acl → is_full_for acl identifier (applied change (entry acl identifier)) ≡ false
       → IsRightsChange administrator user world name identifier change
   with_list m acl there shown room =
       let at : map.get (view_of administrator user world).seen name ≡ seen_at administrator user name m = get_seen administrator user world name ∙ ap (option_and_then (seen_at administrator user name)) there in
       let shows = shown_at administrator user name m acl (ap acl_of (sym at) ∙ shown) in
-      let place = ap (λ s. is_place administrator user s name) (sym (seen_is administrator user world))
+      let place = ap (λ s. shows_names_below administrator user s name) (sym (seen_is administrator user world))
       ∙ place_seen administrator user world name (makes_place (map.get (view_of administrator user world).seen name) administer refl (ap (λ o. has_any (rights_of o) administer) at ∙ shows.administers)) in
       let new : AclMap = with_entry acl identifier (applied change (entry acl identifier)) in
       record {
@@ -128,7 +128,7 @@ module _ (administrator user : List ℕ) (world : World) (name : Name) (identifi
       → IsRightsChange administrator user world name identifier change
   listed acl shown room = by (map.get world.mailboxes name) refl
     where
-      by : (o : Option Mailbox) → map.get world.mailboxes name ≡ o → IsRightsChange administrator user world name identifier change
+      by : (o : Option MailboxEntry) → map.get world.mailboxes name ≡ o → IsRightsChange administrator user world name identifier change
       by None is = absurd (cc (sym shown ∙ ap acl_of (get_seen administrator user world name ∙ ap (option_and_then (seen_at administrator user name)) is)))
       by (Some m) is = with_list m acl is shown room
 

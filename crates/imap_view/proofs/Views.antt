@@ -8,11 +8,11 @@ use Rattle.imap_names.specs.Valid.{IsName}
 use Rattle.imap_names.proofs.OrderLaws.{name_antisymmetric}
 use Rattle.imap_rights.specs.Rights.{has_any, visible_rights, administer}
 use Rattle.imap_rights.specs.Effective.{effective}
-use Rattle.imap_world.specs.declared.mailbox.Mailbox.{Mailbox}
+use Rattle.imap_world.specs.declared.mailbox_entry.MailboxEntry.{MailboxEntry}
 use Rattle.imap_world.specs.World.{World, epoch, subscribed_by}
 use Rattle.imap_world.proofs.Finding.{get-keep}
 use Rattle.imap_view.specs.Seen.{Seen, is_root, owner_of, seen_at, seen_with}
-use Rattle.imap_view.specs.View.{View, view_of, seen_in, is_own_root, is_place, is_below_place, is_below_place_in, if_true, epoch_in, creatable_below, may_create}
+use Rattle.imap_view.specs.View.{View, view_of, seen_in, is_own_root, shows_names_below, may_know_name, may_know_name_in, if_true, epoch_in, creatable_below, may_create}
 
 -- the name of a mailbox has more than the root of its tree
 pub named : (name : Name) → IsName name → is_root name ≡ false
@@ -38,7 +38,7 @@ module _ (administrator user : List ℕ) (world : World) where
   get_seen q = get-keep name_cmp (seen_at administrator user) name_antisymmetric world.mailboxes q
 
   abbrev is_known : Name → Bool
-  is_known = is_below_place administrator user (view_of administrator user world).seen
+  is_known = may_know_name administrator user (view_of administrator user world).seen
 
   when : {X Y : Type 0} (b : Bool) (y : X → Y) (o : Option X) → is_some (option_and_then (λ x. if_true b (y x)) o) ≡ (is_some o && b)
   when true y None = refl
@@ -50,8 +50,8 @@ module _ (administrator user : List ℕ) (world : World) where
   pub contains_taken : (q : Name) → map.contains_key (view_of administrator user world).taken q ≡ (map.contains_key world.mailboxes q && is_known q)
   unfolding view_of
   contains_taken q =
-      ap is_some (get-keep name_cmp (λ name mailbox. if_true (is_below_place administrator user (seen_in administrator user world) name) tt) name_antisymmetric world.mailboxes q)
-      ∙ when (is_below_place administrator user (seen_in administrator user world) q) (λ m. tt) (map.get world.mailboxes q)
+      ap is_some (get-keep name_cmp (λ name mailbox. if_true (may_know_name administrator user (seen_in administrator user world) name) tt) name_antisymmetric world.mailboxes q)
+      ∙ when (may_know_name administrator user (seen_in administrator user world) q) (λ m. tt) (map.get world.mailboxes q)
 
   epoch_when : (b : Bool) (o : Option ℕ) → if_true b (unwrap_or (option_and_then (λ n. if_true b n) o) 0) ≡ if_true b (unwrap_or o 0)
   epoch_when true None = refl
@@ -62,20 +62,20 @@ module _ (administrator user : List ℕ) (world : World) where
   pub epoch_known : (q : Name) → epoch_in (view_of administrator user world) q ≡ if_true (is_known q) (epoch world.epochs q)
   unfolding view_of
   epoch_known q =
-      ap (λ o. if_true (is_known q) (unwrap_or o 0)) (get-keep name_cmp (λ name validity. if_true (is_below_place administrator user (seen_in administrator user world) name) validity) name_antisymmetric world.epochs q)
+      ap (λ o. if_true (is_known q) (unwrap_or o 0)) (get-keep name_cmp (λ name validity. if_true (may_know_name administrator user (seen_in administrator user world) name) validity) name_antisymmetric world.epochs q)
       ∙ epoch_when (is_known q) (map.get world.epochs q)
 
-  known_in : (q : Name) → is_below_place_in (view_of administrator user world) q ≡ is_known q
-  known_in q = λ i. is_below_place (administrator_of i) (user_of i) (view_of administrator user world).seen q
+  known_in : (q : Name) → may_know_name_in (view_of administrator user world) q ≡ is_known q
+  known_in q = λ i. may_know_name (administrator_of i) (user_of i) (view_of administrator user world).seen q
 
   module _ (view : View) (is : view_of administrator user world ≡ view) (q : Name) where
-    known_there : is_known q ≡ is_below_place_in view q
-    known_there = sym (known_in q) ∙ ap (λ v. is_below_place_in v q) is
+    known_there : is_known q ≡ may_know_name_in view q
+    known_there = sym (known_in q) ∙ ap (λ v. may_know_name_in v q) is
 
-    pub taken_at : map.contains_key view.taken q ≡ (map.contains_key world.mailboxes q && is_below_place_in view q)
+    pub taken_at : map.contains_key view.taken q ≡ (map.contains_key world.mailboxes q && may_know_name_in view q)
     taken_at = ap (λ (v : View). map.contains_key v.taken q) (sym is) ∙ contains_taken q ∙ ap (λ b. map.contains_key world.mailboxes q && b) known_there
 
-    pub epoch_at : epoch_in view q ≡ if_true (is_below_place_in view q) (epoch world.epochs q)
+    pub epoch_at : epoch_in view q ≡ if_true (may_know_name_in view q) (epoch world.epochs q)
     epoch_at = ap (λ v. epoch_in v q) (sym is) ∙ epoch_known q ∙ ap (λ b. if_true b (epoch world.epochs q)) known_there
 
   -- ---- one mailbox
@@ -83,7 +83,7 @@ module _ (administrator user : List ℕ) (world : World) where
   pub absent_is_unseen : (q : Name) → map.get world.mailboxes q ≡ None → map.get (view_of administrator user world).seen q ≡ None
   absent_is_unseen q absent = get_seen q ∙ ap (option_and_then (seen_at administrator user q)) absent
 
-  module _ (view : View) (is : view_of administrator user world ≡ view) (q : Name) (mailbox : Mailbox) where
+  module _ (view : View) (is : view_of administrator user world ≡ view) (q : Name) (mailbox : MailboxEntry) where
     administrator_there : administrator ≡ view.administrator
     administrator_there = sym administrator_of ∙ ap (λ (v : View). v.administrator) is
 
@@ -112,17 +112,17 @@ module _ (administrator user : List ℕ) (world : World) where
 
 module _ (administrator user : List ℕ) (seen : Names Seen) where
   -- below a superior that is a place, or below a place itself
-  pub below_superior : (q above : Name) → superior q ≡ Some above → is_below_place administrator user seen q ≡ (is_place administrator user seen above || is_below_place administrator user seen above)
+  pub below_superior : (q above : Name) → superior q ≡ Some above → may_know_name administrator user seen q ≡ (shows_names_below administrator user seen above || may_know_name administrator user seen above)
   below_superior [] above is = absurd (cc is)
   below_superior (root ∷ []) above is = absurd (cc is)
   below_superior (outermost ∷ root ∷ []) above is = absurd (cc is)
   below_superior (deepest ∷ first ∷ next ∷ more) above is = ap (λ o. superior_place (unwrap_or o above)) is
     where
       superior_place : Name → Bool
-      superior_place name = is_place administrator user seen name || is_below_place administrator user seen name
+      superior_place name = shows_names_below administrator user seen name || may_know_name administrator user seen name
 
   -- right below a root, if that is the user's own
-  pub below_root : (q : Name) → is_root q ≡ false → superior q ≡ None → is_below_place administrator user seen q ≡ is_own_root administrator user (root_of q)
+  pub below_root : (q : Name) → is_root q ≡ false → superior q ≡ None → may_know_name administrator user seen q ≡ is_own_root administrator user (root_of q)
   below_root [] named is = absurd (cc named)
   below_root (root ∷ []) named is = absurd (cc named)
   below_root (outermost ∷ root ∷ []) named is = or_false (is_own_root administrator user root)

@@ -1,5 +1,5 @@
 -- What the view of a user becomes when the world changes.
-use Rattle.std.specs.Prelude.{◌≡◌, ◌≢◌, ℕ, Bool, true, false, List, [], ◌∷◌, None, Ok}
+use Rattle.std.specs.Prelude.{◌≡◌, ◌≢◌, ◌⊎◌, ℕ, true, false, List, [], ◌∷◌, None, Ok}
 use Rattle.std.specs.FinMap as map
 use Rattle.imap_names.specs.Name.{Name}
 use Rattle.imap_names.specs.UserName.{is_user_name}
@@ -7,11 +7,12 @@ use Rattle.imap_world.specs.declared.change.Write.{Write}
 use Rattle.imap_world.specs.declared.effect.Effect.{Effect}
 use Rattle.imap_world.specs.declared.effect.Effect.TheVariants as effect
 use Rattle.imap_world.specs.Effects.{after_all, writes_for}
-use Rattle.imap_world.specs.World.{World, inbox}
+use Rattle.imap_world.specs.World.{World, subscribed_by}
 use Rattle.imap_view.specs.RenameAfter.{may_rename, view_renamed}
 use Rattle.imap_view.specs.Seen.{owner_of}
-use Rattle.imap_view.specs.TreeAfter.{may_delete, may_make, may_set_rights, view_with, view_with_rights, view_without}
-use Rattle.imap_view.specs.View.{View, view_of, is_below_place_in}
+use Rattle.imap_view.specs.TreeAfter.{may_delete, may_make, may_set_rights, view_with, view_with_rights}
+use Rattle.imap_view.specs.TreeAfter.{view_without}
+use Rattle.imap_view.specs.View.{View, view_of, may_know_name_in}
 
 -- the user of the view may ask for it, from a session
 abbrev pub MayAsk : View → Effect → Type 0
@@ -53,20 +54,38 @@ OwnEffectsAreMade = (administrator user : List ℕ) (world : World) (asked : Eff
 
 -- another user's subscriptions are not in the view
 abbrev pub OthersSubscriptionsAreHidden : Type 0
-OthersSubscriptionsAreHidden = (administrator user other : List ℕ) (world : World) (name : Name) → other ≢ user →
+OthersSubscriptionsAreHidden =
+    (administrator user other : List ℕ) (world : World) (name : Name) → other ≢ user →
     let view = view_of administrator user world in
     (view_of administrator user (after_all (effect.Subscribe other name ∷ []) world) ≡ view)
     × (view_of administrator user (after_all (effect.Unsubscribe other name ∷ []) world) ≡ view)
 
--- the INBOX that is made for another user is not in the view
+-- the INBOX that is made for another user is not in the view, nor whether that user had one
 abbrev pub OthersInboxesAreHidden : Type 0
 OthersInboxesAreHidden = (administrator user other : List ℕ) (world : World) →
-    is_user_name other ≡ true → other ≢ user → map.contains_key world.mailboxes (inbox other) ≡ false →
-    view_of administrator user (after_all (effect.CreateInbox other ∷ []) world) ≡ view_of administrator user world
+    is_user_name other ≡ true → other ≢ user →
+    view_of administrator user (after_all (effect.CreateInbox other ∷ []) world)
+    ≡ view_of administrator user world
 
--- Mailboxes that the user doesn't see, and whose names lie below no place, can go and come, and the view stays.
+-- In neither world the user sees a mailbox of this name, or may know if the name is in use.
+pub record IsHidden (administrator user : List ℕ) (one other : World) (name : Name) : Type 0 where
+  pub unseen : map.get (view_of administrator user one).seen name ≡ None
+  pub unseen_other : map.get (view_of administrator user other).seen name ≡ None
+  pub unknown : may_know_name_in (view_of administrator user one) name ≡ false
+
+-- The worlds differ for the user in hidden mailboxes alone, and in validities that were used under names of
+-- which the user may not know.
+pub record DifferInHidden (administrator user : List ℕ) (one other : World) : Type 0 where
+  pub mailboxes : (name : Name)
+      → (map.get one.mailboxes name ≡ map.get other.mailboxes name)
+      ⊎ IsHidden administrator user one other name
+  pub epochs : (name : Name)
+      → (map.get one.epochs name ≡ map.get other.epochs name)
+      ⊎ (may_know_name_in (view_of administrator user one) name ≡ false)
+  pub subscribed : subscribed_by one user ≡ subscribed_by other user
+
+-- Hidden mailboxes can come and go, and leave their used validities, and the view stays.
 abbrev pub HiddenIsAbsent : Type 0
-HiddenIsAbsent = (administrator user : List ℕ) (world : World) (left : Name → Bool) →
-    let view = view_of administrator user world in
-    ((name : Name) → left name ≡ false → (map.get view.seen name ≡ None) × (is_below_place_in view name ≡ false))
-    → view_of administrator user (record world { mailboxes = map.retain_keys world.mailboxes left }) ≡ view
+HiddenIsAbsent = (administrator user : List ℕ) (one other : World)
+    → DifferInHidden administrator user one other
+    → view_of administrator user one ≡ view_of administrator user other

@@ -8,7 +8,7 @@ use Rattle.imap_names.specs.Name.{Name}
 use Rattle.imap_names.specs.Order.{moved}
 use Rattle.imap_rights.specs.Rights.{delete_mailbox, has_any}
 use Rattle.imap_world.specs.Moving.{arrivals, arrivals_at, can_arrive, can_move, superior_rows, with_moved}
-use Rattle.imap_world.specs.Row.{Row}
+use Rattle.imap_world.specs.NewMailbox.{NewMailbox}
 use Rattle.imap_world.specs.Tree.{with_rows}
 use Rattle.imap_world.specs.World.{World}
 use Rattle.imap_view.specs.Listing.{names_below}
@@ -16,7 +16,7 @@ use Rattle.imap_view.specs.Seen.{owner_of}
 use Rattle.imap_view.specs.TreeAfter.{missing_in, narrowed, validities_left, view_with}
 use Rattle.imap_view.specs.View.{View, view_of, may_create, rights_in}
 
--- The names that move with a mailbox on which the user holds x: it is a place, so that the user knows of all below it.
+-- The names that move with a mailbox on which the user holds x: so the user knows of all names below it.
 abbrev pub moving_names : View → (old : Name) → List Name
 moving_names view old = old ∷ names_below old view.taken
 
@@ -32,10 +32,11 @@ missing_above view (deepest ∷ above) = missing_in view above
 -- each name that a mailbox gets can be had, and each superior that isn't there can be made
 abbrev pub can_all_arrive : View → (old new : Name) → Bool
 can_all_arrive view old new =
-    list_all (can_arrive view.epochs) (names_after view old new) && validities_left view (missing_above view new)
+    list_all (can_arrive view.epochs) (names_after view old new)
+    && validities_left view (missing_above view new)
 
--- The user holds x on the mailbox, it can move, the new name may be made, neither it nor a name below it is in use, and
--- all can arrive.
+-- The user holds x on the mailbox, it can move, the new name may be made, neither it nor a name below it is
+-- in use, and all can arrive.
 abbrev pub may_rename : View → (old new : Name) → Bool
 may_rename view old new =
     has_any (rights_in view old) delete_mailbox
@@ -48,8 +49,8 @@ abbrev pub view_with_above : View → Name → View
 view_with_above view [] = view
 view_with_above view (deepest ∷ above) = view_with view above
 
--- The mailbox `old` and all below it are called by `new` now. By the right x the user knows that `old` is in use,
--- even if it lies below no place.
+-- The mailbox `old` and all below it are called by `new` now. By the right x the user knows that `old` is
+-- in use, even if the user might not know of the name otherwise.
 abbrev pub view_with_moved : View → (old new : Name) → (arrivals : List (Name × ℕ)) → View
 view_with_moved view old new arrivals = narrowed (record view {
   seen = renamed old new view.seen;
@@ -62,11 +63,11 @@ abbrev pub view_renamed : View → (old new : Name) → View
 view_renamed view old new =
     view_with_moved (view_with_above view new) old new (arrivals_at view.epochs (names_after view old new))
 
--- The mailbox is there and can move to the new name, at and below which nothing is. Superiors are made for it, and all
--- mailboxes that move get the names and UIDVALIDITYs that the user expects, those that the user doesn't see too. The
--- view after it is as said.
+-- The mailbox is there and can move to the new name, at and below which nothing is. Superiors are made for
+-- it, and all mailboxes that move get the names and UIDVALIDITYs that the user expects, those that the user
+-- doesn't see too. The view after it is as said.
 pub record IsRenaming (administrator user : List ℕ) (world : World) (old new : Name) : Type 0 where
-  pub rows : List Row
+  pub rows : List NewMailbox
   pub there : map.contains_key world.mailboxes old ≡ true
   pub allowed : can_move old new ≡ true
   pub free : has_within new world.mailboxes ≡ false
@@ -82,4 +83,5 @@ pub record IsRenaming (administrator user : List ℕ) (world : World) (old new :
 abbrev pub RenamingIsSeen : Type 0
 RenamingIsSeen =
     (administrator user : List ℕ) (world : World) (old new : Name)
-    → may_rename (view_of administrator user world) old new ≡ true → IsRenaming administrator user world old new
+    → may_rename (view_of administrator user world) old new ≡ true
+    → IsRenaming administrator user world old new

@@ -1,6 +1,7 @@
 -- What the view of a user becomes when the user's commands change the tree of mailboxes: SETACL and DELETEACL
 -- (RFC 4314, sections 3.1 and 3.2), DELETE and CREATE (RFC 9051, sections 6.3.5 and 6.3.4).
-use Rattle.std.specs.Prelude.{◌≡◌, ℕ, ◌+◌, Bool, true, false, not, ◌&&◌, ◌||◌, nat_lt, List, [], ◌∷◌, ◌++◌, Option, Some, None, Ok, if◌then◌else◌}
+use Rattle.std.specs.Prelude.{◌≡◌, ℕ, ◌+◌, Bool, true, false, not, ◌&&◌, ◌||◌, nat_lt, List, [], ◌∷◌, ◌++◌}
+use Rattle.std.specs.Prelude.{Option, Some, None, Ok, if◌then◌else◌}
 use Rattle.std.specs.FinMap as map
 use Rattle.std.specs.List.{list_all}
 use Rattle.imap_names.specs.Name.{Name, is_inbox}
@@ -11,24 +12,24 @@ use Rattle.imap_rights.specs.Acl.{AclMap, is_full_for, with_entry, owner_acl}
 use Rattle.imap_rights.specs.Change.{applied}
 use Rattle.imap_rights.specs.Effective.{entry, effective}
 use Rattle.imap_rights.specs.Rights.{delete_mailbox, has_any}
-use Rattle.imap_world.specs.declared.mailbox.Mailbox.{Mailbox}
+use Rattle.imap_world.specs.declared.mailbox_entry.MailboxEntry.{MailboxEntry}
 use Rattle.imap_world.specs.Changing.{acl_with_rights}
-use Rattle.imap_world.specs.Row.{Row}
+use Rattle.imap_world.specs.NewMailbox.{NewMailbox}
 use Rattle.imap_world.specs.Tree.{with_acl, without, created_rows, with_rows}
 use Rattle.imap_world.specs.World.{World, epoch, max_validity}
 use Rattle.imap_view.specs.Seen.{Seen, owner_of, seen_with}
-use Rattle.imap_view.specs.View.{View, view_of, acl_in, is_below_place_in, may_create, rights_in}
+use Rattle.imap_view.specs.View.{View, view_of, acl_in, may_know_name_in, may_create, rights_in}
 
 -- with this value under the name, or with none
 abbrev pub put_option : {X : Type 0} → Names X → Name → Option X → Names X
 put_option m name None = map.remove m name
 put_option m name (Some value) = map.insert m name value
 
--- of the names in use and the validities only those that are below places still
+-- of the names in use and the validities only those of which the user may know still
 abbrev pub narrowed : View → View
 narrowed view = record view {
-  taken = map.retain_keys view.taken (is_below_place_in view);
-  epochs = map.retain_keys view.epochs (is_below_place_in view);
+  taken = map.retain_keys view.taken (may_know_name_in view);
+  epochs = map.retain_keys view.epochs (may_know_name_in view);
 }
 
 -- ---- SETACL and DELETEACL
@@ -65,7 +66,7 @@ view_with_rights view name identifier change = narrowed (record view {
 pub record IsRightsChange
     (administrator user : List ℕ) (world : World) (name : Name) (identifier : List ℕ) (change : RightsChange)
     : Type 0 where
-  pub mailbox : Mailbox
+  pub mailbox : MailboxEntry
   pub acl : AclMap
   pub there : map.get world.mailboxes name ≡ Some mailbox
   pub changed : acl_with_rights mailbox.acl identifier change ≡ Ok acl
@@ -86,7 +87,7 @@ abbrev pub may_delete : View → Name → Bool
 may_delete view name =
     has_any (rights_in view name) delete_mailbox && (not (is_inbox name) && not (has_below name view.taken))
 
--- the mailbox is gone, and with it the place that it may have been
+-- the mailbox is gone, and it shows no names below it any more
 abbrev pub view_without : View → Name → View
 view_without view name =
     narrowed (record view { seen = map.remove view.seen name; taken = map.remove view.taken name })
@@ -145,7 +146,7 @@ may_make view name =
     may_create view name
     && (not (map.contains_key view.taken name) && validities_left view (missing_in view name))
 
--- with a mailbox of this UIDVALIDITY under a name below a place
+-- with a mailbox of this UIDVALIDITY under a name of which the user may know
 abbrev pub view_with_mailbox : View → Option Seen → Name → (validity : ℕ) → View
 view_with_mailbox view seen name validity = record view {
   seen = put_option view.seen name seen;
@@ -159,13 +160,13 @@ view_with_mailboxes view seen epochs [] = view
 view_with_mailboxes view seen epochs (name ∷ names) =
     view_with_mailboxes (view_with_mailbox view seen name (epoch epochs name + 1)) seen epochs names
 
--- No place is lost by it, so nothing has to be narrowed.
+-- No name gets unknown by it, so nothing has to be narrowed.
 abbrev pub view_with : View → Name → View
 view_with view name = view_with_mailboxes view (new_seen view name) view.epochs (missing_in view name)
 
 -- The mailbox isn't there, and rows are made for it. The view after them is as said.
 pub record IsCreation (administrator user : List ℕ) (world : World) (name : Name) : Type 0 where
-  pub rows : List Row
+  pub rows : List NewMailbox
   pub absent : map.contains_key world.mailboxes name ≡ false
   pub made : created_rows world (owner_of administrator name) name ≡ Ok rows
   pub seen :

@@ -1,5 +1,6 @@
 -- What a user may see of a world, and nothing else.
-use Rattle.std.specs.Prelude.{ℕ, Bool, false, not, ◌&&◌, ◌||◌, List, [], ◌∷◌, Option, Some, None, bytes_eq, refl, if◌then◌else◌}
+use Rattle.std.specs.Prelude.{ℕ, Bool, false, not, ◌&&◌, ◌||◌, List, [], ◌∷◌, Option, Some, None, bytes_eq}
+use Rattle.std.specs.Prelude.{refl, if◌then◌else◌}
 use Rattle.std.specs.FinMap as map
 use Rattle.std.specs.Coded.{Coded, coded_ℕ, coded_list, coded×, code_by}
 use Rattle.imap_names.specs.Name.{Name}
@@ -10,8 +11,8 @@ use Rattle.imap_world.specs.Finite.{keep}
 use Rattle.imap_world.specs.World.{World, NameSet, epoch, name_code, name_set_code, subscribed_by}
 use Rattle.imap_view.specs.Seen.{Seen, seen_at, seen_code, owner_by_root}
 
--- the mailboxes that the user sees; the names in use below places, and the greatest UIDVALIDITY ever used under each
--- name there; the names that the user subscribed to
+-- the mailboxes that the user sees; of names of which the user may know, those in use, and the greatest
+-- UIDVALIDITY ever used under each; the names that the user subscribed to
 pub record View : Type 0 where
   pub administrator : List ℕ
   pub user : List ℕ
@@ -24,7 +25,8 @@ abbrev pub view_code : Coded View
 view_code =
     code_by (List ℕ × (List ℕ × (Names Seen × (NameSet × (Names ℕ × NameSet)))))
     (coded× (coded_list coded_ℕ) (coded× (coded_list coded_ℕ)
-    (coded× (map.code name_code seen_code) (coded× name_set_code (coded× (map.code name_code coded_ℕ) name_set_code)))))
+    (coded× (map.code name_code seen_code)
+    (coded× name_set_code (coded× (map.code name_code coded_ℕ) name_set_code)))))
     (λ v. (v.administrator, (v.user, (v.seen, (v.taken, (v.epochs, v.subscribed))))))
     (λ p. record {
       administrator = p.0;
@@ -36,24 +38,26 @@ view_code =
     })
     (λ _. refl)
 
--- ---- places: mailboxes on which the user holds k, x or a, and the roots of the user's own trees
+-- ---- mailboxes that show the names below them, by the rights k, x and a; so do the roots of own trees
 
 abbrev pub is_own_root : (administrator user root : List ℕ) → Bool
 is_own_root administrator user root = bytes_eq (owner_by_root administrator root) user
 
-abbrev pub is_place_with : Option Seen → Bool
-is_place_with None = false
-is_place_with (Some seen) = has_any seen.rights place_rights
+abbrev pub shows_names_with : Option Seen → Bool
+shows_names_with None = false
+shows_names_with (Some seen) = has_any seen.rights place_rights
 
-abbrev pub is_place : (administrator user : List ℕ) → Names Seen → Name → Bool
-is_place administrator user seen [] = false
-is_place administrator user seen (root ∷ []) = is_own_root administrator user root
-is_place administrator user seen (deepest ∷ above ∷ more) = is_place_with (map.get seen (deepest ∷ above ∷ more))
+abbrev pub shows_names_below : (administrator user : List ℕ) → Names Seen → Name → Bool
+shows_names_below administrator user seen [] = false
+shows_names_below administrator user seen (root ∷ []) = is_own_root administrator user root
+shows_names_below administrator user seen (deepest ∷ above ∷ more) =
+    shows_names_with (map.get seen (deepest ∷ above ∷ more))
 
-abbrev pub is_below_place : (administrator user : List ℕ) → Names Seen → Name → Bool
-is_below_place administrator user seen [] = false
-is_below_place administrator user seen (deepest ∷ above) =
-    is_place administrator user seen above || is_below_place administrator user seen above
+-- whether the user may know if the name is in use: it lies below one that shows the names below it
+abbrev pub may_know_name : (administrator user : List ℕ) → Names Seen → Name → Bool
+may_know_name administrator user seen [] = false
+may_know_name administrator user seen (deepest ∷ above) =
+    shows_names_below administrator user seen above || may_know_name administrator user seen above
 
 abbrev pub seen_in : (administrator user : List ℕ) → World → Names Seen
 seen_in administrator user world = keep (seen_at administrator user) world.mailboxes
@@ -67,8 +71,8 @@ view_by administrator user seen world = record {
   administrator = administrator;
   user = user;
   seen = seen;
-  taken = keep (λ name mailbox. if_true (is_below_place administrator user seen name) tt) world.mailboxes;
-  epochs = keep (λ name validity. if_true (is_below_place administrator user seen name) validity) world.epochs;
+  taken = keep (λ name mailbox. if_true (may_know_name administrator user seen name) tt) world.mailboxes;
+  epochs = keep (λ name validity. if_true (may_know_name administrator user seen name) validity) world.epochs;
   subscribed = subscribed_by world user;
 }
 
@@ -77,8 +81,8 @@ view_of administrator user world = view_by administrator user (seen_in administr
 
 -- ---- what is found in a view
 
-abbrev pub is_below_place_in : View → Name → Bool
-is_below_place_in view name = is_below_place view.administrator view.user view.seen name
+abbrev pub may_know_name_in : View → Name → Bool
+may_know_name_in view name = may_know_name view.administrator view.user view.seen name
 
 abbrev pub rights_of : Option Seen → ℕ
 rights_of None = no_rights
@@ -98,18 +102,20 @@ acl_in view name = acl_of (map.get view.seen name)
 
 -- the greatest UIDVALIDITY that was used under a name, if the user may know of it
 abbrev pub epoch_in : View → Name → Option ℕ
-epoch_in view name = if_true (is_below_place_in view name) (epoch view.epochs name)
+epoch_in view name = if_true (may_know_name_in view name) (epoch view.epochs name)
 
 -- the right k on the superior, if it is seen; a superior that is only known to be there gives none
 abbrev pub creatable_below : Option Seen → (taken deeper : Bool) → Bool
 creatable_below (Some seen) taken deeper = has_any seen.rights create
 creatable_below None taken deeper = not taken && deeper
 
--- whether the nearest superior that the user knows of lets the user create the name (RFC 4314, section 4, of CREATE)
+-- whether the nearest superior that the user knows of lets the user create the name (RFC 4314, section 4,
+-- of CREATE)
 abbrev pub may_create : View → Name → Bool
 may_create view [] = false
 may_create view (root ∷ []) = false
 may_create view (deepest ∷ root ∷ []) = is_own_root view.administrator view.user root
 may_create view (deepest ∷ above ∷ next ∷ more) =
-    creatable_below (map.get view.seen (above ∷ next ∷ more)) (map.contains_key view.taken (above ∷ next ∷ more))
+    creatable_below (map.get view.seen (above ∷ next ∷ more))
+    (map.contains_key view.taken (above ∷ next ∷ more))
     (may_create view (above ∷ next ∷ more))

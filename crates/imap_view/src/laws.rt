@@ -20,12 +20,13 @@ pub fn others_subscriptions_are_hidden()
     ensures { OthersSubscriptionsAreHidden }
 {}
 
-/// The INBOX that is made for another user is not in the view.
+/// The INBOX that is made for another user is not in the view, nor whether that user had one.
 pub fn others_inboxes_are_hidden()
     ensures { OthersInboxesAreHidden }
 {}
 
-/// Mailboxes that the user doesn't see, and whose names lie below no place, can go and come, and the view stays.
+/// Mailboxes that the user doesn't see, under names of which the user may not know if they are in use, can
+/// come and go, and leave their used UIDVALIDITYs, and the view stays.
 pub fn hidden_is_absent()
     ensures { HiddenIsAbsent }
 {}

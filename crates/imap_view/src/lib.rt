@@ -1,7 +1,7 @@
 //! What a user may see of the mailboxes.
 //!
-//! A [`View`] lends what it shows from the whole world, takes no memory, and shows nothing else: the commands that a
-//! user sends are answered by it alone.
+//! A [`View`] lends what it shows from the whole world, takes no memory, and shows nothing else: the
+//! commands that a user sends are answered by it alone.
 #![tactic(auto)]
 
 pub mod laws;

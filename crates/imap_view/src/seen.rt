@@ -5,13 +5,13 @@ ghost use Rattle.imap_rights.specs.Rights.{bits};
 ghost use Rattle.imap_view.specs.Seen.{shown};
 
 use imap_rights::{Acl, Rights};
-use imap_world::Mailbox;
+use imap_world::MailboxEntry;
 
-/// A mailbox that a user sees.
+/// A mailbox that a user sees. It has nothing to do with the flag `\Seen`.
 #[derive(Drop)]
 pub struct Seen<'a> {
     pub(crate) rights: Rights,
-    pub(crate) mailbox: &'a Mailbox,
+    pub(crate) mailbox: &'a MailboxEntry,
 }
 
 impl<'a> Seen<'a> {

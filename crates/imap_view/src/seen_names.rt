@@ -7,7 +7,7 @@ ghost use Rattle.imap_view.specs.Seen.{shown};
 use crate::seen::Seen;
 use crate::view::View;
 use imap_names::Name;
-use imap_world::Mailbox;
+use imap_world::MailboxEntry;
 use std::marker::Model;
 
 /// The mailboxes that the user sees, in the order of their names. From [`View::seen_names`].
@@ -16,7 +16,7 @@ use std::marker::Model;
 #[derive(Drop)]
 pub struct SeenNames<'a> {
     pub(crate) from: View<'a>,
-    pub(crate) mailboxes: &'a [(Name, Mailbox)],
+    pub(crate) mailboxes: &'a [(Name, MailboxEntry)],
 }
 
 impl<'a> Model for SeenNames<'a> {
@@ -52,8 +52,8 @@ impl<'a> Iterator for SeenNames<'a> {
 /// The first mailbox that the user sees, and those after it.
 fn next_seen<'a>(
     view: &View<'a>,
-    mailboxes: &'a [(Name, Mailbox)],
-) -> Option<(&'a Name, Seen<'a>, &'a [(Name, Mailbox)])>
+    mailboxes: &'a [(Name, MailboxEntry)],
+) -> Option<(&'a Name, Seen<'a>, &'a [(Name, MailboxEntry)])>
     ensures { let names = seen_among view.now mailboxes.now in
         MatchOption result (names ≡ [])
         (λ found. names ≡ (found.0.now, shown found.1) ∷ seen_among view.now found.2.now) }

@@ -8,7 +8,8 @@ ghost use Rattle.imap_name_map.specs.Rows.{has_below};
 ghost use Rattle.imap_rights.specs.Rights.{bits};
 ghost use Rattle.imap_view.specs.Listing.{names_below};
 ghost use Rattle.imap_view.specs.Seen.{is_root, owner_by_root, owner_of, seen_at, shown};
-ghost use Rattle.imap_view.specs.View.{acl_in, epoch_in, rights_in, is_below_place_in, is_own_root, is_place, may_create, view_of};
+ghost use Rattle.imap_view.specs.View.{acl_in, epoch_in, rights_in, may_know_name_in, is_own_root};
+ghost use Rattle.imap_view.specs.View.{shows_names_below, may_create, view_of};
 ghost use Rattle.imap_view.specs.TreeAfter.{is_known};
 ghost use Rattle.imap_world.specs.Stored.{names_in, world_of};
 ghost use Rattle.imap_world.specs.World.{epoch, max_validity};
@@ -20,7 +21,7 @@ use bitflags::Flags;
 use imap_name_map::NameMap;
 use imap_names::{Name, NameRef, UserName};
 use imap_rights::{Acl, Rights};
-use imap_world::{Mailbox, Site, World};
+use imap_world::{MailboxEntry, Site, World};
 use std::marker::Model;
 
 /// What a user may see of a world.
@@ -43,6 +44,7 @@ impl<'a> Model for View<'a> {
 }
 
 impl<'a> View<'a> {
+    /// What the user may see of the world of this site.
     pub fn new(world: &'a World, site: &'a Site, user: &'a UserName) -> View<'a>
         ensures { result ≡ view_of site.now.administrator user.now (world_of world.now) }
     {
@@ -75,8 +77,9 @@ impl<'a> View<'a> {
     }
 
     /// A mailbox of this name as the user sees it, if the user does.
-    pub(crate) fn seen_of(&self, name: &NameRef<'_>, mailbox: &'a Mailbox) -> Option<Seen<'a>>
-        ensures { option_map shown result ≡ seen_at self.now.administrator self.now.user name.now mailbox.now }
+    pub(crate) fn seen_of(&self, name: &NameRef<'_>, mailbox: &'a MailboxEntry) -> Option<Seen<'a>>
+        ensures { option_map shown result
+            ≡ seen_at self.now.administrator self.now.user name.now mailbox.now }
     {
         let owner = owner_by_root(self.site, name.root());
         let rights = mailbox.acl.effective(self.user.as_str(), owner);
@@ -118,9 +121,9 @@ impl<'a> View<'a> {
     }
 
     /// Whether the user may know which names are in use below `name`.
-    fn is_place(&self, name: &NameRef<'_>) -> bool
+    fn shows_names_below(&self, name: &NameRef<'_>) -> bool
         requires { is_root name.now ≡ false }
-        ensures { result ≡ is_place self.now.administrator self.now.user self.now.seen name.now }
+        ensures { result ≡ shows_names_below self.now.administrator self.now.user self.now.seen name.now }
     {
         match self.seen(name) {
             Some(seen) => seen.rights().make_place(),
@@ -136,12 +139,12 @@ impl<'a> View<'a> {
         owner_by_root(self.site, name.root()) == self.user.as_str()
     }
 
-    /// Whether the user may know if `name` is in use.
-    pub fn is_below_place(&self, name: &NameRef<'_>) -> bool
-        ensures { result ≡ is_below_place_in self.now name.now }
+    /// Whether the user may know if `name` is in use: it lies below a name that shows the names below it.
+    pub fn may_know_name(&self, name: &NameRef<'_>) -> bool
+        ensures { result ≡ may_know_name_in self.now name.now }
     {
         match name.superior() {
-            Some(above) => self.is_place(&above) || self.is_below_place(&above),
+            Some(above) => self.shows_names_below(&above) || self.may_know_name(&above),
             None => self.owns_tree(name),
         }
     }
@@ -150,7 +153,7 @@ impl<'a> View<'a> {
     pub fn is_taken(&self, name: &NameRef<'_>) -> bool
         ensures { result ≡ map.contains_key self.now.taken name.now }
     {
-        self.world.mailbox(name).is_some() && self.is_below_place(name)
+        self.world.mailbox(name).is_some() && self.may_know_name(name)
     }
 
     /// Whether a name below `name` is in use, as far as the user may know.
@@ -170,11 +173,12 @@ impl<'a> View<'a> {
         }
     }
 
-    /// The greatest UIDVALIDITY that was used under the name, and 0 if none was. `None` if the user may not know.
+    /// The greatest UIDVALIDITY that was used under the name, and 0 if none was. `None` if the user may not
+    /// know.
     pub fn epoch(&self, name: &NameRef<'_>) -> Option<u32>
         ensures { result ≡ epoch_in self.now name.now }
     {
-        if self.is_below_place(name) {
+        if self.may_know_name(name) {
             Some(self.world.epoch(name))
         } else {
             None
@@ -185,7 +189,7 @@ impl<'a> View<'a> {
     pub fn is_validity_left(&self, name: &NameRef<'_>) -> bool
         ensures { result ≡ nat_lt (epoch self.now.epochs name.now) max_validity }
     {
-        !self.is_below_place(name) || self.world.epoch(name) < u32::MAX
+        !self.may_know_name(name) || self.world.next_validity(name).is_some()
     }
 
     /// Whether the user knows that the name is in use.

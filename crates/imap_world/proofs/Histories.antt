@@ -1,6 +1,5 @@
 -- Worlds after effects.
 use Rattle.std.proofs.Common.{◌≡◌, inl, inr, ℕ, ◌+◌, ◌≤◌, Bool, true, false, cond, List, [], ◌∷◌, Option, Some, None, Result, Ok, Err, refl, sym, ap, subst, ◌∙◌, arith}
-use Rattle.std.specs.List.{AllByRecursion}
 use Rattle.std.specs.Prelude.{option_map, unwrap_or}
 use Rattle.std.specs.FinMap as map
 use Rattle.imap_names.specs.Name.{Name}
@@ -11,22 +10,22 @@ use Rattle.imap_world.specs.declared.change.Write.{Write}
 use Rattle.imap_world.specs.declared.change.Write.TheVariants as write
 use Rattle.imap_world.specs.declared.effect.Effect.{Effect}
 use Rattle.imap_world.specs.declared.error.WorldError.{WorldError}
-use Rattle.imap_world.specs.declared.mailbox.Mailbox.{Mailbox}
+use Rattle.imap_world.specs.declared.mailbox_entry.MailboxEntry.{MailboxEntry}
 use Rattle.imap_world.specs.Effects.{writes_of, after_write, after_writes, after_result, after_all, after_steps}
 use Rattle.imap_world.specs.Kept.{IsSound}
 use Rattle.imap_world.specs.Laws.{IsKeptOrNew, KeepsValidities, WorldsStaySound, ValiditiesAreUsedOnce}
 use Rattle.imap_world.specs.Ready.{AreApart, MayBeWritten, MayWrite}
-use Rattle.imap_world.specs.Row.{Row}
+use Rattle.imap_world.specs.NewMailbox.{NewMailbox}
 use Rattle.imap_world.specs.Tree.{mailboxes_with_list, with_acl, with_row, without}
 use Rattle.imap_world.specs.World.{World, epoch}
-use Rattle.imap_world.proofs.Fitting.{IsNext, all_are_next, apart_may, writes_are_sound}
+use Rattle.imap_world.proofs.Fitting.{apart_may, writes_are_sound}
 use Rattle.imap_world.proofs.Moves.{moved_is_kept}
 use Rattle.imap_world.proofs.Sound.{found_before}
 
-there : (o : Option Mailbox) (mailbox : Mailbox) → o ≡ Some mailbox → option_map (λ (m : Mailbox). m.validity) o ≡ Some mailbox.validity
-there o mailbox is = ap (option_map (λ (m : Mailbox). m.validity)) is
+there : (o : Option MailboxEntry) (mailbox : MailboxEntry) → o ≡ Some mailbox → option_map (λ (m : MailboxEntry). m.validity) o ≡ Some mailbox.validity
+there o mailbox is = ap (option_map (λ (m : MailboxEntry). m.validity)) is
 
-keeps_itself : (old : World) → KeepsValidities old old
+pub keeps_itself : (old : World) → KeepsValidities old old
 keeps_itself old = record {
   epochs = λ name. omega arith;
   mailboxes = λ name mailbox is. inl (there (map.get old.mailboxes name) mailbox is);
@@ -39,19 +38,19 @@ module _ (old world : World) (keeps : KeepsValidities old world) where
   same_kept : (new : World) → new.mailboxes ≡ world.mailboxes → new.epochs ≡ world.epochs → KeepsValidities old new
   same_kept new is counted = record {
     epochs = λ name. subst (λ (m : Names ℕ). epoch old.epochs name ≤ epoch m name) (sym counted) (keeps.epochs name);
-    mailboxes = λ name mailbox e. keeps.mailboxes name mailbox (ap (λ (m : Names Mailbox). map.get m name) (sym is) ∙ e);
+    mailboxes = λ name mailbox e. keeps.mailboxes name mailbox (ap (λ (m : Names MailboxEntry). map.get m name) (sym is) ∙ e);
   }
 
   -- a mailbox is put under the next validity
-  module _ (row : Row) (next : row.mailbox.validity ≡ epoch old.epochs row.name + 1) where
+  module _ (row : NewMailbox) (next : row.mailbox.validity ≡ epoch world.epochs row.name + 1) where
     epoch_at : (name : Name) (b : Bool) → is_name_at name row.name ≡ b → epoch old.epochs name ≤ unwrap_or (cond b (Some row.mailbox.validity) (map.get world.epochs name)) 0
-    epoch_at name true at = omega (arith, next, ap (epoch old.epochs) (equal_names name row.name at))
+    epoch_at name true at = omega (arith, next, keeps.epochs row.name, ap (epoch old.epochs) (equal_names name row.name at))
     epoch_at name false at = keeps.epochs name
 
-    mailbox_at : (name : Name) (other : Mailbox) (b : Bool) → is_name_at name row.name ≡ b → cond b (Some row.mailbox) (map.get world.mailboxes name) ≡ Some other → IsKeptOrNew old name other.validity
+    mailbox_at : (name : Name) (other : MailboxEntry) (b : Bool) → is_name_at name row.name ≡ b → cond b (Some row.mailbox) (map.get world.mailboxes name) ≡ Some other → IsKeptOrNew old name other.validity
     mailbox_at name other true at e =
-        let same : other.validity ≡ row.mailbox.validity = ap (λ (o : Option Mailbox). (unwrap_or o row.mailbox).validity) (sym e) in
-        inr (omega (arith, next, same, ap (epoch old.epochs) (equal_names name row.name at)))
+        let same : other.validity ≡ row.mailbox.validity = ap (λ (o : Option MailboxEntry). (unwrap_or o row.mailbox).validity) (sym e) in
+        inr (omega (arith, next, same, keeps.epochs row.name, ap (epoch old.epochs) (equal_names name row.name at)))
     mailbox_at name other false at e = keeps.mailboxes name other e
 
     row_kept : KeepsValidities old (with_row world row)
@@ -62,14 +61,14 @@ module _ (old world : World) (keeps : KeepsValidities old world) where
 
   -- a mailbox has another list
   module _ (k : Name) (acl : AclMap) where
-    changed_at : (before : Mailbox) → map.get world.mailboxes k ≡ Some before → (name : Name) (other : Mailbox) (b : Bool) → is_name_at name k ≡ b
+    changed_at : (before : MailboxEntry) → map.get world.mailboxes k ≡ Some before → (name : Name) (other : MailboxEntry) (b : Bool) → is_name_at name k ≡ b
         → cond b (Some (record before { acl = acl })) (map.get world.mailboxes name) ≡ Some other → IsKeptOrNew old name other.validity
     changed_at before is name other true at e =
-        let same : before.validity ≡ other.validity = ap (λ (o : Option Mailbox). (unwrap_or o before).validity) e in
+        let same : before.validity ≡ other.validity = ap (λ (o : Option MailboxEntry). (unwrap_or o before).validity) e in
         subst (IsKeptOrNew old name) same (keeps.mailboxes name before (ap (map.get world.mailboxes) (equal_names name k at) ∙ is))
     changed_at before is name other false at e = keeps.mailboxes name other e
 
-    list_kept_at : (o : Option Mailbox) → map.get world.mailboxes k ≡ o → (name : Name) (other : Mailbox) → map.get (mailboxes_with_list world.mailboxes k acl o) name ≡ Some other → IsKeptOrNew old name other.validity
+    list_kept_at : (o : Option MailboxEntry) → map.get world.mailboxes k ≡ o → (name : Name) (other : MailboxEntry) → map.get (mailboxes_with_list world.mailboxes k acl o) name ≡ Some other → IsKeptOrNew old name other.validity
     list_kept_at None is name other e = keeps.mailboxes name other e
     list_kept_at (Some before) is name other e =
         changed_at before is name other (is_name_at name k) refl (sym (get_put world.mailboxes k (record before { acl = acl }) name) ∙ e)
@@ -83,26 +82,29 @@ module _ (old world : World) (keeps : KeepsValidities old world) where
     mailboxes = λ name mailbox e. keeps.mailboxes name mailbox (found_before world.mailboxes k name mailbox e);
   }
 
-  write_kept : (w : Write) → IsNext old w → MayWrite w world → KeepsValidities old (after_write w world)
-  write_kept (write.Put row) next may = row_kept row next
-  write_kept (write.SetAcl name acl) next may = list_kept name acl
-  write_kept (write.Remove name) next may = removed_kept name
-  write_kept (write.Move from to arrivals) next may = moved_is_kept world from to arrivals may old keeps
-  write_kept (write.Subscribe user name) next may = same_kept (after_write (write.Subscribe user name) world) refl refl
-  write_kept (write.Unsubscribe user name) next may = same_kept (after_write (write.Unsubscribe user name) world) refl refl
+  pub write_kept : (w : Write) → MayWrite w world → KeepsValidities old (after_write w world)
+  write_kept (write.Put row) may = row_kept row may.next
+  write_kept (write.SetAcl name acl) may = list_kept name acl
+  write_kept (write.Remove name) may = removed_kept name
+  write_kept (write.Move from to arrivals) may = moved_is_kept world from to arrivals may old keeps
+  write_kept (write.Subscribe user name) may = same_kept (after_write (write.Subscribe user name) world) refl refl
+  write_kept (write.Unsubscribe user name) may = same_kept (after_write (write.Unsubscribe user name) world) refl refl
 
 -- ---- several, and one list after another
 
-writes_kept : (old : World) (ws : List Write) (world : World) → AllByRecursion (IsNext old) ws → MayBeWritten ws world → KeepsValidities old world → KeepsValidities old (after_writes ws world)
-writes_kept old [] world next may keeps = keeps
-writes_kept old (w ∷ ws) world next may keeps = writes_kept old ws (after_write w world) next.1 may.1 (write_kept old world keeps w next.0 may.0)
+writes_keep : (old : World) (ws : List Write) (world : World) → MayBeWritten ws world → KeepsValidities old world → KeepsValidities old (after_writes ws world)
+writes_keep old [] world may keeps = keeps
+writes_keep old (w ∷ ws) world may keeps = writes_keep old ws (after_write w world) may.1 (write_kept old world keeps w may.0)
+
+pub writes_kept : (ws : List Write) (world : World) → MayBeWritten ws world → KeepsValidities world (after_writes ws world)
+writes_kept ws world may = writes_keep world ws world may (keeps_itself world)
 
 effects_kept : (effects : List Effect) (old : World) → AreApart effects → KeepsValidities old (after_all effects old)
 effects_kept effects old apart = by (writes_of effects old) refl
   where
     by : (r : Result (List Write) WorldError) → writes_of effects old ≡ r → KeepsValidities old (after_result r old)
     by (Err error) is = keeps_itself old
-    by (Ok ws) is = writes_kept old ws old (all_are_next old effects ws is) (apart_may old effects ws apart is) (keeps_itself old)
+    by (Ok ws) is = writes_kept ws old (apart_may old effects ws apart is)
 
 effects_sound : (effects : List Effect) (old : World) → AreApart effects → IsSound old → IsSound (after_all effects old)
 effects_sound effects old apart sound = by (writes_of effects old) refl
@@ -111,7 +113,7 @@ effects_sound effects old apart sound = by (writes_of effects old) refl
     by (Err error) is = sound
     by (Ok ws) is = writes_are_sound ws old (apart_may old effects ws apart is) sound
 
-kept_through : (old mid : World) → KeepsValidities old mid → (name : Name) (o : Option Mailbox) (validity : ℕ) → map.get mid.mailboxes name ≡ o → option_map (λ (m : Mailbox). m.validity) o ≡ Some validity → IsKeptOrNew old name validity
+kept_through : (old mid : World) → KeepsValidities old mid → (name : Name) (o : Option MailboxEntry) (validity : ℕ) → map.get mid.mailboxes name ≡ o → option_map (λ (m : MailboxEntry). m.validity) o ≡ Some validity → IsKeptOrNew old name validity
 kept_through old mid first name None validity is e = cc
 kept_through old mid first name (Some before) validity is e =
     subst (IsKeptOrNew old name) (ap (λ o. unwrap_or o validity) e) (first.mailboxes name before is)

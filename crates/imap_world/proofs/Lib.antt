@@ -1,8 +1,10 @@
+pub mod ByName
 pub mod Changed
 pub mod Coming
 pub mod Finding
 pub mod Fitting
 pub mod Histories
+pub mod Limited
 pub mod Made
 pub mod Moves
 pub mod Owners

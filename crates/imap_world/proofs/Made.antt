@@ -16,7 +16,7 @@ use Rattle.imap_rights.specs.Acl.{AclMap}
 use Rattle.imap_world.specs.declared.error.WorldError.{WorldError}
 use Rattle.imap_world.specs.declared.error.WorldError.TheVariants.{Limit}
 use Rattle.imap_world.specs.Moving.{arrivals_at}
-use Rattle.imap_world.specs.Row.{Row}
+use Rattle.imap_world.specs.NewMailbox.{NewMailbox}
 use Rattle.imap_world.specs.Tree.{new_row, rows_for, with_last, with_row, with_rows}
 use Rattle.imap_world.specs.World.{World, epoch}
 
@@ -25,39 +25,39 @@ ok_rows x y e = cc
 
 -- ---- each mailbox that is made has the name or one above it
 
-abbrev IsTail : Name → Row → Type 0
+abbrev IsTail : Name → NewMailbox → Type 0
 IsTail name row = (deeper : List (List ℕ)) × (name ≡ deeper ++ row.name)
 
-abbrev pub AreTails : Name → List Row → Type 0
+abbrev pub AreTails : Name → List NewMailbox → Type 0
 AreTails name rows = AllByRecursion (IsTail name) rows
 
-tails_deeper : (deepest : List ℕ) (name : Name) (rows : List Row) → AreTails name rows → AreTails (deepest ∷ name) rows
+tails_deeper : (deepest : List ℕ) (name : Name) (rows : List NewMailbox) → AreTails name rows → AreTails (deepest ∷ name) rows
 tails_deeper deepest name [] all = tt
 tails_deeper deepest name (row ∷ rows) all =
     ((deepest ∷ all.0.0, ap (λ n. deepest ∷ n) all.0.1), tails_deeper deepest name rows all.1)
 
-tails-last : (name : Name) (rows : List Row) (row : Row) → AreTails name rows → IsTail name row → AreTails name (rows ++ row ∷ [])
+tails-last : (name : Name) (rows : List NewMailbox) (row : NewMailbox) → AreTails name rows → IsTail name row → AreTails name (rows ++ row ∷ [])
 tails-last name [] row all last = (last, tt)
 tails-last name (first ∷ rows) row all last = (all.0, tails-last name rows row all.1 last)
 
-named_so : (epochs : Names ℕ) (name : Name) (acl : AclMap) (row : Row) → new_row epochs name acl ≡ Ok row → row.name ≡ name
+named_so : (epochs : Names ℕ) (name : Name) (acl : AclMap) (row : NewMailbox) → new_row epochs name acl ≡ Ok row → row.name ≡ name
 named_so epochs name acl row made = by _ made
   where
-    by : (b : Bool) → ◌≡◌ {A = Result Row WorldError} (cond b (Err Limit) (Ok (record { name = name; mailbox = record { validity = epoch epochs name + 1; acl = acl } }))) (Ok row) → row.name ≡ name
+    by : (b : Bool) → ◌≡◌ {A = Result NewMailbox WorldError} (cond b (Err Limit) (Ok (record { name = name; mailbox = record { validity = epoch epochs name + 1; acl = acl } }))) (Ok row) → row.name ≡ name
     by true e = absurd (cc e)
-    by false e = ap (λ (r : Row). r.name) (sym (ok_rows _ row e))
+    by false e = ap (λ (r : NewMailbox). r.name) (sym (ok_rows _ row e))
 
 module _ (world : World) (acl : AclMap) where
-  pub rows_are_tails : (name : Name) (rows : List Row) → rows_for world acl name ≡ Ok rows → AreTails name rows
+  pub rows_are_tails : (name : Name) (rows : List NewMailbox) → rows_for world acl name ≡ Ok rows → AreTails name rows
   rows_are_tails [] rows is = subst (AreTails []) (ok_rows [] rows is) tt
   rows_are_tails (root ∷ []) rows is = subst (AreTails (root ∷ [])) (ok_rows [] rows is) tt
   rows_are_tails (deepest ∷ above ∷ more) rows is =
       by (map.contains_key world.mailboxes (deepest ∷ above ∷ more)) (rows_for world acl (above ∷ more)) refl (new_row world.epochs (deepest ∷ above ∷ more) acl) refl is (rows_are_tails (above ∷ more))
     where
-      by : (b : Bool) → (outer : Result (List Row) WorldError) → rows_for world acl (above ∷ more) ≡ outer
-          → (last : Result Row WorldError) → new_row world.epochs (deepest ∷ above ∷ more) acl ≡ last
-          → ◌≡◌ {A = Result (List Row) WorldError} (cond b (Ok []) (with_last outer last)) (Ok rows)
-          → ((outers : List Row) → rows_for world acl (above ∷ more) ≡ Ok outers → AreTails (above ∷ more) outers) → AreTails (deepest ∷ above ∷ more) rows
+      by : (b : Bool) → (outer : Result (List NewMailbox) WorldError) → rows_for world acl (above ∷ more) ≡ outer
+          → (last : Result NewMailbox WorldError) → new_row world.epochs (deepest ∷ above ∷ more) acl ≡ last
+          → ◌≡◌ {A = Result (List NewMailbox) WorldError} (cond b (Ok []) (with_last outer last)) (Ok rows)
+          → ((outers : List NewMailbox) → rows_for world acl (above ∷ more) ≡ Ok outers → AreTails (above ∷ more) outers) → AreTails (deepest ∷ above ∷ more) rows
       by true outer are last new e rest = subst (AreTails (deepest ∷ above ∷ more)) (ok_rows [] rows e) tt
       by false (Err error) are last new e rest = absurd (cc e)
       by false (Ok outers) are (Err error) new e rest = absurd (cc e)
@@ -68,14 +68,14 @@ module _ (world : World) (acl : AclMap) where
 
 -- ---- names apart from these stay as they were
 
-abbrev IsApart : Name → List Row → Type 0
-IsApart q rows = AllByRecursion (λ (row : Row). is_name_at q row.name ≡ false) rows
+abbrev IsApart : Name → List NewMailbox → Type 0
+IsApart q rows = AllByRecursion (λ (row : NewMailbox). is_name_at q row.name ≡ false) rows
 
 pub record StaysAt (q : Name) (before after : World) : Type 0 where
   pub mailbox : map.get after.mailboxes q ≡ map.get before.mailboxes q
   pub epoch : map.get after.epochs q ≡ map.get before.epochs q
 
-pub stays_at : (q : Name) (rows : List Row) (world : World) → IsApart q rows → StaysAt q world (with_rows world rows)
+pub stays_at : (q : Name) (rows : List NewMailbox) (world : World) → IsApart q rows → StaysAt q world (with_rows world rows)
 stays_at q [] world apart = record { mailbox = refl; epoch = refl }
 stays_at q (row ∷ rows) world apart =
     let rest = stays_at q rows (with_row world row) apart.1 in
@@ -85,7 +85,7 @@ stays_at q (row ∷ rows) world apart =
     }
 
 -- which mailboxes are there is never less
-pub rows_keep : (q : Name) (rows : List Row) (world : World) → map.contains_key world.mailboxes q ≡ true → map.contains_key (with_rows world rows).mailboxes q ≡ true
+pub rows_keep : (q : Name) (rows : List NewMailbox) (world : World) → map.contains_key world.mailboxes q ≡ true → map.contains_key (with_rows world rows).mailboxes q ≡ true
 rows_keep q [] world there = there
 rows_keep q (row ∷ rows) world there = rows_keep q rows (with_row world row) (ap is_some (get_put world.mailboxes row.name row.mailbox q) ∙ by (is_name_at q row.name))
   where
@@ -93,7 +93,7 @@ rows_keep q (row ∷ rows) world there = rows_keep q rows (with_row world row) (
     by true = refl
     by false = there
 
-apart_if : (q above : Name) (rows : List Row) → AreTails above rows → ((deeper : List (List ℕ)) → above ≡ deeper ++ q → ⊥) → IsApart q rows
+apart_if : (q above : Name) (rows : List NewMailbox) → AreTails above rows → ((deeper : List (List ℕ)) → above ≡ deeper ++ q → ⊥) → IsApart q rows
 apart_if q above [] tails none = tt
 apart_if q above (row ∷ rows) tails none =
     (false_from_ne_true _ (λ e. none tails.0.0 (tails.0.1 ∙ ap (λ n. tails.0.0 ++ n) (sym (equal_names q row.name e)))), apart_if q above rows tails.1 none)
@@ -103,12 +103,12 @@ within_far top q [] e = e
 within_far top q (part ∷ deeper) e = within_deeper top part (deeper ++ q) (within_far top q deeper e)
 
 -- a name at or below a new one is none of its superiors
-pub below_is_apart : (deepest : List ℕ) (above q : Name) (rows : List Row) → AreTails above rows → is_within (deepest ∷ above) q ≡ true → IsApart q rows
+pub below_is_apart : (deepest : List ℕ) (above q : Name) (rows : List NewMailbox) → AreTails above rows → is_within (deepest ∷ above) q ≡ true → IsApart q rows
 below_is_apart deepest above q rows tails within =
     apart_if q above rows tails (λ deeper is. omega (arith, within_no_shorter (deepest ∷ above) q within, ap length is ∙ length-append deeper q))
 
 -- nor is one at or below a mailbox that the new name isn't below
-pub other_is_apart : (old : Name) (deepest : List ℕ) (above q : Name) (rows : List Row) → AreTails above rows → is_within old (deepest ∷ above) ≡ false → is_within old q ≡ true → IsApart q rows
+pub other_is_apart : (old : Name) (deepest : List ℕ) (above q : Name) (rows : List NewMailbox) → AreTails above rows → is_within old (deepest ∷ above) ≡ false → is_within old q ≡ true → IsApart q rows
 other_is_apart old deepest above q rows tails out within =
     apart_if q above rows tails (λ deeper is. true≢false (sym (within_deeper old deepest above (ap (is_within old) is ∙ within_far old q deeper within)) ∙ out))
 

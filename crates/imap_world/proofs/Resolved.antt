@@ -1,10 +1,10 @@
 -- The values that are written for effects, one effect further.
-use Rattle.std.proofs.Common.{◌≡◌, inr, ℕ, ◌+◌, ◌<◌, List, [], ◌∷◌, ◌++◌, append_assoc, length, get_or, drop, drop-cons, add-one, suc, Result, Ok, Err, refl, sym, ap, subst, ◌∙◌}
+use Rattle.std.proofs.Common.{◌≡◌, inl, inr, ℕ, ◌+◌, ◌<◌, List, [], ◌∷◌, ◌++◌, append_assoc, append-nil, length, get_or, drop, drop-cons, add-one, suc, Result, Ok, Err, refl, sym, ap, subst, ◌∙◌}
 use Rattle.imap_world.specs.declared.change.Write.{Write}
 use Rattle.imap_world.specs.declared.effect.Effect.{Effect}
 use Rattle.imap_world.specs.declared.error.WorldError.{WorldError}
-use Rattle.imap_world.specs.declared.error.WorldError.TheVariants.{Memory}
-use Rattle.imap_world.specs.Changing.{AnswersOrMemory}
+use Rattle.imap_world.specs.declared.error.WorldError.TheVariants.{Limit, Memory}
+use Rattle.imap_world.specs.Changing.{AnswersOrMemory, AnswersUpToLimit}
 use Rattle.imap_world.specs.Effects.{writes_for, writes_then, writes_of}
 use Rattle.imap_world.specs.World.{World}
 
@@ -48,6 +48,32 @@ module _ (world : World) (effects : List Effect) (i : ℕ) (e : Effect) (cut : d
   -- or refused
   pub with_refusal : (error : WorldError) → AnswersOrMemory {A = List Write} (Err error) (writes_for e world) → AnswersOrMemory {A = List Write} (Err error) (writes_of effects world)
   with_refusal error h = subst (AnswersOrMemory {A = List Write} (Err error)) whole (refused_by error (writes_for e world) (writes_of (drop (i + 1) effects) world) h)
+
+-- ---- one effect alone
+
+-- it is resolved, and so is the list of it
+pub alone_of : (effect : Effect) (result : Writes) (meant : Writes) → AnswersUpToLimit result meant → AnswersOrMemory result (writes_then meant (Ok []))
+alone_of effect (Ok ws) (Ok wanted) h = h ∙ sym (append-nil wanted)
+alone_of effect (Ok ws) (Err refusal) h = absurd h
+alone_of effect (Err error) (Ok wanted) h = h
+alone_of effect (Err error) (Err refusal) (inl is) = inl is
+alone_of effect (Err error) (Err refusal) (inr limit) = inr limit.1
+
+-- memory ran out after that
+pub memory_after : {A : Type 0} (x : A) (meant : Result A WorldError) → AnswersUpToLimit (Ok x) meant → AnswersUpToLimit {A = A} (Err Memory) meant
+memory_after x (Ok wanted) h = refl
+memory_after x (Err refusal) h = absurd h
+
+-- what is refused by a limit alone
+abbrev pub IsLimited : {A : Type 0} → Result A WorldError → Type 0
+IsLimited meant = (error : WorldError) → meant ≡ Err error → error ≡ Limit
+
+pub up_to_limit : {A : Type 0} (result meant : Result A WorldError) → IsLimited meant → AnswersOrMemory result meant → AnswersUpToLimit result meant
+up_to_limit (Ok value) (Ok wanted) limited h = h
+up_to_limit (Ok value) (Err refusal) limited h = absurd h
+up_to_limit (Err error) (Ok wanted) limited h = h
+up_to_limit (Err error) (Err refusal) limited (inl is) = inl is
+up_to_limit (Err error) (Err refusal) limited (inr is) = inr (limited refusal refl, is)
 
 pub out_of_memory : {A : Type 0} (meant : Result A WorldError) → AnswersOrMemory (Err Memory) meant
 out_of_memory (Ok wanted) = refl

@@ -8,9 +8,9 @@ use Rattle.imap_names.specs.Valid.{IsName}
 use Rattle.imap_rights.specs.Acl.{AclMap, owner_acl}
 use Rattle.imap_world.specs.declared.change.Write.TheVariants as write
 use Rattle.imap_world.specs.declared.error.WorldError.{WorldError}
-use Rattle.imap_world.specs.declared.mailbox.Mailbox.{Mailbox}
+use Rattle.imap_world.specs.declared.mailbox_entry.MailboxEntry.{MailboxEntry}
 use Rattle.imap_world.specs.Effects.{put_of, puts, puts_of, writes_then}
-use Rattle.imap_world.specs.Row.{Row}
+use Rattle.imap_world.specs.NewMailbox.{NewMailbox}
 use Rattle.imap_world.specs.Tree.{acl_or, inherited, new_row, rows_for, with_last}
 use Rattle.imap_world.specs.World.{World}
 
@@ -28,7 +28,7 @@ superior_is_above (deepest ∷ first ∷ next ∷ more) above is = (deepest, [],
 
 -- ---- the list that is inherited
 
-module _ (mailboxes : Names Mailbox) (owner : List ℕ) where
+module _ (mailboxes : Names MailboxEntry) (owner : List ℕ) where
   pub inherited-root : (q : Name) → superior q ≡ None → inherited mailboxes owner q ≡ owner_acl owner
   inherited-root [] is = refl
   inherited-root (root ∷ []) is = refl
@@ -46,11 +46,11 @@ module _ (mailboxes : Names Mailbox) (owner : List ℕ) where
 
 -- ---- what is made
 
-pub puts-last : (rows : List Row) (row : Row) → puts (rows ++ row ∷ []) ≡ puts rows ++ write.Put row ∷ []
+pub puts-last : (rows : List NewMailbox) (row : NewMailbox) → puts (rows ++ row ∷ []) ≡ puts rows ++ write.Put row ∷ []
 puts-last [] row = refl
 puts-last (r ∷ rows) row = ap (λ ws. write.Put r ∷ ws) (puts-last rows row)
 
-pub puts_of-last : (rows : Result (List Row) WorldError) (row : Result Row WorldError) → puts_of (with_last rows row) ≡ writes_then (puts_of rows) (put_of row)
+pub puts_of-last : (rows : Result (List NewMailbox) WorldError) (row : Result NewMailbox WorldError) → puts_of (with_last rows row) ≡ writes_then (puts_of rows) (put_of row)
 puts_of-last (Err error) row = refl
 puts_of-last (Ok rows) (Err error) = refl
 puts_of-last (Ok rows) (Ok row) = ap Ok (puts-last rows row)

@@ -5,21 +5,28 @@ use Rattle.imap_names.specs.Name.{Name}
 use Rattle.imap_names.specs.Order.{Names}
 use Rattle.imap_rights.specs.Acl.{AclMap}
 use Rattle.imap_rights.specs.declared.change.RightsChange.{RightsChange}
-use Rattle.imap_world.specs.declared.mailbox.Mailbox.{Mailbox}
+use Rattle.imap_world.specs.declared.mailbox_entry.MailboxEntry.{MailboxEntry}
 use Rattle.imap_world.specs.declared.error.WorldError.{WorldError}
-use Rattle.imap_world.specs.declared.error.WorldError.TheVariants.{NoSuch, Taken, Memory}
+use Rattle.imap_world.specs.declared.error.WorldError.TheVariants.{NoSuch, Taken, Limit, Memory}
 use Rattle.imap_world.specs.Kept.{superior_is_there}
-use Rattle.imap_world.specs.Row.{Row}
+use Rattle.imap_world.specs.NewMailbox.{NewMailbox}
 use Rattle.imap_world.specs.World.{World}
 pub use Rattle.imap_world.specs.Tree.{acl_with_rights, with_row, new_row}
 
--- The call returned the value that is meant, or failed with the error that is meant. Memory may run out only if no
--- error is meant.
+-- The call returned the value that is meant, or failed with the error that is meant. Memory may run out
+-- only if no error is meant.
 abbrev pub Answers : {A : Type 0} → Result A WorldError → Result A WorldError → Type 0
 Answers (Ok value) (Ok wanted) = value ≡ wanted
 Answers (Ok value) (Err refusal) = ⊥
 Answers (Err error) (Ok wanted) = error ≡ Memory
 Answers (Err error) (Err refusal) = error ≡ refusal
+
+-- The same, but memory may run out before a limit is found.
+abbrev pub AnswersUpToLimit : {A : Type 0} → Result A WorldError → Result A WorldError → Type 0
+AnswersUpToLimit (Ok value) (Ok wanted) = value ≡ wanted
+AnswersUpToLimit (Ok value) (Err refusal) = ⊥
+AnswersUpToLimit (Err error) (Ok wanted) = error ≡ Memory
+AnswersUpToLimit (Err error) (Err refusal) = (error ≡ refusal) ⊎ ((refusal ≡ Limit) × (error ≡ Memory))
 
 -- The same, but memory may run out before an error is found.
 abbrev pub AnswersOrMemory : {A : Type 0} → Result A WorldError → Result A WorldError → Type 0
@@ -28,15 +35,15 @@ AnswersOrMemory (Ok value) (Err refusal) = ⊥
 AnswersOrMemory (Err error) (Ok wanted) = error ≡ Memory
 AnswersOrMemory (Err error) (Err refusal) = (error ≡ refusal) ⊎ (error ≡ Memory)
 
--- The call made the change that is meant, or failed with the error that is meant. Memory may run out only if no error
--- is meant.
+-- The call made the change that is meant, or failed with the error that is meant. Memory may run out only
+-- if no error is meant.
 abbrev pub Changes : {A : Type 0} → Result (Unit {0}) WorldError → A → Result A WorldError → Type 0
 Changes (Ok done) new (Ok wanted) = new ≡ wanted
 Changes (Ok done) new (Err refusal) = ⊥
 Changes (Err error) new (Ok wanted) = error ≡ Memory
 Changes (Err error) new (Err refusal) = error ≡ refusal
 
-abbrev pub with_new_row : World → Result Row WorldError → Result World WorldError
+abbrev pub with_new_row : World → Result NewMailbox WorldError → Result World WorldError
 with_new_row world (Err error) = Err error
 with_new_row world (Ok row) = Ok (with_row world row)
 
@@ -49,22 +56,26 @@ world_with_placed world name acl =
     else Err NoSuch
 
 abbrev pub mailboxes_with_acl :
-    Names Mailbox → Name → Mailbox → Result AclMap WorldError → Result (Names Mailbox) WorldError
+    Names MailboxEntry → Name → MailboxEntry → Result AclMap WorldError
+    → Result (Names MailboxEntry) WorldError
 mailboxes_with_acl mailboxes name mailbox (Err error) = Err error
-mailboxes_with_acl mailboxes name mailbox (Ok acl) = Ok (map.insert mailboxes name (record mailbox { acl = acl }))
+mailboxes_with_acl mailboxes name mailbox (Ok acl) =
+    Ok (map.insert mailboxes name (record mailbox { acl = acl }))
 
 abbrev pub mailboxes_with_rights_at :
-    Names Mailbox → Name → List ℕ → RightsChange → Option Mailbox → Result (Names Mailbox) WorldError
+    Names MailboxEntry → Name → List ℕ → RightsChange → Option MailboxEntry
+    → Result (Names MailboxEntry) WorldError
 mailboxes_with_rights_at mailboxes name identifier change None = Err NoSuch
 mailboxes_with_rights_at mailboxes name identifier change (Some mailbox) =
     mailboxes_with_acl mailboxes name mailbox (acl_with_rights mailbox.acl identifier change)
 
 -- the mailboxes, with an identifier's rights on one of them changed
-abbrev pub mailboxes_with_rights : Names Mailbox → Name → List ℕ → RightsChange → Result (Names Mailbox) WorldError
+abbrev pub mailboxes_with_rights :
+    Names MailboxEntry → Name → List ℕ → RightsChange → Result (Names MailboxEntry) WorldError
 mailboxes_with_rights mailboxes name identifier change =
     mailboxes_with_rights_at mailboxes name identifier change (map.get mailboxes name)
 
-abbrev pub with_mailboxes : World → Result (Names Mailbox) WorldError → Result World WorldError
+abbrev pub with_mailboxes : World → Result (Names MailboxEntry) WorldError → Result World WorldError
 with_mailboxes world (Err error) = Err error
 with_mailboxes world (Ok mailboxes) = Ok (record world { mailboxes = mailboxes })
 

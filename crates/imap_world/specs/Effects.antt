@@ -1,5 +1,6 @@
 -- What is asked of the mailboxes, the values that are written for it, and what these make of a world.
-use Rattle.std.specs.Prelude.{ℕ, ◌==◌, List, [], ◌∷◌, ◌++◌, not, Option, Some, None, Result, Ok, Err, if◌then◌else◌}
+use Rattle.std.specs.Prelude.{ℕ, ◌==◌, List, [], ◌∷◌, ◌++◌, not, Option, Some, None, Result, Ok, Err}
+use Rattle.std.specs.Prelude.{if◌then◌else◌}
 use Rattle.std.specs.FinMap as map
 use Rattle.imap_name_map.specs.Rows.{has_below, has_within}
 use Rattle.imap_names.specs.Name.{Name, is_inbox}
@@ -12,9 +13,9 @@ use Rattle.imap_world.specs.declared.effect.Effect.{Effect}
 use Rattle.imap_world.specs.declared.effect.Effect.TheVariants as effect
 use Rattle.imap_world.specs.declared.error.WorldError.{WorldError}
 use Rattle.imap_world.specs.declared.error.WorldError.TheVariants.{NoSuch, Taken, Below, Cannot}
-use Rattle.imap_world.specs.declared.mailbox.Mailbox.{Mailbox}
+use Rattle.imap_world.specs.declared.mailbox_entry.MailboxEntry.{MailboxEntry}
 use Rattle.imap_world.specs.Moving.{arrivals, can_move, superior_rows, with_moved}
-use Rattle.imap_world.specs.Row.{Row}
+use Rattle.imap_world.specs.NewMailbox.{NewMailbox}
 use Rattle.imap_world.specs.Tree.{acl_with_rights, with_acl, without, created_rows}
 use Rattle.imap_world.specs.World.{World, NameSet, subscribed_by, inbox}
 pub use Rattle.imap_world.specs.Tree.{with_row, new_row}
@@ -50,15 +51,15 @@ after_writes (write ∷ writes) world = after_writes writes (after_write write w
 
 -- ---- what is asked
 
-abbrev pub put_of : Result Row WorldError → Result (List Write) WorldError
+abbrev pub put_of : Result NewMailbox WorldError → Result (List Write) WorldError
 put_of (Err error) = Err error
 put_of (Ok row) = Ok (write.Put row ∷ [])
 
-abbrev pub puts : List Row → List Write
+abbrev pub puts : List NewMailbox → List Write
 puts [] = []
 puts (row ∷ rows) = write.Put row ∷ puts rows
 
-abbrev pub puts_of : Result (List Row) WorldError → Result (List Write) WorldError
+abbrev pub puts_of : Result (List NewMailbox) WorldError → Result (List Write) WorldError
 puts_of (Err error) = Err error
 puts_of (Ok rows) = Ok (puts rows)
 
@@ -87,14 +88,16 @@ list_set name (Err error) = Err error
 list_set name (Ok acl) = Ok (write.SetAcl name acl ∷ [])
 
 -- the list of the mailbox, if it is there, with an identifier's rights changed
-abbrev pub list_changed : Name → List ℕ → RightsChange → Option Mailbox → Result (List Write) WorldError
+abbrev pub list_changed : Name → List ℕ → RightsChange → Option MailboxEntry → Result (List Write) WorldError
 list_changed name identifier change None = Err NoSuch
 list_changed name identifier change (Some mailbox) =
     list_set name (acl_with_rights mailbox.acl identifier change)
 
 -- what is written for one effect by the world as it is; an INBOX is its owner's alone
 abbrev pub writes_for : Effect → World → Result (List Write) WorldError
-writes_for (effect.CreateInbox user) world = put_of (new_row world.epochs (inbox user) (owner_acl user))
+writes_for (effect.CreateInbox user) world =
+    if map.contains_key world.mailboxes (inbox user) then Err Taken
+    else put_of (new_row world.epochs (inbox user) (owner_acl user))
 writes_for (effect.Create owner name) world =
     if map.contains_key world.mailboxes name then Err Taken else puts_of (created_rows world owner name)
 writes_for (effect.Delete name) world =

@@ -5,7 +5,7 @@ pub mod Kept
 pub mod Laws
 pub mod Moving
 pub mod Ready
-pub mod Row
+pub mod NewMailbox
 pub mod Stored
 pub mod Tree
 pub mod World

@@ -1,5 +1,6 @@
 -- What RENAME makes of the mailboxes (RFC 9051, section 6.3.6).
-use Rattle.std.specs.Prelude.{ℕ, ◌+◌, Bool, not, ◌&&◌, nat_lt, bytes_eq, length, List, [], ◌∷◌, Option, Some, None, Result, Ok, Err, map as map_list, if◌then◌else◌}
+use Rattle.std.specs.Prelude.{ℕ, ◌+◌, Bool, not, ◌&&◌, nat_lt, bytes_eq, length, List, [], ◌∷◌, Option, Some}
+use Rattle.std.specs.Prelude.{None, Result, Ok, Err, map as map_list, if◌then◌else◌}
 use Rattle.std.specs.FinMap as map
 use Rattle.std.specs.List.{list_all}
 use Rattle.imap_name_map.specs.Renaming.{moved_names, renamed}
@@ -7,14 +8,15 @@ use Rattle.imap_name_map.specs.Rows.{inserted_all}
 use Rattle.imap_names.specs.Name.{Name, is_inbox, root_of}
 use Rattle.imap_names.specs.Order.{Names, is_below}
 use Rattle.imap_names.specs.Valid.{fits}
-use Rattle.imap_world.specs.declared.mailbox.Mailbox.{Mailbox}
+use Rattle.imap_world.specs.declared.mailbox_entry.MailboxEntry.{MailboxEntry}
 use Rattle.imap_world.specs.declared.error.WorldError.{WorldError}
 use Rattle.imap_world.specs.declared.error.WorldError.TheVariants.{Limit}
-use Rattle.imap_world.specs.Row.{Row}
+use Rattle.imap_world.specs.NewMailbox.{NewMailbox}
 use Rattle.imap_world.specs.Tree.{created_rows}
 use Rattle.imap_world.specs.World.{World, epoch, max_validity}
 
--- A mailbox moves within its tree, and not below itself. An INBOX stays, and the root of a tree is no mailbox.
+-- A mailbox moves within its tree, and not below itself. An INBOX stays, and the root of a tree is no
+-- mailbox.
 abbrev pub can_move : (old new : Name) → Bool
 can_move old new =
     nat_lt 1 (length old) && (nat_lt 1 (length new) && (bytes_eq (root_of old) (root_of new)
@@ -37,13 +39,14 @@ arrivals world old new =
     let names = moved_names old new world.mailboxes in
     if list_all (can_arrive world.epochs) names then Ok (arrivals_at world.epochs names) else Err Limit
 
-abbrev pub with_validity : Names Mailbox → Name → (validity : ℕ) → Option Mailbox → Names Mailbox
+abbrev pub with_validity :
+    Names MailboxEntry → Name → (validity : ℕ) → Option MailboxEntry → Names MailboxEntry
 with_validity mailboxes name validity None = mailboxes
 with_validity mailboxes name validity (Some mailbox) =
     map.insert mailboxes name (record mailbox { validity = validity })
 
 -- each of these mailboxes has this UIDVALIDITY
-abbrev pub with_validities : Names Mailbox → List (Name × ℕ) → Names Mailbox
+abbrev pub with_validities : Names MailboxEntry → List (Name × ℕ) → Names MailboxEntry
 with_validities mailboxes [] = mailboxes
 with_validities mailboxes (a ∷ arrivals) =
     with_validities (with_validity mailboxes a.0 a.1 (map.get mailboxes a.0)) arrivals
@@ -56,6 +59,6 @@ with_moved world old new arrivals = record world {
 }
 
 -- the superiors that are made for a name, as by CREATE
-abbrev pub superior_rows : World → (owner : List ℕ) → Name → Result (List Row) WorldError
+abbrev pub superior_rows : World → (owner : List ℕ) → Name → Result (List NewMailbox) WorldError
 superior_rows world owner [] = Ok []
 superior_rows world owner (deepest ∷ above) = created_rows world owner above

@@ -1,7 +1,8 @@
 -- What a change needs of a world, so that it is made in memory that is there.
-use Rattle.std.specs.Prelude.{◌≡◌, ◌⊎◌, ℕ, ◌+◌, ◌<◌, ◌≤◌, Bool, true, false, List, [], ◌∷◌, length, Option, Some, None}
+use Rattle.std.specs.Prelude.{◌≡◌, ◌⊎◌, ℕ, ◌+◌, ◌<◌, ◌≤◌, Bool, true, false, List, [], ◌∷◌, bytes_eq, length}
+use Rattle.std.specs.Prelude.{Option, Some, None}
 use Rattle.std.specs.FinMap as map
-use Rattle.std.specs.List.{AllByRecursion, list_all}
+use Rattle.std.specs.List.{AllByRecursion, IsDistinct, filter_map, list_all}
 use Rattle.imap_name_map.specs.Renaming.{moved_names}
 use Rattle.imap_name_map.specs.Rows.{Rows, has_below, has_within}
 use Rattle.imap_names.specs.Name.{Name}
@@ -12,12 +13,13 @@ use Rattle.imap_world.specs.declared.effect.Effect.TheVariants as effect
 use Rattle.imap_world.specs.Effects.{after_write}
 use Rattle.imap_world.specs.Kept.{superior_is_there}
 use Rattle.imap_world.specs.Moving.{arrivals_at, can_move}
+use Rattle.imap_world.specs.NewMailbox.{NewMailbox}
 use Rattle.imap_world.specs.Stored.{Stored, Subscriptions, world_of}
-use Rattle.imap_world.specs.World.{World}
+use Rattle.imap_world.specs.World.{World, epoch}
 
 -- ---- effects that don't meet
 
--- what is written for the effect doesn't depend on which mailboxes are there
+-- what is written for the effect depends on no mailbox, unless it is a user's INBOX that is made
 abbrev pub is_plain : Effect → Bool
 is_plain (effect.CreateInbox user) = true
 is_plain (effect.Create owner name) = false
@@ -27,14 +29,36 @@ is_plain (effect.SetRights name identifier change) = false
 is_plain (effect.Subscribe user name) = true
 is_plain (effect.Unsubscribe user name) = true
 
+-- the user whose INBOX is made
+abbrev pub inbox_owner : Effect → Option (List ℕ)
+inbox_owner (effect.CreateInbox user) = Some user
+inbox_owner (effect.Create owner name) = None
+inbox_owner (effect.Delete name) = None
+inbox_owner (effect.Rename owner old new) = None
+inbox_owner (effect.SetRights name identifier change) = None
+inbox_owner (effect.Subscribe user name) = None
+inbox_owner (effect.Unsubscribe user name) = None
+
+-- each is plain, and no user's INBOX is made twice
+pub record ArePlain (effects : List Effect) : Type 0 where
+  pub plain : list_all is_plain effects ≡ true
+  pub owners : IsDistinct bytes_eq (filter_map inbox_owner effects)
+
 -- each may be resolved by the world as it is before all of them
 abbrev pub AreApart : List Effect → Type 0
-AreApart effects = (length effects ≤ 1) ⊎ (list_all is_plain effects ≡ true)
+AreApart effects = (length effects ≤ 1) ⊎ ArePlain effects
 
 -- ---- writes that keep the superiors of mailboxes there
 
--- Mailboxes move to names at and below which nothing is, below one that is there. Each gets the next UIDVALIDITY that
+-- A mailbox is made under a name that is free, below one that is there. It gets the next UIDVALIDITY that
 -- was never used under its name.
+pub record MayPut (row : NewMailbox) (world : World) : Type 0 where
+  pub free : map.contains_key world.mailboxes row.name ≡ false
+  pub superior : superior_is_there world.mailboxes row.name ≡ true
+  pub next : row.mailbox.validity ≡ epoch world.epochs row.name + 1
+
+-- Mailboxes move to names at and below which nothing is, below one that is there. Each gets the next
+-- UIDVALIDITY that was never used under its name.
 pub record MayMove (old new : Name) (arrivals : List (Name × ℕ)) (world : World) : Type 0 where
   pub there : map.contains_key world.mailboxes old ≡ true
   pub allowed : can_move old new ≡ true
@@ -42,9 +66,9 @@ pub record MayMove (old new : Name) (arrivals : List (Name × ℕ)) (world : Wor
   pub superior : superior_is_there world.mailboxes new ≡ true
   pub next : arrivals ≡ arrivals_at world.epochs (moved_names old new world.mailboxes)
 
--- a mailbox is made below one that is there, and goes only if none is below it
+-- a mailbox goes only if none is below it
 abbrev pub MayWrite : Write → World → Type 0
-MayWrite (write.Put row) world = superior_is_there world.mailboxes row.name ≡ true
+MayWrite (write.Put row) world = MayPut row world
 MayWrite (write.SetAcl name acl) world = Unit {0}
 MayWrite (write.Remove name) world = has_below name world.mailboxes ≡ false
 MayWrite (write.Move old new arrivals) world = MayMove old new arrivals world
@@ -112,9 +136,11 @@ KeepsRoom old new =
 -- each user's room in the first is left in the second, but for one name
 abbrev pub LeavesRoom : Subscriptions → Subscriptions → Type 0
 LeavesRoom old new =
-    (user : List ℕ) (more : ℕ) → HasRoom (more + 1) (map.get old.map user) → HasRoom more (map.get new.map user)
+    (user : List ℕ) (more : ℕ)
+    → HasRoom (more + 1) (map.get old.map user) → HasRoom more (map.get new.map user)
 
--- the room of the first is left in the second, but for one mailbox, one subscription and this many UIDVALIDITYs
+-- the room of the first is left in the second, but for one mailbox, one subscription and this many
+-- UIDVALIDITYs
 pub record Leaves (counted : ℕ) (old new : Stored) : Type 0 where
   pub mailboxes : old.mailboxes.spare ≤ new.mailboxes.spare + 1
   pub epochs : old.epochs.spare ≤ new.epochs.spare + counted

@@ -5,7 +5,7 @@ use Rattle.std.specs.FinMap as map
 use base.Stored.{coded_unit}
 use Rattle.imap_name_map.specs.Rows as name
 use Rattle.imap_user_map.specs.Rows as user
-use Rattle.imap_world.specs.declared.mailbox.Mailbox.{Mailbox}
+use Rattle.imap_world.specs.declared.mailbox_entry.MailboxEntry.{MailboxEntry}
 use Rattle.imap_world.specs.Effects.{if_filled}
 use Rattle.imap_world.specs.Finite.{keep}
 use Rattle.imap_user_map.specs.Rows.{Users}
@@ -16,13 +16,13 @@ abbrev pub Subscriptions : Type 0
 Subscriptions = user.Rows (name.Rows (Unit {0}))
 
 pub record Stored : Type 0 where
-  pub mailboxes : name.Rows Mailbox
+  pub mailboxes : name.Rows MailboxEntry
   pub epochs : name.Rows ℕ
   pub subscriptions : Subscriptions
 
 abbrev pub stored_code : Coded Stored
 stored_code =
-    code_by (name.Rows Mailbox × (name.Rows ℕ × Subscriptions))
+    code_by (name.Rows MailboxEntry × (name.Rows ℕ × Subscriptions))
     (coded× (name.rows_code mailbox_code)
     (coded× (name.rows_code coded_ℕ) (user.rows_code (name.rows_code coded_unit))))
     (λ s. (s.mailboxes, (s.epochs, s.subscriptions)))

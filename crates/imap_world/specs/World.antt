@@ -7,22 +7,22 @@ use Rattle.imap_names.specs.Name.{Name, named}
 use Rattle.imap_names.specs.Order.{Names}
 use Rattle.imap_rights.specs.Acl.{AclMap, acl_code}
 use Rattle.imap_user_map.specs.Rows.{Users, users_code}
-use Rattle.imap_world.specs.declared.mailbox.Mailbox.{Mailbox}
+use Rattle.imap_world.specs.declared.mailbox_entry.MailboxEntry.{MailboxEntry}
 
 abbrev pub NameSet : Type 0
 NameSet = Names (Unit {0})
 
--- by name, the mailboxes, and the greatest UIDVALIDITY that was ever used; by user, the names that the user subscribed
--- to, if there are any
+-- by name, the mailboxes, and the greatest UIDVALIDITY that was ever used; by user, the names that the user
+-- subscribed to, if there are any
 pub record World : Type 0 where
-  pub mailboxes : Names Mailbox
+  pub mailboxes : Names MailboxEntry
   pub epochs : Names ℕ
   pub subscriptions : Users NameSet
 
 abbrev pub name_code : Coded Name
 name_code = coded_list (coded_list coded_ℕ)
 
-abbrev pub mailbox_code : Coded Mailbox
+abbrev pub mailbox_code : Coded MailboxEntry
 mailbox_code =
     code_by (ℕ × AclMap) (coded× coded_ℕ acl_code)
     (λ m. (m.validity, m.acl)) (λ p. record { validity = p.0; acl = p.1 }) (λ _. refl)
@@ -32,8 +32,9 @@ name_set_code = map.code name_code coded_unit
 
 abbrev pub world_code : Coded World
 world_code =
-    code_by (Names Mailbox × (Names ℕ × Users NameSet))
-    (coded× (map.code name_code mailbox_code) (coded× (map.code name_code coded_ℕ) (users_code name_set_code)))
+    code_by (Names MailboxEntry × (Names ℕ × Users NameSet))
+    (coded× (map.code name_code mailbox_code)
+    (coded× (map.code name_code coded_ℕ) (users_code name_set_code)))
     (λ w. (w.mailboxes, (w.epochs, w.subscriptions)))
     (λ p. record { mailboxes = p.0; epochs = p.1.0; subscriptions = p.1.1 }) (λ _. refl)
 

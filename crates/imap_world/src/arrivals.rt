@@ -42,10 +42,10 @@ impl Arrivals {
     pub(crate) fn push(&mut self, name: Name, validity: u32) -> Result<(), AllocError>
         ensures { OnOk result (self.new ≡ self.old ++ (name, validity) ∷ []) }
     {
-        let again = name.try_copy()?;
+        let copy = name.try_copy()?;
         self.names.reserve(1)?;
         self.validities.reserve(1)?;
-        self.names.push_reserved(again);
+        self.names.push_reserved(copy);
         self.validities.push_reserved((name, validity));
         Ok(())
     }

@@ -4,70 +4,23 @@ ghost use Rattle.std.specs.Prelude.{◌≡◌, ◌↔◌, ◌++◌, ◌∷◌, [
 ghost use Rattle.imap_world.specs.Ready.{count_of, counts_of};
 
 use crate::arrivals::Arrivals;
-use crate::mailbox::Mailbox;
+use crate::new_mailbox::NewMailbox;
 use imap_names::{Name, UserName};
 use imap_rights::Acl;
 use std::alloc::{AllocError, Global};
 use std::marker::Model;
 
-/// A mailbox that is made, with its name.
-#[derive(Debug, Drop)]
-pub struct Row {
-    pub(crate) name: Name,
-    /// The same name, for the table of validities.
-    pub(crate) again: Name,
-    pub(crate) mailbox: Mailbox,
-}
-
-impl Model for Row {
-    ghost use Rattle.std.specs.Prelude.{◌≡◌};
-    ghost use Rattle.imap_world.specs.Row as specs;
-
-    ghost Value = { specs.Row };
-
-    ghost coded = { specs.row_code };
-
-    ghost view = { λ row. record { name = row.name; mailbox = row.mailbox } };
-
-    ghost invariant = { λ row. row.again ≡ row.name };
-}
-
-impl Row {
-    pub fn name(&self) -> &Name
-        ensures { result.now ≡ self.now.name }
-    {
-        &self.name
-    }
-
-    pub fn mailbox(&self) -> &Mailbox
-        ensures { result.now ≡ self.now.mailbox }
-    {
-        &self.mailbox
-    }
-
-    /// Returns an equal copy.
-    pub fn try_copy(&self, alloc: Global) -> Result<Row, AllocError>
-        ensures { IfOk result (λ copy. copy ≡ self.now) }
-    {
-        Ok(Row {
-            name: self.name.try_copy()?,
-            again: self.again.try_copy()?,
-            mailbox: self.mailbox.try_copy(alloc)?,
-        })
-    }
-}
-
 /// One value that is written.
 #[derive(Debug, Drop)]
 pub enum Write {
     /// A mailbox is made. Its UIDVALIDITY is the greatest that was used under its name.
-    Put(Row),
+    Put(NewMailbox),
     /// The mailbox has this access control list.
     SetAcl(Name, Acl),
     /// The mailbox goes. Its UIDVALIDITY stays counted as used.
     Remove(Name),
-    /// The mailbox of the first name and all below it are called by the second name. These are the names that they get.
-    /// They keep their lists.
+    /// The mailbox of the first name and all below it are called by the second name. These are the names
+    /// that they get. They keep their lists.
     Move(Name, Name, Arrivals),
     Subscribe(UserName, Name),
     Unsubscribe(UserName, Name),

@@ -3,22 +3,24 @@
 use imap_names::{Name, UserName};
 use imap_rights::{Identifier, RightsChange};
 
-/// One change that is asked for. What the user may not know of it is left to [`World::prepare`](crate::World::prepare).
+/// One change that is asked for. What the user may not know of it is left to
+/// [`World::prepare`](crate::World::prepare).
 #[derive(Debug, Drop)]
 pub enum Effect {
     /// The INBOX of a user is made, with all rights for the user alone.
     CreateInbox(UserName),
-    /// A mailbox is made under the name, whose tree has this owner, and so are its superiors that aren't there (RFC
-    /// 9051, section 6.3.4). Each gets the list of the nearest superior that is there; below a root that gives the
-    /// owner all rights.
+    /// A mailbox is made under the name, whose tree has this owner, and so are its superiors that aren't
+    /// there (RFC 9051, section 6.3.4). Each gets the list of the nearest superior that is there; below a
+    /// root that gives the owner all rights.
     Create(UserName, Name),
     /// The mailbox goes (RFC 9051, section 6.3.5).
     Delete(Name),
-    /// The mailbox of the first name and all below it are called by the second (RFC 9051, section 6.3.6). Superiors of
-    /// that which aren't there are made, as by `Create` in a tree of this owner. Each mailbox gets a new UIDVALIDITY.
+    /// The mailbox of the first name and all below it are called by the second (RFC 9051, section 6.3.6).
+    /// Superiors of that which aren't there are made, as by `Create` in a tree of this owner. Each mailbox
+    /// gets a new UIDVALIDITY.
     Rename(UserName, Name, Name),
-    /// The rights of one identifier on the mailbox change (RFC 4314, section 3.1). To replace them by none is to
-    /// remove its entry (RFC 4314, section 3.2).
+    /// The rights of one identifier on the mailbox change (RFC 4314, section 3.1). To replace them by none
+    /// is to remove its entry (RFC 4314, section 3.2).
     SetRights(Name, Identifier, RightsChange),
     /// A name becomes one of those that the user subscribed to (RFC 9051, section 6.3.7).
     Subscribe(UserName, Name),

@@ -1,7 +1,7 @@
 //! The mailboxes of all users, and what changes them.
 //!
-//! A change is made in two halves. [`World::prepare`] finds the values to be written and reserves all room, and may be
-//! refused; [`World::commit`] writes them, takes no memory, and cannot.
+//! A change is made in two halves. [`World::prepare`] finds the values to be written and reserves all room,
+//! and may be refused; [`World::commit`] writes them, takes no memory, and cannot.
 #![tactic(auto)]
 
 mod arrivals;
@@ -9,8 +9,9 @@ mod change;
 mod effect;
 mod error;
 pub mod laws;
-mod mailbox;
+mod mailbox_entry;
 mod moving;
+mod new_mailbox;
 mod owner;
 mod placing;
 mod resolve;
@@ -20,10 +21,11 @@ mod subscriptions;
 mod world;
 
 pub use arrivals::Arrivals;
-pub use change::{Change, Row, Write};
+pub use change::{Change, Write};
 pub use effect::Effect;
 pub use error::WorldError;
-pub use mailbox::Mailbox;
+pub use mailbox_entry::MailboxEntry;
 pub use moving::can_move;
+pub use new_mailbox::NewMailbox;
 pub use site::{Limits, Site};
 pub use world::World;

@@ -4,7 +4,7 @@ ghost use Rattle.std.specs.Prelude.{◌≡◌, true, IfOk, Ok};
 ghost use Rattle.std.specs.FinMap as map;
 ghost use Rattle.imap_names.specs.Order.{is_within, moved};
 ghost use Rattle.imap_names.specs.Valid.{fits};
-ghost use Rattle.imap_world.specs.Changing.{AnswersOrMemory};
+ghost use Rattle.imap_world.specs.Changing.{AnswersOrMemory, AnswersUpToLimit};
 ghost use Rattle.imap_world.specs.declared.effect.Effect.TheVariants as effect;
 ghost use Rattle.imap_world.specs.Effects.{move_after, puts_of, writes_for};
 ghost use Rattle.imap_world.specs.Moving as specs;
@@ -13,14 +13,15 @@ ghost use Rattle.imap_world.specs.Stored.{world_of};
 use crate::arrivals::Arrivals;
 use crate::change::{Change, Write};
 use crate::error::WorldError;
-use crate::mailbox::Mailbox;
+use crate::mailbox_entry::MailboxEntry;
 use crate::world::World;
 use imap_name_map::NameMap;
 use imap_names::{Name, NameRef, UserName, is_above};
 use std::alloc::Global;
 
 impl World {
-    /// Finds what is written for a mailbox that is called by a new name, with all below it. The tree has this owner.
+    /// Finds what is written for a mailbox that is called by a new name, with all below it. The tree has
+    /// this owner.
     pub(crate) fn resolve_rename(
         &self,
         alloc: Global,
@@ -29,7 +30,7 @@ impl World {
         new: &Name,
     ) -> Result<Change, WorldError>
         ensures { let asked = effect.Rename owner.now old.now new.now in
-            AnswersOrMemory result (writes_for asked (world_of self.now)) }
+            AnswersUpToLimit result (writes_for asked (world_of self.now)) }
     {
         if self.mailbox(&old.as_ref()).is_none() {
             return Err(WorldError::NoSuch);
@@ -40,6 +41,21 @@ impl World {
         if !self.mailboxes().is_free(&new.as_ref()) {
             return Err(WorldError::Taken);
         }
+        self.resolve_move(alloc, owner, old, new)
+    }
+
+    /// The same, once the mailbox is there and can move to the name, which is free.
+    fn resolve_move(
+        &self,
+        alloc: Global,
+        owner: &UserName,
+        old: &Name,
+        new: &Name,
+    ) -> Result<Change, WorldError>
+        ensures { let made = puts_of (specs.superior_rows (world_of self.now) owner.now new.now) in
+            let arrivals = specs.arrivals (world_of self.now) old.now new.now in
+            AnswersOrMemory result (move_after old.now new.now made arrivals) }
+    {
         let change = self.resolve_superiors(alloc, owner, new)?;
         let arrivals = self.arrivals(alloc, old, new)?;
         with_move(change, old, new, arrivals)
@@ -52,7 +68,8 @@ impl World {
         owner: &UserName,
         name: &Name,
     ) -> Result<Change, WorldError>
-        ensures { AnswersOrMemory result (puts_of (specs.superior_rows (world_of self.now) owner.now name.now)) }
+        ensures { let rows = specs.superior_rows (world_of self.now) owner.now name.now in
+            AnswersOrMemory result (puts_of rows) }
     {
         match name.as_ref().superior() {
             Some(above) => self.resolve_rows(alloc, owner, &above),
@@ -98,16 +115,15 @@ impl World {
         requires { fits name ≡ true }
         ensures { AnswersOrMemory result (specs.arrival_at (world_of self.now).epochs name) }
     {
-        let used = self.epoch(&name.as_ref());
-        if used == u32::MAX {
-            return Err(WorldError::Limit);
+        match self.next_validity(&name.as_ref()) {
+            Some(validity) => Ok((name, validity)),
+            None => Err(WorldError::Limit),
         }
-        Ok((name, used + 1))
     }
 }
 
-/// Whether a mailbox can move from one name to the other, whoever asks for it: no INBOX moves, and no mailbox moves to
-/// another tree or below itself (RFC 9051, section 6.3.6).
+/// Whether a mailbox can move from one name to the other, whoever asks for it: no INBOX moves, and no
+/// mailbox moves to another tree or below itself (RFC 9051, section 6.3.6).
 pub fn can_move(old: &Name, new: &Name) -> bool
     ensures { result ≡ specs.can_move old.now new.now }
 {
@@ -133,7 +149,7 @@ fn with_move(
 
 /// Gives each of these mailboxes its UIDVALIDITY. They are `top` and names below it, in their order.
 pub(crate) fn set_validities(
-    mailboxes: &mut NameMap<Mailbox>,
+    mailboxes: &mut NameMap<MailboxEntry>,
     top: &NameRef<'_>,
     validities: &[(Name, u32)],
 )
@@ -148,7 +164,12 @@ pub(crate) fn set_validities(
 }
 
 /// Gives a mailbox its UIDVALIDITY, if it is there. It is found at once if it is the one at `place`.
-fn set_validity(mailboxes: &mut NameMap<Mailbox>, place: usize, name: &NameRef<'_>, validity: u32)
+fn set_validity(
+    mailboxes: &mut NameMap<MailboxEntry>,
+    place: usize,
+    name: &NameRef<'_>,
+    validity: u32,
+)
     ensures mailboxes { let there = map.get mailboxes.old.map name.now in
         mailboxes.new.map ≡ specs.with_validity mailboxes.old.map name.now validity there }
     ensures spare { mailboxes.new.spare ≡ mailboxes.old.spare }

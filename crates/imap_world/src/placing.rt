@@ -1,20 +1,20 @@
 //! Mailboxes that are made.
 
-ghost use Rattle.std.specs.Prelude.{◌≡◌};
+ghost use Rattle.std.specs.Prelude.{◌≡◌, ◌+◌, ◌<◌, MatchOption};
 ghost use Rattle.imap_world.specs.Changing.{Answers};
 ghost use Rattle.imap_world.specs.Tree.{new_row};
 ghost use Rattle.imap_world.specs.Kept.{superior_is_there};
-ghost use Rattle.imap_world.specs.World.{epoch};
+ghost use Rattle.imap_world.specs.World.{epoch, max_validity};
 
-use crate::change::Row;
 use crate::error::WorldError;
-use crate::mailbox::Mailbox;
+use crate::mailbox_entry::MailboxEntry;
+use crate::new_mailbox::NewMailbox;
 use imap_name_map::NameMap;
 use imap_names::{Name, NameRef};
 use imap_rights::Acl;
 
 /// Whether the name lies right below a mailbox or the root of its tree.
-pub(crate) fn has_superior(mailboxes: &NameMap<Mailbox>, name: &NameRef<'_>) -> bool
+pub(crate) fn has_superior(mailboxes: &NameMap<MailboxEntry>, name: &NameRef<'_>) -> bool
     ensures { result ≡ superior_is_there mailboxes.now.map name.now }
 {
     match name.superior() {
@@ -33,20 +33,25 @@ pub(crate) fn epoch_of(epochs: &NameMap<u32>, name: &NameRef<'_>) -> u32
     }
 }
 
-/// The mailbox that is made under a name: its UIDVALIDITY is 1 more than the greatest that was used there. Fails with
-/// `Limit` if that is the greatest there is.
-pub(crate) fn new_row(epochs: &NameMap<u32>, name: Name, acl: Acl) -> Result<Row, WorldError>
+/// The UIDVALIDITY of the next mailbox that is made under the name: 1 more than the greatest that was ever
+/// used there (RFC 9051, section 2.3.1.1). `None` if that is the greatest there is.
+pub(crate) fn next_validity(epochs: &NameMap<u32>, name: &NameRef<'_>) -> Option<u32>
+    ensures { let used = epoch epochs.now.map name.now in
+        MatchOption result (used ≡ max_validity) (λ validity. (validity ≡ used + 1) × (used < max_validity)) }
+{
+    let used = epoch_of(epochs, name);
+    if used == u32::MAX {
+        return None;
+    }
+    Some(used + 1)
+}
+
+/// The mailbox that is made under a name, with the next UIDVALIDITY. Fails with `Limit` if none is left.
+pub(crate) fn new_row(epochs: &NameMap<u32>, name: Name, acl: Acl) -> Result<NewMailbox, WorldError>
     ensures { Answers result (new_row epochs.now.map name acl) }
 {
-    let used = epoch_of(epochs, &name.as_ref());
-    if used == u32::MAX {
-        return Err(WorldError::Limit);
+    match next_validity(epochs, &name.as_ref()) {
+        Some(validity) => Ok(NewMailbox::new(name, MailboxEntry { validity, acl })?),
+        None => Err(WorldError::Limit),
     }
-    let again = name.try_copy()?;
-    let validity = used + 1;
-    Ok(Row {
-        name,
-        again,
-        mailbox: Mailbox { validity, acl },
-    })
 }

@@ -1,18 +1,23 @@
 //! The values that are written for effects.
 
-ghost use Rattle.std.specs.Prelude.{◌≡◌, IfOk, Ok};
-ghost use Rattle.imap_world.specs.Changing.{AnswersOrMemory};
+ghost use Rattle.std.specs.Prelude.{◌≡◌, ◌∷◌, [], IfOk, Ok};
+ghost use Rattle.imap_world.specs.Changing.{Answers, AnswersOrMemory, AnswersUpToLimit};
 ghost use Rattle.imap_world.specs.Effects.{put_of, puts_of, writes_for, writes_of, writes_then};
 ghost use Rattle.imap_world.specs.Stored.{world_of};
+ghost use Rattle.imap_rights.specs.Acl.{owner_acl};
 ghost use Rattle.imap_world.specs.Tree.{created_rows, inherited, new_row, rows_for};
+ghost use Rattle.imap_world.specs.NewMailbox as made;
+ghost use Rattle.imap_world.specs.World.{inbox};
 
 use crate::change::{Change, Write};
 use crate::effect::Effect;
 use crate::error::WorldError;
+use crate::mailbox_entry::MailboxEntry;
+use crate::new_mailbox::NewMailbox;
 use crate::owner::owner_acl;
 use crate::rights::changed_acl;
 use crate::world::World;
-use imap_names::{Name, NameRef, UserName, inbox};
+use imap_names::{Name, NameRef, UserName, inbox, inbox_ref};
 use imap_rights::{Acl, Identifier, RightsChange};
 use std::alloc::{AllocError, Global};
 
@@ -23,6 +28,18 @@ impl World {
         alloc: Global,
         effects: &[Effect],
     ) -> Result<Change, WorldError>
+        ensures change { AnswersOrMemory result (writes_of effects.now (world_of self.now)) }
+        ensures alone { (effect : Effect) → effects.now ≡ effect ∷ []
+            → AnswersUpToLimit result (writes_for effect (world_of self.now)) }
+    {
+        match effects {
+            [effect] => self.resolve(alloc, effect),
+            _ => self.resolve_each(alloc, effects),
+        }
+    }
+
+    /// The same, one effect after another.
+    fn resolve_each(&self, alloc: Global, effects: &[Effect]) -> Result<Change, WorldError>
         ensures { AnswersOrMemory result (writes_of effects.now (world_of self.now)) }
     {
         let mut change = Change::none(alloc);
@@ -37,7 +54,7 @@ impl World {
 
     /// Finds the values to be written for one effect.
     fn resolve(&self, alloc: Global, effect: &Effect) -> Result<Change, WorldError>
-        ensures { AnswersOrMemory result (writes_for effect.now (world_of self.now)) }
+        ensures { AnswersUpToLimit result (writes_for effect.now (world_of self.now)) }
     {
         match effect {
             Effect::CreateInbox(user) => self.resolve_inbox(alloc, user),
@@ -60,12 +77,15 @@ impl World {
 
     /// Finds the mailbox to be written for a user's INBOX.
     fn resolve_inbox(&self, alloc: Global, user: &UserName) -> Result<Change, WorldError>
-        ensures { AnswersOrMemory result (writes_for (Effect.CreateInbox user.now) (world_of self.now)) }
+        ensures { Answers result (writes_for (Effect.CreateInbox user.now) (world_of self.now)) }
     {
-        let acl = owner_acl(alloc, user)?;
-        let name = inbox(alloc, user)?;
-        let row = self.next_row(name, acl)?;
-        Ok(Change::of(alloc, Write::Put(row))?)
+        if self.mailbox(&inbox_ref(user)).is_some() {
+            return Err(WorldError::Taken);
+        }
+        match self.next_validity(&inbox_ref(user)) {
+            Some(validity) => Ok(inbox_change(alloc, user, validity)?),
+            None => Err(WorldError::Limit),
+        }
     }
 
     /// Finds the mailboxes to be written for a name, which lies in a tree of `owner`, and for its superiors.
@@ -75,7 +95,8 @@ impl World {
         owner: &UserName,
         name: &Name,
     ) -> Result<Change, WorldError>
-        ensures { AnswersOrMemory result (writes_for (Effect.Create owner.now name.now) (world_of self.now)) }
+        ensures { let effect = Effect.Create owner.now name.now in
+            AnswersUpToLimit result (writes_for effect (world_of self.now)) }
     {
         if self.mailbox(&name.as_ref()).is_some() {
             return Err(WorldError::Taken);
@@ -83,8 +104,8 @@ impl World {
         self.resolve_rows(alloc, owner, &name.as_ref())
     }
 
-    /// Finds the mailboxes to be written for a name, unless it is there, and for its superiors. Each has the list of
-    /// the nearest superior that is there.
+    /// Finds the mailboxes to be written for a name, unless it is there, and for its superiors. Each has
+    /// the list of the nearest superior that is there.
     pub(crate) fn resolve_rows(
         &self,
         alloc: Global,
@@ -115,8 +136,8 @@ impl World {
         }
     }
 
-    /// Finds the mailboxes to be written for a name, unless it is there: first its superiors, from the outermost on,
-    /// and last itself. Each has the list `acl`.
+    /// Finds the mailboxes to be written for a name, unless it is there: first its superiors, from the
+    /// outermost on, and last itself. Each has the list `acl`.
     fn rows_for(&self, alloc: Global, acl: &Acl, name: &NameRef<'_>) -> Result<Change, WorldError>
         ensures { AnswersOrMemory result (puts_of (rows_for (world_of self.now) acl.now name.now)) }
     {
@@ -143,7 +164,7 @@ impl World {
 
     /// Finds what is written for a mailbox that goes.
     fn resolve_delete(&self, alloc: Global, name: &Name) -> Result<Change, WorldError>
-        ensures { AnswersOrMemory result (writes_for (Effect.Delete name.now) (world_of self.now)) }
+        ensures { Answers result (writes_for (Effect.Delete name.now) (world_of self.now)) }
     {
         if self.mailbox(&name.as_ref()).is_none() {
             return Err(WorldError::NoSuch);
@@ -166,7 +187,7 @@ impl World {
         change: RightsChange,
     ) -> Result<Change, WorldError>
         ensures { let effect = Effect.SetRights name.now identifier.now change in
-            AnswersOrMemory result (writes_for effect (world_of self.now)) }
+            Answers result (writes_for effect (world_of self.now)) }
     {
         match self.mailbox(&name.as_ref()) {
             Some(mailbox) => {
@@ -176,4 +197,15 @@ impl World {
             None => Err(WorldError::NoSuch),
         }
     }
+}
+
+/// Writes a user's INBOX, with this UIDVALIDITY and all rights for the user alone.
+fn inbox_change(alloc: Global, user: &UserName, validity: u32) -> Result<Change, AllocError>
+    ensures { let mailbox : MailboxEntry = record { validity = validity; acl = owner_acl user.now } in
+        let row : made.NewMailbox = record { name = inbox user.now; mailbox = mailbox } in
+        IfOk result (λ change. change ≡ Write.Put row ∷ []) }
+{
+    let acl = owner_acl(alloc, user)?;
+    let row = NewMailbox::new(inbox(alloc, user)?, MailboxEntry { validity, acl })?;
+    Change::of(alloc, Write::Put(row))
 }

@@ -2,11 +2,11 @@
 
 ghost use Rattle.std.specs.Prelude.{◌≡◌, OnErr};
 ghost use Rattle.std.specs.FinMap as map;
-ghost use Rattle.imap_world.specs.Changing.{AnswersOrMemory, Changes, mailboxes_with_rights};
+ghost use Rattle.imap_world.specs.Changing.{Answers, Changes, mailboxes_with_rights};
 ghost use Rattle.imap_world.specs.Tree.{acl_with_rights, mailboxes_with_list};
 
 use crate::error::WorldError;
-use crate::mailbox::Mailbox;
+use crate::mailbox_entry::MailboxEntry;
 use imap_name_map::NameMap;
 use imap_names::NameRef;
 use imap_rights::{Acl, AclError, Identifier, RightsChange};
@@ -14,7 +14,7 @@ use std::alloc::Global;
 
 /// Changes the rights of one identifier on a mailbox. Fails with `NoSuch` if there is no such mailbox.
 pub(crate) fn set_rights(
-    mailboxes: &mut NameMap<Mailbox>,
+    mailboxes: &mut NameMap<MailboxEntry>,
     name: &NameRef<'_>,
     identifier: Identifier,
     change: RightsChange,
@@ -37,8 +37,11 @@ pub(crate) fn changed_acl(
     identifier: &Identifier,
     change: RightsChange,
 ) -> Result<Acl, WorldError>
-    ensures { AnswersOrMemory result (acl_with_rights acl.now identifier.now change) }
+    ensures { Answers result (acl_with_rights acl.now identifier.now change) }
 {
+    if acl.is_full_for(identifier, change.applied(acl.rights_of(identifier))) {
+        return Err(WorldError::Limit);
+    }
     let mut changed = acl.try_copy(alloc)?;
     match change_rights(&mut changed, identifier.try_copy(alloc)?, change) {
         Ok(()) => Ok(changed),
@@ -47,7 +50,7 @@ pub(crate) fn changed_acl(
 }
 
 /// Sets the list of a mailbox, if it is there.
-pub(crate) fn put_acl(mailboxes: &mut NameMap<Mailbox>, name: &NameRef<'_>, acl: Acl)
+pub(crate) fn put_acl(mailboxes: &mut NameMap<MailboxEntry>, name: &NameRef<'_>, acl: Acl)
     ensures mailboxes { let there = map.get mailboxes.old.map name.now in
         mailboxes.new.map ≡ mailboxes_with_list mailboxes.old.map name.now acl there }
     ensures spare { mailboxes.new.spare ≡ mailboxes.old.spare }

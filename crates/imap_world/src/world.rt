@@ -1,25 +1,29 @@
 //! The world.
 
-ghost use Rattle.std.specs.Prelude.{◌≡◌, ◌<◌, ◌≤◌, false, true, length, IfOk, Ok, OnErr, OnOk, option_copied};
+ghost use Rattle.std.specs.Prelude.{◌≡◌, ◌+◌, ◌<◌, ◌≤◌, ◌∷◌, [], false, true, length, IfOk, MatchOption, Ok};
+ghost use Rattle.std.specs.Prelude.{OnErr, OnOk, option_copied};
 ghost use Rattle.std.specs.FinMap as map;
 ghost use Rattle.imap_name_map.specs.Rows.{has_below};
-ghost use Rattle.imap_world.specs.Changing.{Answers, AnswersOrMemory, Changes};
+ghost use Rattle.imap_world.specs.Changing.{Answers, AnswersOrMemory, AnswersUpToLimit, Changes};
 ghost use Rattle.imap_world.specs.Changing.{world_with_placed, world_with_rights};
-ghost use Rattle.imap_world.specs.Effects.{after_write, after_writes, writes_of};
-ghost use Rattle.imap_world.specs.Kept.{IsSound, superior_is_there};
+ghost use Rattle.imap_world.specs.Effects.{after_write, after_writes, writes_for, writes_of};
+ghost use Rattle.imap_world.specs.Kept.{IsSound};
+ghost use Rattle.imap_world.specs.Laws.{KeepsValidities};
 ghost use Rattle.imap_world.specs.Moving.{with_moved};
-ghost use Rattle.imap_world.specs.Ready.{AreApart, HasRoomFor, IsOneReady, IsReady, Leaves, MayMove, count_of};
+ghost use Rattle.imap_world.specs.Ready.{AreApart, HasRoomFor, IsOneReady, IsReady, Leaves, MayMove, MayPut};
+ghost use Rattle.imap_world.specs.Ready.{count_of};
 ghost use Rattle.imap_world.specs.Stored.{names_in, world_of};
 ghost use Rattle.imap_world.specs.Tree.{new_row, with_acl, with_row, without};
-ghost use Rattle.imap_world.specs.World.{epoch, subscribed_by};
+ghost use Rattle.imap_world.specs.World.{epoch, max_validity, subscribed_by};
 
 use crate::arrivals::Arrivals;
-use crate::change::{Change, Row, Write};
+use crate::change::{Change, Write};
 use crate::effect::Effect;
 use crate::error::WorldError;
-use crate::mailbox::Mailbox;
+use crate::mailbox_entry::MailboxEntry;
 use crate::moving::set_validities;
-use crate::placing::{epoch_of, has_superior, new_row};
+use crate::new_mailbox::NewMailbox;
+use crate::placing::{epoch_of, has_superior, new_row, next_validity};
 use crate::rights::{put_acl, set_rights};
 use crate::subscriptions::{add_name, make_room_for, remove_name};
 use imap_name_map::NameMap;
@@ -30,14 +34,14 @@ use std::alloc::{AllocError, Global};
 use std::collections::VecDeque;
 use std::marker::Model;
 
-/// The mailboxes by their names, the greatest UIDVALIDITY that was ever used under each name, and the names that each
-/// user subscribed to.
+/// The mailboxes by their names, the greatest UIDVALIDITY that was ever used under each name, and the names
+/// that each user subscribed to.
 ///
-/// The superiors of a mailbox are there, and its UIDVALIDITY is counted among those that were used. Contracts see the
-/// room for more, too; `world_of` leaves it out.
+/// The superiors of a mailbox are there, and its UIDVALIDITY is counted among those that were used.
+/// Contracts see the room for more, too; `world_of` leaves it out.
 #[derive(Drop)]
 pub struct World {
-    mailboxes: NameMap<Mailbox>,
+    mailboxes: NameMap<MailboxEntry>,
     epochs: NameMap<u32>,
     subscriptions: UserMap<NameMap<()>>,
 }
@@ -50,10 +54,15 @@ impl Model for World {
 
     ghost coded = { stored_code };
 
-    ghost view = { λ w. record { mailboxes = w.mailboxes; epochs = w.epochs; subscriptions = w.subscriptions } };
+    ghost view = { λ w.
+        record { mailboxes = w.mailboxes; epochs = w.epochs; subscriptions = w.subscriptions } };
 
     ghost invariant = { λ w.
-        IsSound (world_of (record { mailboxes = w.mailboxes; epochs = w.epochs; subscriptions = w.subscriptions })) };
+        IsSound (world_of (record {
+          mailboxes = w.mailboxes;
+          epochs = w.epochs;
+          subscriptions = w.subscriptions;
+        })) };
 }
 
 impl World {
@@ -81,7 +90,8 @@ impl World {
         })
     }
 
-    pub fn mailbox(&self, name: &NameRef<'_>) -> Option<&Mailbox>
+    /// The mailbox of this name, or `None` if there is none.
+    pub fn mailbox(&self, name: &NameRef<'_>) -> Option<&MailboxEntry>
         ensures there { option_copied result ≡ map.get (world_of self.now).mailboxes name.now }
         ensures valid { IsSound (world_of self.now) }
     {
@@ -89,7 +99,7 @@ impl World {
     }
 
     /// All mailboxes, in the order of their names.
-    pub fn mailboxes(&self) -> &NameMap<Mailbox>
+    pub fn mailboxes(&self) -> &NameMap<MailboxEntry>
         ensures { result.now.map ≡ (world_of self.now).mailboxes }
     {
         &self.mailboxes
@@ -109,8 +119,8 @@ impl World {
         self.subscriptions.get(user)
     }
 
-    /// Makes a mailbox. Fails with `Taken` if it is there, else with `NoSuch` if its superior isn't, else with `Limit`
-    /// if no UIDVALIDITY is left under its name. The root of a tree counts as there.
+    /// Makes a mailbox. Fails with `Taken` if it is there, else with `NoSuch` if its superior isn't, else
+    /// with `Limit` if no UIDVALIDITY is left under its name. The root of a tree counts as there.
     pub fn place(&mut self, name: Name, acl: Acl) -> Result<(), WorldError>
         ensures world { Changes result (world_of self.new) (world_with_placed (world_of self.old) name acl) }
         ensures err { OnErr result (world_of self.new ≡ world_of self.old) }
@@ -128,8 +138,8 @@ impl World {
     }
 
     /// Makes room for a mailbox and writes it.
-    fn add(&mut self, row: Row) -> Result<(), WorldError>
-        requires { superior_is_there self.old.mailboxes.map row.name ≡ true }
+    fn add(&mut self, row: NewMailbox) -> Result<(), WorldError>
+        requires { MayPut row (world_of self.old) }
         ensures world { Changes result (world_of self.new) (Ok (with_row (world_of self.old) row)) }
         ensures err { OnErr result (world_of self.new ≡ world_of self.old) }
     {
@@ -139,8 +149,8 @@ impl World {
         Ok(())
     }
 
-    /// Changes the rights of one identifier on a mailbox (RFC 4314, section 3.1). Fails with `NoSuch` if there is no
-    /// such mailbox, and with `Limit` if its list is full.
+    /// Changes the rights of one identifier on a mailbox (RFC 4314, section 3.1). Fails with `NoSuch` if
+    /// there is no such mailbox, and with `Limit` if its list is full.
     pub fn set_acl(
         &mut self,
         name: &NameRef<'_>,
@@ -154,9 +164,18 @@ impl World {
         set_rights(&mut self.mailboxes, name, identifier, change)
     }
 
-    /// The mailbox that is made under a name: its UIDVALIDITY is 1 more than the greatest that was used there. Fails
-    /// with `Limit` if that is the greatest there is.
-    pub(crate) fn next_row(&self, name: Name, acl: Acl) -> Result<Row, WorldError>
+    /// The UIDVALIDITY of the next mailbox that is made under the name: 1 more than the greatest that was
+    /// ever used there (RFC 9051, section 2.3.1.1). `None` if that is the greatest there is.
+    pub fn next_validity(&self, name: &NameRef<'_>) -> Option<u32>
+        ensures { let used = epoch (world_of self.now).epochs name.now in
+            MatchOption result (used ≡ max_validity)
+            (λ validity. (validity ≡ used + 1) × (used < max_validity)) }
+    {
+        next_validity(&self.epochs, name)
+    }
+
+    /// The mailbox that is made under a name, with the next UIDVALIDITY. Fails with `Limit` if none is left.
+    pub(crate) fn next_row(&self, name: Name, acl: Acl) -> Result<NewMailbox, WorldError>
         ensures { Answers result (new_row (world_of self.now).epochs name acl) }
     {
         new_row(&self.epochs, name, acl)
@@ -164,14 +183,19 @@ impl World {
 
     /// Finds the values to be written for the effects, and reserves all room. Changes nothing that is kept.
     ///
-    /// Fails with the first fault: `Taken` if a mailbox is to be made or to move to a name that is in use, `NoSuch` if
-    /// one isn't there that is to go, to move or to have other rights, `Cannot` if an INBOX is to go or a mailbox can't
-    /// move there, `Below` if one is below a mailbox that is to go, `Limit` if no UIDVALIDITY is left, a name would be
-    /// too long or too deep, or an access control list would be too long.
+    /// Memory may run out before a limit is found, and before the fault of an effect that isn't the first.
+    ///
+    /// Fails with the first fault: `Taken` if a mailbox is to be made or to move to a name that is in use,
+    /// `NoSuch` if one isn't there that is to go, to move or to have other rights, `Cannot` if an INBOX is
+    /// to go or a mailbox can't move there, `Below` if one is below a mailbox that is to go, `Limit` if no
+    /// UIDVALIDITY is left, a name would be too long or too deep, or an access control list would be too
+    /// long.
     pub fn prepare(&mut self, alloc: Global, effects: &[Effect]) -> Result<Change, WorldError>
         requires { AreApart effects.now }
         ensures unchanged { world_of self.new ≡ world_of self.old }
         ensures change { AnswersOrMemory result (writes_of effects.now (world_of self.old)) }
+        ensures alone { (effect : Effect) → effects.now ≡ effect ∷ []
+            → AnswersUpToLimit result (writes_for effect (world_of self.old)) }
         ensures ready { IfOk result (λ change. IsReady change self.new) }
     {
         let change = self.resolve_all(alloc, effects)?;
@@ -193,7 +217,8 @@ impl World {
     /// Writes what was prepared. Since then nothing else may have been written.
     pub fn commit(&mut self, change: Change)
         requires { IsReady change self.old }
-        ensures { world_of self.new ≡ after_writes change (world_of self.old) }
+        ensures world { world_of self.new ≡ after_writes change (world_of self.old) }
+        ensures validities { KeepsValidities (world_of self.old) (world_of self.new) }
     {
         let mut writes = VecDeque::from_vec(change.writes);
         while let Some(write) = writes.pop_front() {
@@ -224,16 +249,16 @@ impl World {
     }
 
     /// Writes a mailbox, and counts its UIDVALIDITY as used.
-    fn put(&mut self, row: Row)
+    fn put(&mut self, row: NewMailbox)
         requires mailboxes { 0 < self.old.mailboxes.spare }
         requires epochs { 0 < self.old.epochs.spare }
-        requires superior { superior_is_there self.old.mailboxes.map row.name ≡ true }
+        requires may { MayPut row (world_of self.old) }
         ensures world { world_of self.new ≡ with_row (world_of self.old) row }
         ensures room { Leaves 1 self.old self.new }
     {
         let validity = row.mailbox.validity;
         self.mailboxes.insert_reserved(row.name, row.mailbox);
-        self.epochs.insert_reserved(row.again, validity);
+        self.epochs.insert_reserved(row.epoch_name, validity);
     }
 
     /// Writes the access control list of a mailbox, if it is there.

@@ -3,20 +3,18 @@
 ghost use Rattle.std.specs.Prelude.{◌≡◌, IfOk};
 ghost use Rattle.imap_core.specs.Commands.Session as specs;
 
-use imap_answer::Answer;
-use imap_lex::Tag;
+use imap_answer::{Answer, Call};
 use imap_print::{Farewell, Response};
-use std::alloc::{AllocError, Global};
+use std::alloc::AllocError;
 
-pub(super) fn capability_answer(alloc: Global, tag: &Tag) -> Result<Answer, AllocError>
-    ensures { IfOk result (λ answer. answer ≡ specs.capability_answer tag.now) }
+pub(super) fn capability_answer(call: &Call<'_>) -> Result<Answer, AllocError>
+    ensures { IfOk result (λ answer. answer ≡ specs.capability_answer call.now.tag) }
 {
-    Answer::done_after(alloc, vec![in alloc; Response::Capability]?, tag)
+    call.done_after(vec![in call.alloc(); Response::Capability]?)
 }
 
-pub(super) fn logout_answer(alloc: Global, tag: &Tag) -> Result<Answer, AllocError>
-    ensures { IfOk result (λ answer. answer ≡ specs.logout_answer tag.now) }
+pub(super) fn logout_answer(call: &Call<'_>) -> Result<Answer, AllocError>
+    ensures { IfOk result (λ answer. answer ≡ specs.logout_answer call.now.tag) }
 {
-    let bye = vec![in alloc; Response::Bye(Farewell::LoggingOut)]?;
-    Answer::done_after(alloc, bye, tag)
+    call.done_after(vec![in call.alloc(); Response::Bye(Farewell::LoggingOut)]?)
 }

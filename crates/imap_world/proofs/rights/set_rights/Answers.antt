@@ -2,7 +2,7 @@ use Rattle.std.proofs.Common.{◌≡◌, Some, sym, ap, subst, ◌∙◌}
 use Rattle.std.specs.Option.{option_copied_mut}
 use Rattle.std.specs.FinMap as map
 use Rattle.imap_name_map.specs.Rows.{with_value}
-use Rattle.imap_world.specs.declared.mailbox.Mailbox.{Mailbox}
+use Rattle.imap_world.specs.declared.mailbox_entry.MailboxEntry.{MailboxEntry}
 use Rattle.imap_world.specs.Changing.{Changes, mailboxes_with_rights}
 use Rattle.imap_world.proofs.Changed.{rights_there, insert_same, nothing_changed}
 use Rattle.imap_world.proofs.Room.{of_some}
@@ -11,7 +11,7 @@ use Rattle.imap_world.proofs.rights.set_rights.Goals as goal
 pub returns-in-Some-clause-mailboxes : goal.returns-in-Some-clause-mailboxes
 returns-in-Some-clause-mailboxes c =
     let old = c.args.mailboxes.now in
-    let after : Mailbox = record c.in-Some.mailbox.now { acl = c.change_rights.new.acl } in
+    let after : MailboxEntry = record c.in-Some.mailbox.now { acl = c.change_rights.new.acl } in
     let there : map.get old.map c.args.name.now ≡ Some c.in-Some.mailbox.now = sym c.get_mut.ensures.value ∙ ap option_copied_mut c.in-Some.is in
     let is : c.get_mut.follows.lender after ≡ with_value old c.args.name.now after = of_some c.get_mut.result c.in-Some.mailbox c.in-Some.is (c.get_mut.follows.holds after) in
     subst (λ m. Changes c.change_rights.result m (mailboxes_with_rights old.map c.args.name.now c.args.identifier c.args.change)) (sym (ap (λ r. r.map) is))
@@ -20,8 +20,8 @@ returns-in-Some-clause-mailboxes c =
 pub returns-in-Some-clause-err : goal.returns-in-Some-clause-err
 returns-in-Some-clause-err c =
     let old = c.args.mailboxes.now in
-    let before : Mailbox = c.in-Some.mailbox.now in
-    let after : Mailbox = record before { acl = c.change_rights.new.acl } in
+    let before : MailboxEntry = c.in-Some.mailbox.now in
+    let after : MailboxEntry = record before { acl = c.change_rights.new.acl } in
     let there : map.get old.map c.args.name.now ≡ Some before = sym c.get_mut.ensures.value ∙ ap option_copied_mut c.in-Some.is in
     let is : c.get_mut.follows.lender after ≡ with_value old c.args.name.now after = of_some c.get_mut.result c.in-Some.mailbox c.in-Some.is (c.get_mut.follows.holds after) in
     nothing_changed c.change_rights.result (c.get_mut.follows.lender after) old c.change_rights.new.acl before.acl c.change_rights.ensures.err
@@ -29,5 +29,5 @@ returns-in-Some-clause-err c =
 
 pub returns-in-Some-clause-spare : goal.returns-in-Some-clause-spare
 returns-in-Some-clause-spare c =
-    let after : Mailbox = record c.in-Some.mailbox.now { acl = c.change_rights.new.acl } in
+    let after : MailboxEntry = record c.in-Some.mailbox.now { acl = c.change_rights.new.acl } in
     ap (λ r. r.spare) (of_some c.get_mut.result c.in-Some.mailbox c.in-Some.is (c.get_mut.follows.holds after))

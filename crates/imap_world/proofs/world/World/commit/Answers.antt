@@ -1,7 +1,9 @@
 use Rattle.std.proofs.Common.{refl, sym, ap, subst, ◌∙◌}
 use Rattle.imap_world.specs.Effects.{after_writes}
+use Rattle.imap_world.specs.Laws.{KeepsValidities}
 use Rattle.imap_world.specs.Ready.{IsReady, count_of}
 use Rattle.imap_world.specs.Stored.{world_of}
+use Rattle.imap_world.proofs.Histories.{keeps_itself, write_kept}
 use Rattle.imap_world.proofs.Room.{first_ready, rest_ready}
 use Rattle.imap_world.proofs.world.World.commit.Goals as goal
 
@@ -9,6 +11,7 @@ pub loop-write-init : goal.loop-write-init
 loop-write-init c = record {
   rest = ap (λ ws. after_writes ws (world_of c.args.self.now)) (c.from_vec-writes.ensures.items ∙ c.change.view_is);
   ready = subst (λ ws. IsReady ws c.args.self.now) (sym (c.from_vec-writes.ensures.items ∙ c.change.view_is)) c.requires;
+  kept = keeps_itself (world_of c.args.self.now);
 }
 
 pub write-requires : goal.write-requires
@@ -21,4 +24,8 @@ loop-write-preserved c = record {
   rest = ap (after_writes c.pop_front.new.self.items) c.write.ensures.world ∙ sym (ap (λ ws. after_writes ws (world_of c.loop-write.self)) c.in-Some.ensures.items) ∙ c.loop-write.invariant.rest;
   ready = rest_ready (count_of c.in-Some.write) c.loop-write.self c.write.new.self c.write.ensures.room c.in-Some.write c.pop_front.new.self.items refl c.write.ensures.world
       (subst (λ ws. IsReady ws c.loop-write.self) c.in-Some.ensures.items c.loop-write.invariant.ready);
+  kept =
+      let ready = subst (λ ws. IsReady ws c.loop-write.self) c.in-Some.ensures.items c.loop-write.invariant.ready in
+      subst (KeepsValidities (world_of c.args.self.now)) (sym c.write.ensures.world)
+      (write_kept (world_of c.args.self.now) (world_of c.loop-write.self) c.loop-write.invariant.kept c.in-Some.write ready.may.0);
 }

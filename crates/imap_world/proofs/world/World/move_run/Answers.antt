@@ -5,7 +5,7 @@ use Rattle.imap_name_map.specs.Rows.{inserted_all, run_of}
 use Rattle.imap_name_map.proofs.WithinLaws.{run_is_empty}
 use Rattle.imap_names.specs.Name.{Name}
 use Rattle.imap_names.specs.Order.{Names, is_within}
-use Rattle.imap_world.specs.declared.mailbox.Mailbox.{Mailbox}
+use Rattle.imap_world.specs.declared.mailbox_entry.MailboxEntry.{MailboxEntry}
 use Rattle.imap_world.specs.Kept.{IsSound}
 use Rattle.imap_world.specs.Moving.{with_moved, with_validities}
 use Rattle.imap_world.specs.Ready.{MayMove}
@@ -39,7 +39,7 @@ invariant_of-self c =
     let came = c.args.arrivals in
     let mailboxes : new.mailboxes.map ≡ with_validities (renamed c.args.old.now c.args.new.now old.mailboxes.map) came =
     c.set_validities.ensures.mailboxes
-    ∙ ap (λ (m : Names Mailbox). with_validities m c.deref.result.now) c.rename.ensures.map
+    ∙ ap (λ (m : Names MailboxEntry). with_validities m c.deref.result.now) c.rename.ensures.map
     ∙ ap (with_validities (renamed c.args.old.now c.args.new.now old.mailboxes.map)) (c.deref.ensures.value ∙ c.into_parts-names.ensures.validities) in
     let epochs : new.epochs.map ≡ inserted_all old.epochs.map came =
     c.insert_run.ensures.map ∙ ap (inserted_all old.epochs.map) c.into_parts-names.ensures.validities in

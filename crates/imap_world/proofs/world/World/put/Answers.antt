@@ -1,4 +1,4 @@
-use Rattle.std.proofs.Common.{◌≡◌, true, refl, ap, subst, ◌∙◌}
+use Rattle.std.proofs.Common.{◌≡◌, ◌<◌, true, refl, ap, subst, ◌∙◌, arith}
 use Rattle.std.specs.FinMap as map
 use Rattle.imap_world.specs.Kept.{superior_is_there}
 use Rattle.imap_world.specs.Ready.{Leaves}
@@ -12,9 +12,10 @@ invariant_of-self c =
     let old : Stored = record { mailboxes = c.self.inside.mailboxes; epochs = c.self.inside.epochs; subscriptions = c.self.inside.subscriptions } in
     let new : Stored = record { mailboxes = c.insert_reserved.new.self; epochs = c.insert_reserved-2.new.self; subscriptions = c.self.inside.subscriptions } in
     let above : superior_is_there old.mailboxes.map c.row.inside.name ≡ true =
-    ap (λ (s : Stored). superior_is_there s.mailboxes.map c.row.inside.name) c.self.view_is ∙ ap (λ r. superior_is_there c.args.self.now.mailboxes.map r.name) c.row.view_is ∙ c.requires.superior in
+    ap (λ (s : Stored). superior_is_there s.mailboxes.map c.row.inside.name) c.self.view_is ∙ ap (λ r. superior_is_there c.args.self.now.mailboxes.map r.name) c.row.view_is ∙ c.requires.may.superior in
+    let some : 0 < c.row.inside.mailbox.validity = omega (arith, ap (λ r. r.mailbox.validity) c.row.view_is, c.requires.may.next) in
     put_is_sound (world_of old) (world_of new) c.row.inside.name c.row.inside.mailbox c.insert_reserved.ensures.map
-    (c.insert_reserved-2.ensures.map ∙ ap (λ k. map.insert old.epochs.map k c.row.inside.mailbox.validity) c.row.invariant) above c.self.invariant
+    (c.insert_reserved-2.ensures.map ∙ ap (λ k. map.insert old.epochs.map k c.row.inside.mailbox.validity) c.row.invariant) above some c.self.invariant
 
 pub returns-clause-room : goal.returns-clause-room
 returns-clause-room c =

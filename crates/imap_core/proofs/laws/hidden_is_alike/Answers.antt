@@ -1,0 +1,12 @@
+use Rattle.std.proofs.Common.{ap, ◌∙◌}
+use Rattle.imap_world.specs.declared.site.Site.{Site}
+use Rattle.imap_view.specs.View.{view_of}
+use Rattle.imap_view.proofs.Afters.{hidden_absent}
+use Rattle.imap_core.proofs.laws.hidden_is_alike.Goals as goal
+
+pub returns : goal.returns
+returns c = λ user s t sites sessions differ. record {
+  views = hidden_absent s.site.administrator user s.world t.world differ ∙ ap (λ (site : Site). view_of site.administrator user t.world) sites;
+  sessions = sessions;
+  sites = sites;
+}
