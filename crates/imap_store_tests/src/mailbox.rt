@@ -1,7 +1,7 @@
 use imap_lex::Octets;
-use imap_mailbox::{GoneUids, Mailbox, MailboxError, Rows, SharedFlags};
+use imap_mailbox::{GoneUids, MAX_KEYWORDS, Mailbox, MailboxError, Rows, SharedFlags};
 use imap_modseq::MAX_EVENTS;
-use imap_syntax::{DateTime, Flag};
+use imap_syntax::{Atom, DateTime, Flag};
 use imap_values::{Same, TryCopy};
 use std::alloc::Global;
 use std::test::Fail;
@@ -12,6 +12,10 @@ fn date() -> Result<DateTime, MailboxError> {
     DateTime::of_moment(1_000_000).ok_or(MailboxError::Limit)
 }
 
+fn atom(alloc: Global, octets: &[u8]) -> Result<Atom, MailboxError> {
+    Atom::read(alloc, octets)?.ok_or(MailboxError::Limit)
+}
+
 fn flags_of(alloc: Global, words: &[&[u8]]) -> Result<SharedFlags, MailboxError> {
     let mut flags = SharedFlags::new(alloc);
     insert_all(alloc, &mut flags, words)?;
@@ -20,7 +24,7 @@ fn flags_of(alloc: Global, words: &[&[u8]]) -> Result<SharedFlags, MailboxError>
 
 fn insert_all(alloc: Global, flags: &mut SharedFlags, words: &[&[u8]]) -> Result<(), MailboxError> {
     for word in words {
-        flags.keywords.insert(alloc, word)?;
+        flags.keywords.insert(alloc, &atom(alloc, word)?)?;
     }
     Ok(())
 }
@@ -242,9 +246,8 @@ fn many_words(alloc: Global, count: u8) -> Result<SharedFlags, MailboxError> {
 
 fn insert_many(alloc: Global, flags: &mut SharedFlags, count: u8) -> Result<(), MailboxError> {
     for i in 0..count {
-        flags
-            .keywords
-            .insert(alloc, &[b'a' + i / 26, b'a' + i % 26])?;
+        let word = atom(alloc, &[b'a' + i / 26, b'a' + i % 26])?;
+        flags.keywords.insert(alloc, &word)?;
     }
     Ok(())
 }
@@ -308,11 +311,43 @@ fn the_33rd_keyword_is_refused(rt: HostRuntime) -> Result<(), Fail> {
 fn word_sets(alloc: Global, flags: &mut SharedFlags) -> Result<Vec<u8>, MailboxError> {
     insert_all(alloc, flags, &[b"Work", b"$Junk", b"WORK", b"a", b"wo"])?;
     let mut text = word_text(alloc, flags)?;
-    flags.keywords.remove(b"wORK");
-    flags.keywords.remove(b"b");
+    flags.keywords.remove(alloc, &atom(alloc, b"wORK")?)?;
+    flags.keywords.remove(alloc, &atom(alloc, b"b")?)?;
     let after = word_text(alloc, flags)?;
     text.extend_from_slice(after.as_slice())?;
     Ok(text)
+}
+
+/// The words of two sets as one.
+fn merged_words(alloc: Global, words: &[&[u8]], others: &[&[u8]]) -> Result<Vec<u8>, MailboxError> {
+    let mut flags = flags_of(alloc, words)?;
+    let others = flags_of(alloc, others)?;
+    merge_into(alloc, &mut flags, &others)
+}
+
+fn merge_into(
+    alloc: Global,
+    flags: &mut SharedFlags,
+    others: &SharedFlags,
+) -> Result<Vec<u8>, MailboxError> {
+    flags.insert_all(alloc, others)?;
+    word_text(alloc, flags)
+}
+
+#[test]
+fn sets_are_merged(rt: HostRuntime) -> Result<(), Fail> {
+    const ROWS: [(&[&[u8]], &[&[u8]], &[u8]); 5] = [
+        (&[b"b", b"d"], &[b"a", b"C", b"D", b"e"], b"a b c d e "),
+        (&[b"a", b"b"], &[b"y", b"z"], b"a b y z "),
+        (&[b"y", b"z"], &[b"a"], b"a y z "),
+        (&[], &[b"B", b"a"], b"a b "),
+        (&[b"a"], &[], b"a "),
+    ];
+    for &(words, others, wanted) in &ROWS {
+        let text = merged_words(rt.alloc(), words, others)?;
+        assert_eq!(rt; text.as_slice(), wanted);
+    }
+    Ok(())
 }
 
 #[test]
@@ -331,7 +366,7 @@ fn copies(alloc: Global, flags: &mut SharedFlags) -> Result<(bool, bool), Mailbo
     insert_all(alloc, flags, &[b"a"])?;
     let copy = flags.try_copy(alloc)?;
     let same = copy.is_same(flags);
-    flags.keywords.remove(b"a");
+    flags.keywords.remove(alloc, &atom(alloc, b"a")?)?;
     Ok((same, copy.is_same(flags)))
 }
 
@@ -353,12 +388,12 @@ fn sets_flag(
     let none = SharedFlags::new(alloc);
     flags.insert(alloc, flag)?;
     let with = !flags.is_same(&none);
-    flags.remove(flag);
+    flags.remove(alloc, flag)?;
     Ok((with, flags.is_same(&none)))
 }
 
 fn sets_keyword(alloc: Global, flags: &mut SharedFlags) -> Result<(bool, bool), MailboxError> {
-    let flag = Flag::Keyword(Octets::from_slice(alloc, b"Work")?);
+    let flag = Flag::Keyword(atom(alloc, b"Work")?);
     sets_flag(alloc, flags, &flag)
 }
 
@@ -383,17 +418,17 @@ fn flags_are_set_and_taken_away(rt: HostRuntime) -> Result<(), Fail> {
 }
 
 fn mark_in_room(alloc: Global, mailbox: &mut Mailbox, uid: u32) -> Result<(), MailboxError> {
-    let (bob, first) = mailbox.reserve_seen(alloc, "bob")?;
-    if mailbox.own_len(bob.as_str()) == MAX_EVENTS {
+    mailbox.reserve_seen(alloc, "bob", 1)?;
+    if mailbox.own_len("bob") == MAX_EVENTS {
         return Err(MailboxError::Limit);
     }
-    mailbox.mark_seen_reserved(bob, first, uid, true);
+    mailbox.mark_seen_reserved("bob", uid, true);
     Ok(())
 }
 
 fn flag_in_room(alloc: Global, mailbox: &mut Mailbox, uid: u32) -> Result<(), MailboxError> {
     let flags = flags_of(alloc, &[b"a"])?;
-    if mailbox.shared_len() == MAX_EVENTS {
+    if mailbox.shared_len() == MAX_EVENTS || flags.keywords.len() > MAX_KEYWORDS {
         return Err(MailboxError::Limit);
     }
     mailbox.set_flags_reserved(uid, flags);
@@ -424,7 +459,6 @@ fn expunge_in_room(mailbox: &mut Mailbox, uid: u32) -> Result<(), MailboxError> 
 
 /// What is decided already is committed without memory.
 fn commits(alloc: Global, mailbox: &mut Mailbox) -> Result<String, MailboxError> {
-    mailbox.reserve_users(1)?;
     add_in_room(alloc, mailbox)?;
     add_in_room(alloc, mailbox)?;
     flag_in_room(alloc, mailbox, 1)?;

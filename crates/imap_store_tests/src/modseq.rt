@@ -49,8 +49,8 @@ fn own_changes_stand_among_shared_events(rt: HostRuntime) -> Result<(), Fail> {
     assert_eq!(rt; shared.as_slice(), [2, 3, 5, 6].as_slice());
     assert_eq!(rt; own.as_slice(), [4, 7].as_slice());
     assert_eq!(rt; clocks.highest("bob"), 7);
-    laws::numbers_are_places();
-    laws::new_comes_last();
+    laws::numbers_are_places::<u64>();
+    laws::new_comes_last::<u64>();
     laws::numbers_cover();
     laws::numbers_rise();
     laws::numbers_differ();

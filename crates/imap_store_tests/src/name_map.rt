@@ -1,7 +1,6 @@
 use imap_name_map::NameMap;
 use imap_names::{Name, read_full};
 use std::alloc::Global;
-use std::process::Abort;
 use std::test::Fail;
 
 fn full(alloc: Global, text: &str) -> Result<Name, Fail> {
@@ -73,28 +72,6 @@ fn value_of(map: &NameMap<u32>, alloc: Global, name: &str) -> Result<Option<u32>
     Ok(map.get(&name.as_ref()).copied())
 }
 
-#[test]
-fn finds_names(rt: HostRuntime) -> Result<(), Fail> {
-    let map = whole_map(rt.alloc())?;
-    const TABLE: [(&str, Option<u32>); 11] = [
-        ("Shared/a", Some(0)),
-        ("Shared/a/b", Some(1)),
-        ("Shared/a/b/c", Some(2)),
-        ("Shared/a!", Some(3)),
-        ("Shared/ab", Some(4)),
-        ("Other Users/ann/a", Some(5)),
-        ("Other Users/bob/a/b", Some(6)),
-        ("Shared/A", None),
-        ("Shared/a/c", None),
-        ("Other Users/bob/a", None),
-        ("Other Users/eve/z", None),
-    ];
-    for &(name, value) in &TABLE {
-        assert_eq!(rt; value_of(&map, rt.alloc(), name)?, value, "{name}");
-    }
-    Ok(())
-}
-
 /// The entries of the name and of all names below it, and their places.
 fn run_of(map: &NameMap<u32>, alloc: Global, top: &str) -> Result<(String, (usize, usize)), Fail> {
     let top = full(alloc, top)?;
@@ -121,69 +98,9 @@ fn names_stand_with_those_below(rt: HostRuntime) -> Result<(), Fail> {
     Ok(())
 }
 
-/// Whether there is a name below, and whether there is none at or below.
-fn below(map: &NameMap<u32>, alloc: Global, top: &str) -> Result<(bool, bool), Fail> {
-    let top = full(alloc, top)?;
-    Ok((map.has_below(&top.as_ref()), map.is_free(&top.as_ref())))
-}
-
-#[test]
-fn says_what_is_below(rt: HostRuntime) -> Result<(), Fail> {
-    let map = whole_map(rt.alloc())?;
-    const TABLE: [(&str, bool, bool); 7] = [
-        ("Shared/a", true, false),
-        ("Shared/a/b", true, false),
-        ("Shared/a/b/c", false, false),
-        ("Shared/a/b/c/d", false, true),
-        ("Shared/a!", false, false),
-        ("Shared/b", false, true),
-        ("Other Users/bob/a", true, false),
-    ];
-    for &(top, has, is_free) in &TABLE {
-        assert_eq!(rt; below(&map, rt.alloc(), top)?, (has, is_free), "{top}");
-    }
-    Ok(())
-}
-
 fn remove(map: &mut NameMap<u32>, alloc: Global, name: &str) -> Result<(), Fail> {
     let name = full(alloc, name)?;
     map.remove(&name.as_ref());
-    Ok(())
-}
-
-#[test]
-fn names_are_removed(rt: HostRuntime) -> Result<(), Fail> {
-    let mut map = whole_map(rt.alloc())?;
-    remove(&mut map, rt.alloc(), "Shared/a/b")?;
-    remove(&mut map, rt.alloc(), "Shared/a/b")?;
-    remove(&mut map, rt.alloc(), "Shared/z")?;
-    remove(&mut map, rt.alloc(), "Other Users/bob/a/b")?;
-    let text = shown(rt.alloc(), map.entries())?;
-    assert_eq!(rt; text.as_str(), "a=0 a/b/c=2 a!=3 ab=4 a=5 ");
-    Ok(())
-}
-
-/// Adds 10 to the value of the name.
-fn add(map: &mut NameMap<u32>, alloc: Global, name: &str) -> Result<bool, Fail> {
-    let name = full(alloc, name)?;
-    match map.get_mut(&name.as_ref()) {
-        Some(value) => {
-            *value = value.saturating_add(10);
-            Ok(true)
-        }
-        None => Ok(false),
-    }
-}
-
-#[test]
-fn values_are_changed(rt: HostRuntime) -> Result<(), Fail> {
-    let mut map = whole_map(rt.alloc())?;
-    assert!(rt; add(&mut map, rt.alloc(), "Shared/a!")?);
-    assert!(rt; add(&mut map, rt.alloc(), "Other Users/bob/a/b")?);
-    assert!(rt; !add(&mut map, rt.alloc(), "Shared/b")?);
-    insert(&mut map, rt.alloc(), "Shared/a/b", 30)?;
-    let text = shown(rt.alloc(), map.entries())?;
-    assert_eq!(rt; text.as_str(), "a=0 a/b=30 a/b/c=2 a!=13 ab=4 a=5 a/b=16 ");
     Ok(())
 }
 
@@ -221,41 +138,11 @@ fn values_are_changed_near_a_place(rt: HostRuntime) -> Result<(), Fail> {
 }
 
 #[test]
-fn gives_the_entry_at_a_place(rt: HostRuntime) -> Result<(), Fail> {
-    let map = whole_map(rt.alloc())?;
-    assert_eq!(rt; map.len(), 7);
-    let (name, value) = map.entry(3);
-    assert_eq!(rt; (name.path(), *value), ("a!", 3));
-    Ok(())
-}
-
-#[test]
-fn an_empty_map_has_no_names(rt: HostRuntime) -> Result<(), Fail> {
-    let map = NameMap::new(rt.alloc());
-    assert_eq!(rt; (map.len(), map.is_empty()), (0, true));
-    assert_eq!(rt; value_of(&map, rt.alloc(), "Shared/a")?, None);
-    assert_eq!(rt; below(&map, rt.alloc(), "Shared/a")?, (false, true));
-    Ok(())
-}
-
-#[test]
 fn maps_are_copied(rt: HostRuntime) -> Result<(), Fail> {
     let mut map = whole_map(rt.alloc())?;
     let copy = map.try_copy(rt.alloc())?;
     remove(&mut map, rt.alloc(), "Shared/a")?;
     assert_eq!(rt; shown(rt.alloc(), copy.entries())?.as_str(), ALL);
     assert_eq!(rt; value_of(&copy, rt.alloc(), "Shared/a")?, Some(0));
-    Ok(())
-}
-
-#[test]
-fn there_is_room_for_what_was_reserved(rt: HostRuntime) -> Result<(), Fail> {
-    let mut map = NameMap::new(rt.alloc());
-    map.reserve(2)?;
-    map.insert_reserved(full(rt.alloc(), "Shared/b")?, 1);
-    map.insert_reserved(full(rt.alloc(), "Shared/a")?, 0);
-    map.reserve(1)?;
-    map.insert_reserved(full(rt.alloc(), "Shared/a")?, 2);
-    assert_eq!(rt; shown(rt.alloc(), map.entries())?.as_str(), "a=2 b=1 ");
     Ok(())
 }

@@ -1,6 +1,5 @@
-use imap_names::{Pattern, namespaces};
+use imap_names::Pattern;
 use std::alloc::{AllocError, Global};
-use std::process::Abort;
 use std::test::Fail;
 
 /// Whether the shown name matches the pattern after the reference, or `None` if these are no pattern.
@@ -12,150 +11,6 @@ fn answer(
 ) -> Result<Option<bool>, AllocError> {
     let read = Pattern::read(alloc, reference, pattern)?;
     Ok(read.map(|pattern| pattern.matches(shown)))
-}
-
-/// Asserts of rows of reference, pattern and shown name that each matches, or that none does.
-fn assert_rows(
-    rt: &impl Abort,
-    alloc: Global,
-    rows: &[(&str, &str, &str)],
-    wanted: bool,
-) -> Result<(), Fail> {
-    for &(reference, pattern, shown) in rows {
-        let matched = answer(alloc, reference.as_bytes(), pattern.as_bytes(), shown)?;
-        assert!(rt;
-            matched == Some(wanted),
-            "{reference:?} {pattern:?} {shown:?}"
-        );
-    }
-    Ok(())
-}
-
-// The names of the first six rows, and of the first two of those left out, stand in RFC 9051, section 6.3.9.
-#[test]
-fn wildcards_match(rt: HostRuntime) -> Result<(), Fail> {
-    const ROWS: [(&str, &str, &str); 17] = [
-        ("~/Mail/", "%", "~/Mail/foo"),
-        ("", "INBOX", "INBOX"),
-        ("", "Drafts", "Drafts"),
-        ("", "Sent/%", "Sent/March2004"),
-        ("", "*", "Fruit/Apple"),
-        ("", "%", "Fruit"),
-        ("", "*", "a/b/c"),
-        ("", "%/%", "a/b"),
-        ("", "*%", "a/b"),
-        ("", "%*", "a/b"),
-        ("", "%%", "a"),
-        ("", "a*", "a"),
-        ("", "a%", "a"),
-        ("", "a*c", "a/b/c"),
-        ("", "*/%", "a/b/c"),
-        ("%/", "b", "a/b"),
-        ("*", "c", "a/b/c"),
-    ];
-    assert_rows(&rt, rt.alloc(), &ROWS, true)?;
-    const LEFT_OUT: [(&str, &str, &str); 13] = [
-        ("~/Mail/", "%", "~/Mail/foo/bar"),
-        ("", "%", "Fruit/Apple"),
-        ("", "Sent/%", "Sent"),
-        ("", "%/%", "a"),
-        ("", "%/%", "a/b/c"),
-        ("", "%%", "a/b"),
-        ("", "", "a"),
-        ("", "a", "A"),
-        ("", "a", "ab"),
-        ("", "ab", "a"),
-        ("", "a%c", "a/b/c"),
-        ("", "*b%", "a/b/c"),
-        ("a/", "*", "a"),
-    ];
-    assert_rows(&rt, rt.alloc(), &LEFT_OUT, false)
-}
-
-// RFC 9051, section 5.1: INBOX is the name in any case. Only the first component of a path is it.
-#[test]
-fn inbox_has_no_case(rt: HostRuntime) -> Result<(), Fail> {
-    const ROWS: [(&str, &str, &str); 12] = [
-        ("", "iNbOx", "INBOX"),
-        ("in", "box", "INBOX"),
-        ("", "i%x", "INBOX"),
-        ("", "*box", "INBOX"),
-        ("", "inbox*", "INBOX/x"),
-        ("inbox/", "%", "INBOX/x"),
-        ("", "inboxes", "inboxes"),
-        ("", "Other Users/bob/inbox", "Other Users/bob/INBOX"),
-        ("", "Other Users/%/Inbox/%", "Other Users/bob/INBOX/x"),
-        ("", "Other Users/inbox/inbox", "Other Users/inbox/INBOX"),
-        ("Shared/", "inbox", "Shared/INBOX"),
-        ("", "*/inbox/x", "Shared/INBOX/x"),
-    ];
-    assert_rows(&rt, rt.alloc(), &ROWS, true)?;
-    const LEFT_OUT: [(&str, &str, &str); 12] = [
-        ("", "inbox/X", "INBOX/x"),
-        ("", "inboxes", "INBOXES"),
-        ("", "inbo", "INBOX"),
-        ("", "\u{131}nbox", "INBOX"),
-        ("", "a/inbox", "a/INBOX"),
-        ("", "INBOX/inbox", "INBOX/INBOX"),
-        ("", "shared/INBOX", "Shared/INBOX"),
-        ("", "Shared/a/inbox", "Shared/a/INBOX"),
-        ("", "other users/bob/INBOX", "Other Users/bob/INBOX"),
-        ("", "Other Users/Bob/INBOX", "Other Users/bob/INBOX"),
-        ("", "Other Users/INBOX/x", "Other Users/inbox/x"),
-        ("", "Other Users/INBOX", "Other Users/inbox"),
-    ];
-    assert_rows(&rt, rt.alloc(), &LEFT_OUT, false)
-}
-
-// RFC 5198, section 3: names are kept in NFC, and so are patterns.
-#[test]
-fn patterns_are_composed(rt: HostRuntime) -> Result<(), Fail> {
-    const ROWS: [(&str, &str, &str); 5] = [
-        ("", "e\u{301}", "\u{e9}"),
-        ("e", "\u{301}/x", "\u{e9}/x"),
-        ("e\u{301}/", "%", "\u{e9}/x"),
-        ("", "*e\u{301}", "a/\u{e9}"),
-        ("", "\u{212b}%", "\u{c5}ngstr\u{f6}m"),
-    ];
-    assert_rows(&rt, rt.alloc(), &ROWS, true)?;
-    const LEFT_OUT: [(&str, &str, &str); 2] = [("", "e%", "\u{e9}"), ("", "e\u{301}", "e")];
-    assert_rows(&rt, rt.alloc(), &LEFT_OUT, false)
-}
-
-#[test]
-fn other_octets_are_no_pattern(rt: HostRuntime) -> Result<(), Fail> {
-    const ROWS: [(&[u8], &[u8], Option<bool>); 6] = [
-        (b"", b"\xff", None),
-        (b"\xc3", b"*", None),
-        (b"*", b"\xa9", None),
-        (b"", b"\xc0\xaf", None),
-        (b"\xc3", b"\xa9", Some(true)),
-        (b"", b"\xc3\xa9", Some(true)),
-    ];
-    for &(reference, pattern, wanted) in &ROWS {
-        let matched = answer(rt.alloc(), reference, pattern, "\u{e9}")?;
-        assert!(rt; matched == wanted, "{reference:?} {pattern:?}");
-    }
-    Ok(())
-}
-
-#[test]
-fn last_percents_are_found(rt: HostRuntime) -> Result<(), Fail> {
-    const ROWS: [(&str, &str, bool); 7] = [
-        ("", "a/%", true),
-        ("", "*%", true),
-        ("%", "", true),
-        ("", "%*", false),
-        ("", "%/", false),
-        ("%", "a", false),
-        ("", "", false),
-    ];
-    for &(reference, pattern, wanted) in &ROWS {
-        let read = Pattern::read(rt.alloc(), reference.as_bytes(), pattern.as_bytes())?;
-        let ends = read.map(|pattern| pattern.ends_in_percent());
-        assert!(rt; ends == Some(wanted), "{reference:?} {pattern:?}");
-    }
-    Ok(())
 }
 
 /// The front, then the middle `count` times, then the back.
@@ -195,12 +50,4 @@ fn hostile_patterns_end(rt: HostRuntime) -> Result<(), Fail> {
         );
     }
     Ok(())
-}
-
-// RFC 9051, section 6.3.10, with the prefixes of this server.
-#[test]
-fn namespaces_have_prefixes(rt: HostRuntime) {
-    let prefixes = namespaces();
-    assert!(rt; prefixes.personal == "" && prefixes.other_users == "Other Users/");
-    assert!(rt; prefixes.shared == "Shared/" && prefixes.delimiter == '/');
 }

@@ -1,4 +1,5 @@
 use imap_lex::Octets;
+use imap_syntax::FieldName;
 use imap_text::{
     Folded, InternalDate, contains_fold, field_texts, fields, header, header_length, laws, partial,
     text,
@@ -82,7 +83,7 @@ fn fields_of(
     not: bool,
 ) -> Result<(Vec<u8>, usize), AllocError> {
     let message = octets(alloc, message)?;
-    let names = octets_of(alloc, names)?;
+    let names = names_of(alloc, names)?;
     let parts = fields(alloc, &message, names.as_slice(), not)?;
     let mut out = Vec::new(alloc);
     for part in parts.as_slice() {
@@ -91,10 +92,10 @@ fn fields_of(
     Ok((out, parts.as_slice().len()))
 }
 
-fn octets_of(alloc: Global, names: &[&str]) -> Result<Vec<Octets>, AllocError> {
+fn names_of(alloc: Global, names: &[&str]) -> Result<Vec<FieldName>, AllocError> {
     let mut made = Vec::new(alloc);
     for name in names {
-        made.push(octets(alloc, name.as_bytes())?)?;
+        made.push(FieldName::read(alloc, name.as_bytes())?.ok_or(AllocError)?)?;
     }
     Ok(made)
 }
@@ -147,12 +148,7 @@ const FIELDS: [(&[u8], &[&str], &[u8], usize); 15] = [
         2,
     ),
     (ODD, &[""], b":empty\r\n\r\n", 2),
-    (
-        ODD,
-        &["subject: one", "no name\r\n but", "Subjec", "subjectt"],
-        b"\r\n",
-        1,
-    ),
+    (ODD, &["subject: one", "Subjec", "subjectt"], b"\r\n", 1),
 ];
 
 #[test]

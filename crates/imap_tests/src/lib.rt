@@ -5,8 +5,6 @@
 #![tactic(auto)]
 
 #[cfg(test)]
-mod listing;
-#[cfg(test)]
 mod machine;
 #[cfg(test)]
 mod renames;

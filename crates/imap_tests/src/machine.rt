@@ -1,8 +1,8 @@
 //! The calls of the machine, where they succeed and where they are refused.
 
 use imap_core::{Act, Core, Moment, SessionId, SessionNumber, Step};
-use imap_grammar::{Request, parse};
-use imap_lex::{Frame, Octets, Tag};
+use imap_grammar::parse;
+use imap_lex::Octets;
 use imap_names::{Name, UserName, read_full};
 use imap_print::{Response, print};
 use imap_rights::{Acl, Identifier, read_rights};
@@ -54,46 +54,6 @@ fn moments_and_session_numbers_have_ranges(rt: HostRuntime) {
     assert_eq!(rt; greatest.map(SessionNumber::get), Some(4_294_967_295));
 }
 
-/// What the client says with these octets, in a word.
-fn act_word(act: &Option<Act>) -> &'static str {
-    match act {
-        Some(Act::Done) => "done",
-        Some(Act::Do(Request::Command { .. })) => "command",
-        Some(Act::Do(Request::Malformed { .. })) => "malformed",
-        Some(Act::Do(Request::TooBig { .. })) => "too big",
-        Some(_) => "other",
-        None => "nothing",
-    }
-}
-
-fn whole(alloc: Global, octets: &[u8]) -> Result<Frame, Fail> {
-    Ok(Frame::Whole(Octets::from_slice(alloc, octets)?))
-}
-
-fn frame_word(alloc: Global, frame: Frame) -> Result<&'static str, Fail> {
-    Ok(act_word(&Act::of_frame(alloc, frame)?))
-}
-
-#[test]
-fn frames_are_acts(rt: HostRuntime) -> Result<(), Fail> {
-    let alloc = rt.alloc();
-    const ROWS: [(&[u8], &str); 4] = [
-        (b"dOnE\r\n", "done"),
-        (b"DONE x\r\n", "malformed"),
-        (b"DONE\n", "malformed"),
-        (b"a1 NOOP\r\n", "command"),
-    ];
-    for &(octets, wanted) in &ROWS {
-        let frame = whole(alloc, octets)?;
-        assert_eq!(rt; frame_word(alloc, frame)?, wanted, "{octets:?}");
-    }
-    let rejected = Frame::Reject(Tag::read(alloc, b"a1")?);
-    assert_eq!(rt; frame_word(alloc, rejected)?, "too big");
-    assert_eq!(rt; frame_word(alloc, Frame::Reject(None))?, "malformed");
-    assert_eq!(rt; frame_word(alloc, Frame::Continue)?, "nothing");
-    Ok(())
-}
-
 #[test]
 fn a_host_starts_with_an_inbox_for_each_user(rt: HostRuntime) -> Result<(), Fail> {
     let alloc = rt.alloc();
@@ -110,29 +70,6 @@ fn opening(alloc: Global) -> Result<Vec<Step>, Fail> {
     let mut steps = Vec::new(alloc);
     steps.push(step(session(alloc)?, Act::Open))?;
     Ok(steps)
-}
-
-/// The numbers of replies and of writes that are prepared for the step, and the octets of its replies.
-fn made(alloc: Global, core: &mut Core, step: &Step) -> Result<(usize, usize, Vec<u8>), Fail> {
-    let prepared = core.prepare(alloc, step)?;
-    let replies = prepared.replies().len();
-    let writes = prepared.change().len();
-    let told = core.commit(prepared);
-    Ok((replies, writes, print(alloc, &told)?))
-}
-
-#[test]
-fn a_step_is_prepared_and_committed(rt: HostRuntime) -> Result<(), Fail> {
-    let alloc = rt.alloc();
-    let root = user(alloc, "root")?;
-    let (mut core, _change) = Core::open(alloc, World::new(alloc), root, &[], LIMITS)?;
-    let steps = opening(alloc)?;
-    for step in steps.iter() {
-        let (replies, writes, octets) = made(alloc, &mut core, step)?;
-        assert_eq!(rt; (replies, writes), (1, 0));
-        assert!(rt; octets.starts_with(b"* PREAUTH [CAPABILITY IMAP4rev2 "));
-    }
-    Ok(())
 }
 
 /// Root's first session opens, asks and leaves, and then comes a late command.

@@ -2,7 +2,7 @@
 
 use crate::world::{give, make, name, place, user};
 use imap_names::Name;
-use imap_world::{Effect, Mailbox, World, WorldError, Write, can_move};
+use imap_world::{Effect, MailboxEntry, World, Write, can_move};
 use std::alloc::Global;
 use std::process::Abort;
 use std::test::Fail;
@@ -15,11 +15,6 @@ fn renaming(alloc: Global, owner: &str, old: &[u8], new: &[u8]) -> Result<Effect
 /// Renames a mailbox of the tree that all share, and returns how many values were written.
 fn rename(alloc: Global, world: &mut World, old: &[u8], new: &[u8]) -> Result<usize, Fail> {
     make(alloc, world, renaming(alloc, "root", old, new)?)
-}
-
-/// The same in ann's tree.
-fn rename_of_ann(alloc: Global, world: &mut World, old: &[u8], new: &[u8]) -> Result<usize, Fail> {
-    make(alloc, world, renaming(alloc, "ann", old, new)?)
 }
 
 /// Places mailboxes, and gives rights by identifier and letters.
@@ -40,13 +35,13 @@ fn shown(alloc: Global, world: &World) -> Result<String, Fail> {
     Ok(text)
 }
 
-fn line(alloc: Global, name: &Name, mailbox: &Mailbox) -> Result<String, Fail> {
+fn line(alloc: Global, name: &Name, mailbox: &MailboxEntry) -> Result<String, Fail> {
     let entries = entries(alloc, mailbox)?;
     let entries = String::from_utf8_lossy(alloc, entries.as_slice())?;
     Ok(format!(in alloc; "{} {}{entries}\n", name.path(), mailbox.validity)?)
 }
 
-fn entries(alloc: Global, mailbox: &Mailbox) -> Result<Vec<u8>, Fail> {
+fn entries(alloc: Global, mailbox: &MailboxEntry) -> Result<Vec<u8>, Fail> {
     let mut text = Vec::new(alloc);
     for entry in mailbox.acl.entries() {
         text.push(b' ')?;
@@ -69,35 +64,6 @@ const SUBTREE: [(&[u8], &[u8], &[u8]); 4] = [
     (b"Shared/T/H/I", b"cy", b"r"),
     (b"Shared/U", b"bob", b"l"),
 ];
-
-const BEFORE: &str = "T 1 bob=lx\nT/H 1 root=lrx\nT/H/I 1 cy=r\nU 1 bob=l\n";
-
-/// Superiors are made. The lists stay. A name that was used before gets the next UIDVALIDITY.
-fn move_to_and_fro(rt: &impl Abort, alloc: Global, world: &mut World) -> Result<(), Fail> {
-    fill(alloc, world, &SUBTREE)?;
-    compare(rt, alloc, world, BEFORE)?;
-    assert_eq!(rt; rename(alloc, world, b"Shared/T", b"Shared/P/Q/T")?, 3);
-    compare(
-        rt,
-        alloc,
-        world,
-        "P 1 root=lrswipkxtea\nP/Q 1 root=lrswipkxtea\n\
-         P/Q/T 1 bob=lx\nP/Q/T/H 1 root=lrx\nP/Q/T/H/I 1 cy=r\nU 1 bob=l\n",
-    )?;
-    assert_eq!(rt; rename(alloc, world, b"Shared/P/Q/T", b"Shared/T")?, 1);
-    compare(
-        rt,
-        alloc,
-        world,
-        "P 1 root=lrswipkxtea\nP/Q 1 root=lrswipkxtea\nT 2 bob=lx\nT/H 2 root=lrx\nT/H/I 2 cy=r\nU 1 bob=l\n",
-    )
-}
-
-#[test]
-fn mailboxes_move_with_all_below_them(rt: HostRuntime) -> Result<(), Fail> {
-    let mut world = World::new(rt.alloc());
-    move_to_and_fro(&rt, rt.alloc(), &mut world)
-}
 
 /// A mailbox is made and deleted under the name.
 fn use_up(alloc: Global, world: &mut World, text: &[u8]) -> Result<(), Fail> {
@@ -132,128 +98,6 @@ fn move_to_used_names(rt: &impl Abort, alloc: Global, world: &mut World) -> Resu
 fn validities_are_above_all_that_were_used(rt: HostRuntime) -> Result<(), Fail> {
     let mut world = World::new(rt.alloc());
     move_to_used_names(&rt, rt.alloc(), &mut world)
-}
-
-const OF_ANN: [(&[u8], &[u8], &[u8]); 3] = [
-    (b"Other Users/ann/A", b"ann", b"lx"),
-    (b"Other Users/ann/A/B", b"cy", b"lr"),
-    (b"Other Users/ann/X", b"bob", b"lk"),
-];
-
-/// The superiors have the list of the nearest one that is there, or else one that gives the owner all rights.
-fn make_superiors(rt: &impl Abort, alloc: Global, world: &mut World) -> Result<(), Fail> {
-    fill(alloc, world, &OF_ANN)?;
-    let (old, new) = (b"Other Users/ann/A", b"Other Users/ann/X/Y/A");
-    assert_eq!(rt; rename_of_ann(alloc, world, old, new)?, 2);
-    compare(
-        rt,
-        alloc,
-        world,
-        "X 1 bob=lk\nX/Y 1 bob=lk\nX/Y/A 1 ann=lx\nX/Y/A/B 1 cy=lr\n",
-    )?;
-    let (old, new) = (b"Other Users/ann/X/Y", b"Other Users/ann/Z/Y");
-    assert_eq!(rt; rename_of_ann(alloc, world, old, new)?, 2);
-    compare(
-        rt,
-        alloc,
-        world,
-        "X 1 bob=lk\nZ 1 ann=lrswipkxtea\nZ/Y 1 bob=lk\nZ/Y/A 1 ann=lx\nZ/Y/A/B 1 cy=lr\n",
-    )
-}
-
-#[test]
-fn superiors_are_made(rt: HostRuntime) -> Result<(), Fail> {
-    let mut world = World::new(rt.alloc());
-    make_superiors(&rt, rt.alloc(), &mut world)
-}
-
-/// Asserts that the mailbox isn't renamed for this reason, and that all stays as it was.
-fn check_refused(
-    rt: &impl Abort,
-    alloc: Global,
-    world: &mut World,
-    (old, new, wanted): (&[u8], &[u8], WorldError),
-) -> Result<(), Fail> {
-    let before = shown(alloc, world)?;
-    let effects = vec![in alloc; renaming(alloc, "root", old, new)?]?;
-    let refused = world.prepare(alloc, &effects).err();
-    assert_eq!(rt; refused, Some(wanted), "{old:?} {new:?}");
-    compare(rt, alloc, world, before.as_str())
-}
-
-fn refuse(rt: &impl Abort, alloc: Global, world: &mut World) -> Result<(), Fail> {
-    const ROWS: [(&[u8], &[u8], WorldError); 12] = [
-        (b"Shared/G", b"Shared/N", WorldError::NoSuch),
-        (b"Shared/G", b"Shared/G", WorldError::NoSuch),
-        (b"Shared/T/G", b"Other Users/ann/G", WorldError::NoSuch),
-        (
-            b"Other Users/ann/INBOX",
-            b"Other Users/ann/N",
-            WorldError::Cannot,
-        ),
-        (
-            b"Other Users/ann/INBOX",
-            b"Other Users/ann/INBOX",
-            WorldError::Cannot,
-        ),
-        (b"Shared/T", b"Shared/T/N", WorldError::Cannot),
-        (b"Shared/T", b"Shared/T/H", WorldError::Cannot),
-        (b"Shared/T", b"Other Users/ann/P/T", WorldError::Cannot),
-        (b"Shared/T", b"Shared/T", WorldError::Taken),
-        (b"Shared/T", b"Shared/U", WorldError::Taken),
-        (b"Shared/T/H", b"Shared/T", WorldError::Taken),
-        (
-            b"Shared/T",
-            b"Shared/n/n/n/n/n/n/n/n/n/n/n/n/n/n/n",
-            WorldError::Limit,
-        ),
-    ];
-    fill(alloc, world, &SUBTREE)?;
-    make(alloc, world, Effect::CreateInbox(user(alloc, "ann")?))?;
-    for &row in &ROWS {
-        check_refused(rt, alloc, world, row)?;
-    }
-    assert_eq!(rt; world.epoch(&name(alloc, b"Shared/n")?.as_ref()), 0);
-    Ok(())
-}
-
-#[test]
-fn a_refused_move_changes_nothing(rt: HostRuntime) -> Result<(), Fail> {
-    let mut world = World::new(rt.alloc());
-    refuse(&rt, rt.alloc(), &mut world)
-}
-
-/// `Shared/` and `count` letters.
-fn long_name(alloc: Global, count: usize) -> Result<Vec<u8>, Fail> {
-    let mut text = Vec::from_slice(alloc, b"Shared/")?;
-    for _ in 0..count {
-        text.push(b'x')?;
-    }
-    Ok(text)
-}
-
-/// The deepest path of the subtree is `T/H/I`. It may have 255 octets.
-fn move_to_long_names(rt: &impl Abort, alloc: Global, world: &mut World) -> Result<(), Fail> {
-    fill(alloc, world, &SUBTREE)?;
-    let longer = long_name(alloc, 252)?;
-    check_refused(
-        rt,
-        alloc,
-        world,
-        (b"Shared/T", longer.as_slice(), WorldError::Limit),
-    )?;
-    let longest = long_name(alloc, 251)?;
-    assert_eq!(rt; rename(alloc, world, b"Shared/T", longest.as_slice())?, 1);
-    let deep = b"Shared/n/n/n/n/n/n/n/n/n/n/n/n/n/n";
-    assert_eq!(rt; rename(alloc, world, longest.as_slice(), deep)?, 14);
-    assert_eq!(rt; world.mailboxes().len(), 17);
-    Ok(())
-}
-
-#[test]
-fn all_names_keep_the_limits(rt: HostRuntime) -> Result<(), Fail> {
-    let mut world = World::new(rt.alloc());
-    move_to_long_names(&rt, rt.alloc(), &mut world)
 }
 
 fn may_move(alloc: Global, old: &[u8], new: &[u8]) -> Result<bool, Fail> {

@@ -2,9 +2,9 @@
 
 use crate::world::{give, make, name, place, site, user};
 use imap_names::Name;
-use imap_rights::{Acl, Identifier, Rights, read_rights};
+use imap_rights::{Rights, read_rights};
 use imap_view::View;
-use imap_world::{Effect, Site, World, WorldError};
+use imap_world::{Effect, Site, World};
 use std::alloc::Global;
 use std::process::Abort;
 use std::test::Fail;
@@ -17,12 +17,6 @@ fn create(alloc: Global, world: &mut World, text: &[u8]) -> Result<usize, Fail> 
 fn delete(alloc: Global, world: &mut World, text: &[u8]) -> Result<usize, Fail> {
     let effect = Effect::Delete(name(alloc, text)?);
     make(alloc, world, effect)
-}
-
-/// Why the effect isn't made, if it isn't.
-fn refused(alloc: Global, world: &mut World, effect: Effect) -> Result<Option<WorldError>, Fail> {
-    let effects = vec![in alloc; effect]?;
-    Ok(world.prepare(alloc, &effects).err())
 }
 
 fn validity(alloc: Global, world: &World, text: &[u8]) -> Result<Option<u32>, Fail> {
@@ -50,78 +44,6 @@ fn make_and_delete(rt: &impl Abort, alloc: Global, world: &mut World) -> Result<
 fn a_mailbox_that_is_made_again_has_another_validity(rt: HostRuntime) -> Result<(), Fail> {
     let mut world = World::new(rt.alloc());
     make_and_delete(&rt, rt.alloc(), &mut world)
-}
-
-fn refuse(rt: &impl Abort, alloc: Global, world: &mut World) -> Result<(), Fail> {
-    create(alloc, world, b"Other Users/ann/A/B")?;
-    let taken = Effect::Create(user(alloc, "ann")?, name(alloc, b"Other Users/ann/A")?);
-    assert_eq!(rt; refused(alloc, world, taken)?, Some(WorldError::Taken));
-    let below = Effect::Delete(name(alloc, b"Other Users/ann/A")?);
-    assert_eq!(rt; refused(alloc, world, below)?, Some(WorldError::Below));
-    let absent = Effect::Delete(name(alloc, b"Other Users/ann/C")?);
-    assert_eq!(rt; refused(alloc, world, absent)?, Some(WorldError::NoSuch));
-    assert_eq!(rt; world.mailboxes().len(), 2);
-    Ok(())
-}
-
-#[test]
-fn what_can_not_be_done_changes_nothing(rt: HostRuntime) -> Result<(), Fail> {
-    let mut world = World::new(rt.alloc());
-    refuse(&rt, rt.alloc(), &mut world)
-}
-
-fn set_rights(
-    alloc: Global,
-    world: &mut World,
-    text: &[u8],
-    identifier: &[u8],
-    letters: &[u8],
-) -> Result<usize, Fail> {
-    let identifier = Identifier::read(alloc, identifier)?;
-    let change = read_rights(letters).ok_or("no rights")?;
-    make(
-        alloc,
-        world,
-        Effect::SetRights(name(alloc, text)?, identifier, change),
-    )
-}
-
-/// The entries as GETACL lists them.
-fn listed(alloc: Global, acl: &Acl) -> Result<Vec<u8>, Fail> {
-    let mut text = Vec::new(alloc);
-    for entry in acl.entries() {
-        text.extend_from_slice(entry.identifier.as_bytes())?;
-        text.push(b'=')?;
-        entry.rights.push_letters(&mut text)?;
-        text.push(b' ')?;
-    }
-    Ok(text)
-}
-
-fn inherit(rt: &impl Abort, alloc: Global, world: &mut World) -> Result<(), Fail> {
-    create(alloc, world, b"Other Users/ann/A")?;
-    assert_eq!(rt;
-        set_rights(alloc, world, b"Other Users/ann/A", b"-bob", b"r")?,
-        1
-    );
-    assert_eq!(rt;
-        set_rights(alloc, world, b"Other Users/ann/A", b"ann", b"la")?,
-        1
-    );
-    create(alloc, world, b"Other Users/ann/A/B/C")?;
-    let made = name(alloc, b"Other Users/ann/A/B/C")?;
-    let mailbox = world.mailbox(&made.as_ref()).ok_or("not made")?;
-    assert_eq!(rt;
-        listed(alloc, &mailbox.acl)?.as_slice(),
-        b"-bob=r ann=la ".as_slice()
-    );
-    Ok(())
-}
-
-#[test]
-fn lists_are_inherited(rt: HostRuntime) -> Result<(), Fail> {
-    let mut world = World::new(rt.alloc());
-    inherit(&rt, rt.alloc(), &mut world)
 }
 
 /// bob holds `k` and `a` on one mailbox, and nothing on the one below it.

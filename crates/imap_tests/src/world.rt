@@ -104,32 +104,6 @@ fn mailboxes_are_placed(rt: HostRuntime) -> Result<(), Fail> {
     place_mailboxes(&rt, rt.alloc(), &mut world)
 }
 
-fn set_rights(rt: &impl Abort, alloc: Global, world: &mut World) -> Result<(), Fail> {
-    let absent = give(alloc, world, b"Shared/News", b"bob", b"lr")?;
-    assert_eq!(rt; absent, Err(WorldError::NoSuch));
-    assert_eq!(rt; place(alloc, world, b"Shared/News")?, Ok(()));
-    assert_eq!(rt; give(alloc, world, b"Shared/News", b"bob", b"lr")?, Ok(()));
-    fill_list(rt, alloc, world)?;
-    let late = give(alloc, world, b"Shared/News", b"late", b"l")?;
-    assert_eq!(rt; late, Err(WorldError::Limit));
-    Ok(())
-}
-
-/// Sets 63 more entries of the list, which then has 64.
-fn fill_list(rt: &impl Abort, alloc: Global, world: &mut World) -> Result<(), Fail> {
-    for number in 2..=64u8 {
-        let other = [b'u', b'0' + number / 10, b'0' + number % 10];
-        assert_eq!(rt; give(alloc, world, b"Shared/News", &other, b"+l")?, Ok(()));
-    }
-    Ok(())
-}
-
-#[test]
-fn rights_are_set(rt: HostRuntime) -> Result<(), Fail> {
-    let mut world = World::new(rt.alloc());
-    set_rights(&rt, rt.alloc(), &mut world)
-}
-
 fn change_subscriptions(rt: &impl Abort, alloc: Global, world: &mut World) -> Result<(), Fail> {
     assert_eq!(rt; subscribe(alloc, world, "bob", b"Shared/News")?, 1);
     assert_eq!(rt; subscribe(alloc, world, "bob", b"Shared/News/Local")?, 1);

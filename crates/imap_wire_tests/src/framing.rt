@@ -117,21 +117,6 @@ fn literals_in_any_pieces(rt: HostRuntime) -> Result<(), Fail> {
 }
 
 #[test]
-fn what_is_no_mark(rt: HostRuntime) -> Result<(), Fail> {
-    const CASES: [(&[u8], &[u8]); 7] = [
-        (b"a {}\r\n", b"[a {}\r\n]"),
-        (b"a {+}\r\n", b"[a {+}\r\n]"),
-        (b"a {-1}\r\n", b"[a {-1}\r\n]"),
-        (b"a {1++}\r\n", b"[a {1++}\r\n]"),
-        (b"a {1} \r\n", b"[a {1} \r\n]"),
-        (b"a 1}\r\n", b"[a 1}\r\n]"),
-        (b"a {1 }\r\n", b"[a {1 }\r\n]"),
-    ];
-    check_all(&rt, rt.alloc(), 100, &CASES)?;
-    Ok(())
-}
-
-#[test]
 fn literals_over_the_limit(rt: HostRuntime) -> Result<(), Fail> {
     const CASES: [(&[u8], &[u8]); 9] = [
         (b"a1 X {8}\r\n12345678\r\n", b"+[a1 X {8}\r\n12345678\r\n]"),
@@ -169,17 +154,6 @@ fn hangups(rt: HostRuntime) -> Result<(), Fail> {
     ];
     check_in(&rt, rt.alloc(), 8, 1000, &CASES)?;
     check_in(&rt, rt.alloc(), 8, 1, &[(b"a1 X {9+}\r\na\r\n", b"!???")])?;
-    Ok(())
-}
-
-#[test]
-fn large_literals(rt: HostRuntime) -> Result<(), Fail> {
-    const CASES: [(&[u8], &[u8]); 3] = [
-        (b"a1 X {4097+}\r\n", b"!"),
-        (b"a1 X {4097}\r\n", b"+"),
-        (b"a1 X {18446744073709551616}\r\n", b"(a1)"),
-    ];
-    check_all(&rt, rt.alloc(), u64::MAX, &CASES)?;
     Ok(())
 }
 
@@ -298,55 +272,8 @@ fn octets_are_kept(rt: HostRuntime) -> Result<(), Fail> {
 }
 
 #[test]
-fn octets_are_made_of_a_list(rt: HostRuntime) -> Result<(), Fail> {
-    let octets = Octets::from_vec(Vec::from_slice(rt.alloc(), b"INBOX")?)?;
-    assert_eq!(rt; octets.as_slice(), b"INBOX".as_slice());
-    Ok(())
-}
-
-#[test]
-fn tags_are_kept(rt: HostRuntime) -> Result<(), Fail> {
-    let tag = Tag::read(rt.alloc(), b"a1")?.ok_or("no tag")?;
-    let copy = tag.try_copy(rt.alloc())?;
-    assert_eq!(rt; copy.as_slice(), b"a1".as_slice());
-    Ok(())
-}
-
-#[test]
-fn what_is_no_tag(rt: HostRuntime) -> Result<(), Fail> {
-    for octets in [b"".as_slice(), b"a+", b"a b", b"a\r\n", b"{"] {
-        assert!(rt; Tag::read(rt.alloc(), octets)?.is_none(), "{octets:?}");
-    }
-    Ok(())
-}
-
-#[test]
-fn a_command_begins_with_its_tag(rt: HostRuntime) -> Result<(), Fail> {
-    const ROWS: [(&[u8], Option<&[u8]>); 5] = [
-        (b"a1 NOOP\r\n", Some(b"a1")),
-        (b"a1\r\n", Some(b"a1")),
-        (b"a1\n", None),
-        (b"a+ NOOP\r\n", None),
-        (b" NOOP\r\n", None),
-    ];
-    for &(command, wanted) in &ROWS {
-        let tag = Tag::of_command(rt.alloc(), command)?;
-        let found = tag.as_ref().map(|tag| tag.as_slice());
-        assert!(rt; found == wanted, "{command:?}");
-    }
-    Ok(())
-}
-
-#[test]
 fn errors_are_told(rt: HostRuntime) -> Result<(), Fail> {
     let shown = format!(in rt.alloc(); "{}, {}", LexError::Memory, LexError::Closed)?;
     assert_eq!(rt; shown.as_str(), "out of memory, the stream was hung up");
-    Ok(())
-}
-
-#[test]
-fn characters_of_atoms_and_tags(rt: HostRuntime) -> Result<(), Fail> {
-    assert!(rt; is_astring_char(b']') && is_astring_char(b'+') && !is_astring_char(b'{'));
-    assert!(rt; is_tag_char(b']') && !is_tag_char(b'+') && !is_tag_char(b' '));
     Ok(())
 }

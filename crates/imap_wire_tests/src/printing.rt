@@ -1,11 +1,10 @@
-mod copies;
 mod mailboxes;
 mod messages;
 mod values;
 
 use imap_lex::{Octets, Tag};
 use imap_print::*;
-use imap_syntax::Items;
+use imap_syntax::{Atom, FieldName, Items};
 use imap_values::{Same, TryCopy};
 use std::alloc::{AllocError, Global};
 use std::process::Abort;
@@ -38,12 +37,20 @@ fn sets_rise_from_1(rt: HostRuntime) -> Result<(), Fail> {
     Ok(())
 }
 
-fn words(alloc: Global, texts: &[&str]) -> Result<Items<Octets>, AllocError> {
+fn words(alloc: Global, texts: &[&str]) -> Result<Items<Atom>, AllocError> {
     let mut words = Vec::new(alloc);
     for text in texts {
-        words.push(octets(alloc, text)?)?;
+        words.push(Atom::read(alloc, text.as_bytes())?.ok_or(AllocError)?)?;
     }
     Ok(Items::from_vec(words))
+}
+
+fn field_names(alloc: Global, texts: &[&str]) -> Result<Items<FieldName>, AllocError> {
+    let mut names = Vec::new(alloc);
+    for text in texts {
+        names.push(FieldName::read(alloc, text.as_bytes())?.ok_or(AllocError)?)?;
+    }
+    Ok(Items::from_vec(names))
 }
 
 /// Prints the responses.

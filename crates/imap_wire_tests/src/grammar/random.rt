@@ -25,31 +25,53 @@ fn text(random: &mut Random, alloc: Global) -> Result<Octets, AllocError> {
     Octets::from_vec(octets)
 }
 
-fn atom(random: &mut Random, alloc: Global) -> Result<Octets, AllocError> {
+fn word(random: &mut Random, alloc: Global) -> Result<Vec<u8>, AllocError> {
     let mut octets = Vec::new(alloc);
     octets.push(b'$')?;
     for _ in 0..random.below(4) {
         octets.push(random.byte(b'A', b'Z'))?;
     }
-    Octets::from_vec(octets)
+    Ok(octets)
+}
+
+fn atom(random: &mut Random, alloc: Global) -> Result<Atom, AllocError> {
+    let word = word(random, alloc)?;
+    Atom::read(alloc, word.as_slice())?.ok_or(AllocError)
+}
+
+fn other_flag(random: &mut Random, alloc: Global) -> Result<OtherFlag, AllocError> {
+    let word = word(random, alloc)?;
+    OtherFlag::read(alloc, word.as_slice())?.ok_or(AllocError)
+}
+
+fn field_name(random: &mut Random, alloc: Global) -> Result<FieldName, AllocError> {
+    let word = word(random, alloc)?;
+    FieldName::read(alloc, word.as_slice())?.ok_or(AllocError)
+}
+
+fn below(random: &mut Random, bound: u64) -> SeqNumber {
+    match NzNumber::new(random.below(bound) as u32 + 1) {
+        Some(number) => SeqNumber::Number(number),
+        None => SeqNumber::Last,
+    }
 }
 
 fn number(random: &mut Random) -> SeqNumber {
     match random.below(3) {
         0 => SeqNumber::Last,
-        1 => SeqNumber::Number(u32::MAX),
-        _ => SeqNumber::Number(random.below(100) as u32 + 1),
+        1 => below(random, 1 << 32),
+        _ => below(random, 100),
     }
 }
 
 fn ranges(random: &mut Random, alloc: Global, open: bool) -> Result<SeqSet, AllocError> {
     let mut all = Vec::new(alloc);
     for _ in 0..random.below(3) + 1 {
-        let first = SeqNumber::Number(random.below(9) as u32 + 1);
+        let first = below(random, 9);
         let last = if open { number(random) } else { first };
         all.push(SeqRange { first, last })?;
     }
-    Ok(Items::from_vec(all))
+    SeqSet::from_vec(all).ok_or(AllocError)
 }
 
 fn messages(random: &mut Random, alloc: Global) -> Result<MessageSet, AllocError> {
@@ -74,7 +96,7 @@ fn flag(random: &mut Random, alloc: Global) -> Result<Flag, AllocError> {
         2 => Flag::Draft,
         3 => Flag::Flagged,
         4 => Flag::Seen,
-        5 => Flag::Other(atom(random, alloc)?),
+        5 => Flag::Other(other_flag(random, alloc)?),
         _ => Flag::Keyword(atom(random, alloc)?),
     })
 }
@@ -127,7 +149,7 @@ fn statuses(random: &mut Random, alloc: Global) -> Result<Items<StatusItem>, All
 
 fn section(random: &mut Random, alloc: Global) -> Result<Section, AllocError> {
     let mut names = Vec::new(alloc);
-    names.push(atom(random, alloc)?)?;
+    names.push(field_name(random, alloc)?)?;
     let names = Items::from_vec(names);
     Ok(match random.below(5) {
         0 => Section::Whole,
@@ -138,12 +160,15 @@ fn section(random: &mut Random, alloc: Global) -> Result<Section, AllocError> {
     })
 }
 
+fn partial(random: &mut Random) -> Option<Partial> {
+    let offset = random.below(100);
+    let count = NzNumber64::new(random.below(100) + 1)?;
+    Some(Partial { offset, count })
+}
+
 fn item(random: &mut Random, alloc: Global) -> Result<FetchItem, AllocError> {
     let section = section(random, alloc)?;
-    let range = Partial {
-        offset: random.below(100),
-        count: random.below(100) + 1,
-    };
+    let range = partial(random);
     Ok(match random.below(8) {
         0 => FetchItem::Uid,
         1 => FetchItem::Flags,
@@ -154,7 +179,7 @@ fn item(random: &mut Random, alloc: Global) -> Result<FetchItem, AllocError> {
         _ => FetchItem::Section(BodySection {
             peek: random.coin(),
             section,
-            partial: random.coin().then_some(range),
+            partial: if random.coin() { range } else { None },
         }),
     })
 }
@@ -179,7 +204,7 @@ fn plain_key(random: &mut Random, alloc: Global) -> Result<SearchKey, AllocError
             text: text(random, alloc)?,
         },
         3 => SearchKey::Header {
-            field: atom(random, alloc)?,
+            field: field_name(random, alloc)?,
             text: text(random, alloc)?,
         },
         4 => dated_key(random),
@@ -259,7 +284,7 @@ fn search(random: &mut Random, alloc: Global) -> Result<Command, AllocError> {
         returns.push(SearchReturn::Save)?;
     }
     let charset = if random.coin() {
-        Some(atom(random, alloc)?)
+        Some(Octets::from_vec(word(random, alloc)?)?)
     } else {
         None
     };
@@ -357,7 +382,7 @@ fn named(random: &mut Random, alloc: Global) -> Result<Command, AllocError> {
         2 => Command::SetAcl {
             mailbox: name,
             identifier: other,
-            rights: atom(random, alloc)?,
+            rights: Octets::from_vec(word(random, alloc)?)?,
         },
         _ => Command::Status {
             mailbox: name,
@@ -384,14 +409,14 @@ fn body(random: &mut Random, alloc: Global) -> Result<Command, AllocError> {
     }
 }
 
-/// The random atom as a tag: none of them has a `+`.
-fn tag_of(alloc: Global, atom: &Octets) -> Result<Tag, AllocError> {
-    Tag::read(alloc, atom.as_slice())?.ok_or(AllocError)
+/// The random word as a tag: none of them has a `+`.
+fn tag_of(alloc: Global, word: &[u8]) -> Result<Tag, AllocError> {
+    Tag::read(alloc, word)?.ok_or(AllocError)
 }
 
 fn request(random: &mut Random, alloc: Global) -> Result<Request, AllocError> {
-    let name = atom(random, alloc)?;
-    let tag = tag_of(alloc, &name)?;
+    let name = word(random, alloc)?;
+    let tag = tag_of(alloc, name.as_slice())?;
     let body = body(random, alloc)?;
     Ok(Request::Command { tag, body })
 }

@@ -1,4 +1,4 @@
-use super::{check, numbers, octets, shown, words};
+use super::{check, field_names, numbers, octets, shown, words};
 use imap_print::*;
 use imap_query::Section;
 use imap_syntax::{Date, DateTime, Items, Month, Zone};
@@ -227,7 +227,7 @@ fn fields(rt: HostRuntime) -> Result<(), Fail> {
     check_section(
         &rt,
         rt.alloc(),
-        Section::Fields(words(rt.alloc(), &["subject"])?),
+        Section::Fields(field_names(rt.alloc(), &["subject"])?),
         None,
         "Subject: x\r\n\r\n",
         "* 1 FETCH (BODY[HEADER.FIELDS (subject)] {14}\r\nSubject: x\r\n\r\n)\r\n",
@@ -235,7 +235,7 @@ fn fields(rt: HostRuntime) -> Result<(), Fail> {
     check_section(
         &rt,
         rt.alloc(),
-        Section::FieldsNot(words(rt.alloc(), &["subject", "X Odd", "nil"])?),
+        Section::FieldsNot(field_names(rt.alloc(), &["subject", "X Odd", "nil"])?),
         Some(4),
         "",
         "* 1 FETCH (BODY[HEADER.FIELDS.NOT (subject \"X Odd\" \"nil\")]<4> {0}\r\n)\r\n",
@@ -268,11 +268,31 @@ fn every_item(rt: HostRuntime) -> Result<(), Fail> {
     Ok(())
 }
 
+/// The parts of a section are printed as one literal.
+#[test]
+fn parts_of_a_section(rt: HostRuntime) -> Result<(), Fail> {
+    let alloc = rt.alloc();
+    let mut items = nothing(alloc);
+    items.sections = in_two_parts(alloc)?;
+    assert!(rt; items.sections.as_slice().len() == 1);
+    let line = "* 2 FETCH (BODY[TEXT] {5}\r\nab\r\nc)\r\n";
+    check(&rt, alloc, fetch(2, items), line)?;
+    Ok(())
+}
+
+fn in_two_parts(alloc: Global) -> Result<Items<FetchedSection>, AllocError> {
+    let parts = vec![in alloc; octets(alloc, "ab\r\n")?, octets(alloc, "c")?]?;
+    let literal = LiteralParts::from_parts(Items::from_vec(parts)).ok_or(AllocError)?;
+    let mut section = part(alloc, Section::Text, "")?;
+    section.octets = literal;
+    Ok(Items::from_vec(vec![in alloc; section]?))
+}
+
 fn part(alloc: Global, section: Section, text: &str) -> Result<FetchedSection, AllocError> {
     Ok(FetchedSection {
         section,
         origin: None,
-        octets: octets(alloc, text)?,
+        octets: LiteralParts::of_octets(alloc, octets(alloc, text)?)?,
     })
 }
 
