@@ -1,12 +1,12 @@
 //! What is made when a host starts.
 
-ghost use Rattle.std.specs.Prelude.{◌≡◌, IfOk, OnOk};
+ghost use Rattle.std.specs.Prelude.{◌≡◌, OnOk};
 ghost use Rattle.std.specs.FinMap as map;
 ghost use Rattle.imap_world.specs.Stored.{world_of};
 ghost use Rattle.imap_core.specs.Opening.{admission_of, needs_inbox, nobody, with_user, with_users};
 
 use crate::sessions::OwnSessions;
-use imap_names::{UserName, inbox};
+use imap_names::{UserName, inbox_ref};
 use imap_user_map::UserMap;
 use imap_world::{Effect, World};
 use std::alloc::{AllocError, Global};
@@ -57,7 +57,7 @@ impl Opening {
             return Ok(());
         }
         self.add_account(alloc, user)?;
-        if needs_inbox(alloc, world, user)? {
+        if needs_inbox(world, user) {
             self.effects.push(Effect::CreateInbox(user.try_copy()?))?;
         }
         Ok(())
@@ -78,10 +78,9 @@ impl Opening {
 }
 
 /// Whether the user has no INBOX, and a UIDVALIDITY is left for one.
-fn needs_inbox(alloc: Global, world: &World, user: &UserName) -> Result<bool, AllocError>
-    ensures { IfOk result (λ needed. needed ≡ needs_inbox (world_of world.now) user.now) }
+fn needs_inbox(world: &World, user: &UserName) -> bool
+    ensures { result ≡ needs_inbox (world_of world.now) user.now }
 {
-    let name = inbox(alloc, user)?;
-    let name = name.as_ref();
-    Ok(world.mailbox(&name).is_none() && world.epoch(&name) < u32::MAX)
+    let name = inbox_ref(user);
+    world.mailbox(&name).is_none() && world.epoch(&name) < u32::MAX
 }

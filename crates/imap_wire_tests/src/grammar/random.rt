@@ -49,25 +49,22 @@ fn field_name(random: &mut Random, alloc: Global) -> Result<FieldName, AllocErro
     FieldName::read(alloc, word.as_slice())?.ok_or(AllocError)
 }
 
-fn below(random: &mut Random, bound: u64) -> SeqNumber {
-    match NzNumber::new(random.below(bound) as u32 + 1) {
-        Some(number) => SeqNumber::Number(number),
-        None => SeqNumber::Last,
-    }
+fn numbered(number: u32) -> SeqNumber {
+    NzNumber::new(number).map_or(SeqNumber::Last, SeqNumber::Number)
 }
 
 fn number(random: &mut Random) -> SeqNumber {
     match random.below(3) {
         0 => SeqNumber::Last,
-        1 => below(random, 1 << 32),
-        _ => below(random, 100),
+        1 => numbered(u32::MAX),
+        _ => numbered(random.below(100) as u32 + 1),
     }
 }
 
 fn ranges(random: &mut Random, alloc: Global, open: bool) -> Result<SeqSet, AllocError> {
     let mut all = Vec::new(alloc);
     for _ in 0..random.below(3) + 1 {
-        let first = below(random, 9);
+        let first = numbered(random.below(9) as u32 + 1);
         let last = if open { number(random) } else { first };
         all.push(SeqRange { first, last })?;
     }
