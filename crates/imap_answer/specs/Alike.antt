@@ -10,8 +10,8 @@ abbrev pub effects_of : Option Effect → List Effect
 effects_of None = []
 effects_of (Some effect) = effect ∷ []
 
--- A command with this answer is answered alike in two worlds that are alike to its user, and leaves them alike to that
--- user.
+-- A command with this answer is answered alike in two worlds that are alike to its user, and leaves them
+-- alike to that user.
 abbrev pub AnswersAlike : (View → Answer) → Type 0
 AnswersAlike answer = (administrator user : List ℕ) (world other : World)
     → view_of administrator user world ≡ view_of administrator user other →

@@ -1,5 +1,5 @@
--- What holds of each answer to a command: its user may ask for the effect, a refusal asks for nothing, and none is
--- UNAVAILABLE (RFC 5530), which is for a host to say, when it can't save a change.
+-- What holds of each answer to a command: its user may ask for the effect, a refusal asks for nothing,
+-- and none is UNAVAILABLE (RFC 5530), which is for a host to say, when it can't save a change.
 use Rattle.std.specs.Prelude.{◌≡◌, Bool, true, false, Option, Some, None}
 use Rattle.std.specs.List.{list_any}
 use Rattle.imap_print.specs.declared.response.Refusal.TheVariants.{Unavailable}

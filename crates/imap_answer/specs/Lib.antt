@@ -1,3 +1,4 @@
+-- Answers to commands: a call, its answer, and what holds of each.
 pub mod Alike
 pub mod Answer
 pub mod Call

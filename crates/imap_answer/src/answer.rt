@@ -8,8 +8,8 @@ use imap_print::Response;
 use imap_world::Effect;
 use std::marker::Model;
 
-/// The untagged responses to a command, its last line, and what it asks of the mailboxes. A client reads each response
-/// as one line, whatever names and tags are in it.
+/// The untagged responses to a command, its last line, and what it asks of the mailboxes. A client reads
+/// each response as one line, whatever names and tags are in it.
 #[derive(Drop)]
 pub struct Answer {
     untagged: Vec<Response>,
@@ -41,7 +41,8 @@ impl Model for Answer {
       effect = answer.effect;
     } };
 
-    ghost invariant = { λ answer. AllByRecursion IsPrintable answer.untagged.items × IsPrintable answer.last };
+    ghost invariant = { λ answer. AllByRecursion IsPrintable answer.untagged.items
+        × IsPrintable answer.last };
 }
 
 impl Answer {

@@ -1,8 +1,8 @@
 //! Answers to commands.
 //!
-//! Each command is a function from a [`Call`], which has what its user may see (`imap_view`) and its tag, to an
-//! [`Answer`]: the responses, and what the command asks of the mailboxes. The crates of commands make answers; the
-//! machine (`imap_core`) carries them out.
+//! Each command is a function from a [`Call`], which has what its user may see (`imap_view`) and its
+//! tag, to an [`Answer`]: the responses, and what the command asks of the mailboxes. The crates of
+//! commands make answers; the machine (`imap_core`) carries them out.
 #![tactic(auto)]
 
 mod answer;

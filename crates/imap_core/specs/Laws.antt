@@ -1,5 +1,6 @@
 -- What holds of every step.
-use Rattle.std.specs.Prelude.{◌≡◌, ℕ, true, false, ◌==◌, ◌&&◌, List, Option, Some, None, bytes_eq, option_and_then}
+use Rattle.std.specs.Prelude.{◌≡◌, ℕ, true, false, ◌==◌, ◌&&◌, List, Option, Some, None}
+use Rattle.std.specs.Prelude.{bytes_eq, option_and_then}
 use Rattle.std.specs.List.{list_any}
 use Rattle.std.specs.FinMap as map
 use Rattle.imap_answer.specs.Fit.{is_refusal, is_unavailable}
@@ -36,7 +37,8 @@ abbrev pub IsMadeIfAsked : Option Effect → World → Type 0
 IsMadeIfAsked None world = Unit {0}
 IsMadeIfAsked (Some effect) world = IsMade effect world
 
--- What a step asks of the mailboxes can be made in every state: no reply says OK to an effect that is dropped.
+-- What a step asks of the mailboxes can be made in every state: no reply says OK to an effect that is
+-- dropped.
 abbrev pub EffectsAreMade : Type 0
 EffectsAreMade = (state : State) (step : Step) → IsMadeIfAsked (outcome state step).effect state.world
 

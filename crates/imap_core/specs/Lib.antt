@@ -1,3 +1,4 @@
+-- The machine: its state, one step, traces, and isolation over all runs.
 pub mod Accounts
 pub mod Commands
 pub mod Frames

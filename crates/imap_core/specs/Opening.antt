@@ -21,7 +21,8 @@ nobody = record { accounts = map.empty; effects = [] }
 -- without an INBOX, and with a UIDVALIDITY left for one
 abbrev pub needs_inbox : World → List ℕ → Bool
 needs_inbox world user =
-    not (map.contains_key world.mailboxes (inbox user)) && nat_lt (epoch world.epochs (inbox user)) max_validity
+    not (map.contains_key world.mailboxes (inbox user))
+    && nat_lt (epoch world.epochs (inbox user)) max_validity
 
 -- each user has an INBOX (RFC 9051, section 5.1)
 abbrev pub inbox_for : World → List ℕ → List Effect

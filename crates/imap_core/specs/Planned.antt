@@ -58,10 +58,12 @@ is_end session.End = true
 abbrev pub HasRoom : Option Own → ℕ → SessionChange → Type 0
 HasRoom None number change = Unit {0}
 HasRoom (Some own) number session.Keep = Unit {0}
-HasRoom (Some own) number (session.Put fresh) = (map.len own < max_sessions) ⊎ (map.contains_key own number ≡ true)
+HasRoom (Some own) number (session.Put fresh) =
+    (map.len own < max_sessions) ⊎ (map.contains_key own number ≡ true)
 HasRoom (Some own) number session.End = Unit {0}
 
 -- it needs no memory in this machine
 pub record IsReady (prepared : Prepared) (machine : Machine) : Type 0 where
-  pub sessions : HasRoom (map.get machine.state.accounts prepared.who.user) prepared.who.number prepared.session
+  pub sessions :
+      HasRoom (map.get machine.state.accounts prepared.who.user) prepared.who.number prepared.session
   pub world : world.IsReady (change_of prepared) machine.stored

@@ -1,5 +1,5 @@
--- What a step is answered, what becomes of its session, and what it asks of the mailboxes: by what the user sees, and
--- the user's own sessions, alone.
+-- What a step is answered, what becomes of its session, and what it asks of the mailboxes: by what the
+-- user sees, and the user's own sessions, alone.
 use Rattle.std.specs.Prelude.{ℕ, nat_le, List, [], ◌∷◌, Option, Some, None, if◌then◌else◌}
 use Rattle.std.specs.FinMap as map
 use Rattle.imap_answer.specs.Answer.{Answer, refusal}
@@ -26,7 +26,8 @@ use Rattle.imap_core.specs.declared.sessions.SessionChange.TheVariants as sessio
 use Rattle.imap_core.specs.declared.step.Act.{Act}
 use Rattle.imap_core.specs.declared.step.Act.TheVariants as act
 use Rattle.imap_core.specs.declared.step.Step.{Step}
-use Rattle.imap_core.specs.Commands.Session.{capability_answer, noop_answer, logout_answer, authenticate_answer}
+use Rattle.imap_core.specs.Commands.Session.{capability_answer, noop_answer, logout_answer}
+use Rattle.imap_core.specs.Commands.Session.{authenticate_answer}
 use Rattle.imap_core.specs.Outcome.{Outcome, answered, said, silence}
 use Rattle.imap_core.specs.Sessions.{Own, max_sessions}
 
@@ -52,7 +53,8 @@ command_answer view tag (command.SetAcl mailbox identifier rights) =
     set_acl_answer view tag mailbox identifier rights
 command_answer view tag (command.DeleteAcl mailbox identifier) = delete_acl_answer view tag mailbox identifier
 command_answer view tag (command.GetAcl mailbox) = get_acl_answer view tag mailbox
-command_answer view tag (command.ListRights mailbox identifier) = list_rights_answer view tag mailbox identifier
+command_answer view tag (command.ListRights mailbox identifier) =
+    list_rights_answer view tag mailbox identifier
 command_answer view tag (command.MyRights mailbox) = my_rights_answer view tag mailbox
 command_answer view tag _ = refusal tag Cannot
 
@@ -97,4 +99,5 @@ reply_when_closed own _ = silence
 
 abbrev pub reply : View → Own → Step → Outcome
 reply view own step =
-    if map.contains_key own step.who.number then reply_when_open view step.act else reply_when_closed own step.act
+    if map.contains_key own step.who.number then reply_when_open view step.act
+    else reply_when_closed own step.act

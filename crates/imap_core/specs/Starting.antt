@@ -23,9 +23,10 @@ gets_inbox world users user = is_one_of users user && needs_inbox world user
 abbrev pub new_inbox : World → List ℕ → MailboxEntry
 new_inbox world user = record { validity = epoch world.epochs (inbox user) + 1; acl = owner_acl user }
 
--- The state has a new INBOX for each user who gets one, and counts its UIDVALIDITY as used. All other mailboxes, also an
--- INBOX that is there, all other used UIDVALIDITYs and the subscriptions are the world's. The state's site is the one that
--- is asked for. It knows the users and nobody else, and none of them has an open session.
+-- The state has a new INBOX for each user who gets one, and counts its UIDVALIDITY as used. All other
+-- mailboxes, also an INBOX that is there, all other used UIDVALIDITYs and the subscriptions are the
+-- world's. The state's site is the one that is asked for. It knows the users and nobody else, and none
+-- of them has an open session.
 pub record IsStart (world : World) (site : Site) (users : List (List ℕ)) (start : State) : Type 0 where
   pub same_site : start.site ≡ site
   pub new_inboxes : (user : List ℕ) → gets_inbox world users user ≡ true

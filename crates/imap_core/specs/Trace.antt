@@ -53,7 +53,8 @@ abbrev pub with_replies : ℕ → List Response → List (ℕ × List ℕ) → L
 with_replies number [] rest = rest
 with_replies number (reply ∷ replies) rest = (number, printed (reply ∷ replies)) ∷ rest
 
--- of the answers to these steps, the octets that are sent to the user's sessions, each answer with the session's number
+-- of the answers to these steps, the octets that are sent to the user's sessions, each answer with the
+-- session's number
 abbrev pub sent_to : List ℕ → List Step → List (List Response) → List (ℕ × List ℕ)
 sent_to user [] answers = []
 sent_to user (step ∷ steps) [] = []
@@ -72,9 +73,10 @@ pub record Alike (user : List ℕ) (s t : State) : Type 0 where
   pub sessions : own_in s user ≡ own_in t user
   pub sites : s.site ≡ t.site
 
--- To each user, two runs that begin alike and have one trace send the same octets, whatever their lengths and whatever
--- else happens in them.
+-- To each user, two runs that begin alike and have one trace send the same octets, whatever their
+-- lengths and whatever else happens in them.
 abbrev pub Isolation : Type 0
 Isolation =
     (user : List ℕ) (s t : State) (steps others : List Step)
-    → Alike user s t → trace user s steps ≡ trace user t others → transcript user s steps ≡ transcript user t others
+    → Alike user s t → trace user s steps ≡ trace user t others
+    → transcript user s steps ≡ transcript user t others

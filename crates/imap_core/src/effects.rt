@@ -8,8 +8,8 @@ ghost use Rattle.imap_world.specs.Stored.{world_of};
 use imap_world::{Change, Effect, World};
 use std::alloc::{AllocError, Global};
 
-/// Finds the values to be written for the effects, and makes room for them. Each effect can be made as far as the
-/// protocol's limits go, so that only memory can run out.
+/// Finds the values to be written for the effects, and makes room for them. Each effect can be made as
+/// far as the protocol's limits go, so that only memory can run out.
 pub(crate) fn resolve_effects(
     alloc: Global,
     world: &mut World,

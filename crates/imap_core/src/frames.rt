@@ -9,8 +9,9 @@ use imap_lex::{Frame, Octets, Tag};
 use std::alloc::{AllocError, Global};
 
 impl Act {
-    /// Returns the act of a frame, or `None` if the machine has no part in it: the client waits for a continuation
-    /// request, or the connection is to be closed. The line DONE (RFC 2177) is an act of its own at any time.
+    /// Returns the act of a frame, or `None` if the machine has no part in it: the client waits for a
+    /// continuation request, or the connection is to be closed. The line DONE (RFC 2177) is an act of
+    /// its own at any time.
     pub fn of_frame(alloc: Global, frame: Frame) -> Result<Option<Act>, AllocError>
         ensures { IfOk result (λ act. act ≡ act_of_frame frame) }
     {

@@ -16,13 +16,15 @@ pub fn equal_views_are_same()
     ensures { EqualViewsAreSame }
 {}
 
-/// A step in two states that are alike to its user has equal replies, and the states afterwards are alike again.
+/// A step in two states that are alike to its user has equal replies, and the states afterwards are
+/// alike again.
 pub fn steps_are_alike()
     ensures { StepsAreAlike }
 {}
 
-/// Mailboxes that are hidden from a user can come and go, and leave their used UIDVALIDITYs, and the states are alike to
-/// the user: so what the user is answered from then on is the same, by [`isolation`].
+/// Mailboxes that are hidden from a user can come and go, and leave their used UIDVALIDITYs, and the
+/// states are alike to the user: so what the user is answered from then on is the same, by
+/// [`isolation`].
 pub fn hidden_is_alike()
     ensures { HiddenIsAlike }
 {}
@@ -33,7 +35,8 @@ pub fn other_sessions_stay()
     ensures own { OtherSessionsStay }
 {}
 
-/// What a step asks of the mailboxes can be made in every state: no reply says OK to an effect that is dropped.
+/// What a step asks of the mailboxes can be made in every state: no reply says OK to an effect that is
+/// dropped.
 pub fn effects_are_made()
     ensures { EffectsAreMade }
 {}
@@ -48,9 +51,10 @@ pub fn never_unavailable()
     ensures { NeverUnavailable }
 {}
 
-/// A host starts with the mailboxes and subscriptions that it is given, a new INBOX for each user who lacks one while
-/// a UIDVALIDITY is left (RFC 9051, section 5.1), and no open session. It counts the UIDVALIDITYs of the new INBOXes as
-/// used, and all others stay counted as they were. It knows the administrator and the users only.
+/// A host starts with the mailboxes and subscriptions that it is given, a new INBOX for each user who
+/// lacks one while a UIDVALIDITY is left (RFC 9051, section 5.1), and no open session. It counts the
+/// UIDVALIDITYs of the new INBOXes as used, and all others stay counted as they were. It knows the
+/// administrator and the users only.
 pub fn starts_with_inboxes()
     ensures { StartsWithInboxes }
 {}

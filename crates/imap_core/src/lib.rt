@@ -1,10 +1,11 @@
 //! The machine of the server: what each step of a session is answered, and what it changes.
 //!
-//! [`Core`] holds the mailboxes and the open sessions of all users. A step is made in two halves: [`Core::prepare`]
-//! finds the replies and the change, and may be refused for want of memory; [`Core::commit`] makes them, and cannot.
+//! [`Core`] holds the mailboxes and the open sessions of all users. A step is made in two halves:
+//! [`Core::prepare`] finds the replies and the change, and may be refused for want of memory;
+//! [`Core::commit`] makes them, and cannot.
 //!
-//! What a user is answered is defined in `specs/Reply.antt` by what that user may see (`imap_view`) and by the user's
-//! own sessions, and by nothing else.
+//! What a user is answered is defined in `specs/Reply.antt` by what that user may see (`imap_view`) and
+//! by the user's own sessions, and by nothing else.
 #![tactic(auto)]
 
 mod accounts;

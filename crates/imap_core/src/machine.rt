@@ -31,8 +31,8 @@ use std::alloc::{AllocError, Global};
 use std::marker::Model;
 use std::slice;
 
-/// The mailboxes and the open sessions of all users. Contracts see the state of the machine, and its world with the
-/// room for more.
+/// The mailboxes and the open sessions of all users. Contracts see the state of the machine, and its
+/// world with the room for more.
 #[derive(Drop)]
 pub struct Core {
     site: Site,
@@ -94,8 +94,9 @@ impl Prepared {
 }
 
 impl Core {
-    /// Starts a host with these users, of whom the administrator is one, and makes the INBOX of each who has none. The
-    /// change holds those that were made. An INBOX that was gone and has no UIDVALIDITY left isn't made.
+    /// Starts a host with these users, of whom the administrator is one, and makes the INBOX of each who
+    /// has none. The change holds those that were made. An INBOX that was gone and has no UIDVALIDITY
+    /// left isn't made.
     pub fn open(
         alloc: Global,
         world: World,
@@ -149,7 +150,8 @@ impl Core {
             IfOk result (λ prepared. session_of prepared ≡ meant) }
         ensures change { let asked = effects_of (specs.outcome self.old.state step.now).effect in
             IfOk result (λ prepared. writes_of asked self.old.state.world ≡ Ok (change_of prepared)) }
-        ensures next { IfOk result (λ prepared. state_after prepared self.old.state ≡ next self.old.state step.now) }
+        ensures next { IfOk result
+            (λ prepared. state_after prepared self.old.state ≡ next self.old.state step.now) }
         ensures ready { IfOk result (λ prepared. IsReady prepared self.new) }
         ensures printable { IfOk result (λ prepared. ArePrintable prepared.replies) }
     {
@@ -181,7 +183,8 @@ impl Core {
         Ok(said)
     }
 
-    /// Makes the step, and gives what its session is told. Nothing else may have been committed since it was prepared.
+    /// Makes the step, and gives what its session is told. Nothing else may have been committed since it
+    /// was prepared.
     pub fn commit(&mut self, prepared: Prepared) -> Vec<Response>
         requires { IsReady prepared self.old }
         ensures replies { result.items ≡ replies_of prepared }

@@ -45,6 +45,7 @@ impl Moment {
         Some(Moment { seconds })
     }
 
+    /// The seconds since 1970-01-01T00:00:00Z.
     pub fn seconds(self) -> u64
         ensures value { result ≡ self }
         ensures within { self ≤ max_moment }

@@ -12,8 +12,8 @@ use imap_world::Effect;
 use std::alloc::{AllocError, Global};
 use std::marker::Model;
 
-/// The replies to a step, what it asks of the mailboxes, and what becomes of its session. A client reads each reply as
-/// one line.
+/// The replies to a step, what it asks of the mailboxes, and what becomes of its session. A client reads
+/// each reply as one line.
 #[derive(Drop)]
 pub(crate) struct Outcome {
     replies: Vec<Response>,

@@ -35,6 +35,7 @@ impl SessionNumber {
         Some(SessionNumber { number })
     }
 
+    /// The number, at least 1.
     pub fn get(self) -> u32
         ensures value { result ≡ self }
         ensures from_one { 1 ≤ self }
@@ -51,6 +52,7 @@ pub struct SessionId {
 }
 
 impl SessionId {
+    /// Copies the name and the number. Fails for want of memory alone.
     pub fn try_copy(&self) -> Result<SessionId, AllocError>
         ensures { IfOk result (λ copy. copy ≡ self.now) }
     {

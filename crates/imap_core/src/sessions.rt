@@ -1,6 +1,7 @@
 //! The open sessions of one user.
 
-ghost use Rattle.std.specs.Prelude.{◌≡◌, ◌<◌, ◌≤◌, ◌==◌, ◌⊎◌, not, filter, length, vec_len, true, IfOk, nat_le};
+ghost use Rattle.std.specs.Prelude.{◌≡◌, ◌<◌, ◌≤◌, ◌==◌, ◌⊎◌, not, filter, length, vec_len, true};
+ghost use Rattle.std.specs.Prelude.{IfOk, nat_le};
 ghost use Rattle.std.specs.List.{list_any};
 ghost use Rattle.std.specs.Vec.{vec_capacity};
 ghost use Rattle.std.specs.FinMap as map;
@@ -48,6 +49,7 @@ impl Model for OwnSessions {
 }
 
 impl OwnSessions {
+    /// No session, with room for as many as a user may open. Fails for want of memory alone.
     pub fn new(alloc: Global) -> Result<OwnSessions, AllocError>
         ensures { IfOk result (λ own. own ≡ map.empty) }
     {
@@ -55,6 +57,7 @@ impl OwnSessions {
         Ok(OwnSessions { entries })
     }
 
+    /// Whether a session with this number is open.
     pub fn is_open(&self, number: SessionNumber) -> bool
         ensures { result ≡ map.contains_key self.now number }
     {

@@ -1,4 +1,5 @@
--- What a listing for the user of a view is, name by name (RFC 9051, section 6.3.9; RFC 4314, section 4, of LIST).
+-- What a listing for the user of a view is, name by name (RFC 9051, section 6.3.9; RFC 4314, section 4,
+-- of LIST).
 use Rattle.std.specs.Prelude.{◌≡◌, true, List, Some, map, IsTrue, ◌↔◌, ◌⊎◌}
 use Rattle.std.specs.FinMap as fin
 use Rattle.std.specs.List.{All, Contains}
@@ -36,7 +37,8 @@ abbrev pub MatchesLevel : Patterns → Text → Type 0
 MatchesLevel patterns text =
     (pattern : List Token) × Contains patterns pattern × EndsInPercent pattern × IsMatch pattern text
 
--- without selection options: what is there and matches, and the levels above what is there that match before a `%`
+-- without selection options: what is there and matches, and the levels above what is there that match
+-- before a `%`
 abbrev pub IsListed : View → Patterns → Text → Type 0
 IsListed view patterns text =
     (IsThere view text × Matches patterns text) ⊎ (HasChildren view text × MatchesLevel patterns text)

@@ -1,3 +1,4 @@
+-- LIST, SUBSCRIBE and UNSUBSCRIBE: what is listed, the answers, and what holds of them.
 pub mod IsListing
 pub mod Laws
 pub mod Lines

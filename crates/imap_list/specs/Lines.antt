@@ -16,7 +16,8 @@ line_by there above subscribed name = record {
 abbrev pub line_of : (there subscribed : List Text) → Text → Line
 line_of there subscribed = line_by there (levels there) subscribed
 
--- the names that are there and match, and the levels above names that are there that match patterns which end in `%`
+-- the names that are there and match, and the levels above names that are there that match patterns
+-- which end in `%`
 abbrev pub listed_names : List Text → Patterns → List Text
 listed_names there patterns =
     in_order (filter (is_matched patterns) there ++ filter (is_matched_level patterns) (levels there))

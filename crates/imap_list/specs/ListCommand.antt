@@ -1,5 +1,6 @@
 -- LIST and NAMESPACE (RFC 9051, sections 6.3.9 and 6.3.10).
-use Rattle.std.specs.Prelude.{ℕ, Bool, true, false, not, ◌&&◌, ◌||◌, List, [], ◌∷◌, map, flat_map, Option, Some, None, if◌then◌else◌}
+use Rattle.std.specs.Prelude.{ℕ, Bool, true, false, not, ◌&&◌, ◌||◌, List, [], ◌∷◌, map, flat_map}
+use Rattle.std.specs.Prelude.{Option, Some, None, if◌then◌else◌}
 use Rattle.std.specs.List.{list_any}
 use Rattle.imap_answer.specs.Answer.{Answer, done_after, refusal}
 use Rattle.imap_grammar.specs.commands.List.{is_recursive, is_subscribed}
@@ -66,7 +67,8 @@ shows_subscribed query = selects_subscribed query || list_any returns_subscribed
 
 -- the selection RECURSIVEMATCH and the option STATUS (RFC 5819) are not built
 abbrev pub is_unbuilt : Query → Bool
-is_unbuilt query = list_any is_recursive (given query.selection) || list_any returns_status (given query.returns)
+is_unbuilt query =
+    list_any is_recursive (given query.selection) || list_any returns_status (given query.returns)
 
 -- the form of LIST with more than a reference and one pattern
 abbrev pub is_extended : Query → Bool
@@ -91,7 +93,8 @@ patterns_of query = flat_map (pattern_of query.reference) (texts_of query.patter
 
 abbrev pub lines_of : View → Query → List Line
 lines_of view query =
-    if selects_subscribed query then subscribed_listing view (patterns_of query) else listing view (patterns_of query)
+    if selects_subscribed query then subscribed_listing view (patterns_of query)
+    else listing view (patterns_of query)
 
 abbrev pub children_of : Bool → Children
 children_of true = Has

@@ -19,8 +19,8 @@ abbrev pub is_listed : Option Seen → Bool
 is_listed None = false
 is_listed (Some seen) = is_listable seen
 
--- SUBSCRIBE of a name. A mailbox on which the user doesn't hold `l` is answered as one that isn't there. A name that is
--- subscribed already stays so.
+-- SUBSCRIBE of a name. A mailbox on which the user doesn't hold `l` is answered as one that isn't there.
+-- A name that is subscribed already stays so.
 abbrev pub subscribe_of_name : View → (tag : List ℕ) → Name → Answer
 subscribe_of_name view tag name =
     if not (is_listed (map.get view.seen name)) then refusal tag NonExistent

@@ -10,8 +10,9 @@ ghost use Rattle.imap_list.specs.Subscriptions.{subscribe_answer, unsubscribe_an
 
 use imap_names::laws::{match_is_tested, percent_is_tested};
 
-/// A name is listed exactly if the user holds `l` on its mailbox and a pattern matches it, or if it is a level above a
-/// mailbox with `l` and a pattern that ends in `%` matches it. It has one line, which says what is so of the name.
+/// A name is listed exactly if the user holds `l` on its mailbox and a pattern matches it, or if it is a
+/// level above a mailbox with `l` and a pattern that ends in `%` matches it. It has one line, which says
+/// what is so of the name.
 pub fn listing_is_exact()
     ensures { ListingIsExact }
 {
@@ -19,7 +20,8 @@ pub fn listing_is_exact()
     percent_is_tested();
 }
 
-/// With the selection option SUBSCRIBED a name is listed exactly if the user subscribed to it and a pattern matches it.
+/// With the selection option SUBSCRIBED a name is listed exactly if the user subscribed to it and a
+/// pattern matches it.
 pub fn subscribed_listing_is_exact()
     ensures { SubscribedListingIsExact }
 {
@@ -50,9 +52,11 @@ pub fn namespaces_are_printed()
     ensures { NamespacesArePrinted }
 {}
 
-/// In two worlds that are alike to its user each command is answered alike, and leaves them alike to that user.
+/// In two worlds that are alike to its user each command is answered alike, and leaves them alike to
+/// that user.
 pub fn commands_are_alike()
     ensures list { (tag : List ℕ) (query : Query) → AnswersAlike (λ view. list_answer view tag query) }
     ensures subscribe { (tag mailbox : List ℕ) → AnswersAlike (λ view. subscribe_answer view tag mailbox) }
-    ensures unsubscribe { (tag mailbox : List ℕ) → AnswersAlike (λ view. unsubscribe_answer view tag mailbox) }
+    ensures unsubscribe { (tag mailbox : List ℕ)
+        → AnswersAlike (λ view. unsubscribe_answer view tag mailbox) }
 {}

@@ -1,7 +1,7 @@
 //! Commands on lists of mailbox names: LIST, NAMESPACE, SUBSCRIBE and UNSUBSCRIBE (RFC 9051, section 6.3).
 //!
-//! [`list`] and [`list_subscribed`] find what is listed for the user of a view, and [`laws`] say what that is. The
-//! other functions answer the commands.
+//! [`list`] and [`list_subscribed`] find what is listed for the user of a view, and [`laws`] say what
+//! that is. The other functions answer the commands.
 #![tactic(auto)]
 
 pub mod laws;

@@ -45,7 +45,8 @@ fn list_lines(
     with_subscribed: bool,
     lines: Vec<Line>,
 ) -> Result<Vec<Response>, AllocError>
-    ensures lines { IfOk result (λ responses. responses.items ≡ map (specs.list_line with_subscribed) lines.items) }
+    ensures lines { IfOk result
+        (λ responses. responses.items ≡ map (specs.list_line with_subscribed) lines.items) }
     ensures printable { IfOk result (λ responses. AllByRecursion IsPrintable responses.items) }
 {
     let mut responses = Vec::with_capacity(alloc, lines.len())?;

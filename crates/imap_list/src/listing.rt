@@ -13,9 +13,9 @@ use imap_names::Pattern;
 use imap_view::View;
 use std::alloc::{AllocError, Global};
 
-/// What LIST answers (RFC 9051, section 6.3.9): a line for each mailbox on which the user holds `l` and that one of the
-/// patterns matches, and for each level above a mailbox with `l` that one of the patterns that end in `%` matches. The
-/// lines are in the order of their names' octets, each name once.
+/// What LIST answers (RFC 9051, section 6.3.9): a line for each mailbox on which the user holds `l` and
+/// that one of the patterns matches, and for each level above a mailbox with `l` that one of the
+/// patterns that end in `%` matches. The lines are in the order of their names' octets, each name once.
 pub fn list(alloc: Global, view: &View<'_>, patterns: &[Pattern]) -> Result<Vec<Line>, AllocError>
     ensures { IfOk result (λ lines. lines.items ≡ listing view.now patterns.now) }
 {
@@ -24,9 +24,9 @@ pub fn list(alloc: Global, view: &View<'_>, patterns: &[Pattern]) -> Result<Vec<
     lines_of(alloc, there.as_slice(), subscribed.as_slice(), patterns)
 }
 
-/// What LIST answers with the selection option SUBSCRIBED (section 6.3.9.1): a line for each name that the user
-/// subscribed to and that one of the patterns matches, in the order of their octets, each name once. A name on which
-/// the user doesn't hold `l` is listed as one that isn't there.
+/// What LIST answers with the selection option SUBSCRIBED (section 6.3.9.1): a line for each name that
+/// the user subscribed to and that one of the patterns matches, in the order of their octets, each name
+/// once. A name on which the user doesn't hold `l` is listed as one that isn't there.
 pub fn list_subscribed(
     alloc: Global,
     view: &View<'_>,

@@ -41,7 +41,8 @@ pub(crate) fn push_matched<'a>(
     names: &[ShownRef<'a>],
     patterns: &[Pattern],
 ) -> Result<(), AllocError>
-    ensures { OnOk result (listed.new.items ≡ listed.old.items ++ filter (is_matched patterns.now) names.now) }
+    ensures { OnOk result
+        (listed.new.items ≡ listed.old.items ++ filter (is_matched patterns.now) names.now) }
 {
     for name in names {
         if is_matched(patterns, name) {

@@ -38,7 +38,8 @@ impl<'a> Model for Query<'a> {
     ghost coded = { code_by (Option (List Selection) × (List ℕ × (Patterns × Option (List ListReturn))))
         (Prim.hlevel (codes, selection_row.coded, patterns_row.coded, return_row.coded))
         (λ q. (q.selection, (q.reference, (q.patterns, q.returns))))
-        (λ p. record { selection = p.0; reference = p.1.0; patterns = p.1.1.0; returns = p.1.1.1 }) (λ _. refl) };
+        (λ p. record { selection = p.0; reference = p.1.0; patterns = p.1.1.0; returns = p.1.1.1 })
+        (λ _. refl) };
 
     ghost view = { λ q. record {
       selection = q.selection.now;
@@ -171,7 +172,8 @@ fn push_pattern(
     reference: &Octets,
     text: &Octets,
 ) -> Result<(), AllocError>
-    ensures { OnOk result (patterns.new.items ≡ patterns.old.items ++ specs.pattern_of reference.now text.now) }
+    ensures { OnOk result
+        (patterns.new.items ≡ patterns.old.items ++ specs.pattern_of reference.now text.now) }
 {
     if text.as_slice().is_empty() {
         return Ok(());

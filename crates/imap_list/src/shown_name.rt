@@ -37,6 +37,7 @@ impl ShownName {
         Ok(ShownName(show_name(alloc, view.user(), name)?))
     }
 
+    /// The name as its user is shown it, without control characters.
     pub fn as_str(&self) -> &str
         ensures text { result.now ≡ self.now }
         ensures plain { IsPlain self.now }
@@ -129,7 +130,8 @@ impl<'a> Ord for ShownRef<'a> {
 impl<'a> PartialOrd for ShownRef<'a> {
     ghost partial_cmp = { as_partial_cmp (slice_cmp nat_cmp) };
 
-    ghost laws = { partial_order_from_own_ties (Prim.search (comparing, rules)) (Prim.search (comparing, rules)) };
+    ghost laws = { partial_order_from_own_ties
+        (Prim.search (comparing, rules)) (Prim.search (comparing, rules)) };
 
     fn partial_cmp(&self, other: &ShownRef<'a>) -> Option<Ordering> {
         Some(self.cmp(other))

@@ -7,8 +7,8 @@ use std::io::{Read, Write};
 /// The most reads of the input, of up to 4096 octets each.
 const MAX_READS: u32 = 65_536;
 
-/// Runs the scripts of `input`, each after a line `== NAME`, and writes to `output` each of these lines and the
-/// transcript of its script. What stands before the first of them is left out.
+/// Runs the scripts of `input`, each after a line `== NAME`, and writes to `output` each of these lines
+/// and the transcript of its script. What stands before the first of them is left out.
 pub(crate) fn run_rows<R: AllocGlobal, I: Read + Drop, O: Write + Drop>(
     rt: &R,
     input: I,

@@ -9,7 +9,8 @@ pub enum ScriptError {
     /// This is the first line that isn't as a script's lines are, counted from 1. Nothing was run.
     #[error("line {line}: bad script")]
     Bad { line: u64 },
-    /// The input wasn't read to its end, or the output wasn't taken. What was written is a beginning of the transcript.
+    /// The input wasn't read to its end, or the output wasn't taken. What was written is a beginning of
+    /// the transcript.
     #[error("input or output failed")]
     Io,
     /// Memory ran out. What was written is a beginning of the transcript.

@@ -102,7 +102,8 @@ impl Head {
         })
     }
 
-    /// Takes a further line: its first word and what stands after one space. After an error the head is of no use.
+    /// Takes a further line: its first word and what stands after one space. After an error the head is
+    /// of no use.
     pub(crate) fn take_line(
         &mut self,
         alloc: Global,

@@ -9,8 +9,8 @@ use std::io::{ErrorKind, Read};
 /// The most octets of one read.
 const MAX_PIECE: usize = 4096;
 
-/// Reads the whole input. Fails with `Io` if a read fails, or if `max_reads` reads don't reach the end; interrupted
-/// reads are made again and count. No clause speaks of the errors: tests show them.
+/// Reads the whole input. Fails with `Io` if a read fails, or if `max_reads` reads don't reach the end;
+/// interrupted reads are made again and count. No clause speaks of the errors: tests show them.
 pub fn read_all<I: Read + Drop>(
     alloc: Global,
     mut input: I,

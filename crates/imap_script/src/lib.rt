@@ -20,11 +20,11 @@ use std::io::{Read, Write};
 /// The most reads of a script's input.
 const MAX_READS: u32 = 16_777_216;
 
-/// Reads a script from `input`, runs it, and writes its transcript to `output`: a line for each line to a client, with
-/// the session before it, as `ann.1 > a1 OK done`.
+/// Reads a script from `input`, runs it, and writes its transcript to `output`: a line for each line to
+/// a client, with the session before it, as `ann.1 > a1 OK done`.
 ///
-/// The whole script is read before any of it runs. Fails with `Bad` at its first bad line, and then nothing was run. No
-/// clause speaks of this: tests show it.
+/// The whole script is read before any of it runs. Fails with `Bad` at its first bad line, and then
+/// nothing was run. No clause speaks of this: tests show it.
 pub fn script<R: AllocGlobal, I: Read + Drop, O: Write + Drop>(
     rt: &R,
     input: I,

@@ -16,8 +16,8 @@ pub(crate) struct Scenario {
 }
 
 impl Scenario {
-    /// Reads a script. Fails with its first bad line. A script without an administrator is bad at the line after its
-    /// last.
+    /// Reads a script. Fails with its first bad line. A script without an administrator is bad at the
+    /// line after its last.
     pub(crate) fn read(alloc: Global, text: &[u8]) -> Result<Scenario, ScriptError> {
         let mut draft = Draft::new(alloc);
         let mut line = 1u64;

@@ -26,7 +26,8 @@ pub(crate) struct ScriptStep {
 }
 
 impl ScriptStep {
-    /// Reads a line `SESSION TEXT`. Returns `None` if the session's user has no user name: nobody knows that user.
+    /// Reads a line `SESSION TEXT`. Returns `None` if the session's user has no user name: nobody knows
+    /// that user.
     pub(crate) fn read(
         alloc: Global,
         at: Moment,

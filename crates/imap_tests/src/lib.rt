@@ -1,7 +1,8 @@
-//! Tests of the worlds of mailboxes, of what users see of them, of the commands, and of the machine that carries these
-//! out.
+//! Tests of the worlds of mailboxes, of what users see of them, of the commands, and of the machine that
+//! carries these out.
 //!
-//! They stand in a crate of their own, since a crate that has tests is proved twice: once without and once with them.
+//! They stand in a crate of their own, since a crate that has tests is proved twice: once without and
+//! once with them.
 #![tactic(auto)]
 
 #[cfg(test)]

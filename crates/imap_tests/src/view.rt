@@ -8,8 +8,8 @@ use std::alloc::Global;
 use std::process::Abort;
 use std::test::Fail;
 
-/// A mailbox on which bob holds `l` alone. Below it bob sees a mailbox on which he holds `k`, and neither the one
-/// beside that nor the one below it.
+/// A mailbox on which bob holds `l` alone. Below it bob sees a mailbox on which he holds `k`, and
+/// neither the one beside that nor the one below it.
 fn world_of_bob(alloc: Global, world: &mut World) -> Result<(), Fail> {
     const NAMES: [&[u8]; 4] = [b"Shared/V", b"Shared/V/A", b"Shared/V/W", b"Shared/V/W/X"];
     for &text in &NAMES {

@@ -4,7 +4,7 @@ use Rattle.imap_print.specs.declared.response.Refusal.{Refusal}
 use Rattle.imap_print.specs.declared.response.Refusal.TheVariants.{NonExistent, NoPerm}
 use Rattle.imap_rights.specs.Rights.{has_any, lookup}
 
--- why a command is refused whose user holds these rights and lacks another. Without `l` it is as if there were no
--- mailbox (section 6)
+-- why a command is refused whose user holds these rights and lacks another. Without `l` it is as if
+-- there were no mailbox (section 6)
 abbrev pub missing_right_refusal : (rights : ℕ) → Refusal
 missing_right_refusal rights = if has_any rights lookup then NoPerm else NonExistent

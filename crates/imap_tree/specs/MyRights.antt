@@ -1,4 +1,5 @@
--- MYRIGHTS (RFC 4314, section 3.5). A mailbox that isn't there and one that isn't seen are answered alike (section 6).
+-- MYRIGHTS (RFC 4314, section 3.5). A mailbox that isn't there and one that isn't seen are answered
+-- alike (section 6).
 use Rattle.std.specs.Prelude.{ℕ, List, [], ◌∷◌, Option, Some, None}
 use Rattle.std.specs.FinMap as map
 use Rattle.imap_answer.specs.Answer.{Answer, done_after, refusal}

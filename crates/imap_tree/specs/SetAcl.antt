@@ -20,7 +20,8 @@ abbrev pub keeps_entry : (identifier : List ℕ) → RightsChange → Option Acl
 keeps_entry identifier change None = true
 keeps_entry identifier change (Some acl) = entry_after acl identifier change == entry acl identifier
 
--- what is no identifier can have no entry, and a list may be too full for one. Rights that stay are not written
+-- what is no identifier can have no entry, and a list may be too full for one. Rights that stay are not
+-- written
 abbrev pub set_rights_by : View → (tag : List ℕ) → Name → RightsChange → Option (List ℕ) → Answer
 set_rights_by view tag name change None = refusal tag Cannot
 set_rights_by view tag name change (Some identifier) =
@@ -30,7 +31,8 @@ set_rights_by view tag name change (Some identifier) =
 
 abbrev pub set_rights_of_name : View → (tag identifier : List ℕ) → RightsChange → Name → Answer
 set_rights_of_name view tag identifier change name =
-    if has_any (rights_in view name) administer then set_rights_by view tag name change (identifier_read identifier)
+    if has_any (rights_in view name) administer
+    then set_rights_by view tag name change (identifier_read identifier)
     else refusal tag (missing_right_refusal (rights_in view name))
 
 abbrev pub set_rights_answer : View → (tag mailbox identifier : List ℕ) → RightsChange → Answer
@@ -43,7 +45,8 @@ set_acl_by view tag mailbox identifier None = refusal tag Malformed
 set_acl_by view tag mailbox identifier (Some change) = set_rights_answer view tag mailbox identifier change
 
 abbrev pub set_acl_answer : View → (tag mailbox identifier rights : List ℕ) → Answer
-set_acl_answer view tag mailbox identifier rights = set_acl_by view tag mailbox identifier (rights_read rights)
+set_acl_answer view tag mailbox identifier rights =
+    set_acl_by view tag mailbox identifier (rights_read rights)
 
 abbrev pub delete_acl_answer : View → (tag mailbox identifier : List ℕ) → Answer
 delete_acl_answer view tag mailbox identifier =

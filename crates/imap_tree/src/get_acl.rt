@@ -59,7 +59,8 @@ fn printed_entries(alloc: Global, entries: &[Entry]) -> Result<Vec<AclEntry>, Al
 }
 
 fn printed_entry(alloc: Global, entry: &Entry) -> Result<AclEntry, AllocError>
-    ensures entry { IfOk result (λ printed. printed ≡ specs.acl_entry (entry.now.identifier, bits entry.now.rights)) }
+    ensures entry { IfOk result
+        (λ printed. printed ≡ specs.acl_entry (entry.now.identifier, bits entry.now.rights)) }
     ensures plain { IsPlain entry.now.identifier }
 {
     Ok(AclEntry {

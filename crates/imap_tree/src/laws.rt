@@ -10,8 +10,8 @@ ghost use Rattle.imap_tree.specs.MyRights.{my_rights_answer};
 ghost use Rattle.imap_tree.specs.Rename.{rename_answer};
 ghost use Rattle.imap_tree.specs.SetAcl.{delete_acl_answer, set_acl_answer};
 
-/// In two worlds that are alike to its user each command is answered alike, and leaves them alike to that user, though
-/// hidden mailboxes may differ and move.
+/// In two worlds that are alike to its user each command is answered alike, and leaves them alike to
+/// that user, though hidden mailboxes may differ and move.
 pub fn commands_are_alike()
     ensures create { (tag mailbox : List ℕ) → AnswersAlike (λ view. create_answer view tag mailbox) }
     ensures delete { (tag mailbox : List ℕ) → AnswersAlike (λ view. delete_answer view tag mailbox) }

@@ -1,5 +1,5 @@
-//! Commands on the tree of mailboxes and on access control lists: CREATE, DELETE and RENAME (RFC 9051, sections 6.3.4
-//! to 6.3.6), SETACL, DELETEACL, GETACL, LISTRIGHTS and MYRIGHTS (RFC 4314, section 3).
+//! Commands on the tree of mailboxes and on access control lists: CREATE, DELETE and RENAME (RFC 9051,
+//! sections 6.3.4 to 6.3.6), SETACL, DELETEACL, GETACL, LISTRIGHTS and MYRIGHTS (RFC 4314, section 3).
 //!
 //! Each command is a function from what its user may see to an answer.
 #![tactic(auto)]

@@ -1,7 +1,7 @@
 //! The program `imapd`: an IMAP server for shared mailboxes.
 //!
-//! `imapd script` reads a script from standard input, runs it on the server's machine, and writes what each session
-//! was told to standard output.
+//! `imapd script` reads a script from standard input, runs it on the server's machine, and writes what
+//! each session was told to standard output.
 #![tactic(auto)]
 
 mod command_line;

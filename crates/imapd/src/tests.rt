@@ -1,3 +1,5 @@
+//! Tests of the program: command lines, exit statuses, inputs and outputs that fail, and runs compared.
+
 mod faults;
 mod isolation;
 

@@ -1,5 +1,5 @@
--- Commands of any state (RFC 9051, section 6.1), and those that have no place in a session that is authenticated when
--- it begins (section 6.2).
+-- Commands of any state (RFC 9051, section 6.1), and those that have no place in a session that is
+-- authenticated when it begins (section 6.2).
 use Rattle.std.specs.Prelude.{ℕ, List, [], ◌∷◌}
 use Rattle.imap_answer.specs.Answer.{Answer, done, done_after, refusal}
 use Rattle.imap_print.specs.declared.response.Response.TheVariants as response

@@ -22,8 +22,8 @@ ann.1 > * BYE logging out
 ann.1 > a2 OK done
 ";
 
-/// Gives a text in pieces of at most 16 octets. The read after the first `reads` fails with `error`, and all later ones
-/// too if `is_lasting`.
+/// Gives a text in pieces of at most 16 octets. The read after the first `reads` fails with `error`, and
+/// all later ones too if `is_lasting`.
 #[derive(Drop)]
 struct Source<'a> {
     text: &'a [u8],
