@@ -1,3 +1,4 @@
+-- Commands: their names, what spells each request, and the one spelling that is written.
 pub mod Verb
 pub mod commands
 pub mod Reading

@@ -4,7 +4,8 @@ use Rattle.std.specs.List.{AllByRecursion}
 use Rattle.imap_lex.specs.declared.frame.Frame.TheVariants.{Whole}
 use Rattle.imap_lex.specs.Framing.{awaiting, start, run}
 use Rattle.imap_lex.specs.Limits.{max_command_octets}
-use Rattle.imap_lex.specs.Stream.{Section, IsMarkedLine, IsLastLine, IsShort, sections_octets, sections_frames, outside, inside}
+use Rattle.imap_lex.specs.Stream.{Section, IsMarkedLine, IsLastLine, IsShort, sections_octets}
+use Rattle.imap_lex.specs.Stream.{sections_frames, outside, inside}
 use Rattle.imap_grammar.specs.declared.command.Command.{Command}
 use Rattle.imap_grammar.specs.declared.request.Request.TheVariants as request
 use Rattle.imap_grammar.specs.Spells.{Spells}

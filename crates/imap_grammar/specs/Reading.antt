@@ -14,7 +14,8 @@ use Rattle.imap_grammar.specs.commands.Argument.{argument}
 use Rattle.imap_grammar.specs.commands.Enable.{enable}
 use Rattle.imap_grammar.specs.commands.List.{list}
 use Rattle.imap_grammar.specs.commands.Login.{any_arguments}
-use Rattle.imap_grammar.specs.commands.Mailboxes.{status}
+use Rattle.imap_grammar.specs.declared.commands.mailboxes.OneMailbox.TheVariants as on
+use Rattle.imap_grammar.specs.commands.Mailboxes.{one_mailbox, status}
 use Rattle.imap_grammar.specs.commands.Messages.{copy, move, fetch, search, store, uid_command}
 use Rattle.imap_grammar.specs.commands.Select.{parameters}
 
@@ -25,8 +26,8 @@ arguments verb.Authenticate = any_arguments
 arguments verb.Capability = give commands.Capability
 arguments verb.Close = give commands.Close
 arguments verb.Copy = copy Sequence
-arguments verb.Create = do mailbox ← argument; give (commands.Create mailbox)
-arguments verb.Delete = do mailbox ← argument; give (commands.Delete mailbox)
+arguments verb.Create = one_mailbox on.Create
+arguments verb.Delete = one_mailbox on.Delete
 arguments verb.DeleteAcl = do
   mailbox ← argument
   identifier ← argument
@@ -35,7 +36,7 @@ arguments verb.Enable = enable
 arguments verb.Examine = do mailbox ← argument; given ← parameters; give (commands.Examine mailbox given)
 arguments verb.Expunge = give commands.Expunge
 arguments verb.Fetch = fetch Sequence
-arguments verb.GetAcl = do mailbox ← argument; give (commands.GetAcl mailbox)
+arguments verb.GetAcl = one_mailbox on.GetAcl
 arguments verb.Idle = give commands.Idle
 arguments verb.List = list
 arguments verb.ListRights = do
@@ -45,7 +46,7 @@ arguments verb.ListRights = do
 arguments verb.Login = any_arguments
 arguments verb.Logout = give commands.Logout
 arguments verb.Move = move Sequence
-arguments verb.MyRights = do mailbox ← argument; give (commands.MyRights mailbox)
+arguments verb.MyRights = one_mailbox on.MyRights
 arguments verb.Namespace = give commands.Namespace
 arguments verb.Noop = give commands.Noop
 arguments verb.Rename = do from ← argument; to ← argument; give (commands.Rename from to)
@@ -59,10 +60,10 @@ arguments verb.SetAcl = do
 arguments verb.StartTls = any_arguments
 arguments verb.Status = status
 arguments verb.Store = store Sequence
-arguments verb.Subscribe = do mailbox ← argument; give (commands.Subscribe mailbox)
+arguments verb.Subscribe = one_mailbox on.Subscribe
 arguments verb.Uid = uid_command
 arguments verb.Unselect = give commands.Unselect
-arguments verb.Unsubscribe = do mailbox ← argument; give (commands.Unsubscribe mailbox)
+arguments verb.Unsubscribe = one_mailbox on.Unsubscribe
 
 -- CRLF, for this value
 abbrev pub ended : {A : Type 0} → A → Rule A

@@ -1,5 +1,6 @@
 -- The frame that is written of a request.
-use Rattle.std.specs.Prelude.{ℕ, Bool, true, false, ◌&&◌, List, [], ◌∷◌, ◌++◌, Option, Some, None, if◌then◌else◌}
+use Rattle.std.specs.Prelude.{ℕ, Bool, true, false, ◌&&◌, List, [], ◌∷◌, ◌++◌}
+use Rattle.std.specs.Prelude.{Option, Some, None, if◌then◌else◌}
 use Rattle.imap_lex.specs.Chars.{crlf}
 use Rattle.imap_lex.specs.CommandTag.{is_tag}
 use Rattle.imap_grammar.specs.declared.command.Command.{Command}

@@ -12,9 +12,8 @@ use crate::commands::enable::read_enable;
 use crate::commands::list::read_list;
 use crate::commands::login::read_any_arguments;
 use crate::commands::mailboxes::{
-    read_create, read_delete, read_delete_acl, read_examine, read_get_acl, read_list_rights,
-    read_my_rights, read_rename, read_select, read_set_acl, read_status, read_subscribe,
-    read_unsubscribe,
+    OneMailbox, read_delete_acl, read_examine, read_list_rights, read_one_mailbox, read_rename,
+    read_select, read_set_acl, read_status,
 };
 use crate::commands::messages::{
     read_copy, read_fetch, read_move, read_search, read_store, read_uid_command,
@@ -35,20 +34,20 @@ fn read_arguments(cursor: &mut Cursor<'_>, alloc: Global, verb: Verb) -> Result<
         Verb::Capability => Ok(Command::Capability),
         Verb::Close => Ok(Command::Close),
         Verb::Copy => read_copy(cursor, alloc, Numbering::Sequence),
-        Verb::Create => read_create(cursor, alloc),
-        Verb::Delete => read_delete(cursor, alloc),
+        Verb::Create => read_one_mailbox(cursor, alloc, OneMailbox::Create),
+        Verb::Delete => read_one_mailbox(cursor, alloc, OneMailbox::Delete),
         Verb::DeleteAcl => read_delete_acl(cursor, alloc),
         Verb::Enable => read_enable(cursor, alloc),
         Verb::Examine => read_examine(cursor, alloc),
         Verb::Expunge => Ok(Command::Expunge),
         Verb::Fetch => read_fetch(cursor, alloc, Numbering::Sequence),
-        Verb::GetAcl => read_get_acl(cursor, alloc),
+        Verb::GetAcl => read_one_mailbox(cursor, alloc, OneMailbox::GetAcl),
         Verb::Idle => Ok(Command::Idle),
         Verb::List => read_list(cursor, alloc),
         Verb::ListRights => read_list_rights(cursor, alloc),
         Verb::Logout => Ok(Command::Logout),
         Verb::Move => read_move(cursor, alloc, Numbering::Sequence),
-        Verb::MyRights => read_my_rights(cursor, alloc),
+        Verb::MyRights => read_one_mailbox(cursor, alloc, OneMailbox::MyRights),
         Verb::Namespace => Ok(Command::Namespace),
         Verb::Noop => Ok(Command::Noop),
         Verb::Rename => read_rename(cursor, alloc),
@@ -57,10 +56,10 @@ fn read_arguments(cursor: &mut Cursor<'_>, alloc: Global, verb: Verb) -> Result<
         Verb::SetAcl => read_set_acl(cursor, alloc),
         Verb::Status => read_status(cursor, alloc),
         Verb::Store => read_store(cursor, alloc, Numbering::Sequence),
-        Verb::Subscribe => read_subscribe(cursor, alloc),
+        Verb::Subscribe => read_one_mailbox(cursor, alloc, OneMailbox::Subscribe),
         Verb::Uid => read_uid_command(cursor, alloc),
         Verb::Unselect => Ok(Command::Unselect),
-        Verb::Unsubscribe => read_unsubscribe(cursor, alloc),
+        Verb::Unsubscribe => read_one_mailbox(cursor, alloc, OneMailbox::Unsubscribe),
     }
 }
 

@@ -3,7 +3,8 @@
 ghost use Rattle.std.specs.Prelude.{◌≡◌, ◌++◌, ℕ, List, OnOk, IfOk, IfSome, IfNone, option_map};
 ghost use Rattle.imap_lex.specs.CommandTag.{is_tag};
 ghost use Rattle.imap_grammar.specs.Spells.{Spells, request_read};
-ghost use Rattle.imap_grammar.specs.Writing.{arguments_fit, arguments_text, command_text, request_fits, request_text, written};
+ghost use Rattle.imap_grammar.specs.Writing.{arguments_fit, arguments_text, command_text};
+ghost use Rattle.imap_grammar.specs.Writing.{request_fits, request_text, written};
 
 use crate::command::Command;
 use crate::commands::append::{append_fits, push_append};

@@ -8,7 +8,8 @@ crlf = 13 ∷ 10 ∷ []
 -- ASTRING-CHAR: what ASCII prints, but for the space and ( ) { % * " \
 abbrev pub is_astring_char : ℕ → Bool
 is_astring_char b =
-    nat_lt 32 b && nat_lt b 127 && not (b == 40 || b == 41 || b == 123 || b == 37 || b == 42 || b == 34 || b == 92)
+    nat_lt 32 b && nat_lt b 127
+    && not (b == 40 || b == 41 || b == 123 || b == 37 || b == 42 || b == 34 || b == 92)
 
 -- the characters of a tag: ASTRING-CHAR except +
 abbrev pub is_tag_char : ℕ → Bool

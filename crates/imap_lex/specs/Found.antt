@@ -1,5 +1,6 @@
 -- How a piece goes on with a command, and the state that the fields of a framer give.
-use Rattle.std.specs.Prelude.{ℕ, ◌+◌, ◌-◌, ◌<◌, ◌≤◌, Bool, List, [], ◌∷◌, ◌++◌, length, take, drop, if◌then◌else◌}
+use Rattle.std.specs.Prelude.{ℕ, ◌+◌, ◌-◌, ◌<◌, ◌≤◌, Bool, List, [], ◌∷◌, ◌++◌}
+use Rattle.std.specs.Prelude.{length, take, drop, if◌then◌else◌}
 use Rattle.imap_lex.specs.declared.place.Place.{Place}
 use Rattle.imap_lex.specs.declared.reading.Found.{Found}
 use Rattle.imap_lex.specs.declared.reading.Found.TheVariants.{Unended, Ended, HungUp}
@@ -16,7 +17,8 @@ IsFound line piece (Unended p count) = IsPlace p × (count ≤ line + piece)
 IsFound line piece (Ended len e) = (0 < len) × (len ≤ piece)
 IsFound line piece HungUp = Unit {0}
 
--- the outcome for a command with these octets, if `so_far` has come of its last line, after the frames before its end
+-- the outcome for a command with these octets, if `so_far` has come of its last line,
+-- after the frames before its end
 abbrev pub found_outcome : ℕ → (octets so_far piece : List ℕ) → Found → Outcome
 found_outcome limit octets so_far piece (Unended p count) =
     goes_on limit [] (begun (octets ++ piece) (last_octets count (so_far ++ piece)) p)
@@ -26,4 +28,5 @@ found_outcome limit octets so_far piece HungUp = record { frames = []; next = hu
 
 -- the state that the fields of a framer give
 abbrev pub framing : Bool → ℕ → List ℕ → ℕ → Place → Framing
-framing closed limit held line p = if closed then hung_up else awaiting limit (begun held (last_octets line held) p)
+framing closed limit held line p =
+    if closed then hung_up else awaiting limit (begun held (last_octets line held) p)

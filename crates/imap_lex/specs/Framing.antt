@@ -1,5 +1,6 @@
 -- What each octet of a stream does to a framer (RFC 9051, sections 2.2.1 and 4.3; RFC 7888, section 4).
-use Rattle.std.specs.Prelude.{ℕ, ◌+◌, ◌-◌, min, List, [], ◌∷◌, ◌++◌, nat_lt, eqb, if◌then◌else◌, Option, Some, None}
+use Rattle.std.specs.Prelude.{ℕ, ◌+◌, ◌-◌, min, List, [], ◌∷◌, ◌++◌, nat_lt, eqb}
+use Rattle.std.specs.Prelude.{if◌then◌else◌, Option, Some, None}
 use Rattle.std.specs.List.{ends_with}
 use Rattle.imap_lex.specs.declared.frame.Frame.{Frame}
 use Rattle.imap_lex.specs.declared.frame.Frame.TheVariants.{Whole, Continue, Reject, Hangup}
@@ -13,7 +14,8 @@ pub data Part : Type 0 where
   line : (octets : List ℕ) → Part
   literal : (left : ℕ) → Part
 
--- a command so far: its octets, how many of them are outside literals, and how many more its literals may have
+-- a command so far: its octets, how many of them are outside literals, and how
+-- many more its literals may have
 pub record Begun : Type 0 where
   pub octets : List ℕ
   pub part : Part
@@ -76,7 +78,8 @@ in_line limit b octets =
 abbrev pub part_outcome : ℕ → List ℕ → ℕ → ℕ → Part → ℕ → Outcome
 part_outcome limit octets outside room (line so_far) b =
     let more = so_far ++ b ∷ [] in
-    in_line limit (record { octets = octets ++ b ∷ []; part = line more; outside = outside + 1; room = room }) more
+    in_line limit
+    (record { octets = octets ++ b ∷ []; part = line more; outside = outside + 1; room = room }) more
 part_outcome limit octets outside room (literal left) b =
     goes_on limit []
     (record { octets = octets ++ b ∷ []; part = part_of_size (left - 1); outside = outside; room = room })

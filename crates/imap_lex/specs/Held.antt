@@ -3,7 +3,8 @@ use Rattle.std.specs.Prelude.{ℕ, ◌-◌, ◌^◌, min}
 use Rattle.imap_lex.specs.declared.mark.Mark.{Mark}
 use Rattle.imap_lex.specs.declared.mark.Tail.{Tail}
 use Rattle.imap_lex.specs.declared.mark.Tail.TheVariants.{Text, Brace, Digits, Plus, Closed, Cr, Crlf}
-use Rattle.imap_lex.specs.Mark.{Announced, LineTail, text, brace, digits, plus, closed, behind_cr, behind_crlf}
+use Rattle.imap_lex.specs.Mark.{Announced, LineTail, text, brace, digits, plus}
+use Rattle.imap_lex.specs.Mark.{closed, behind_cr, behind_crlf}
 
 abbrev pub held_size : ℕ → ℕ
 held_size n = min n (2 ^ 128 - 1)

@@ -1,3 +1,4 @@
+-- The stream of octets from a client: characters, marks of literals, commands and their tags.
 pub mod Chars
 pub mod CommandTag
 pub mod Limits

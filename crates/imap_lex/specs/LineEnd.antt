@@ -1,5 +1,6 @@
 -- How a piece of a stream goes on with a line.
-use Rattle.std.specs.Prelude.{◌≡◌, if◌then◌else◌, Option, Some, None, option_map, ◌+◌, ℕ, ◌-◌, ◌<◌, ◌≤◌, true, false, List, [], ◌∷◌, ◌++◌, eqb, length, take}
+use Rattle.std.specs.Prelude.{◌≡◌, if◌then◌else◌, Option, Some, None, option_map, ◌+◌, ℕ, ◌-◌, ◌<◌, ◌≤◌}
+use Rattle.std.specs.Prelude.{true, false, List, [], ◌∷◌, ◌++◌, eqb, length, take}
 use Rattle.std.specs.List.{ends_with, starts_with}
 use Rattle.imap_lex.specs.declared.line.LineEnd.{LineEnd}
 use Rattle.imap_lex.specs.declared.line.LineEnd.TheVariants.{After, Missing, TooLong}
@@ -8,7 +9,8 @@ use Rattle.imap_lex.specs.Framing.{crlf}
 -- the length of the line with which octets begin, its CRLF counted
 abbrev pub line_length : List ℕ → Option ℕ
 line_length [] = None
-line_length (b ∷ bs) = if starts_with eqb (b ∷ bs) crlf then Some 2 else option_map (λ len. len + 1) (line_length bs)
+line_length (b ∷ bs) =
+    if starts_with eqb (b ∷ bs) crlf then Some 2 else option_map (λ len. len + 1) (line_length bs)
 
 -- No CRLF comes with any of these octets after `front`.
 abbrev pub IsUnended : List ℕ → List ℕ → Type 0

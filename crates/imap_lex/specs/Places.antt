@@ -21,7 +21,8 @@ part_of so_far part.Line = line so_far
 part_of so_far (part.Literal left) = literal left
 
 abbrev pub begun : List ℕ → List ℕ → Place → Begun
-begun octets so_far p = record { octets = octets; part = part_of so_far p.part; outside = p.outside; room = p.room }
+begun octets so_far p =
+    record { octets = octets; part = part_of so_far p.part; outside = p.outside; room = p.room }
 
 -- a command with these octets and this part, at the place
 abbrev pub begun_with : Place → List ℕ → Part → Begun
@@ -66,6 +67,7 @@ turn_outcome limit octets turn.Hangup = hangs_up
 
 -- the outcome of a step for a command with these octets, if `so_far` has come of its last line
 abbrev pub step_outcome : ℕ → (octets so_far piece : List ℕ) → Step → Outcome
-step_outcome limit octets so_far piece (step.Unended p) = goes_on limit [] (begun (octets ++ piece) (so_far ++ piece) p)
+step_outcome limit octets so_far piece (step.Unended p) =
+    goes_on limit [] (begun (octets ++ piece) (so_far ++ piece) p)
 step_outcome limit octets so_far piece (step.Turn len t) =
     let o = turn_outcome limit (octets ++ take len piece) t in after o.frames (run o.next (drop len piece))

@@ -1,5 +1,6 @@
 -- What a stream of commands is (RFC 9051, sections 2.2.1, 4.3 and 9; RFC 7888, section 4).
-use Rattle.std.specs.Prelude.{◌≡◌, ◌≤◌, ◌<◌, ◌⊎◌, ℕ, ◌+◌, ◌-◌, true, false, List, [], ◌∷◌, ◌++◌, length, take, if◌then◌else◌, Some}
+use Rattle.std.specs.Prelude.{◌≡◌, ◌≤◌, ◌<◌, ◌⊎◌, ℕ, ◌+◌, ◌-◌, true, false, List, [], ◌∷◌}
+use Rattle.std.specs.Prelude.{◌++◌, length, take, if◌then◌else◌, Some}
 use Rattle.std.specs.List.{flat_map, AllByRecursion}
 use Rattle.imap_lex.specs.declared.frame.Frame.{Frame}
 use Rattle.imap_lex.specs.declared.frame.Frame.TheVariants.{Whole, Continue, Reject, Hangup}
@@ -7,7 +8,8 @@ use Rattle.imap_lex.specs.CommandTag.{tag_of}
 use Rattle.imap_lex.specs.Limits.{max_command_octets, max_unasked_octets}
 use Rattle.imap_lex.specs.LineEnd.{line_length}
 use Rattle.imap_lex.specs.Mark.{Announced, IsMarked}
-use Rattle.imap_lex.specs.Framing.{Part, line, Framing, awaiting, beginning, hung_up, crlf, part_of_size, after, run}
+use Rattle.imap_lex.specs.Framing.{Part, line, Framing, awaiting, beginning, hung_up}
+use Rattle.imap_lex.specs.Framing.{crlf, part_of_size, after, run}
 
 -- CRLF stands nowhere in the octets
 abbrev pub HasNoCrlf : List ℕ → Type 0
@@ -64,7 +66,8 @@ abbrev pub sections_frames : List Section → List Frame
 sections_frames [] = []
 sections_frames (s ∷ ss) = continue_frames s.mark ++ sections_frames ss
 
--- The sections with which a command begins are within its limits, with more octets outside literals and inside.
+-- The sections with which a command begins are within its limits, with more octets
+-- outside literals and inside.
 pub record IsBegun (limit : ℕ) (ss : List Section) (more_outside more_inside : ℕ) : Type 0 where
   pub each : AllByRecursion IsSection ss
   pub outside : outside ss + more_outside ≤ max_command_octets
@@ -78,7 +81,8 @@ pub data Item : Type 0 where
 abbrev pub IsItem : ℕ → Item → Type 0
 IsItem limit (command ss last) = IsBegun limit ss (length last) 0 × IsLastLine last
 IsItem limit (dropped ss last mark) =
-    IsBegun limit ss (length last) 0 × IsMarkedLine last mark × (mark.waits ≡ true) × (limit < inside ss + mark.size)
+    IsBegun limit ss (length last) 0 × IsMarkedLine last mark
+    × (mark.waits ≡ true) × (limit < inside ss + mark.size)
 
 abbrev pub item_octets : Item → List ℕ
 item_octets (command ss last) = sections_octets ss ++ last
@@ -88,8 +92,8 @@ abbrev pub item_frames : Item → List Frame
 item_frames (command ss last) = sections_frames ss ++ Whole (sections_octets ss ++ last) ∷ []
 item_frames (dropped ss last mark) = sections_frames ss ++ Reject (tag_of (sections_octets ss ++ last)) ∷ []
 
--- The octets after the last item: a part of a line, or of a literal; or an octet too many outside literals, or a
--- literal over its limit for which the client doesn't wait, and whatever follows.
+-- The octets after the last item: a part of a line, or of a literal; or an octet too many outside literals,
+-- or a literal over its limit for which the client doesn't wait, and whatever follows.
 pub data Ending : Type 0 where
   in_line : (sections : List Section) (so_far : List ℕ) → Ending
   in_literal : (sections : List Section) (part : Section) → Ending
@@ -122,7 +126,8 @@ ending_frames (too_large ss last mark unread) = sections_frames ss ++ Hangup ∷
 -- awaiting the rest of a command that goes on after its sections
 abbrev pub amid : ℕ → List Section → (more : List ℕ) → Part → (outside room : ℕ) → Framing
 amid limit ss more part outside room =
-    awaiting limit (record { octets = sections_octets ss ++ more; part = part; outside = outside; room = room })
+    awaiting limit
+    (record { octets = sections_octets ss ++ more; part = part; outside = outside; room = room })
 
 -- the state of a framer after the ending
 abbrev pub ending_left : ℕ → Ending → Framing
@@ -154,7 +159,8 @@ EachHasReading = (limit : ℕ) (stream : List ℕ) → (r : Reading) × IsReadin
 
 -- and no other
 abbrev pub HasOneReading : Type 0
-HasOneReading = (limit : ℕ) (r s : Reading) → IsReading limit r → IsReading limit s → octets_of r ≡ octets_of s → r ≡ s
+HasOneReading = (limit : ℕ) (r s : Reading) → IsReading limit r → IsReading limit s →
+    octets_of r ≡ octets_of s → r ≡ s
 
 -- A framer returns the frames of the reading, and holds the octets that make no item yet.
 abbrev pub FramesAsRead : Type 0

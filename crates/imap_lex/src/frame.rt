@@ -13,13 +13,14 @@ use std::mem;
 pub enum Frame {
     /// A command, with its literals and the CRLF that ends it.
     Whole(Octets),
-    /// The client waits to send a literal: the server is to send a continuation request (RFC 9051, section 7).
+    /// The client waits to send a literal: the server is to send a continuation request
+    /// (RFC 9051, section 7).
     Continue,
-    /// The client waits to send a literal that is over the limit. The command is dropped, and the next one begins after
-    /// the CRLF. The value is the command's tag, if it has one.
+    /// The client waits to send a literal that is over the limit. The command is dropped, and the next one
+    /// begins after the CRLF. The value is the command's tag, if it has one.
     Reject(Option<Tag>),
-    /// A command has too many octets outside its literals, or a literal for which the client doesn't wait is over the
-    /// limit. Nothing after this is read, and the connection is to be closed.
+    /// A command has too many octets outside its literals, or a literal for which the client doesn't wait is
+    /// over the limit. Nothing after this is read, and the connection is to be closed.
     Hangup,
 }
 
@@ -41,8 +42,8 @@ impl End {
         }
     }
 
-    /// Appends to `frames` the frame of the command `held` + `front`, then `later`. Takes the octets out of `held`. On
-    /// an error they stay there.
+    /// Appends to `frames` the frame of the command `held` + `front`, then `later`. Takes the octets out of
+    /// `held`. On an error they stay there.
     pub(crate) fn put_frame(
         self,
         alloc: Global,

@@ -38,7 +38,8 @@ impl Model for Framer {
 }
 
 impl Framer {
-    /// Returns a framer at the beginning of a stream. The literals of a command may have `max_octets` octets together.
+    /// Returns a framer at the beginning of a stream. The literals of a command may
+    /// have `max_octets` octets together.
     pub fn new(alloc: Global, max_octets: u64) -> Framer
         ensures { result ≡ beginning max_octets }
     {
@@ -51,12 +52,13 @@ impl Framer {
         }
     }
 
-    /// Returns the frames of `piece`, the next piece of the stream. Fails with `Memory` if memory runs out, and with
-    /// `Closed` after a hangup. After an error the framer is as before.
+    /// Returns the frames of `piece`, the next piece of the stream. Fails with `Memory` if memory runs out,
+    /// and with `Closed` after a hangup. After an error the framer is as before.
     ///
-    /// The pieces of a stream together take time in proportion to its octets, wherever it is cut. When a literal is
-    /// announced, room for it and for CRLF is reserved. So the octets of a literal that is at least as large as all of
-    /// its command before it are moved once, and a command that ends after this literal and CRLF has no spare room.
+    /// The pieces of a stream together take time in proportion to its octets, wherever it is cut. When a
+    /// literal is announced, room for it and for CRLF is reserved. So the octets of a literal that is at
+    /// least as large as all of its command before it are moved once, and a command that ends after this
+    /// literal and CRLF has no spare room.
     pub fn feed(&mut self, alloc: Global, piece: &[u8]) -> Result<Vec<Frame>, LexError>
         ensures frames { IfOk result (λ frames. frames.items ≡ (run self.old piece.now).frames) }
         ensures next { IfOk result (λ _. self.new ≡ (run self.old piece.now).next) }
@@ -92,8 +94,8 @@ impl Framer {
 
 /// Appends `piece` to `held`, with room for the rest of the literal that `place` is in and for CRLF after it.
 ///
-/// A literal that is at least as large as all before it has exactly this room. For a smaller one `held` grows as any
-/// `Vec` does, since each growth moves all that is held.
+/// A literal that is at least as large as all before it has exactly this room. For a smaller one `held` grows
+/// as any `Vec` does, since each growth moves all that is held.
 fn hold(held: &mut Vec<u8>, piece: &[u8], place: Place) -> Result<(), AllocError>
     ensures ok { OnOk result (held.new.items ≡ held.old.items ++ piece.now) }
     ensures err { OnErr result (held.new.items ≡ held.old.items) }

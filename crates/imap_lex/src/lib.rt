@@ -1,9 +1,9 @@
 //! A client's octets, cut into commands.
 //!
-//! The octets come in pieces of any size. A [`Framer`] takes the pieces and returns each whole command: its octets with
-//! its literals, up to and with the CRLF that ends it (RFC 9051, sections 2.2.1 and 4.3; RFC 7888). It also says when a
-//! client waits to send a literal. Where the pieces were cut makes no difference ([`laws`]). The crates above keep
-//! [`Octets`] and a [`Tag`] of a command.
+//! The octets come in pieces of any size. A [`Framer`] takes the pieces and returns each whole command: its
+//! octets with its literals, up to and with the CRLF that ends it (RFC 9051, sections 2.2.1 and 4.3; RFC
+//! 7888). It also says when a client waits to send a literal. Where the pieces were cut makes no difference
+//! ([`laws`]). The crates above keep [`Octets`] and a [`Tag`] of a command.
 #![tactic(auto)]
 
 mod chars;

@@ -14,7 +14,8 @@ pub(crate) enum LineEnd {
     TooLong,
 }
 
-/// Returns how `piece` goes on with the line whose first octets are `front` and which may have `room` octets more.
+/// Returns how `piece` goes on with the line whose first octets are `front` and
+/// which may have `room` octets more.
 pub(crate) fn line_end(front: &[u8], room: usize, piece: &[u8]) -> LineEnd
     ensures { IsLineEnd front.now room piece.now result }
 {
@@ -31,7 +32,8 @@ pub(crate) fn line_end(front: &[u8], room: usize, piece: &[u8]) -> LineEnd
     LineEnd::Missing
 }
 
-/// Returns the length of the line with which `octets` begins, its CRLF counted, or `None` if no CRLF stands in them.
+/// Returns the length of the line with which `octets` begins, its CRLF counted, or
+/// `None` if no CRLF stands in them.
 pub fn line_length(octets: &[u8]) -> Option<usize>
     ensures { result ≡ line_length octets.now }
 {

@@ -7,7 +7,8 @@ ghost use Rattle.imap_lex.specs.Held.{held_tail, held_mark};
 /// A literal that is to follow (RFC 9051, section 4.3; RFC 7888).
 #[derive(Clone, Copy, Debug)]
 pub struct Mark {
-    /// The number of octets that it announces. For a larger number it is `u128::MAX`, which is over any limit too.
+    /// The number of octets that it announces. For a larger number it is `u128::MAX`,
+    /// which is over any limit too.
     pub size: u128,
     /// Whether the client waits for a continuation request.
     pub waits: bool,

@@ -44,6 +44,7 @@ impl Octets {
         Ok(Octets(Bytes::copy_from_slice(alloc, octets)?))
     }
 
+    /// Returns the octets themselves.
     pub fn as_slice(&self) -> &[u8]
         ensures { result.now ≡ self.now }
     {

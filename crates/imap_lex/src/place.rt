@@ -1,10 +1,12 @@
 //! The place in a command up to which it has come.
 
 ghost use Rattle.std.specs.Prelude.{◌≡◌, ℕ, ◌<◌, ◌≤◌, List, [], length, option_map, Option, Some};
-ghost use Rattle.imap_lex.specs.Framing.{Part as BegunPart, awaiting, run, start, line_outcome, before_literal, part_of_size};
+ghost use Rattle.imap_lex.specs.Framing.{Part as BegunPart, awaiting, run, start, line_outcome};
+ghost use Rattle.imap_lex.specs.Framing.{before_literal, part_of_size};
 ghost use Rattle.imap_lex.specs.Mark.{Announced};
 ghost use Rattle.imap_lex.specs.Held.{held_mark};
-ghost use Rattle.imap_lex.specs.Places.{begun, begun_with, part_of, IsPlace, IsComing, IsStep, IsTurn, IsWithin, turn_outcome, step_outcome};
+ghost use Rattle.imap_lex.specs.Places.{begun, begun_with, part_of, IsPlace, IsComing, IsStep, IsTurn};
+ghost use Rattle.imap_lex.specs.Places.{IsWithin, turn_outcome, step_outcome};
 
 use crate::frame::End;
 use crate::line::{LineEnd, line_end};
@@ -13,7 +15,8 @@ use crate::mark::{Mark, line_mark};
 /// The most octets that a command may have outside its literals, line ends counted.
 pub const MAX_COMMAND_OCTETS: usize = 8192;
 
-/// The most octets of a literal for which the client doesn't wait (RFC 9051, section 4.3; RFC 7888, section 4).
+/// The most octets of a literal for which the client doesn't wait (RFC 9051,
+/// section 4.3; RFC 7888, section 4).
 pub const MAX_UNASKED_OCTETS: u64 = 4096;
 
 /// The part of a command that comes next.
@@ -167,7 +170,8 @@ impl Place {
         ensures stands { IsTurn result }
         ensures outcome { (limit : ℕ) (octets : List ℕ) (part : BegunPart) (announced : Announced) →
             mark ≡ held_mark announced →
-            turn_outcome limit octets result ≡ line_outcome limit (begun_with self octets part) (Some announced) }
+            turn_outcome limit octets result
+            ≡ line_outcome limit (begun_with self octets part) (Some announced) }
     {
         if mark.waits {
             if mark.size > u128::from(self.room) {

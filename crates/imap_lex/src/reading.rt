@@ -12,8 +12,8 @@ use std::alloc::AllocError;
 /// How a piece goes on with a command.
 #[derive(Clone, Copy)]
 pub(crate) enum Found {
-    /// The whole piece is of the command, which does not end with it. The number is that of the octets of the last line
-    /// that have come.
+    /// The whole piece is of the command, which does not end with it. The number is that of the octets
+    /// of the last line that have come.
     Unended(Place, usize),
     /// The command ends after this many octets of the piece.
     Ended(usize, End),

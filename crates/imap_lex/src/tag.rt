@@ -11,8 +11,8 @@ use imap_values::{Same, TryCopy};
 use std::alloc::{AllocError, Global};
 use std::marker::Model;
 
-/// The word with which a client begins a command and the server its answer (RFC 9051, section 9, `tag`): one tag
-/// character or more.
+/// The word with which a client begins a command and the server its answer (RFC 9051, section 9,
+/// `tag`): one tag character or more.
 ///
 /// A copy shares the octets.
 #[derive(Debug, Drop)]
@@ -43,7 +43,8 @@ impl Tag {
         Ok(Some(Tag(Octets::from_slice(alloc, octets)?)))
     }
 
-    /// Returns the tag with which the octets of a command begin, a space or CRLF after it, or `None` if there is none.
+    /// Returns the tag with which the octets of a command begin, a space or CRLF after
+    /// it, or `None` if there is none.
     pub fn of_command(alloc: Global, command: &[u8]) -> Result<Option<Tag>, AllocError>
         ensures tag { IfOk result (λ tag. tag ≡ tag_of command.now) }
         ensures err { OnErr result (IsSome (tag_of command.now)) }
@@ -55,6 +56,7 @@ impl Tag {
         Ok(Some(Tag(Octets::from_slice(alloc, tag)?)))
     }
 
+    /// Returns the tag's octets: one tag character or more (RFC 9051, section 9, `tag`).
     pub fn as_slice(&self) -> &[u8]
         ensures octets { result.now ≡ self.now }
         ensures valid { IsTag result.now }

@@ -16,12 +16,12 @@ use Rattle.imap_mailbox.proofs.Counts.{count_more}
 use Rattle.imap_mailbox.proofs.Rising.{rises_lower}
 use Rattle.imap_mailbox.proofs.Lending.{uids_lent}
 
-length-bs : (own : List SeenChange) → length (befores (map own_entry own)) ≡ length own
+pub length-bs : (own : List SeenChange) → length (befores (map own_entry own)) ≡ length own
 length-bs own = length-befores (map own_entry own) ∙ length-map own own_entry
 
 -- ---- rows
 
-latest_most : (low high j uid : ℕ) (own : List SeenChange) (found : Option (ℕ × Bool)) → AreInOrder low high (befores (map own_entry own)) → latest_number found < 2 + (high + j)
+pub latest_most : (low high j uid : ℕ) (own : List SeenChange) (found : Option (ℕ × Bool)) → AreInOrder low high (befores (map own_entry own)) → latest_number found < 2 + (high + j)
     → latest_number (latest_from j uid own found) < 2 + (high + (j + length own))
 latest_most low high j uid [] found h lt = omega (arith, lt)
 latest_most low high j uid (s ∷ own) found h lt =

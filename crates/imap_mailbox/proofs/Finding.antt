@@ -2,6 +2,7 @@
 use Rattle.std.proofs.Common.{◌≡◌, ◌≢◌, ℕ, zero, suc, ◌+◌, ◌<◌, ◌≤◌, eqb, ltb, Bool, true, false, cond, ◌||◌, List, [], ◌∷◌, length, map, get_or, set, Option, Some, None, option_map, unwrap_or, refl, sym, ap, ◌∙◌, arith, ⊎_elim}
 use Rattle.std.proofs.lemmas.Bool.{ne_eqb, eq-eqb, ltb-true, ltb-false, eqb-true, cases_lt}
 use Rattle.std.proofs.lemmas.List.{length-map}
+use Rattle.std.specs.List.{prefix_len}
 use Rattle.std.specs.List.Sorted.{IsNonDecreasingBy, IsPartitionPoint}
 use Rattle.imap_mailbox.specs.declared.flags.SharedFlags.{SharedFlags}
 use Rattle.imap_mailbox.specs.declared.message.Message.{Message}
@@ -108,6 +109,14 @@ count messages = length-map messages (λ (m : Message). m.uid)
 pub no_decrease : (low high : ℕ) (messages : List Message) → Rises low high (uids_in messages) → IsNonDecreasingBy (λ m. m.uid) messages
 no_decrease low high messages h i j d le lt =
     omega (arith, count messages, up low high (uids_in messages) i j 0 h le (omega (arith, count messages, lt)), uid_at messages i 0 d (omega arith), uid_at messages j 0 d lt)
+
+-- where a search stops is where the test fails first
+pub led : {X : Type 0} (p : X → Bool) (xs : List X) (i : ℕ) → i ≤ length xs → IsPartitionPoint (λ x. p x ≡ true) (λ x. p x ≡ false) xs i → i ≡ prefix_len p xs
+led p [] i le point = omega (arith, le)
+led p (x ∷ xs) zero le point = ap (λ b. cond b (1 + prefix_len p xs) 0) (sym (point.1 0 x (omega arith) (omega arith)))
+led p (x ∷ xs) (suc i) le point =
+    let rest = led p xs i (omega (arith, le)) (λ k d low high. point.0 (suc k) d (omega arith) (omega (arith, high)), λ k d low high. point.1 (suc k) d (omega (arith, low)) (omega (arith, high))) in
+    (let e : suc i ≡ 1 + prefix_len p xs = omega (arith, rest) in e) ∙ ap (λ b. cond b (1 + prefix_len p xs) 0) (sym (point.0 0 x (omega arith) (omega arith)))
 
 module _ (uid low high : ℕ) (messages : List Message) (i : ℕ) (h : Rises low high (uids_in messages)) (at : IsPartitionPoint (λ (m : Message). ltb m.uid uid ≡ true) (λ m. ltb m.uid uid ≡ false) messages i) where
   less : (k : ℕ) (d : Message) → k < i → k < length messages → get_or (uids_in messages) k 0 < uid

@@ -25,7 +25,7 @@ anothers_seen_is_hidden most user other r s uid seen apart = λ i. record {
 own_stays : (e : Event) (s : Summary) (user : List ℕ) → own_at (step e s).own user ≡ own_at s.own user
 own_stays e s user = ap (λ own. own_at own user) (own_after e s)
 
-shows_after : (user : List ℕ) (s : Summary) (e : Event) → IsSound s → IsGiven s.next (Shared e) → content_of user (step e s) ≡ content_after e (content_of user s)
+pub shows_after : (user : List ℕ) (s : Summary) (e : Event) → IsSound s → IsGiven s.next (Shared e) → content_of user (step e s) ≡ content_after e (content_of user s)
 shows_after user s e h given = λ i. record {
   next = next_after e s i;
   shared = shared_after e s i;
@@ -40,7 +40,7 @@ shows_after user s e h given = λ i. record {
     new_gone : gone_of (step e s) user ≡ gone_step (2 + (s.shared + length (own_at s.own user))) (Shared e) (gone_of s user)
     new_gone = ap (λ own. map (gone_in own) (step e s).gone) (own_stays e s user) ∙ sym (taken_step e s (own_at s.own user) (h.fits user))
 
-shows_marked : (user : List ℕ) (s : Summary) (uid : ℕ) (seen : Bool) → IsSound s → content_of user (with_seen user uid seen s) ≡ content_with_seen uid seen (content_of user s)
+pub shows_marked : (user : List ℕ) (s : Summary) (uid : ℕ) (seen : Bool) → IsSound s → content_of user (with_seen user uid seen s) ≡ content_with_seen uid seen (content_of user s)
 shows_marked user s uid seen h = λ i. record {
   next = s.next;
   shared = s.shared;
@@ -58,7 +58,7 @@ shows_marked user s uid seen h = λ i. record {
     new_gone : gone_of (with_seen user uid seen s) user ≡ gone_of s user
     new_gone = ap (λ own. map (gone_in own) s.gone) (own_at-same s.own user s.shared uid seen) ∙ sym (taken_stay (own_at s.own user) s.shared (h.fits user).order uid seen s.gone (taken_below 0 s.shared s.gone h.places))
 
-room_seen : (most : ℕ) (user : List ℕ) (s : Summary) → room_of most s ≡ room_in most (content_of user s)
+pub room_seen : (most : ℕ) (user : List ℕ) (s : Summary) → room_of most s ≡ room_in most (content_of user s)
 room_seen most user s = ap (λ n. room_by most n s.next s.shared) (sym (length-map s.messages (row_in (own_at s.own user))))
 
 pub event_is_seen : EventIsSeen

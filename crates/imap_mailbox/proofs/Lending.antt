@@ -1,5 +1,6 @@
 -- Messages that are lent.
-use Rattle.std.proofs.Common.{◌≡◌, ℕ, zero, suc, ◌+◌, ◌<◌, ◌≤◌, List, [], ◌∷◌, length, map, get_or, Option, Some, None, refl, ap, arith}
+use Rattle.std.proofs.Common.{◌≡◌, ℕ, zero, suc, ◌+◌, ◌<◌, ◌≤◌, ltb, cond, List, [], ◌∷◌, length, map, get_or, Option, Some, None, refl, ap, arith}
+use Rattle.std.specs.List.{prefix_len}
 use Rattle.std.specs.Option.{option_copied}
 use Rattle.std.specs.Borrow.{Bor}
 use Rattle.std.specs.FinMap as fin
@@ -8,6 +9,7 @@ use Rattle.imap_modseq.specs.Numbers.{max_events}
 use Rattle.imap_mailbox.specs.declared.own.SeenChange.{SeenChange}
 use Rattle.imap_mailbox.specs.declared.message.Message.{Message}
 use Rattle.imap_mailbox.specs.Owned.{Owned}
+use Rattle.imap_mailbox.specs.Rows.{Row}
 use Rattle.imap_mailbox.specs.History.{own_at}
 use Rattle.imap_mailbox.specs.Summary.{Summary, row_in, ArePlacesBelow, Rises, places_in, uids_in}
 use Rattle.imap_mailbox.specs.Held.{list_at, IsKept}
@@ -19,6 +21,10 @@ use Rattle.imap_mailbox.proofs.Keeping.{found_is, absent_is, order_of, few_of, l
 pub uids_lent : (own : List SeenChange) (messages : List Message) → uids_in messages ≡ row_uids (map (row_in own) messages)
 uids_lent own [] = refl
 uids_lent own (m ∷ messages) = ap (λ us. m.uid ∷ us) (uids_lent own messages)
+
+pub lower_lent : (uid : ℕ) (own : List SeenChange) (messages : List Message) → prefix_len (λ (m : Message). ltb m.uid uid) messages ≡ prefix_len (λ (r : Row). ltb r.uid uid) (map (row_in own) messages)
+lower_lent uid own [] = refl
+lower_lent uid own (m ∷ messages) = ap (λ n. cond (ltb m.uid uid) (1 + n) 0) (lower_lent uid own messages)
 
 pub lent_last : (messages : List Message) (own : List SeenChange) (i : ℕ) (d : Message) → IsLent messages own → i < length messages → (get_or messages i d).place ≤ max_events
 lent_last messages own i d h lt = let below = last_in (max_events + 1) messages i d h.place lt in omega (arith, below)

@@ -1,5 +1,5 @@
 -- The own changes of all users after one more.
-use Rattle.std.proofs.Common.{◌≡◌, ◌≤◌, ℕ, ◌+◌, arith, List, [], ◌∷◌, ◌++◌, true, false, Option, Some, None, unwrap_or, is_some, Result, Ok, Err, OnOk, refl, sym, ap, subst, ◌∙◌}
+use Rattle.std.proofs.Common.{◌≡◌, ℕ, List, [], ◌∷◌, ◌++◌, true, false, Option, Some, None, unwrap_or, is_some, Result, Ok, Err, OnOk, refl, sym, ap, subst, ◌∙◌}
 use Rattle.std.specs.Option.{option_map, option_copied_mut, OnSome}
 use Rattle.std.specs.Borrow.{MutBor}
 use Rattle.std.specs.FinMap as fin
@@ -9,7 +9,7 @@ use Rattle.imap_mailbox.specs.Owned.{if_any, owned_changes, changes_of}
 use Rattle.imap_mailbox.proofs.Values.{any_pushed, changes_in, changes_put, changes_same, get_set}
 use Rattle.imap_mailbox.specs.declared.own.SeenChange.{SeenChange}
 use Rattle.imap_mailbox.specs.Owned.{Owned}
-use Rattle.imap_mailbox.specs.Held.{lists, list_at, HasOwnRoom}
+use Rattle.imap_mailbox.specs.Held.{lists, list_at, list_room, own_room}
 
 list_in : (own : Rows Owned) (user : List ℕ) → list_at own user ≡ unwrap_or (option_map (λ (o : Owned). o.list) (fin.get own.map user)) []
 list_in own user = changes_in own.map user
@@ -30,8 +30,8 @@ module _ (old n : Rows Owned) (user : List ℕ) (found : MutBor Owned) (o : Owne
   pub same_lists : o.list ≡ found.now.list → lists n ≡ lists old
   same_lists e = ap lists lent ∙ changes_same old.map user o (ap if_any e ∙ sym (ap (option_and_then (owned_changes user)) was))
 
-  pub has_room : (more : ℕ) → more ≤ o.room → HasOwnRoom more (fin.get n.map user)
-  has_room more le = subst (λ (rows : Rows Owned). HasOwnRoom more (fin.get rows.map user)) (sym lent) (subst (HasOwnRoom more) (sym (get_set old.map user o)) le)
+  pub room_after : own_room n user ≡ o.room
+  room_after = ap (λ (rows : Rows Owned). own_room rows user) lent ∙ ap list_room (get_set old.map user o)
 
 pub on_ok : {A E : Type 0} (P Q : Type 0) (r : Result A E) → (P → Q) → OnOk r P → OnOk r Q
 on_ok P Q (Ok x) f h = f h
@@ -55,9 +55,5 @@ some_of (Some x) e is = absurd (cc is)
 
 -- the room of a list that was lent
 pub room_before : (own : Rows Owned) (user : List ℕ) (found : MutBor Owned) (r : Option (MutBor Owned)) → r ≡ Some found → option_copied_mut r ≡ fin.get own.map user
-    → (more : ℕ) → HasOwnRoom more (fin.get own.map user) → more ≤ found.now.room
-room_before own user found r is value more h = subst (HasOwnRoom more) (sym value ∙ ap option_copied_mut is) h
-
-pub room_less : (o : Option Owned) (more : ℕ) → HasOwnRoom (more + 1) o → HasOwnRoom more o
-room_less None more h = absurd h
-room_less (Some o) more h = omega (arith, h)
+    → own_room own user ≡ found.now.room
+room_before own user found r is value = ap list_room (sym value ∙ ap option_copied_mut is)

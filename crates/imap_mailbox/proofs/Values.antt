@@ -11,7 +11,7 @@ use Rattle.imap_user_map.specs.Rows.{Users}
 use Rattle.imap_user_map.proofs.Entries.{same_answers}
 use Rattle.imap_mailbox.specs.declared.own.SeenChange.{SeenChange}
 use Rattle.imap_mailbox.specs.Owned.{Owned, if_any, owned_changes, changes_of}
-use Rattle.imap_mailbox.proofs.KeptValues.{get-keep}
+use Rattle.imap_user_map.proofs.KeptValues.{get-keep}
 
 abbrev pub same_bytes : List ℕ → List ℕ → Bool
 same_bytes = eq_by_cmp (slice_cmp nat_cmp)

@@ -3,7 +3,7 @@ use Rattle.std.specs.Prelude.{ℕ, nat_lt, ◌≤◌, Bool, true, false, ◌||�
 use Rattle.imap_syntax.specs.declared.flag.Flag.{Flag}
 use Rattle.imap_syntax.specs.declared.flag.Flag.TheVariants as flag
 use Rattle.imap_mailbox.specs.declared.flags.SharedFlags.{SharedFlags}
-use Rattle.imap_mailbox.specs.Words.{with_word, without_word, with_words}
+use Rattle.imap_syntax.specs.Keywords.{with_word, without_word, with_words}
 
 abbrev pub no_flags : SharedFlags
 no_flags = record { answered = false; deleted = false; draft = false; flagged = false; keywords = [] }

@@ -1,5 +1,5 @@
 -- A mailbox with its room.
-use Rattle.std.specs.Prelude.{◌≢◌, ℕ, ◌+◌, ◌≤◌, List, [], ◌∷◌, length, Option, Some, None, unwrap_or, refl}
+use Rattle.std.specs.Prelude.{◌≢◌, ℕ, ◌≤◌, List, [], ◌∷◌, length, Option, Some, None, unwrap_or, refl}
 use Rattle.std.specs.Coded.{Coded, code_by, coded×, coded_ℕ, coded_list}
 use Rattle.std.specs.FinMap as fin
 use Rattle.imap_user_map.specs.Rows as users
@@ -15,28 +15,31 @@ use Rattle.imap_mailbox.specs.Rows.{Event, Added, FlagsSet, Expunged}
 use Rattle.imap_mailbox.specs.History.{own_at}
 use Rattle.imap_mailbox.specs.Summary.{Summary, IsSound}
 
--- the room is the number of messages that may be added, and of messages that may be expunged, without memory
+-- `add_room` is the number of messages that may be added without memory, and `expunge_room` the number of
+-- those that may be expunged
 pub record Held : Type 0 where
   pub messages : List Message
   pub gone : List GoneMessage
   pub next : ℕ
   pub shared : ℕ
   pub own : users.Rows Owned
-  pub room : ℕ
+  pub add_room : ℕ
+  pub expunge_room : ℕ
 
 abbrev pub held_code : Coded Held
 held_code =
-    code_by (List Message × (List GoneMessage × (ℕ × (ℕ × (users.Rows Owned × ℕ)))))
+    code_by (List Message × (List GoneMessage × (ℕ × (ℕ × (users.Rows Owned × (ℕ × ℕ))))))
     (coded× (coded_list message.the_row.coded) (coded× (coded_list gone_message.the_row.coded)
-    (coded× coded_ℕ (coded× coded_ℕ (coded× (users.rows_code owned_code) coded_ℕ)))))
-    (λ h. (h.messages, (h.gone, (h.next, (h.shared, (h.own, h.room))))))
+    (coded× coded_ℕ (coded× coded_ℕ (coded× (users.rows_code owned_code) (coded× coded_ℕ coded_ℕ))))))
+    (λ h. (h.messages, (h.gone, (h.next, (h.shared, (h.own, (h.add_room, h.expunge_room)))))))
     (λ t. record {
       messages = t.0;
       gone = t.1.0;
       next = t.1.1.0;
       shared = t.1.1.1.0;
       own = t.1.1.1.1.0;
-      room = t.1.1.1.1.1;
+      add_room = t.1.1.1.1.1.0;
+      expunge_room = t.1.1.1.1.1.1;
     }) (λ _. refl)
 
 -- each user's own changes
@@ -46,10 +49,13 @@ lists own = changes_of own.map
 abbrev pub list_at : users.Rows Owned → List ℕ → List SeenChange
 list_at own user = unwrap_or (fin.get (lists own) user) []
 
--- a list with room for n more own changes of the user
-abbrev pub HasOwnRoom : ℕ → Option Owned → Type 0
-HasOwnRoom n None = ⊥
-HasOwnRoom n (Some o) = n ≤ o.room
+abbrev pub list_room : Option Owned → ℕ
+list_room None = 0
+list_room (Some o) = o.room
+
+-- the number of own changes of the user that need no memory
+abbrev pub own_room : users.Rows Owned → List ℕ → ℕ
+own_room own user = list_room (fin.get own.map user)
 
 abbrev pub summary_with : List Message → List GoneMessage → ℕ → ℕ → users.Rows Owned → Summary
 summary_with messages gone next shared own =
@@ -78,8 +84,3 @@ abbrev pub SetsFewKeywords : Event → Type 0
 SetsFewKeywords (Added m) = HasFewKeywords m.flags
 SetsFewKeywords (FlagsSet uid flags) = HasFewKeywords flags
 SetsFewKeywords (Expunged uid) = Unit {0}
-
--- the room of the user's list is left, but for one change
-abbrev pub LeavesOwnRoom : List ℕ → (old new : users.Rows Owned) → Type 0
-LeavesOwnRoom user old new =
-    (more : ℕ) → HasOwnRoom (more + 1) (fin.get old.map user) → HasOwnRoom more (fin.get new.map user)

@@ -1,8 +1,10 @@
 -- Messages that are lent.
-use Rattle.std.specs.Prelude.{ℕ, ◌+◌, ◌≤◌, ◌<◌, nat_lt, slice_index_or, Bool, ◌==◌, List, [], ◌∷◌, length}
-use Rattle.std.specs.Prelude.{map, filter, Option, Some, None, option_map, if◌then◌else◌, refl}
+use Rattle.std.specs.Prelude.{◌≡◌, ℕ, ◌+◌, ◌≤◌, ◌<◌, nat_lt, slice_index_or, Bool, true, false, ◌==◌}
+use Rattle.std.specs.Prelude.{List, [], ◌∷◌, length, map, filter, Option, Some, None, option_map}
+use Rattle.std.specs.Prelude.{if◌then◌else◌, refl}
 use Rattle.std.specs.Coded.{Coded, code_by, coded×, coded_ℕ, coded_bool, coded_list}
 use Rattle.std.specs.Borrow.{Bor}
+use Rattle.std.specs.List.Sorted.{IsPartitionPoint}
 use Rattle.imap_syntax.specs.Moments.{Moment}
 use Rattle.imap_syntax.specs.contracts.date.DateTime as date_time
 use Rattle.imap_modseq.specs.Merge.{befores, AreInOrder}
@@ -59,6 +61,11 @@ pub record IsLent (messages : List Message) (own : List SeenChange) : Type 0 whe
 abbrev pub place_in : ℕ → List ℕ → Option ℕ
 place_in uid [] = None
 place_in uid (u ∷ uids) = if u == uid then Some 0 else option_map (λ i. i + 1) (place_in uid uids)
+
+-- the messages before the place have lower UIDs, and those from there on have not
+abbrev pub IsPlaceFor : ℕ → List Message → ℕ → Type 0
+IsPlaceFor uid messages place =
+    IsPartitionPoint (λ (m : Message). nat_lt m.uid uid ≡ true) (λ m. nat_lt m.uid uid ≡ false) messages place
 
 abbrev pub row_uids : List Row → List ℕ
 row_uids rows = map (λ r. r.uid) rows

@@ -1,12 +1,10 @@
 -- One user's own changes of \Seen, with their room.
-use Rattle.std.specs.Prelude.{◌≡◌, ℕ, eqb, Bool, List, [], ◌∷◌, Option, Some, None, refl}
-use Rattle.imap_mailbox.specs.Finite.{keep}
-use Rattle.std.specs.HashMap.{HashMap, get}
+use Rattle.std.specs.Prelude.{ℕ, List, [], ◌∷◌, Option, Some, None, refl}
+use Rattle.imap_user_map.specs.Finite.{keep}
 use Rattle.std.specs.Coded.{Coded, code_by, coded×, coded_ℕ, coded_list}
 use Rattle.imap_user_map.specs.Rows.{Users}
 use Rattle.imap_mailbox.specs.contracts.own.SeenChange as change
 use Rattle.imap_mailbox.specs.declared.own.SeenChange.{SeenChange}
-use Rattle.imap_mailbox.specs.Summary.{latest}
 
 -- the room is the number of changes that need no memory
 pub record Owned : Type 0 where
@@ -17,10 +15,6 @@ abbrev pub owned_code : Coded Owned
 owned_code =
     code_by (List SeenChange × ℕ) (coded× (coded_list change.the_row.coded) coded_ℕ)
     (λ o. (o.list, o.room)) (λ t. record { list = t.0; room = t.1 }) (λ _. refl)
-
--- the table has the last change of each UID
-abbrev pub AreLatest : {S : Type 0} → HashMap ℕ (ℕ × Bool) S → List SeenChange → Type 0
-AreLatest table own = (uid : ℕ) → get eqb table uid ≡ latest uid own
 
 -- the changes, if there are any
 abbrev pub if_any : List SeenChange → Option (List SeenChange)

@@ -1,9 +1,11 @@
 -- What a mailbox shows to a user, and how each change shows.
-use Rattle.std.specs.Prelude.{◌≡◌, ◌≢◌, ℕ, ◌+◌, ◌-◌, Bool, true, false, ◌||◌, List, length, Option, Some}
-use Rattle.std.specs.Prelude.{None, option_map, if◌then◌else◌}
+use Rattle.std.specs.Prelude.{◌≡◌, ◌≢◌, ℕ, ◌+◌, ◌-◌, Bool, true, false, ◌||◌, if◌then◌else◌}
+use Rattle.std.specs.Prelude.{List, [], ◌∷◌, length, Option, Some, None, option_map}
 use Rattle.imap_modseq.specs.Numbers.{first_number}
-use Rattle.imap_mailbox.specs.Rows.{Arrival, Event, Shared, SeenSet, Row, row_step, gone_step, next_step}
-use Rattle.imap_mailbox.specs.Rows.{IsGiven}
+use Rattle.imap_mailbox.specs.Rows.{Arrival, Event, Expunged, Shared, SeenSet, Row, row_step, gone_step}
+use Rattle.imap_mailbox.specs.Rows.{next_step, is_among, IsGiven}
+use Rattle.imap_mailbox.specs.Lent.{row_uids}
+use Rattle.imap_mailbox.specs.Expunging.{with_expunges}
 use Rattle.imap_mailbox.specs.History.{own_at, room_by}
 use Rattle.imap_mailbox.specs.Summary.{Summary, with_arrival, step, with_seen, rows_of, gone_of, room_of}
 use Rattle.imap_mailbox.specs.Summary.{IsSound}
@@ -102,3 +104,27 @@ OwnSeenIsSeen =
     let before = shown_to max_messages user r s in
     shown_to max_messages user r (with_seen user uid seen s)
     ≡ record { content = option_map (content_with_seen uid seen) before.content; room = before.room }
+
+-- ---- several messages that are expunged
+
+-- a UID that no message has changes nothing
+abbrev pub content_without : ℕ → Content → Content
+content_without uid c = if is_among uid (row_uids c.rows) then content_after (Expunged uid) c else c
+
+abbrev pub content_expunged : List ℕ → Content → Content
+content_expunged [] c = c
+content_expunged (uid ∷ uids) c = content_expunged uids (content_without uid c)
+
+abbrev pub expunges_seen : ℕ → List ℕ → Shown → Shown
+expunges_seen max_messages uids before = record {
+  content = option_map (content_expunged uids) before.content;
+  room = option_map (λ c. room_in max_messages (content_expunged uids c)) before.content;
+}
+
+-- to one who may read, they are a function of what was seen and of the UIDs
+abbrev pub ExpungesAreSeen : Type 0
+ExpungesAreSeen =
+    (max_messages : ℕ) (user : List ℕ) (r : Rights) (s : Summary) (uids : List ℕ)
+    → (r.read || r.admin) ≡ true → IsSound s
+    → shown_to max_messages user r (with_expunges uids s)
+    ≡ expunges_seen max_messages uids (shown_to max_messages user r s)

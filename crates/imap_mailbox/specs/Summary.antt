@@ -149,6 +149,10 @@ abbrev pub Rises : ℕ → ℕ → List ℕ → Type 0
 Rises low high [] = low ≤ high
 Rises low high (n ∷ ns) = (low ≤ n) × Rises (n + 1) high ns
 
+-- each is greater than the one before
+abbrev pub AreRising : List ℕ → Type 0
+AreRising uids = (low high : ℕ) × Rises low high uids
+
 abbrev pub uids_in : List Message → List ℕ
 uids_in messages = map (λ m. m.uid) messages
 

@@ -45,7 +45,7 @@ impl Mailbox {
         if has_too_many(&flags) {
             return Err(MailboxError::Limit);
         }
-        match self.reserve(1) {
+        match self.reserve(1, 0) {
             Ok(()) => Ok(self.add_reserved(date, octets, flags)),
             Err(_) => Err(MailboxError::Memory),
         }
@@ -88,7 +88,7 @@ impl Mailbox {
                 if self.shared_len() == MAX_EVENTS {
                     return Err(MailboxError::Limit);
                 }
-                match self.reserve(1) {
+                match self.reserve(0, 1) {
                     Ok(()) => {
                         self.remove(uid);
                         Ok(())

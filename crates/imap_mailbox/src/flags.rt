@@ -4,8 +4,7 @@ ghost use Rattle.std.specs.Prelude.{◌≡◌, OnOk, OnErr};
 ghost use Rattle.imap_mailbox.specs.Flags.{no_flags, with_flag, without_flag, with_flags_of};
 ghost use Rattle.imap_mailbox.specs.Calls.{same_flags};
 
-use crate::keywords::Keywords;
-use imap_syntax::Flag;
+use imap_syntax::{Flag, Keywords};
 use imap_values::{Same, TryCopy, same_five};
 use std::alloc::{AllocError, Global};
 

@@ -9,9 +9,11 @@ ghost use Rattle.imap_mailbox.specs.Bridge.{RowsAreThoseOfEvents, GoneAreThoseOf
 ghost use Rattle.imap_mailbox.specs.Bridge.{CountsAreThoseOfEvents};
 ghost use Rattle.imap_mailbox.specs.Bridge.{EventsAreSteps, ChangesAreSteps, LawfulStays};
 ghost use Rattle.imap_mailbox.specs.Bridge.{SummariesAreAdmitted};
+ghost use Rattle.imap_mailbox.specs.Brought.{EventsAreLater, SeenIsLater, ShownIsOrdered, AllToldIsBrought};
 ghost use Rattle.imap_mailbox.specs.Called.{CallsAreEvents, FlagsAreTested};
 ghost use Rattle.imap_mailbox.specs.Client.{ClientIsBroughtUp};
-ghost use Rattle.imap_mailbox.specs.Shown.{AnothersSeenIsHidden, AddIsSeenAsRoom, EventIsSeen, OwnSeenIsSeen};
+ghost use Rattle.imap_mailbox.specs.Shown.{AnothersSeenIsHidden, AddIsSeenAsRoom, EventIsSeen};
+ghost use Rattle.imap_mailbox.specs.Shown.{ExpungesAreSeen, OwnSeenIsSeen};
 
 /// The messages of the summary, as a user has them, are those that the user's events give, with flags and
 /// numbers.
@@ -60,6 +62,12 @@ pub fn event_is_seen()
     ensures { EventIsSeen }
 {}
 
+/// What a reader sees after several messages were expunged is a function of what was seen before and of their
+/// UIDs.
+pub fn expunges_are_seen()
+    ensures { ExpungesAreSeen }
+{}
+
 /// What a user sees after a change of the user's own `\Seen` is a function of what was seen before and of
 /// the change.
 pub fn own_seen_is_seen()
@@ -87,4 +95,25 @@ pub fn calls_are_events()
 /// event, are equal.
 pub fn flags_are_tested()
     ensures { FlagsAreTested }
+{}
+
+/// A session that was told of a mailbox up to a mod-sequence stays so after a shared event: what it knows
+/// agrees with all rows whose mod-sequence is not above.
+pub fn events_are_later()
+    ensures { EventsAreLater }
+{}
+
+/// And so it does after a change of the user's own `\Seen`.
+pub fn seen_is_later()
+    ensures { SeenIsLater }
+{}
+
+/// What a mailbox shows to a user has UIDs that rise, and no mod-sequence above HIGHESTMODSEQ.
+pub fn shown_is_ordered()
+    ensures { ShownIsOrdered }
+{}
+
+/// A session that was told of all messages is brought up to HIGHESTMODSEQ.
+pub fn all_told_is_brought()
+    ensures { AllToldIsBrought }
 {}

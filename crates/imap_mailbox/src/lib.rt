@@ -10,10 +10,13 @@
 #![tactic(auto)]
 
 mod calls;
+mod copies;
 mod error;
+mod expunging;
 mod flags;
 mod gone;
-mod keywords;
+mod known;
+mod latest;
 pub mod laws;
 mod mailbox;
 mod marks;
@@ -21,12 +24,13 @@ mod message;
 mod own;
 mod row;
 mod rows;
+mod status;
 
 pub use calls::MAX_KEYWORDS;
 pub use error::MailboxError;
 pub use flags::SharedFlags;
 pub use gone::{GoneUid, GoneUids};
-pub use keywords::Keywords;
+pub use known::KnownMessage;
 pub use mailbox::Mailbox;
 pub use message::{GoneMessage, Message};
 pub use own::SeenChange;

@@ -9,12 +9,15 @@ ghost use Rattle.imap_mailbox.specs.Rows.{WasGiven};
 ghost use Rattle.imap_mailbox.specs.History.{own_at, end_uid};
 ghost use Rattle.imap_mailbox.specs.Summary.{new_summary, with_arrival, with_flags, with_expunge, with_seen};
 ghost use Rattle.imap_mailbox.specs.Summary.{rows_of, gone_of, highest_of, room_of, is_there, latest};
-ghost use Rattle.imap_mailbox.specs.Summary.{latest_seen};
-ghost use Rattle.imap_mailbox.specs.Held.{summary_in, HasOwnRoom, LeavesOwnRoom, IsKept};
+ghost use Rattle.imap_mailbox.specs.Summary.{latest_seen, AreRising};
+ghost use Rattle.imap_mailbox.specs.Held.{summary_in, own_room, IsKept};
 ghost use Rattle.imap_mailbox.specs.Calls.{message_at, arrival, if_there};
+ghost use Rattle.imap_mailbox.specs.Expunging.{with_expunges};
 ghost use Rattle.imap_mailbox.specs.Lent.{gone_after_number};
 ghost use Rattle.imap_mailbox.specs.Order.{AreRowsInOrder, AreGoneInOrder};
 
+use crate::copies::{copy_items, copy_messages};
+use crate::expunging::{Rising, push_gone, remove_messages};
 use crate::flags::SharedFlags;
 use crate::gone::GoneUids;
 use crate::marks::{mark_own, reserve_own};
@@ -42,7 +45,7 @@ pub struct Mailbox {
 }
 
 impl Model for Mailbox {
-    ghost use Rattle.std.specs.Prelude.{◌-◌, min, vec_len};
+    ghost use Rattle.std.specs.Prelude.{◌-◌, vec_len};
     ghost use Rattle.std.specs.Vec.{vec_capacity};
     ghost use Rattle.imap_mailbox.specs.Held.{Held, held_code, summary_with, IsKept};
 
@@ -56,7 +59,8 @@ impl Model for Mailbox {
       next = m.next;
       shared = m.shared;
       own = m.own;
-      room = min (vec_capacity m.messages - vec_len m.messages) (vec_capacity m.gone - vec_len m.gone);
+      add_room = vec_capacity m.messages - vec_len m.messages;
+      expunge_room = vec_capacity m.gone - vec_len m.gone;
     } };
 
     ghost invariant = { λ m. IsKept (summary_with m.messages.items m.gone.items m.next m.shared m.own) };
@@ -76,27 +80,45 @@ impl Mailbox {
         }
     }
 
-    /// Makes room for `more` messages to be added and for `more` to be expunged.
-    pub fn reserve(&mut self, more: usize) -> Result<(), AllocError>
+    /// Returns a copy that shares octets and keywords. Its room may be another.
+    pub fn try_copy(&self, alloc: Global) -> Result<Mailbox, AllocError>
+        ensures { IfOk result (λ copy. summary_in copy ≡ summary_in self.now) }
+    {
+        let messages = copy_messages(alloc, &self.messages)?;
+        let gone = copy_items(alloc, &self.gone)?;
+        let own = self.own.try_copy(alloc)?;
+        Ok(Mailbox {
+            messages,
+            gone,
+            next: self.next,
+            shared: self.shared,
+            own,
+        })
+    }
+
+    /// Makes room for `added` messages to be added and for `expunged` to be expunged.
+    pub fn reserve(&mut self, added: usize, expunged: usize) -> Result<(), AllocError>
         ensures contents { summary_in self.new ≡ summary_in self.old }
         ensures own { self.new.own ≡ self.old.own }
-        ensures ok { OnOk result (more ≤ self.new.room) }
-        ensures room { self.old.room ≤ self.new.room }
+        ensures ok { OnOk result ((added ≤ self.new.add_room) × (expunged ≤ self.new.expunge_room)) }
+        ensures add_room { self.old.add_room ≤ self.new.add_room }
+        ensures expunge_room { self.old.expunge_room ≤ self.new.expunge_room }
     {
-        self.messages.reserve(more)?;
-        self.gone.reserve(more)
+        self.messages.reserve(added)?;
+        self.gone.reserve(expunged)
     }
 
     /// Adds a message, in room that is there, and returns its UID.
     pub fn add_reserved(&mut self, date: DateTime, octets: Octets, flags: SharedFlags) -> u32
-        requires room { 0 < self.old.room }
+        requires room { 0 < self.old.add_room }
         requires uids { self.old.next < end_uid }
         requires few { self.old.shared < max_events }
         requires keywords { HasFewKeywords flags }
         ensures contents { summary_in self.new
             ≡ with_arrival (arrival self.old.next date octets flags) (summary_in self.old) }
         ensures own { self.new.own ≡ self.old.own }
-        ensures room { self.old.room ≤ self.new.room + 1 }
+        ensures add_room { self.old.add_room ≤ self.new.add_room + 1 }
+        ensures expunge_room { self.new.expunge_room ≡ self.old.expunge_room }
         ensures uid { result ≡ self.old.next }
     {
         let uid = self.next;
@@ -120,7 +142,8 @@ impl Mailbox {
         ensures contents { summary_in self.new
             ≡ if_there uid (with_flags uid flags (summary_in self.old)) (summary_in self.old) }
         ensures own { self.new.own ≡ self.old.own }
-        ensures room { self.new.room ≡ self.old.room }
+        ensures add_room { self.new.add_room ≡ self.old.add_room }
+        ensures expunge_room { self.new.expunge_room ≡ self.old.expunge_room }
     {
         if self.contains(uid) {
             self.put_flags(uid, flags);
@@ -129,51 +152,74 @@ impl Mailbox {
 
     /// Expunges a message, in room that is there.
     pub fn expunge_reserved(&mut self, uid: u32)
-        requires room { 0 < self.old.room }
+        requires room { 0 < self.old.expunge_room }
         requires few { self.old.shared < max_events }
         ensures contents { summary_in self.new
             ≡ if_there uid (with_expunge uid (summary_in self.old)) (summary_in self.old) }
         ensures own { self.new.own ≡ self.old.own }
-        ensures room { self.old.room ≤ self.new.room + 1 }
+        ensures add_room { self.old.add_room ≤ self.new.add_room }
+        ensures expunge_room { self.old.expunge_room ≤ self.new.expunge_room + 1 }
     {
         if self.contains(uid) {
             self.remove(uid);
         }
     }
 
+    /// Expunges the messages with these UIDs, in this order, in room that is there. UIDs that no message has
+    /// change nothing. It takes one pass of the messages, and a search that halves for each message and UID.
+    pub fn expunge_all_reserved(&mut self, uids: &[u32])
+        requires rising { AreRising uids.now }
+        requires room { length uids.now ≤ self.old.expunge_room }
+        requires few { self.old.shared + length uids.now ≤ max_events }
+        ensures contents { summary_in self.new ≡ with_expunges uids.now (summary_in self.old) }
+        ensures own { self.new.own ≡ self.old.own }
+        ensures add_room { self.old.add_room ≤ self.new.add_room }
+        ensures expunge_room { self.old.expunge_room ≤ self.new.expunge_room + length uids.now }
+    {
+        let place = self.shared;
+        let next = push_gone(&mut self.gone, &self.messages, uids, place);
+        remove_messages(&mut self.messages, &Rising { uids });
+        self.shared = next;
+    }
+
     /// Sets a user's own `\Seen` of a message or takes it away, in room that is there.
     pub fn mark_seen_reserved(&mut self, user: &str, uid: u32, seen: bool)
-        requires room { HasOwnRoom 1 (map.get self.old.own.map user.now) }
+        requires room { 0 < own_room self.old.own user.now }
         requires few { length (own_at (summary_in self.old).own user.now) < max_events }
         ensures contents { summary_in self.new
             ≡ if_there uid (with_seen user.now uid seen (summary_in self.old)) (summary_in self.old) }
-        ensures own { LeavesOwnRoom user.now self.old.own self.new.own }
-        ensures room { self.new.room ≡ self.old.room }
+        ensures own_room { own_room self.old.own user.now ≤ own_room self.new.own user.now + 1 }
+        ensures add_room { self.new.add_room ≡ self.old.add_room }
+        ensures expunge_room { self.new.expunge_room ≡ self.old.expunge_room }
     {
         if self.contains(uid) {
             self.put_seen(user, uid, seen);
         }
     }
 
+    /// Sets the shared flags of a message that was added. It takes no room.
     pub(crate) fn put_flags(&mut self, uid: u32, flags: SharedFlags)
         requires few { self.old.shared < max_events }
         requires keywords { HasFewKeywords flags }
         ensures contents { summary_in self.new ≡ with_flags uid flags (summary_in self.old) }
         ensures own { self.new.own ≡ self.old.own }
-        ensures room { self.new.room ≡ self.old.room }
+        ensures add_room { self.new.add_room ≡ self.old.add_room }
+        ensures expunge_room { self.new.expunge_room ≡ self.old.expunge_room }
     {
         let place = self.shared;
         set_message_flags(&mut self.messages, uid, flags, place);
         self.shared = place + 1;
     }
 
+    /// Expunges a message that is there, in room that is there.
     pub(crate) fn remove(&mut self, uid: u32)
         requires there { is_there uid (summary_in self.old) ≡ true }
-        requires room { 0 < self.old.room }
+        requires room { 0 < self.old.expunge_room }
         requires few { self.old.shared < max_events }
         ensures contents { summary_in self.new ≡ with_expunge uid (summary_in self.old) }
         ensures own { self.new.own ≡ self.old.own }
-        ensures room { self.old.room ≤ self.new.room + 1 }
+        ensures add_room { self.old.add_room ≤ self.new.add_room }
+        ensures expunge_room { self.old.expunge_room ≤ self.new.expunge_room + 1 }
     {
         let place = self.shared;
         remove_message(&mut self.messages, uid);
@@ -181,23 +227,27 @@ impl Mailbox {
         self.shared = place + 1;
     }
 
+    /// Sets a user's own `\Seen` of a message that was added or takes it away, in room that is there.
     pub(crate) fn put_seen(&mut self, user: &str, uid: u32, seen: bool)
-        requires room { HasOwnRoom 1 (map.get self.old.own.map user.now) }
+        requires room { 0 < own_room self.old.own user.now }
         requires known { WasGiven self.old.next uid }
         requires few { length (own_at (summary_in self.old).own user.now) < max_events }
         ensures contents { summary_in self.new ≡ with_seen user.now uid seen (summary_in self.old) }
-        ensures own { LeavesOwnRoom user.now self.old.own self.new.own }
-        ensures room { self.new.room ≡ self.old.room }
+        ensures own_room { own_room self.old.own user.now ≤ own_room self.new.own user.now + 1 }
+        ensures add_room { self.new.add_room ≡ self.old.add_room }
+        ensures expunge_room { self.new.expunge_room ≡ self.old.expunge_room }
     {
         let before = self.shared;
         mark_own(&mut self.own, user, SeenChange { before, uid, seen });
     }
 
-    /// Makes room for `more` own changes of a user.
+    /// Makes room for `more` own changes of a user, each of which pays for one call of
+    /// [`mark_seen_reserved`](Mailbox::mark_seen_reserved).
     pub fn reserve_seen(&mut self, alloc: Global, user: &str, more: usize) -> Result<(), AllocError>
         ensures contents { summary_in self.new ≡ summary_in self.old }
-        ensures room { self.new.room ≡ self.old.room }
-        ensures ok { OnOk result (HasOwnRoom more (map.get self.new.own.map user.now)) }
+        ensures add_room { self.new.add_room ≡ self.old.add_room }
+        ensures expunge_room { self.new.expunge_room ≡ self.old.expunge_room }
+        ensures ok { OnOk result (more ≤ own_room self.new.own user.now) }
     {
         reserve_own(&mut self.own, alloc, user, more)
     }
@@ -209,8 +259,35 @@ impl Mailbox {
         ensures { result ≡ latest_seen (latest uid (own_at (summary_in self.now).own user.now)) }
     {
         match self.own.get(user) {
-            Some(own) => own.latest(uid).unwrap_or((0, false)).1,
+            Some(own) => own.is_seen(uid),
             None => false,
+        }
+    }
+
+    /// The messages, in the order of their UIDs.
+    pub fn messages(&self) -> &[Message]
+        ensures messages { result.now ≡ self.now.messages }
+        ensures valid { IsKept (summary_in self.now) }
+    {
+        self.messages.as_slice()
+    }
+
+    /// The messages that were expunged, in the order in which they went.
+    pub fn gone_messages(&self) -> &[GoneMessage]
+        ensures gone { result.now ≡ self.now.gone }
+        ensures valid { IsKept (summary_in self.now) }
+    {
+        self.gone.as_slice()
+    }
+
+    /// The user's changes of `\Seen`, in their order.
+    pub fn own_changes(&self, user: &str) -> &[SeenChange]
+        ensures changes { result.now ≡ own_at (summary_in self.now).own user.now }
+        ensures valid { IsKept (summary_in self.now) }
+    {
+        match self.own.get(user) {
+            Some(own) => own.as_slice(),
+            None => &[],
         }
     }
 

@@ -1,9 +1,9 @@
 //! The own changes of all users.
 
-ghost use Rattle.std.specs.Prelude.{◌≡◌, ◌+◌, ◌≤◌, [], ◌∷◌, ◌++◌, true, false, is_some, length, OnOk};
+ghost use Rattle.std.specs.Prelude.{◌≡◌, ◌+◌, ◌<◌, ◌≤◌, [], ◌∷◌, ◌++◌, true, false, is_some, length, OnOk};
 ghost use Rattle.std.specs.FinMap as map;
 ghost use Rattle.imap_modseq.specs.Numbers.{max_events};
-ghost use Rattle.imap_mailbox.specs.Held.{lists, list_at, HasOwnRoom, LeavesOwnRoom};
+ghost use Rattle.imap_mailbox.specs.Held.{lists, list_at, own_room};
 
 use crate::own::{OwnSeen, SeenChange};
 use imap_user_map::UserMap;
@@ -11,12 +11,12 @@ use std::alloc::{AllocError, Global};
 
 /// Appends a change to a user's own ones, in room that is there.
 pub(crate) fn mark_own(own: &mut UserMap<OwnSeen>, user: &str, change: SeenChange)
-    requires room { HasOwnRoom 1 (map.get own.old.map user.now) }
+    requires room { 0 < own_room own.old user.now }
     requires before { change.before ≤ max_events }
     requires few { length (list_at own.old user.now) ≤ max_events }
     ensures lists { lists own.new
         ≡ map.insert (lists own.old) user.now (list_at own.old user.now ++ change ∷ []) }
-    ensures room { LeavesOwnRoom user.now own.old own.new }
+    ensures room { own_room own.old user.now ≤ own_room own.new user.now + 1 }
 {
     match own.get_mut(user) {
         Some(list) => list.push_reserved(change),
@@ -32,7 +32,7 @@ pub(crate) fn reserve_own(
     more: usize,
 ) -> Result<(), AllocError>
     ensures lists { lists own.new ≡ lists own.old }
-    ensures ok { OnOk result (HasOwnRoom more (map.get own.new.map user.now)) }
+    ensures ok { OnOk result (more ≤ own_room own.new user.now) }
 {
     if own.contains(user) {
         return reserve_list(own, user, more);
@@ -45,7 +45,7 @@ pub(crate) fn reserve_own(
 fn reserve_list(own: &mut UserMap<OwnSeen>, user: &str, more: usize) -> Result<(), AllocError>
     requires { is_some (map.get own.old.map user.now) ≡ true }
     ensures lists { lists own.new ≡ lists own.old }
-    ensures ok { OnOk result (HasOwnRoom more (map.get own.new.map user.now)) }
+    ensures ok { OnOk result (more ≤ own_room own.new user.now) }
 {
     match own.get_mut(user) {
         Some(list) => list.reserve(more),

@@ -1,9 +1,10 @@
 //! Messages as a mailbox keeps them.
 
-ghost use Rattle.std.specs.Prelude.{◌≡◌, ◌≤◌, ◌==◌, ℕ, not, map, nat_lt, vec_len};
+ghost use Rattle.std.specs.Prelude.{◌≡◌, ◌≤◌, ◌==◌, not, map, length, nat_lt, vec_len};
+ghost use Rattle.std.specs.List.{prefix_len};
 ghost use Rattle.std.specs.Vec.{vec_capacity};
-ghost use Rattle.imap_mailbox.specs.Summary.{Rises, uids_in, without, flags_in};
-ghost use Rattle.imap_mailbox.specs.Lent.{place_in};
+ghost use Rattle.imap_mailbox.specs.Summary.{AreRising, uids_in, without, flags_in};
+ghost use Rattle.imap_mailbox.specs.Lent.{place_in, IsPlaceFor};
 
 use crate::flags::SharedFlags;
 use imap_lex::Octets;
@@ -21,23 +22,33 @@ pub struct Message {
 }
 
 /// A message that was expunged.
-#[derive(Drop)]
+#[derive(Clone, Copy)]
 pub struct GoneMessage {
     pub uid: u32,
     /// The place of the event by which it went.
     pub place: u64,
 }
 
-/// Returns the place of the message with the UID, by a search that halves.
-pub(crate) fn find_message(messages: &[Message], uid: u32) -> Option<usize>
-    requires { (low high : ℕ) × Rises low high (uids_in messages.now) }
-    ensures { result ≡ place_in uid (uids_in messages.now) }
+/// Returns the number of messages with a lower UID, by a search that halves.
+pub(crate) fn count_lower(messages: &[Message], uid: u32) -> usize
+    requires { AreRising (uids_in messages.now) }
+    ensures count { result ≡ prefix_len (λ m. nat_lt m.uid uid) messages.now }
+    ensures within { result ≤ length messages.now }
+    ensures point { IsPlaceFor uid messages.now result }
 {
-    let place = messages.partition_point(
+    messages.partition_point(
         |message: &Message| -> bool
             ensures { result ≡ nat_lt message.now.uid uid }
         { message.uid < uid },
-    );
+    )
+}
+
+/// Returns the place of the message with the UID, by a search that halves.
+pub(crate) fn find_message(messages: &[Message], uid: u32) -> Option<usize>
+    requires { AreRising (uids_in messages.now) }
+    ensures { result ≡ place_in uid (uids_in messages.now) }
+{
+    let place = count_lower(messages, uid);
     if place < messages.len() && messages[place].uid == uid {
         Some(place)
     } else {
@@ -65,7 +76,7 @@ pub(crate) fn set_message_flags(
     flags: SharedFlags,
     place: u64,
 )
-    requires { (low high : ℕ) × Rises low high (uids_in messages.old.items) }
+    requires { AreRising (uids_in messages.old.items) }
     ensures items { messages.new.items ≡ map (flags_in uid flags place) messages.old.items }
     ensures len { vec_len messages.new ≡ vec_len messages.old }
     ensures capacity { vec_capacity messages.new ≡ vec_capacity messages.old }

@@ -1,18 +1,20 @@
 //! Changes of the flag `\Seen`, which each user has apart.
 
-ghost use Rattle.std.specs.Prelude.{◌≡◌, ◌+◌, ◌<◌, ◌≤◌, [], ◌∷◌, ◌++◌, length, map, nat_le, OnOk};
+ghost use Rattle.std.specs.Prelude.{◌≡◌, ℕ, ◌+◌, ◌<◌, ◌≤◌, [], ◌∷◌, ◌++◌, length, map, OnOk};
 ghost use Rattle.imap_modseq.specs.Merge.{befores, AreInOrder};
 ghost use Rattle.imap_modseq.specs.Numbers.{max_events, own_before};
 ghost use Rattle.imap_mailbox.specs.History.{own_entry};
-ghost use Rattle.imap_mailbox.specs.Summary.{latest};
+ghost use Rattle.imap_mailbox.specs.Summary.{latest, latest_number, latest_seen};
 
-use imap_modseq::number_after;
+use crate::copies::copy_items;
+use crate::latest::{LastSeen, last_of, put_last};
+use imap_modseq::{OwnChange, count_before, number_after};
+use imap_values::TryCopy;
 use std::alloc::{AllocError, Global};
-use std::collections::HashMap;
 use std::marker::Model;
 
 /// A change of a user's own `\Seen`.
-#[derive(Drop)]
+#[derive(Clone, Copy)]
 pub struct SeenChange {
     /// The number of shared events before it.
     pub before: u64,
@@ -21,21 +23,29 @@ pub struct SeenChange {
     pub seen: bool,
 }
 
+impl OwnChange for SeenChange {
+    ghost before = { λ change. change.before };
+
+    fn events_before(&self) -> u64 {
+        self.before
+    }
+}
+
 /// The own changes of one user, in their order.
 #[derive(Drop)]
 pub struct OwnSeen {
     changes: Vec<SeenChange>,
 
-    // For each UID its last change: the mod-sequence, and whether the flag is set. So a row is found without
-    // a walk.
-    latest: HashMap<u32, (u64, bool)>,
+    // For each UID its last change, in the order of UIDs. A row is found by a search that halves: no choice
+    // of UIDs makes it slow.
+    latest: Vec<LastSeen>,
 }
 
 impl Model for OwnSeen {
     ghost use Rattle.std.specs.Prelude.{◌-◌, min, vec_len};
     ghost use Rattle.std.specs.Vec.{vec_capacity};
-    ghost use Rattle.std.specs.HashMap.{spare};
-    ghost use Rattle.imap_mailbox.specs.Owned.{Owned, owned_code, AreLatest};
+    ghost use Rattle.imap_mailbox.specs.Latest.{AreLatest};
+    ghost use Rattle.imap_mailbox.specs.Owned.{Owned, owned_code};
 
     ghost Value = { Owned };
 
@@ -43,19 +53,20 @@ impl Model for OwnSeen {
 
     ghost view = { λ o. record {
       list = o.changes.items;
-      room = min (vec_capacity o.changes - vec_len o.changes) (spare o.latest);
+      room = min (vec_capacity o.changes - vec_len o.changes) (vec_capacity o.latest - vec_len o.latest);
     } };
 
-    ghost invariant = { λ o. AreLatest o.latest o.changes.items };
+    ghost invariant = { λ o. AreLatest o.latest.items o.changes.items };
 }
 
 impl OwnSeen {
+    /// No changes.
     pub(crate) fn new(alloc: Global) -> Self
         ensures { result.list ≡ [] }
     {
         OwnSeen {
             changes: Vec::new(alloc),
-            latest: HashMap::new(alloc),
+            latest: Vec::new(alloc),
         }
     }
 
@@ -78,14 +89,29 @@ impl OwnSeen {
         ensures room { self.old.room ≤ self.new.room + 1 }
     {
         let number = number_after(change.before, self.changes.len() as u64);
-        drop(self.latest.insert(change.uid, (number, change.seen)));
+        put_last(
+            &mut self.latest,
+            LastSeen {
+                uid: change.uid,
+                number,
+                seen: change.seen,
+            },
+        );
         self.changes.push_reserved(change);
     }
 
+    /// The number of changes.
     pub(crate) fn len(&self) -> usize
         ensures { result ≡ length self.now.list }
     {
         self.changes.len()
+    }
+
+    /// The changes, in their order.
+    pub(crate) fn as_slice(&self) -> &[SeenChange]
+        ensures { result.now ≡ self.now.list }
+    {
+        self.changes.as_slice()
     }
 
     /// How many of the changes come before the shared event at `place`.
@@ -94,17 +120,41 @@ impl OwnSeen {
         ensures count { result ≡ own_before (befores (map own_entry self.now.list)) place }
         ensures most { result ≤ length self.now.list }
     {
-        self.changes.partition_point(
-            |change: &SeenChange| -> bool
-                ensures { result ≡ nat_le change.now.before place }
-            { change.before <= place },
-        )
+        count_before(&self.changes, place)
+    }
+
+    /// The mod-sequence of the last change, or 0 if there is none.
+    pub(crate) fn last_number(&self) -> u64
+        requires order { AreInOrder 0 max_events (befores (map own_entry self.now.list)) }
+        requires few { length self.now.list ≤ max_events }
+        ensures { (uid : ℕ) → latest_number (latest uid self.now.list) ≤ result }
+    {
+        match self.changes.last() {
+            Some(change) => number_after(change.before, (self.changes.len() - 1) as u64),
+            None => 0,
+        }
+    }
+
+    /// Whether the user's `\Seen` of the UID is set.
+    pub(crate) fn is_seen(&self, uid: u32) -> bool
+        ensures { result ≡ latest_seen (latest uid self.now.list) }
+    {
+        self.latest(uid).unwrap_or((0, false)).1
     }
 
     /// The last change of the UID: its mod-sequence, and whether it set the flag.
     pub(crate) fn latest(&self, uid: u32) -> Option<(u64, bool)>
         ensures { result ≡ latest uid self.now.list }
     {
-        self.latest.get(&uid).copied()
+        last_of(&self.latest, uid)
+    }
+}
+
+impl TryCopy for OwnSeen {
+    // The copy has the same room.
+    fn try_copy(&self, alloc: Global) -> Result<OwnSeen, AllocError> {
+        let changes = copy_items(alloc, &self.changes)?;
+        let latest = copy_items(alloc, &self.latest)?;
+        Ok(OwnSeen { changes, latest })
     }
 }

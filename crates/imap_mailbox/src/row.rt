@@ -1,6 +1,6 @@
 //! A message as a user has it.
 
-ghost use Rattle.std.specs.Prelude.{◌≡◌, ◌≤◌, [], length, map};
+ghost use Rattle.std.specs.Prelude.{◌≡◌, ◌≤◌, [], length, map, nat_lt};
 ghost use Rattle.imap_modseq.specs.Merge.{befores, AreInOrder};
 ghost use Rattle.imap_modseq.specs.Numbers.{max_events};
 ghost use Rattle.imap_mailbox.specs.History.{own_entry};
@@ -59,4 +59,18 @@ pub(crate) fn own_row<'a>(message: &'a Message, own: &OwnSeen) -> Row<'a>
         seen,
         number: shared.max(latest),
     }
+}
+
+/// Whether the mod-sequence of the message is above `number`. Its own changes are looked up only if the last
+/// own change of the user, or the last shared event of the message, may be above `number`.
+pub(crate) fn own_is_above(message: &Message, own: &OwnSeen, number: u64) -> bool
+    requires place { message.now.place ≤ max_events }
+    requires order { AreInOrder 0 max_events (befores (map own_entry own.now.list)) }
+    requires few { length own.now.list ≤ max_events }
+    ensures { result ≡ nat_lt number (row_in own.now.list message.now).number }
+{
+    if own.last_number() <= number && number_after(message.place, own.len() as u64) <= number {
+        return false;
+    }
+    number < own_row(message, own).number
 }

@@ -1,11 +1,15 @@
 //! The messages of a mailbox as a user has them.
 
-ghost use Rattle.std.specs.Prelude.{◌≡◌, ◌<◌, length, slice_index_or};
+ghost use Rattle.std.specs.Prelude.{◌≡◌, ◌<◌, ◌≤◌, length, min, nat_lt, slice_index_or};
+ghost use Rattle.std.specs.List.{prefix_len};
+ghost use Rattle.imap_mailbox.specs.Rows as specs;
 ghost use Rattle.imap_mailbox.specs.Lent.{row_shown, place_in, row_uids};
+ghost use Rattle.imap_mailbox.specs.Status.{deleted_in, unseen_in, size_in, max_size};
 
-use crate::message::{Message, find_message};
+use crate::message::{Message, count_lower, find_message};
 use crate::own::OwnSeen;
-use crate::row::{Row, own_row, plain_row};
+use crate::row::{Row, own_is_above, own_row, plain_row};
+use crate::status::{count_deleted, count_unseen, sum_sizes};
 use std::marker::Model;
 
 /// The messages of a mailbox as a user has them, in the order of UIDs. They are lent from the mailbox.
@@ -51,10 +55,57 @@ impl<'a> Rows<'a> {
         }
     }
 
+    /// Whether the mod-sequence of the message at `place` is above `number`. It takes no look-up of the
+    /// message's own changes if no event of the message can be above `number`.
+    pub fn is_above(&self, place: usize, number: u64) -> bool
+        requires { place < length self.now }
+        ensures { (row : specs.Row) → row ≡ slice_index_or self.now place row
+            → result ≡ nat_lt number row.number }
+    {
+        let message = &self.messages[place];
+        match self.own {
+            Some(own) => own_is_above(message, own, number),
+            None => number < plain_row(message).number,
+        }
+    }
+
+    /// The number of messages with a lower UID, by a search that halves. It is the place of the first message
+    /// with this UID or a greater one.
+    pub fn place_from(&self, uid: u32) -> usize
+        ensures place { result ≡ prefix_len (λ row. nat_lt row.uid uid) self.now }
+        ensures within { result ≤ length self.now }
+    {
+        count_lower(self.messages, uid)
+    }
+
     /// The place of the message with the UID, by a search that halves.
     pub fn place_of(&self, uid: u32) -> Option<usize>
         ensures { result ≡ place_in uid (row_uids self.now) }
     {
         find_message(self.messages, uid)
+    }
+
+    /// The number of messages with `\Deleted`, by a walk.
+    pub fn deleted_len(&self) -> usize
+        ensures { result ≡ deleted_in self.now }
+    {
+        count_deleted(self.messages)
+    }
+
+    /// The number of messages without the user's `\Seen`, by a walk.
+    pub fn unseen_len(&self) -> usize
+        ensures { result ≡ unseen_in self.now }
+    {
+        match self.own {
+            Some(own) => count_unseen(self.messages, own),
+            None => self.messages.len(),
+        }
+    }
+
+    /// The number of octets of all messages, by a walk, or 2^63 - 1 if there are more.
+    pub fn size(&self) -> u64
+        ensures { result ≡ min max_size (size_in self.now) }
+    {
+        sum_sizes(self.messages)
     }
 }

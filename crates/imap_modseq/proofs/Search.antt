@@ -1,27 +1,30 @@
 -- The place at which a binary search ends is the number of own changes before a shared event.
-use Rattle.std.proofs.Common.{◌≡◌, ℕ, zero, suc, ◌<◌, ◌≤◌, leb, true, false, List, length, get_or, refl, arith, ⊎_elim}
-use Rattle.std.proofs.lemmas.Bool.{cases_lt, leb-true, leb-false}
-use Rattle.std.proofs.lemmas.List.Sorted.{IsNonDecreasingBy-from_default}
+use Rattle.std.proofs.Common.{◌≡◌, ℕ, zero, suc, ◌+◌, ◌<◌, ◌≤◌, leb, cond, true, false, List, [], ◌∷◌, length, map, get_or, refl, sym, ap, ◌∙◌, arith}
+use Rattle.std.proofs.lemmas.List.{length-map}
 use Rattle.std.specs.List.Sorted.{IsNonDecreasingBy, IsPartitionPoint}
 use Rattle.imap_modseq.specs.Merge.{AreInOrder}
 use Rattle.imap_modseq.specs.Numbers.{own_before}
-use Rattle.imap_modseq.proofs.Order.{order_rises, is_before, not_before, before_most}
+use Rattle.imap_modseq.proofs.Order.{order_rises}
 
-pub no_decrease : (high : ℕ) (bs : List ℕ) → AreInOrder 0 high bs → IsNonDecreasingBy (λ y. y) bs
-no_decrease high bs h = IsNonDecreasingBy-from_default (λ y. y) bs 0 (λ i j le lt. order_rises 0 high bs i j h le lt)
+module _ {X : Type 0} (f : X → ℕ) where
+  mapped_at : (xs : List X) (i e : ℕ) (d : X) → i < length xs → get_or (map f xs) i e ≡ f (get_or xs i d)
+  mapped_at [] i e d lt = absurd (omega arith)
+  mapped_at (x ∷ xs) zero e d lt = refl
+  mapped_at (x ∷ xs) (suc i) e d lt = mapped_at xs i e d (omega arith)
 
-pub found_count : (high : ℕ) (bs : List ℕ) (p i : ℕ) → AreInOrder 0 high bs → i ≤ length bs
-    → IsPartitionPoint (λ y. leb y p ≡ true) (λ y. leb y p ≡ false) bs i → i ≡ own_before bs p
-found_count high bs p i h le at =
-    let least : i ≤ own_before bs p = low i refl in
-    let most : own_before bs p ≤ i = ⊎_elim
-    (λ (lt : i < length bs). not_before 0 high bs i p 0 h lt (leb-false (get_or bs i 0) p (at.1 i 0 (omega arith) lt)))
-    (λ (all : length bs ≤ i). omega (arith, before_most bs p, all, le))
-    (cases_lt i (length bs)) in
-    omega (arith, least, most)
-  where
-    low : (j : ℕ) → i ≡ j → j ≤ own_before bs p
-    low zero e = omega arith
-    low (suc j) e =
-        let lt : j < i = omega arith in
-        is_before 0 high bs j p 0 h (omega arith) (leb-true (get_or bs j 0) p (at.0 j 0 (omega arith) lt))
+  pub no_decrease : (high : ℕ) (xs : List X) → AreInOrder 0 high (map f xs) → IsNonDecreasingBy f xs
+  no_decrease high xs h i j d le lt =
+      let count = length-map xs f in
+      let up = order_rises 0 high (map f xs) i j h le (omega (arith, count, lt)) in
+      omega (arith, up, mapped_at xs i 0 d (omega arith), mapped_at xs j 0 d lt)
+
+  pub found_count : (xs : List X) (p i : ℕ) → i ≤ length xs → IsPartitionPoint (λ x. leb (f x) p ≡ true) (λ x. leb (f x) p ≡ false) xs i → i ≡ own_before (map f xs) p
+  found_count [] p i le at = omega (arith, le)
+  found_count (x ∷ xs) p zero le at = ap (λ b. cond b (1 + own_before (map f xs) p) 0) (sym (at.1 0 x (omega arith) (omega arith)))
+  found_count (x ∷ xs) p (suc i) le at =
+      let rest = found_count xs p i (omega (arith, le)) (λ k d low high. at.0 (suc k) d (omega arith) (omega (arith, high)), λ k d low high. at.1 (suc k) d (omega (arith, low)) (omega (arith, high))) in
+      (let e : suc i ≡ 1 + own_before (map f xs) p = omega (arith, rest) in e) ∙ ap (λ b. cond b (1 + own_before (map f xs) p) 0) (sym (at.0 0 x (omega arith) (omega arith)))
+
+pub map_same : (bs : List ℕ) → map (λ n. n) bs ≡ bs
+map_same [] = refl
+map_same (b ∷ bs) = ap (λ l. b ∷ l) (map_same bs)

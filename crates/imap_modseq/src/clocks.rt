@@ -1,14 +1,14 @@
 //! When the events of a mailbox happened, for each of its users.
 
-ghost use Rattle.std.specs.Prelude.{◌≡◌, ℕ, ◌<◌, ◌≤◌, ◌↔◌, length, nat_le};
+ghost use Rattle.std.specs.Prelude.{◌≡◌, ◌<◌, ◌≤◌, ◌↔◌, length};
 ghost use Rattle.std.specs.Prelude.{IsOk, IsErrOf, IfOk, OnOk, OnErr};
-ghost use Rattle.imap_modseq.specs.Merge.{AreInOrder};
-ghost use Rattle.imap_modseq.specs.Numbers.{max_events, max_number, own_before, shared_number, own_number_at};
+ghost use Rattle.imap_modseq.specs.Numbers.{max_events, max_number, shared_number, own_number_at};
 ghost use Rattle.imap_modseq.specs.Clocks.{IsInOrder, no_events, own_of, highest_of};
 ghost use Rattle.imap_modseq.specs.Clocks.{with_shared_event, with_own_change};
 
 use crate::error::ClocksError;
 use crate::numbering::{MAX_EVENTS, highest_after, number_after};
+use crate::own_change::count_before;
 use crate::own_changes::OwnChanges;
 use std::alloc::{AllocError, Global};
 use std::marker::Model;
@@ -77,7 +77,7 @@ impl Clocks {
         ensures bounded { result ≤ max_number }
     {
         let befores = self.befores_of(user);
-        number_after(place, count_before(befores, place))
+        number_after(place, count_before(befores, place) as u64)
     }
 
     /// The mod-sequence for `user` of the user's own change at `place`.
@@ -134,17 +134,4 @@ impl Clocks {
     {
         self.own.befores_of(user)
     }
-}
-
-// How many own changes come before the shared event at a place.
-fn count_before(befores: &[u64], place: u64) -> u64
-    requires { (shared : ℕ) × AreInOrder 0 shared befores.now }
-    ensures { result ≡ own_before befores.now place }
-{
-    let count = befores.partition_point(
-        |before: &u64| -> bool
-            ensures { result ≡ nat_le before.now place }
-        { *before <= place },
-    );
-    count as u64
 }

@@ -10,8 +10,10 @@ mod clocks;
 mod error;
 pub mod laws;
 mod numbering;
+mod own_change;
 mod own_changes;
 
 pub use clocks::Clocks;
 pub use error::ClocksError;
 pub use numbering::{MAX_EVENTS, highest_after, number_after};
+pub use own_change::{OwnChange, count_before};

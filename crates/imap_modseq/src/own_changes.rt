@@ -33,6 +33,7 @@ impl Model for OwnChanges {
 }
 
 impl OwnChanges {
+    /// No own changes of any user.
     pub(crate) fn new(alloc: Global) -> OwnChanges
         ensures { result ≡ map.empty }
     {

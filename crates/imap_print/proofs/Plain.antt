@@ -13,6 +13,7 @@ use Rattle.imap_lex.specs.CommandTag.{IsTag}
 use Rattle.imap_syntax.proofs.Writing.{both_true}
 use Rattle.imap_syntax.specs.Lexical.{is_atom_char}
 use Rattle.imap_syntax.specs.Atoms.{IsAtom}
+use Rattle.imap_syntax.specs.Keywords.{AreAtoms}
 use Rattle.imap_syntax.specs.FieldNames.{IsFieldName}
 use Rattle.imap_syntax.specs.Written.{is_unquotable}
 use Rattle.imap_print.specs.declared.fetch.FetchedSection.{FetchedSection}
@@ -76,6 +77,11 @@ atom_chars_plain (octet ∷ octets) h =
 -- an atom is plain
 pub plain_atom : (word : List ℕ) → IsAtom word → IsPlain word
 plain_atom word is = atom_chars_plain word (both_true (not (eqb (length word) 0)) (list_all is_atom_char word) is).1
+
+-- and so is each keyword of a set
+pub plain_keywords : (words : List (List ℕ)) → AreAtoms words → AllByRecursion IsPlain words
+plain_keywords [] h = tt
+plain_keywords (word ∷ words) h = (plain_atom word h.0, plain_keywords words h.1)
 
 quotable_plain : (octet : ℕ) → is_unquotable octet ≡ false → is_plain octet ≡ true
 quotable_plain octet h = grind (arith, nat_tests)

@@ -1,3 +1,4 @@
+-- Responses as they are printed, their sets and flags, and what a client reads of them.
 pub mod Literals
 pub mod Words
 pub mod Strings

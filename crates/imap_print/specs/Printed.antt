@@ -1,5 +1,6 @@
 -- The octets in which responses are printed (RFC 9051, sections 7 and 9).
-use Rattle.std.specs.Prelude.{ℕ, Bool, true, false, List, [], ◌++◌, codes, decimal, flat_map, Option, Some, None}
+use Rattle.std.specs.Prelude.{ℕ, Bool, true, false, List, [], ◌++◌, codes, decimal}
+use Rattle.std.specs.Prelude.{flat_map, Option, Some, None}
 use Rattle.imap_lex.specs.Framing.{crlf}
 use Rattle.imap_rights.specs.Rights.{bits, letters_of}
 use Rattle.imap_print.specs.declared.copied.CopiedUids.{CopiedUids}

@@ -1,6 +1,6 @@
 //! The flags of a message.
 
-use imap_syntax::{Atom, Items};
+use imap_syntax::Keywords;
 use imap_values::{Same, TryCopy, same_five};
 use std::alloc::{AllocError, Global};
 
@@ -12,8 +12,7 @@ pub struct FlagSet {
     pub draft: bool,
     pub flagged: bool,
     pub seen: bool,
-    /// In the order in which they are printed.
-    pub keywords: Items<Atom>,
+    pub keywords: Keywords,
 }
 
 impl TryCopy for FlagSet {

@@ -9,7 +9,7 @@ ghost use Rattle.imap_print.specs.Lines.{IsPlain, IsPrintable, flags_keywords, s
 use crate::fetch::{FetchedItems, FetchedSection};
 use crate::flag::FlagSet;
 use imap_query::Section;
-use imap_syntax::{Atom, FieldName, Items};
+use imap_syntax::{FieldName, Keywords};
 
 /// The items of a message are printed as one line: keywords are atoms, field names have neither CR nor LF,
 /// and literals fit into memory.
@@ -21,34 +21,32 @@ pub fn fetch_is_printable(number: u32, items: &FetchedItems)
 }
 
 /// The flags of a mailbox are printed as one line.
-pub fn flags_are_printable(keywords: &Items<Atom>)
+pub fn flags_are_printable(keywords: &Keywords)
     ensures { IsPrintable (response.Flags keywords.now) }
 {
-    keywords_are_plain(keywords.as_slice());
+    keywords_are_plain(keywords);
 }
 
 /// The flags that may be changed are printed as one line.
 pub fn permanent_flags_are_printable(flags: &FlagSet, any: bool)
     ensures { IsPrintable (response.PermanentFlags flags.now any) }
 {
-    keywords_are_plain(flags.keywords.as_slice());
+    keywords_are_plain(&flags.keywords);
 }
 
 fn option_is_plain(flags: &Option<FlagSet>)
     ensures { AllByRecursion IsPlain (flags_keywords flags.now) }
 {
     match flags {
-        Some(flags) => keywords_are_plain(flags.keywords.as_slice()),
+        Some(flags) => keywords_are_plain(&flags.keywords),
         None => {}
     }
 }
 
-fn keywords_are_plain(keywords: &[Atom])
+fn keywords_are_plain(keywords: &Keywords)
     ensures { AllByRecursion IsPlain keywords.now }
 {
-    for keyword in keywords {
-        let _ = keyword.as_slice();
-    }
+    let _ = keywords.as_slice();
 }
 
 fn names_are_plain(names: &[FieldName])

@@ -11,7 +11,7 @@ use crate::search::SearchResults;
 use crate::status::StatusValue;
 use imap_lex::{Octets, Tag};
 use imap_rights::Rights;
-use imap_syntax::{Atom, Items};
+use imap_syntax::{Items, Keywords};
 
 /// One line to a client (RFC 9051, section 7). A mailbox is named as the client's user sees it.
 #[derive(Debug, Drop)]
@@ -71,7 +71,7 @@ pub enum Response {
     },
     /// The flags of the selected mailbox (section 7.3.5).
     Flags {
-        keywords: Items<Atom>,
+        keywords: Keywords,
     },
     /// The flags that may be changed (section 7.1).
     PermanentFlags {

@@ -9,7 +9,7 @@ use crate::numbering::NumberSet;
 use crate::response::{Code, Refusal, Response};
 use crate::search::SearchResults;
 use imap_lex::{Octets, Tag};
-use imap_syntax::{Atom, Items};
+use imap_syntax::Keywords;
 use imap_values::TryCopy;
 use std::alloc::{AllocError, Global};
 
@@ -99,7 +99,7 @@ fn copy_list(attributes: ListAttributes, mailbox: &Octets) -> Result<Response, A
     })
 }
 
-fn copy_flags(keywords: &Items<Atom>, alloc: Global) -> Result<Response, AllocError>
+fn copy_flags(keywords: &Keywords, alloc: Global) -> Result<Response, AllocError>
     ensures { IfOk result (λ copy. copy ≡ Response.Flags keywords.now) }
 {
     let keywords = keywords.try_copy(alloc)?;

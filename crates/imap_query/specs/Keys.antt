@@ -6,7 +6,9 @@ use Rattle.imap_syntax.specs.declared.set.MessageSet.{MessageSet}
 use Rattle.imap_query.specs.declared.search.SearchIn.{SearchIn}
 use Rattle.imap_query.specs.declared.search.SearchDate.{SearchDate}
 use Rattle.imap_query.specs.declared.search.SearchKey as key
-use Rattle.imap_query.specs.declared.search.SearchKey.{SearchKey, All, Contains, Header, Larger, Smaller, ModSeq, Numbers, Uids, Not', Or', Group', Unserved, Row_of-SearchKey, end_of-SearchKey, more_of-SearchKey}
+use Rattle.imap_query.specs.declared.search.SearchKey.{SearchKey, All, Contains, Header, Larger, Smaller}
+use Rattle.imap_query.specs.declared.search.SearchKey.{ModSeq, Numbers, Uids, Not', Or', Group', Unserved}
+use Rattle.imap_query.specs.declared.search.SearchKey.{Row_of-SearchKey, end_of-SearchKey, more_of-SearchKey}
 
 -- a key that has no other within it
 pub data Plain : Type 0 where

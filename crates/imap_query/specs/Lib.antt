@@ -1,3 +1,4 @@
+-- What is asked of messages: items of FETCH and STATUS, sections of a message, keys of SEARCH.
 pub mod FetchWords
 pub mod StatusWords
 pub mod Status

@@ -11,14 +11,16 @@ use Rattle.imap_query.specs.declared.search_word.SearchWord.{SearchWord}
 use Rattle.imap_query.specs.declared.search_word.SearchWord.TheVariants as word
 use Rattle.imap_query.specs.declared.search_word.TheConstants.{ENTRY_TYPES}
 use Rattle.imap_syntax.specs.Rule as rule
-use Rattle.imap_syntax.specs.Rule.{Rule, fail, give, ◌>>=◌, ◌>>◌, ◌<|>◌, octet, some_of, some_read, when, keyword, separated, listed_or_none}
+use Rattle.imap_syntax.specs.Rule.{Rule, fail, give, ◌>>=◌, ◌>>◌, ◌<|>◌, octet, some_of, some_read}
+use Rattle.imap_syntax.specs.Rule.{when, keyword, separated, listed_or_none}
 use Rattle.imap_syntax.specs.Lexical.{is_atom_char, space, number, quoted_end, astring}
 use Rattle.imap_query.specs.SearchWords.{entry_type_name}
 use Rattle.imap_syntax.specs.Sets.{message_set}
 use Rattle.imap_syntax.specs.Dates.{date}
 use Rattle.imap_syntax.specs.Atoms.{atom}
 use Rattle.imap_syntax.specs.FieldNames.{field_name}
-use Rattle.imap_query.specs.Keys.{Plain, all, flagged, contains, header, dated, larger, smaller, mod_seq, uids, unserved, Key, plain}
+use Rattle.imap_query.specs.Keys.{Plain, all, flagged, contains, header, dated, larger, smaller}
+use Rattle.imap_query.specs.Keys.{mod_seq, uids, unserved, Key, plain}
 
 -- ---- keys without others within them
 

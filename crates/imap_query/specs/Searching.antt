@@ -1,5 +1,6 @@
 -- SEARCH's keys within keys, and what stands before them (RFC 9051, section 9).
-use Rattle.std.specs.Prelude.{◌≡◌, ℕ, zero, suc, Bool, true, false, cond, ◌==◌, List, [], Option, Some, None, codes}
+use Rattle.std.specs.Prelude.{◌≡◌, ℕ, zero, suc, Bool, true, false, cond, ◌==◌, List}
+use Rattle.std.specs.Prelude.{[], Option, Some, None, codes}
 use Rattle.std.specs.Char.{is_ascii_alphabetic}
 use Rattle.std.specs.Str.{str_eq_ignore_ascii_case}
 use Rattle.imap_query.specs.declared.search.SearchReturn.{SearchReturn}
@@ -7,7 +8,8 @@ use Rattle.imap_query.specs.declared.search.TheConstants.{SEARCH_RETURNS}
 use Rattle.imap_query.specs.declared.search_word.SearchWord.{SearchWord}
 use Rattle.imap_query.specs.declared.search_word.SearchWord.TheVariants as word
 use Rattle.imap_query.specs.declared.search_word.TheConstants.{SEARCH_WORDS}
-use Rattle.imap_syntax.specs.Rule.{Rule, fail, give, ◌>>=◌, ◌>>◌, ◌<|>◌, octet, some_of, some_read, keyword, separated, listed_or_none}
+use Rattle.imap_syntax.specs.Rule.{Rule, fail, give, ◌>>=◌, ◌>>◌, ◌<|>◌, octet, some_of}
+use Rattle.imap_syntax.specs.Rule.{some_read, keyword, separated, listed_or_none}
 use Rattle.imap_syntax.specs.First.{by_first}
 use Rattle.imap_syntax.specs.Lexical.{is_astring_char, is_atom_char, space, quoted}
 use Rattle.imap_query.specs.SearchWords.{search_return_name, search_name}

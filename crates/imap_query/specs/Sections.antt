@@ -1,5 +1,6 @@
 -- Sections of messages, as FETCH names them (RFC 9051, section 9).
-use Rattle.std.specs.Prelude.{ℕ, ◌+◌, ◌*◌, ◌-◌, Bool, true, false, cond, ◌==◌, ◌&&◌, ◌||◌, not, nat_lt, List, [], ◌∷◌, Option, Some, None}
+use Rattle.std.specs.Prelude.{ℕ, ◌+◌, ◌*◌, ◌-◌, Bool, true, false, cond, ◌==◌, ◌&&◌, ◌||◌, not}
+use Rattle.std.specs.Prelude.{nat_lt, List, [], ◌∷◌, Option, Some, None}
 use Rattle.std.specs.Char.{is_ascii_digit}
 use Rattle.imap_query.specs.declared.fetch.Partial.{Partial}
 use Rattle.imap_query.specs.declared.fetch.Section.{Section}
@@ -9,7 +10,8 @@ use Rattle.imap_query.specs.declared.fetch.FetchItem.TheVariants as item
 use Rattle.imap_query.specs.declared.fetch_word.SectionWord.{SectionWord}
 use Rattle.imap_query.specs.declared.fetch_word.SectionWord.TheVariants as part
 use Rattle.imap_query.specs.declared.fetch_word.TheConstants.{SECTION_WORDS}
-use Rattle.imap_syntax.specs.Rule.{Rule, fail, give, ◌>>=◌, ◌>>◌, octet, some_of, when, flag, keyword, listed, judged}
+use Rattle.imap_syntax.specs.Rule.{Rule, fail, give, ◌>>=◌, ◌>>◌, octet, some_of, when}
+use Rattle.imap_syntax.specs.Rule.{flag, keyword, listed, judged}
 use Rattle.imap_syntax.specs.First.{by_first}
 use Rattle.imap_syntax.specs.Lexical.{space, number, nz_number}
 pub use Rattle.imap_syntax.specs.FieldNames.{field_name}

@@ -1,5 +1,6 @@
 -- How the items of FETCH are written (RFC 9051, section 9; RFC 7162, section 7).
-use Rattle.std.specs.Prelude.{ℕ, Bool, true, false, ◌&&◌, List, [], ◌∷◌, ◌++◌, codes, decimal, if◌then◌else◌, Option, Some, None}
+use Rattle.std.specs.Prelude.{ℕ, Bool, true, false, ◌&&◌, List, [], ◌∷◌, ◌++◌, codes}
+use Rattle.std.specs.Prelude.{decimal, if◌then◌else◌, Option, Some, None}
 use Rattle.imap_query.specs.declared.fetch.Partial.{Partial}
 use Rattle.imap_query.specs.declared.fetch.Section.{Section}
 use Rattle.imap_query.specs.declared.fetch.Section.TheVariants as section

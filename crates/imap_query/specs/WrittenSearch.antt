@@ -1,5 +1,6 @@
 -- How the keys and options of SEARCH are written (RFC 9051, section 9; RFC 7162, section 7).
-use Rattle.std.specs.Prelude.{ℕ, zero, suc, Bool, true, false, ◌&&◌, List, [], ◌∷◌, ◌++◌, codes, decimal, if◌then◌else◌, Option, Some, None}
+use Rattle.std.specs.Prelude.{ℕ, zero, suc, Bool, true, false, ◌&&◌, List, [], ◌∷◌, ◌++◌, codes}
+use Rattle.std.specs.Prelude.{decimal, if◌then◌else◌, Option, Some, None}
 use Rattle.std.specs.Option.{option_and_then}
 use Rattle.imap_syntax.specs.Moments.{Day}
 use Rattle.imap_syntax.specs.declared.set.MessageSet.{MessageSet}
@@ -13,7 +14,9 @@ use Rattle.imap_query.specs.declared.search.SearchDate.TheVariants as relation
 use Rattle.imap_query.specs.declared.search_word.SearchWord.{SearchWord}
 use Rattle.imap_query.specs.declared.search_word.SearchWord.TheVariants as word
 use Rattle.imap_query.specs.SearchWords.{search_return_name, search_name}
-use Rattle.imap_query.specs.Keys.{Plain, all, flagged, contains, header, dated, larger, smaller, mod_seq, numbers, uids, unserved, Key, plain, negated, either, group, Keys, end, more, Token, one, not_next, or_next, group_end, group_more}
+use Rattle.imap_query.specs.Keys.{Plain, all, flagged, contains, header, dated, larger, smaller, mod_seq}
+use Rattle.imap_query.specs.Keys.{numbers, uids, unserved, Key, plain, negated, either, group, Keys, end}
+use Rattle.imap_query.specs.Keys.{more, Token, one, not_next, or_next, group_end, group_more}
 use Rattle.imap_syntax.specs.Writing as writing
 use Rattle.imap_syntax.specs.Writing.{Writing, separated, listed_or_none, in_parentheses}
 use Rattle.imap_syntax.specs.Written.{is_quotable, quoted_text, astring, atom, number64, message_set}

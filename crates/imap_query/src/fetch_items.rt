@@ -2,7 +2,9 @@
 
 ghost use Rattle.std.specs.Prelude.{◌≡◌, [], ◌∷◌, IfOk};
 ghost use Rattle.imap_syntax.specs.Reading.{ReadsIfMemory, Reads};
-ghost use Rattle.imap_query.specs.Fetch.{item_behind, fetch_item, is_fast, is_unserved, single, fast_items, fetch_items, modifier, one_modifier, another_modifier, both_modifiers, modifiers};
+ghost use Rattle.imap_query.specs.Fetch.{item_behind, fetch_item, is_fast, is_unserved, single};
+ghost use Rattle.imap_query.specs.Fetch.{fast_items, fetch_items, modifier, one_modifier};
+ghost use Rattle.imap_query.specs.Fetch.{another_modifier, both_modifiers, modifiers};
 
 use crate::fetch::FetchItem;
 use crate::fetch_word::{FetchWord, Modifier, ModifierWord, Modifiers};

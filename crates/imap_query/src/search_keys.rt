@@ -6,7 +6,8 @@ ghost use Rattle.imap_syntax.specs.Rule.{separated};
 ghost use Rattle.imap_query.specs.Keys.{key_of, keys_of, group};
 ghost use Rattle.imap_syntax.specs.First.{begins};
 ghost use Rattle.imap_syntax.specs.Sets.{begins_set};
-ghost use Rattle.imap_query.specs.Searching.{is_not, is_or, set_key, group_key, word_key, key, word_flag, charset_name, search_returns, search_charset, search_keys};
+ghost use Rattle.imap_query.specs.Searching.{is_not, is_or, set_key, group_key, word_key, key, word_flag};
+ghost use Rattle.imap_query.specs.Searching.{charset_name, search_returns, search_charset, search_keys};
 
 use crate::search::{SearchKey, SearchKeys, SearchReturn};
 use crate::search_plain::read_plain_key;

@@ -3,7 +3,9 @@
 ghost use Rattle.std.specs.Prelude.{◌≡◌};
 ghost use Rattle.imap_syntax.specs.Reading.{ReadsIfMemory, Reads};
 ghost use Rattle.imap_query.specs.Keys.{key_of, as_flagged};
-ghost use Rattle.imap_query.specs.Search.{text_key, date_key, sent_key, header_key, keyword_key, size, is_flag, is_entry, entry, mod_seq_key, uid_key, as_plain, plain_behind};
+ghost use Rattle.imap_query.specs.Search.{text_key, date_key, sent_key, header_key, keyword_key, size};
+ghost use Rattle.imap_query.specs.Search.{is_flag, is_entry, entry, mod_seq_key, uid_key, as_plain};
+ghost use Rattle.imap_query.specs.Search.{plain_behind};
 
 use crate::search::{SearchDate, SearchIn, SearchKey};
 use crate::search_word::{EntryType, SearchWord};

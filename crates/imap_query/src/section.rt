@@ -2,7 +2,9 @@
 
 ghost use Rattle.std.specs.Prelude.{◌≡◌, None};
 ghost use Rattle.imap_syntax.specs.Reading.{ReadsIfMemory, Reads};
-ghost use Rattle.imap_query.specs.Sections.{partial, section_text, section_message, part_ends, is_part_char, part_numbers, part_text, section_part, section_end, body_section, section_binary};
+ghost use Rattle.imap_query.specs.Sections.{partial, section_text, section_message, part_ends};
+ghost use Rattle.imap_query.specs.Sections.{is_part_char, part_numbers, part_text, section_part};
+ghost use Rattle.imap_query.specs.Sections.{section_end, body_section, section_binary};
 
 use crate::fetch::{BodySection, FetchItem, Partial, Section};
 use crate::fetch_word::SectionWord;

@@ -1,7 +1,10 @@
 //! Writing the items and modifiers of FETCH.
 
 ghost use Rattle.std.specs.Prelude.{◌≡◌, ◌++◌, ◌∷◌, [], OnOk, codes, decimal};
-ghost use Rattle.imap_query.specs.WrittenFetch.{section_fits, section_text, partial_fits, partial_text, peek_text, body_text, single_text, is_flags, is_internal_date, is_size, is_fast, several_text, fetch_items, changed_fits, modifiers_text};
+ghost use Rattle.imap_query.specs.WrittenFetch.{section_fits, section_text, partial_fits, partial_text};
+ghost use Rattle.imap_query.specs.WrittenFetch.{peek_text, body_text, single_text, is_flags};
+ghost use Rattle.imap_query.specs.WrittenFetch.{is_internal_date, is_size, is_fast, several_text};
+ghost use Rattle.imap_query.specs.WrittenFetch.{fetch_items, changed_fits, modifiers_text};
 
 use crate::fetch::{BodySection, FetchItem, Partial, Section};
 use imap_syntax::{

@@ -4,7 +4,12 @@ ghost use Rattle.std.specs.Prelude.{◌≡◌, ◌++◌, ◌∷◌, [], OnOk, ma
 ghost use Rattle.imap_query.specs.SearchWords.{search_name};
 ghost use Rattle.imap_query.specs.Keys.{key_of, keys_of, group};
 ghost use Rattle.imap_syntax.specs.Writing.{joined, further};
-ghost use Rattle.imap_query.specs.WrittenSearch.{search_flag_fits, flag_word, keyword_text, place_word, relation_word, flagged_text, text_key_text, header_key_text, date_key_text, number_key_text, uid_key_text, unserved_text, key_fits, fits_over, row_fits, key_text, search_keys, some_returns_text, returns_text, charset_fits, charset_name_text, charset_text};
+ghost use Rattle.imap_query.specs.WrittenSearch.{search_flag_fits, flag_word, keyword_text, place_word};
+ghost use Rattle.imap_query.specs.WrittenSearch.{relation_word, flagged_text, text_key_text, header_key_text};
+ghost use Rattle.imap_query.specs.WrittenSearch.{date_key_text, number_key_text, uid_key_text, unserved_text};
+ghost use Rattle.imap_query.specs.WrittenSearch.{key_fits, fits_over, row_fits, key_text, search_keys};
+ghost use Rattle.imap_query.specs.WrittenSearch.{some_returns_text, returns_text, charset_fits};
+ghost use Rattle.imap_query.specs.WrittenSearch.{charset_name_text, charset_text};
 
 use crate::search::{SearchDate, SearchIn, SearchKey, SearchKeys, SearchReturn};
 use crate::search_keys::MAX_KEY_LEVELS;

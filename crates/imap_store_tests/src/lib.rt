@@ -1,8 +1,14 @@
-//! Tests of what a store is made of: names and maps from them, rights, mod-sequences, mailboxes, texts of messages.
+//! Tests of what a store is made of: names and maps from them, rights, mod-sequences, mailboxes, texts of
+//! messages.
 //!
-//! They stand in a crate of their own, since a crate that has tests is proved twice: once without and once with them.
+//! They stand in a crate of their own, since a crate that has tests is proved twice: once without and once
+//! with them.
 #![tactic(auto)]
 
+#[cfg(test)]
+mod commits;
+#[cfg(test)]
+mod flags;
 #[cfg(test)]
 mod mailbox;
 #[cfg(test)]

@@ -1,35 +1,21 @@
+//! Tests of mailboxes. A test lends its mailbox to a function and lets it go before a `?`: a `?` within reach
+//! of one takes long to prove.
+
+use crate::flags::{atom, flags_of, word_text};
 use imap_lex::Octets;
-use imap_mailbox::{GoneUids, MAX_KEYWORDS, Mailbox, MailboxError, Rows, SharedFlags};
-use imap_modseq::MAX_EVENTS;
-use imap_syntax::{Atom, DateTime, Flag};
+use imap_mailbox::{GoneUids, KnownMessage, Mailbox, MailboxError, Row, Rows, SharedFlags};
+use imap_syntax::DateTime;
 use imap_values::{Same, TryCopy};
 use std::alloc::Global;
 use std::test::Fail;
 
-// A test lends its mailbox to a function and lets it go before a `?`: a `?` within reach of one takes long to prove.
-
-fn date() -> Result<DateTime, MailboxError> {
+/// A date that messages may have.
+pub(crate) fn date() -> Result<DateTime, MailboxError> {
     DateTime::of_moment(1_000_000).ok_or(MailboxError::Limit)
 }
 
-fn atom(alloc: Global, octets: &[u8]) -> Result<Atom, MailboxError> {
-    Atom::read(alloc, octets)?.ok_or(MailboxError::Limit)
-}
-
-fn flags_of(alloc: Global, words: &[&[u8]]) -> Result<SharedFlags, MailboxError> {
-    let mut flags = SharedFlags::new(alloc);
-    insert_all(alloc, &mut flags, words)?;
-    Ok(flags)
-}
-
-fn insert_all(alloc: Global, flags: &mut SharedFlags, words: &[&[u8]]) -> Result<(), MailboxError> {
-    for word in words {
-        flags.keywords.insert(alloc, &atom(alloc, word)?)?;
-    }
-    Ok(())
-}
-
-fn message(alloc: Global) -> Result<Octets, MailboxError> {
+/// The 21 octets of a message.
+pub(crate) fn message(alloc: Global) -> Result<Octets, MailboxError> {
     Ok(Octets::from_slice(alloc, b"Subject: x\r\n\r\nHello\r\n")?)
 }
 
@@ -40,7 +26,12 @@ fn add(alloc: Global, mailbox: &mut Mailbox) -> Result<u32, MailboxError> {
     mailbox.add(100, date, octets, SharedFlags::new(alloc))
 }
 
-fn add_more(alloc: Global, mailbox: &mut Mailbox, count: u32) -> Result<(), MailboxError> {
+/// Adds messages without flags.
+pub(crate) fn add_more(
+    alloc: Global,
+    mailbox: &mut Mailbox,
+    count: u32,
+) -> Result<(), MailboxError> {
     for _ in 0..count {
         add(alloc, mailbox)?;
     }
@@ -79,9 +70,9 @@ fn push_gone(alloc: Global, text: &mut String, gone: &GoneUids<'_>) -> Result<()
     Ok(())
 }
 
-/// All that a mailbox shows to ann and bob: rows, the highest numbers, what is gone for bob, UIDNEXT and the number of
-/// shared events.
-fn shown(alloc: Global, mailbox: &Mailbox) -> Result<String, MailboxError> {
+/// All that a mailbox shows to ann and bob: rows, the highest numbers, what is gone for bob, UIDNEXT and the
+/// number of shared events.
+pub(crate) fn shown(alloc: Global, mailbox: &Mailbox) -> Result<String, MailboxError> {
     let mut text = String::new(alloc);
     push_rows(alloc, &mut text, &mailbox.rows("ann"))?;
     push_rows(alloc, &mut text, &mailbox.rows("bob"))?;
@@ -90,16 +81,6 @@ fn shown(alloc: Global, mailbox: &Mailbox) -> Result<String, MailboxError> {
     let (next, events) = (mailbox.next_uid(), mailbox.shared_len());
     let counts = format!(in alloc; "{ann} {bob} {next} {events}")?;
     text.push_str(counts.as_str())?;
-    Ok(text)
-}
-
-/// The words, with a space after each.
-fn word_text(alloc: Global, flags: &SharedFlags) -> Result<Vec<u8>, MailboxError> {
-    let mut text = Vec::new(alloc);
-    for word in flags.keywords.as_slice() {
-        text.extend_from_slice(word.as_slice())?;
-        text.extend_from_slice(b" ")?;
-    }
     Ok(text)
 }
 
@@ -119,6 +100,10 @@ fn numbers_of_two_users(rt: HostRuntime) -> Result<(), Fail> {
     let own = mailbox.own_len("bob");
     let place = mailbox.rows("bob").place_of(3);
     let none = mailbox.rows("bob").place_of(5);
+    let from = (
+        mailbox.rows("bob").place_from(3),
+        mailbox.rows("bob").place_from(9),
+    );
     drop(mailbox);
     assert_eq!(rt;
         text?.as_str(),
@@ -127,7 +112,56 @@ fn numbers_of_two_users(rt: HostRuntime) -> Result<(), Fail> {
     assert_eq!(rt; own, 2);
     assert_eq!(rt; place, Some(2));
     assert_eq!(rt; none, None);
+    assert_eq!(rt; from, (2, 4));
     Ok(())
+}
+
+/// Three messages of 21 octets, of which one is deleted, and bob has seen another.
+fn three_counted(alloc: Global, mailbox: &mut Mailbox) -> Result<(), MailboxError> {
+    add_more(alloc, mailbox, 3)?;
+    let mut flags = SharedFlags::new(alloc);
+    flags.deleted = true;
+    mailbox.set_flags(2, flags)?;
+    mailbox.mark_seen(alloc, "bob", 1, true)
+}
+
+/// The counts of STATUS: messages, deleted, unseen, octets.
+fn counts(rows: &Rows<'_>) -> (usize, usize, usize, u64) {
+    (
+        rows.len(),
+        rows.deleted_len(),
+        rows.unseen_len(),
+        rows.size(),
+    )
+}
+
+/// Whether the message at the place has a greater number.
+fn is_above(rows: &Rows<'_>, place: usize, number: u64) -> bool {
+    place < rows.len() && rows.is_above(place, number)
+}
+
+/// bob's mark of the first message has the number 6, and the deletion of the second 5.
+#[test]
+fn status_counts(rt: HostRuntime) -> Result<(), Fail> {
+    let mut mailbox = Mailbox::new(rt.alloc());
+    let made = three_counted(rt.alloc(), &mut mailbox);
+    let bob = counts(&mailbox.rows("bob"));
+    let ann = counts(&mailbox.rows("ann"));
+    let above = is_above(&mailbox.rows("bob"), 0, 5) && is_above(&mailbox.rows("ann"), 1, 4);
+    let over = is_above(&mailbox.rows("bob"), 0, 6) || is_above(&mailbox.rows("ann"), 1, 5);
+    drop(mailbox);
+    made?;
+    assert_eq!(rt; bob, (3, 1, 2, 63));
+    assert_eq!(rt; ann, (3, 1, 3, 63));
+    assert!(rt; above && !over);
+    Ok(())
+}
+
+/// Whether a session knows the row as the first message, which has the mod-sequence 2.
+fn is_known(alloc: Global, row: &Row<'_>) -> Result<bool, MailboxError> {
+    let known = KnownMessage::of_row(alloc, row)?;
+    let copy = known.try_copy(alloc)?;
+    Ok(copy.uid == 1 && copy.number == 2 && !copy.seen && copy.flags.is_same(row.flags))
 }
 
 /// The octets, the date and the words of the first message.
@@ -138,8 +172,10 @@ fn has_message(alloc: Global, mailbox: &mut Mailbox) -> Result<bool, MailboxErro
     let rows = mailbox.rows("ann");
     let row = rows.get(0);
     let words = word_text(alloc, row.flags)?;
+    let known = is_known(alloc, &row)?;
     Ok(
-        row.date.is_same(&date()?)
+        known
+            && row.date.is_same(&date()?)
             && row.octets.as_slice() == b"a message".as_slice()
             && words.as_slice() == b"work ".as_slice(),
     )
@@ -304,185 +340,6 @@ fn the_33rd_keyword_is_refused(rt: HostRuntime) -> Result<(), Fail> {
     assert_eq!(rt; limit, Err(MailboxError::Limit));
     assert_eq!(rt; set, Ok(()));
     assert_eq!(rt; (before, after), (1, 2));
-    Ok(())
-}
-
-/// Keywords are a set without case, in the order of octets.
-fn word_sets(alloc: Global, flags: &mut SharedFlags) -> Result<Vec<u8>, MailboxError> {
-    insert_all(alloc, flags, &[b"Work", b"$Junk", b"WORK", b"a", b"wo"])?;
-    let mut text = word_text(alloc, flags)?;
-    flags.keywords.remove(alloc, &atom(alloc, b"wORK")?)?;
-    flags.keywords.remove(alloc, &atom(alloc, b"b")?)?;
-    let after = word_text(alloc, flags)?;
-    text.extend_from_slice(after.as_slice())?;
-    Ok(text)
-}
-
-/// The words of two sets as one.
-fn merged_words(alloc: Global, words: &[&[u8]], others: &[&[u8]]) -> Result<Vec<u8>, MailboxError> {
-    let mut flags = flags_of(alloc, words)?;
-    let others = flags_of(alloc, others)?;
-    merge_into(alloc, &mut flags, &others)
-}
-
-fn merge_into(
-    alloc: Global,
-    flags: &mut SharedFlags,
-    others: &SharedFlags,
-) -> Result<Vec<u8>, MailboxError> {
-    flags.insert_all(alloc, others)?;
-    word_text(alloc, flags)
-}
-
-#[test]
-fn sets_are_merged(rt: HostRuntime) -> Result<(), Fail> {
-    const ROWS: [(&[&[u8]], &[&[u8]], &[u8]); 5] = [
-        (&[b"b", b"d"], &[b"a", b"C", b"D", b"e"], b"a b c d e "),
-        (&[b"a", b"b"], &[b"y", b"z"], b"a b y z "),
-        (&[b"y", b"z"], &[b"a"], b"a y z "),
-        (&[], &[b"B", b"a"], b"a b "),
-        (&[b"a"], &[], b"a "),
-    ];
-    for &(words, others, wanted) in &ROWS {
-        let text = merged_words(rt.alloc(), words, others)?;
-        assert_eq!(rt; text.as_slice(), wanted);
-    }
-    Ok(())
-}
-
-#[test]
-fn keywords_are_sets(rt: HostRuntime) -> Result<(), Fail> {
-    let mut flags = SharedFlags::new(rt.alloc());
-    let text = word_sets(rt.alloc(), &mut flags);
-    let count = flags.keywords.len();
-    drop(flags);
-    assert_eq!(rt; text?.as_slice(), b"$junk a wo work $junk a wo ".as_slice());
-    assert_eq!(rt; count, 3);
-    Ok(())
-}
-
-/// Whether a copy is the same flags, and no longer after a change.
-fn copies(alloc: Global, flags: &mut SharedFlags) -> Result<(bool, bool), MailboxError> {
-    insert_all(alloc, flags, &[b"a"])?;
-    let copy = flags.try_copy(alloc)?;
-    let same = copy.is_same(flags);
-    flags.keywords.remove(alloc, &atom(alloc, b"a")?)?;
-    Ok((same, copy.is_same(flags)))
-}
-
-#[test]
-fn copies_are_the_same(rt: HostRuntime) -> Result<(), Fail> {
-    let mut flags = SharedFlags::new(rt.alloc());
-    let found = copies(rt.alloc(), &mut flags);
-    drop(flags);
-    assert_eq!(rt; found?, (true, false));
-    Ok(())
-}
-
-/// Whether the flags are others than none with the flag, and whether they are none without it.
-fn sets_flag(
-    alloc: Global,
-    flags: &mut SharedFlags,
-    flag: &Flag,
-) -> Result<(bool, bool), MailboxError> {
-    let none = SharedFlags::new(alloc);
-    flags.insert(alloc, flag)?;
-    let with = !flags.is_same(&none);
-    flags.remove(alloc, flag)?;
-    Ok((with, flags.is_same(&none)))
-}
-
-fn sets_keyword(alloc: Global, flags: &mut SharedFlags) -> Result<(bool, bool), MailboxError> {
-    let flag = Flag::Keyword(atom(alloc, b"Work")?);
-    sets_flag(alloc, flags, &flag)
-}
-
-/// Each flag is set and taken away, but `\Seen`.
-#[test]
-fn flags_are_set_and_taken_away(rt: HostRuntime) -> Result<(), Fail> {
-    let mut flags = SharedFlags::new(rt.alloc());
-    let answered = sets_flag(rt.alloc(), &mut flags, &Flag::Answered);
-    let deleted = sets_flag(rt.alloc(), &mut flags, &Flag::Deleted);
-    let draft = sets_flag(rt.alloc(), &mut flags, &Flag::Draft);
-    let flagged = sets_flag(rt.alloc(), &mut flags, &Flag::Flagged);
-    let seen = sets_flag(rt.alloc(), &mut flags, &Flag::Seen);
-    let keyword = sets_keyword(rt.alloc(), &mut flags);
-    drop(flags);
-    assert_eq!(rt; answered?, (true, true));
-    assert_eq!(rt; deleted?, (true, true));
-    assert_eq!(rt; draft?, (true, true));
-    assert_eq!(rt; flagged?, (true, true));
-    assert_eq!(rt; seen?, (false, true));
-    assert_eq!(rt; keyword?, (true, true));
-    Ok(())
-}
-
-fn mark_in_room(alloc: Global, mailbox: &mut Mailbox, uid: u32) -> Result<(), MailboxError> {
-    mailbox.reserve_seen(alloc, "bob", 1)?;
-    if mailbox.own_len("bob") == MAX_EVENTS {
-        return Err(MailboxError::Limit);
-    }
-    mailbox.mark_seen_reserved("bob", uid, true);
-    Ok(())
-}
-
-fn flag_in_room(alloc: Global, mailbox: &mut Mailbox, uid: u32) -> Result<(), MailboxError> {
-    let flags = flags_of(alloc, &[b"a"])?;
-    if mailbox.shared_len() == MAX_EVENTS || flags.keywords.len() > MAX_KEYWORDS {
-        return Err(MailboxError::Limit);
-    }
-    mailbox.set_flags_reserved(uid, flags);
-    Ok(())
-}
-
-fn add_in_room(alloc: Global, mailbox: &mut Mailbox) -> Result<u32, MailboxError> {
-    let date = date()?;
-    let octets = message(alloc)?;
-    mailbox.reserve(1)?;
-    if mailbox.shared_len() == MAX_EVENTS {
-        return Err(MailboxError::Limit);
-    }
-    if mailbox.next_uid() == u32::MAX {
-        return Err(MailboxError::Full);
-    }
-    Ok(mailbox.add_reserved(date, octets, SharedFlags::new(alloc)))
-}
-
-fn expunge_in_room(mailbox: &mut Mailbox, uid: u32) -> Result<(), MailboxError> {
-    mailbox.reserve(1)?;
-    if mailbox.shared_len() == MAX_EVENTS {
-        return Err(MailboxError::Limit);
-    }
-    mailbox.expunge_reserved(uid);
-    Ok(())
-}
-
-/// What is decided already is committed without memory.
-fn commits(alloc: Global, mailbox: &mut Mailbox) -> Result<String, MailboxError> {
-    add_in_room(alloc, mailbox)?;
-    add_in_room(alloc, mailbox)?;
-    flag_in_room(alloc, mailbox, 1)?;
-    mark_in_room(alloc, mailbox, 2)?;
-    expunge_in_room(mailbox, 1)?;
-    shown(alloc, mailbox)
-}
-
-/// Of a UID that is gone a commit changes nothing.
-fn commits_nothing(alloc: Global, mailbox: &mut Mailbox) -> Result<String, MailboxError> {
-    flag_in_room(alloc, mailbox, 3)?;
-    mark_in_room(alloc, mailbox, 1)?;
-    expunge_in_room(mailbox, 1)?;
-    shown(alloc, mailbox)
-}
-
-#[test]
-fn commits_in_room_that_is_there(rt: HostRuntime) -> Result<(), Fail> {
-    let mut mailbox = Mailbox::new(rt.alloc());
-    let before = commits(rt.alloc(), &mut mailbox);
-    let after = commits_nothing(rt.alloc(), &mut mailbox);
-    drop(mailbox);
-    assert_eq!(rt; before?.as_str(), "2=3 | 2=5* | 1=6 | 5 6 3 4");
-    assert_eq!(rt; after?.as_str(), "2=3 | 2=5* | 1=6 | 5 6 3 4");
     Ok(())
 }
 

@@ -1,4 +1,6 @@
-use imap_modseq::{Clocks, ClocksError, laws};
+//! Tests of mod-sequences.
+
+use imap_modseq::{Clocks, ClocksError, count_before, laws};
 use std::alloc::{AllocError, Global};
 use std::process::Abort;
 use std::test::Fail;
@@ -49,6 +51,7 @@ fn own_changes_stand_among_shared_events(rt: HostRuntime) -> Result<(), Fail> {
     assert_eq!(rt; shared.as_slice(), [2, 3, 5, 6].as_slice());
     assert_eq!(rt; own.as_slice(), [4, 7].as_slice());
     assert_eq!(rt; clocks.highest("bob"), 7);
+    assert_eq!(rt; count_before(&[2_u64, 4], 3), 1);
     laws::numbers_are_places::<u64>();
     laws::new_comes_last::<u64>();
     laws::numbers_cover();

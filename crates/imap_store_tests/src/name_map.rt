@@ -1,3 +1,5 @@
+//! Tests of maps from names.
+
 use imap_name_map::NameMap;
 use imap_names::{Name, read_full};
 use std::alloc::Global;

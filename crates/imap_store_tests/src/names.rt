@@ -1,3 +1,5 @@
+//! Tests of names of users and mailboxes.
+
 use imap_names::{Name, NameError, UserName, read_full};
 use std::alloc::Global;
 use std::cmp::Ordering;

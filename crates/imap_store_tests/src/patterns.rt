@@ -1,3 +1,5 @@
+//! Tests of the patterns of LIST.
+
 use imap_names::Pattern;
 use std::alloc::{AllocError, Global};
 use std::test::Fail;

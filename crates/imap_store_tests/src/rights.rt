@@ -1,3 +1,5 @@
+//! Tests of rights.
+
 use bitflags::Flags;
 use imap_rights::{Rights, RightsChange, laws, read_rights};
 use std::test::Fail;

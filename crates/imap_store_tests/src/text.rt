@@ -1,3 +1,5 @@
+//! Tests of the texts of messages.
+
 use imap_lex::Octets;
 use imap_syntax::FieldName;
 use imap_text::{
@@ -18,8 +20,8 @@ const SUMMARY: &[u8] = b"Date: Wed, 17 Jul 1996 02:23:25 -0700 (PDT)\r\n\
     Content-Type: TEXT/PLAIN; CHARSET=US-ASCII\r\n\
     \r\n";
 
-/// Fields of every kind: folded, without a name, with a space before the colon, one name twice, and a first line that
-/// begins with a space.
+/// Fields of every kind: folded, without a name, with a space before the colon, one name twice, and a first
+/// line that begins with a space.
 const ODD: &[u8] = b" early: 0\r\n\tmore\r\n\
     Subject: one\r\n\
     \x20two: x\r\n\

@@ -16,6 +16,8 @@ pub mod Writing
 pub mod Written
 pub mod WrittenDates
 pub mod Atoms
+pub mod KeywordOrder
+pub mod KeywordUnion
 pub mod NzNumbers
 pub mod Lined
 pub mod Texts

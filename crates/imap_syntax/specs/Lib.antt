@@ -1,3 +1,4 @@
+-- Rules of the grammar, and the strings, numbers, sets, flags and dates that are read and written by them.
 pub mod Rule
 pub mod First
 pub mod Reading
@@ -5,6 +6,7 @@ pub mod Lexical
 pub mod Sets
 pub mod Writing
 pub mod Atoms
+pub mod Keywords
 pub mod SystemFlags
 pub mod Flags
 pub mod Moments

@@ -1,5 +1,6 @@
 -- The flags of RFC 9051, section 2.3.2, and other flags with a backslash.
-use Rattle.std.specs.Prelude.{◌≡◌, ℕ, Bool, true, ◌&&◌, List, Option, Some, None, find, is_none, codes, if◌then◌else◌}
+use Rattle.std.specs.Prelude.{◌≡◌, ℕ, Bool, true, ◌&&◌, List, Option, Some, None, find}
+use Rattle.std.specs.Prelude.{is_none, codes, if◌then◌else◌}
 use Rattle.std.specs.Str.{str_eq_ignore_ascii_case}
 use Rattle.imap_syntax.specs.declared.system_flag.SystemFlag.{SystemFlag}
 use Rattle.imap_syntax.specs.declared.system_flag.SystemFlag.TheVariants as system

@@ -1,5 +1,6 @@
 -- How values are written: one text for each value that can be spelt.
-use Rattle.std.specs.Prelude.{ℕ, Bool, true, not, ◌==◌, ◌&&◌, nat_lt, List, [], ◌∷◌, ◌++◌, length, decimal, flat_map}
+use Rattle.std.specs.Prelude.{ℕ, Bool, true, not, ◌==◌, ◌&&◌, nat_lt, List, [], ◌∷◌}
+use Rattle.std.specs.Prelude.{◌++◌, length, decimal, flat_map}
 use Rattle.std.specs.List.{list_all}
 
 -- `fits value`: some text spells the value.

@@ -1,5 +1,6 @@
 -- How strings, sets and flags are written.
-use Rattle.std.specs.Prelude.{◌≡◌, ℕ, Bool, true, false, not, ◌==◌, ◌&&◌, ◌||◌, nat_lt, List, [], ◌∷◌, ◌++◌, length, codes, decimal, flat_map, if◌then◌else◌}
+use Rattle.std.specs.Prelude.{◌≡◌, ℕ, Bool, true, false, not, ◌==◌, ◌&&◌, ◌||◌, nat_lt, List, [], ◌∷◌}
+use Rattle.std.specs.Prelude.{◌++◌, length, codes, decimal, flat_map, if◌then◌else◌}
 use Rattle.std.specs.List.{list_any}
 use Rattle.imap_syntax.specs.declared.set.SeqNumber.{SeqNumber}
 use Rattle.imap_syntax.specs.declared.set.SeqNumber.TheVariants as number

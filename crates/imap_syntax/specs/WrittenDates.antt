@@ -1,5 +1,6 @@
 -- How dates are written (RFC 9051, section 9).
-use Rattle.std.specs.Prelude.{ℕ, ◌+◌, ◌/◌, ◌%◌, ◌&&◌, Bool, true, false, nat_lt, List, [], ◌∷◌, ◌++◌, if◌then◌else◌, Option, Some, None}
+use Rattle.std.specs.Prelude.{ℕ, ◌+◌, ◌/◌, ◌%◌, ◌&&◌, Bool, true, false, nat_lt, List, [], ◌∷◌}
+use Rattle.std.specs.Prelude.{◌++◌, if◌then◌else◌, Option, Some, None}
 use Rattle.imap_syntax.specs.Calendar.{month_name, day_exists}
 use Rattle.imap_syntax.specs.Moments.{Day, Offset, Moment}
 use Rattle.imap_syntax.specs.Writing.{Writing}

@@ -3,7 +3,8 @@
 ghost use Rattle.std.specs.Prelude.{◌≡◌, ◌≤◌, ℕ, Bool, List, Option, Some, length, find, drop, take, IfOk};
 ghost use Rattle.std.specs.List.{prefix_len};
 ghost use Rattle.std.specs.Str.{str_eq_ignore_ascii_case};
-ghost use Rattle.imap_syntax.specs.Rule.{octet, flag, counted, first_read, front_read, some_of, items_read, keyword, listed, listed_end, listed_or_none, reading};
+ghost use Rattle.imap_syntax.specs.Rule.{octet, flag, counted, first_read, front_read, some_of, items_read};
+ghost use Rattle.imap_syntax.specs.Rule.{keyword, listed, listed_end, listed_or_none, reading};
 ghost use Rattle.imap_syntax.specs.Reading.{ReadsIfMemory, Reads};
 
 use crate::error::ReadError;

@@ -5,7 +5,10 @@ ghost use Rattle.std.specs.Char.{is_ascii_digit};
 ghost use Rattle.std.specs.List.{prefix_len};
 ghost use Rattle.imap_syntax.specs.Rule.{some_of};
 ghost use Rattle.imap_syntax.specs.Reading.{ReadsIfMemory, Reads};
-ghost use Rattle.imap_syntax.specs.Lexical.{is_astring_char, is_atom_char, is_word_char, is_tag_char, is_quoted_special, is_text_char, space, crlf, quoted_end, quoted, decimal, number, nz_number, has_nul, literal_head, literal, string, astring};
+ghost use Rattle.imap_syntax.specs.Lexical.{is_astring_char, is_atom_char, is_word_char, is_tag_char};
+ghost use Rattle.imap_syntax.specs.Lexical.{is_quoted_special, is_text_char, space, crlf, quoted_end};
+ghost use Rattle.imap_syntax.specs.Lexical.{quoted, decimal, number, nz_number, has_nul, literal_head};
+ghost use Rattle.imap_syntax.specs.Lexical.{literal, string, astring};
 
 use crate::cursor::Cursor;
 use crate::error::ReadError;

@@ -2,7 +2,8 @@
 
 ghost use Rattle.std.specs.Prelude.{◌≡◌, ◌<◌, ◌≤◌, ◌^◌, IfOk, IsTrue};
 ghost use Rattle.imap_syntax.specs.Reading.{Reads};
-ghost use Rattle.imap_syntax.specs.Dates.{digits_of, date_behind_day, date_text, date, day_fixed, below, zone, date_time_text, date_time_end};
+ghost use Rattle.imap_syntax.specs.Dates.{digits_of, date_behind_day, date_text, date, day_fixed, below};
+ghost use Rattle.imap_syntax.specs.Dates.{zone, date_time_text, date_time_end};
 
 use crate::cursor::Cursor;
 use crate::date::{Date, DateTime, Zone, day_exists};

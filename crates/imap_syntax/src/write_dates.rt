@@ -1,7 +1,10 @@
 //! Dates and times, written.
 
 ghost use Rattle.std.specs.Prelude.{◌≡◌, ◌++◌, ◌∷◌, IsTrue, OnOk};
-ghost use Rattle.imap_syntax.specs.WrittenDates.{two_digits, four_digits, day_text, month_year_text, fixed_day_text, fixed_date_text, date, zone_fits, sign, clock_text, zone_text, date_time_text, date_time_end, date_time};
+ghost use Rattle.imap_syntax.specs.WrittenDates.{two_digits, four_digits, day_text, month_year_text};
+ghost use Rattle.imap_syntax.specs.WrittenDates.{fixed_day_text, fixed_date_text, date, zone_fits, sign};
+ghost use Rattle.imap_syntax.specs.WrittenDates.{clock_text, zone_text, date_time_text, date_time_end};
+ghost use Rattle.imap_syntax.specs.WrittenDates.{date_time};
 
 use crate::cursor::Keyword;
 use crate::date::{Date, DateTime, Zone};

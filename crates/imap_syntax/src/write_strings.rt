@@ -4,7 +4,8 @@ ghost use Rattle.std.specs.Prelude.{◌≡◌, ◌++◌, ◌∷◌, OnOk, flat_m
 ghost use Rattle.std.specs.List.{list_all, list_any};
 ghost use Rattle.imap_syntax.specs.Lexical.{is_astring_char};
 ghost use Rattle.imap_syntax.specs.Writing.{some_of};
-ghost use Rattle.imap_syntax.specs.Written.{is_unquotable, is_quotable, is_written_quoted, escaped, quoted_text, literal_text, string, bare_or_string, astring};
+ghost use Rattle.imap_syntax.specs.Written.{is_unquotable, is_quotable, is_written_quoted, escaped};
+ghost use Rattle.imap_syntax.specs.Written.{quoted_text, literal_text, string, bare_or_string, astring};
 
 use crate::lexical::is_quoted_special;
 use crate::spelling::{Spelling, push_number};

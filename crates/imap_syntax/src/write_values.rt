@@ -1,7 +1,8 @@
 //! Numbers, sets and flags, written.
 
 ghost use Rattle.std.specs.Prelude.{◌≡◌, ◌++◌, ◌∷◌, OnOk};
-ghost use Rattle.imap_syntax.specs.Written.{number64, mod_sequence, number_fits, number_text, is_same, seq_range, message_set, message_flag};
+ghost use Rattle.imap_syntax.specs.Written.{number64, mod_sequence, number_fits, number_text, is_same};
+ghost use Rattle.imap_syntax.specs.Written.{seq_range, message_set, message_flag};
 
 use crate::atom::Atom;
 use crate::cursor::Keyword;

@@ -1,6 +1,8 @@
 -- The fields of a header (RFC 5322, section 2.2; RFC 9051, section 6.4.5.1, HEADER.FIELDS and
 -- HEADER.FIELDS.NOT).
-use Rattle.std.specs.Prelude.{◌≡◌, ◌+◌, ◌==◌, ◌||◌, not, ℕ, Bool, true, false, List, [], ◌∷◌, ◌++◌, map, filter, count_by, take, position, take_while, if◌then◌else◌, Option, option_map}
+use Rattle.std.specs.Prelude.{◌≡◌, ◌+◌, ◌==◌, ◌||◌, not, ℕ, Bool, true, false, if◌then◌else◌, Option}
+use Rattle.std.specs.Prelude.{List, [], ◌∷◌, ◌++◌, map, filter, count_by, take, position, take_while}
+use Rattle.std.specs.Prelude.{option_map}
 use Rattle.std.specs.List.{concat, flat_map, list_any, after_first}
 use Rattle.std.specs.Option.{option_map_or}
 use Rattle.std.specs.Str.{str_eq_ignore_ascii_case}

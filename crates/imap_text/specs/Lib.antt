@@ -1,3 +1,4 @@
+-- Definitions of lines, header and text, fields, and folds.
 pub mod Lines
 pub mod Sections
 pub mod Fields

@@ -1,6 +1,7 @@
 //! Fields by their names (RFC 9051, sections 6.4.4 and 6.4.5.1).
 
-ghost use Rattle.std.specs.Prelude.{◌≡◌, ◌≤◌, false, [], ◌∷◌, ◌++◌, length, map, slice_range, IfOk, OnOk, MatchOption};
+ghost use Rattle.std.specs.Prelude.{◌≡◌, ◌≤◌, false, [], ◌∷◌, ◌++◌, length, map, slice_range};
+ghost use Rattle.std.specs.Prelude.{IfOk, OnOk, MatchOption};
 ghost use Rattle.std.specs.List.{concat};
 ghost use Rattle.imap_text.specs.Fields.{is_named, fields, field_texts};
 ghost use Rattle.imap_text.specs.Found.{IsTextNamed};

@@ -1,4 +1,4 @@
-//! The map.
+//! Maps from user names, in a hash table.
 
 ghost use Rattle.std.specs.Prelude.{◌≡◌, ◌+◌, ◌<◌, ◌≤◌, is_some, IfOk, OnOk, OnSome, option_copied};
 ghost use Rattle.std.specs.Option.{option_copied_mut};
@@ -30,6 +30,7 @@ impl<V> Model for UserMap<V> {
 }
 
 impl<V> UserMap<V> {
+    /// A map without users. It takes no memory.
     pub fn new(alloc: Global) -> Self
         ensures { result.map ≡ map.empty }
     {
@@ -38,12 +39,14 @@ impl<V> UserMap<V> {
         }
     }
 
+    /// The value of a user, or `None` if there is none.
     pub fn get(&self, user: &str) -> Option<&V>
         ensures { option_copied result ≡ map.get self.now.map user.now }
     {
         self.entries.get(user)
     }
 
+    /// Whether a user has a value.
     pub fn contains(&self, user: &str) -> bool
         ensures { result ≡ is_some (map.get self.now.map user.now) }
     {

@@ -1,7 +1,7 @@
 //! Copies and equality of values.
 //!
-//! A copy may want memory, and is equal. An equality says exactly whether two values are the same, as contracts see
-//! them: the `==` of a derived `PartialEq` has no clause that does.
+//! A copy may want memory, and is equal. An equality says exactly whether two values are the same, as
+//! contracts see them: the `==` of a derived `PartialEq` has no clause that does.
 #![tactic(auto)]
 
 mod copy;

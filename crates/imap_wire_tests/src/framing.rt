@@ -1,10 +1,12 @@
+//! Streams that are cut into frames, in pieces of each size.
+
 use imap_lex::*;
 use std::alloc::{AllocError, Global};
 use std::process::Abort;
 use std::test::Fail;
 
-/// The frames as text: each command in brackets, `+` where the client is to go on, the tag of a rejected one in
-/// parentheses, and `!` for a hangup.
+/// The frames as text: each command in brackets, `+` where the client is to go on, the tag of a rejected one
+/// in parentheses, and `!` for a hangup.
 fn show(frames: &[Frame], out: &mut Vec<u8>) -> Result<(), AllocError> {
     for frame in frames {
         match frame {
@@ -25,8 +27,8 @@ fn between(out: &mut Vec<u8>, open: u8, octets: &[u8], close: u8) -> Result<(), 
     Ok(())
 }
 
-/// Feeds the stream in pieces of `size` octets to a framer with the limit `max_octets`, and shows the frames. `?`
-/// stands for a piece that is refused with `Closed`.
+/// Feeds the stream in pieces of `size` octets to a framer with the limit `max_octets`, and shows the frames.
+/// `?` stands for a piece that is refused with `Closed`.
 fn told(alloc: Global, max_octets: u64, stream: &[u8], size: usize) -> Result<Vec<u8>, LexError> {
     let mut out = Vec::new(alloc);
     let mut framer = Framer::new(alloc, max_octets);
@@ -196,7 +198,8 @@ fn check_long(rt: &impl Abort, alloc: Global, rows: &[Row<'_>]) -> Result<(), Le
 
 #[test]
 fn limits_of_octets(rt: HostRuntime) -> Result<(), Fail> {
-    // The longest line, an unended one that is as long, one that is longer, and one that is longer and has a mark.
+    // The longest line, an unended one that is as long, one that is longer, and one
+    // that is longer and has a mark.
     const LINES: [Row; 4] = [
         Row {
             front: b"",

@@ -1,7 +1,7 @@
 //! Frames that are read, and requests that are written.
 //!
-//! A request that goes out of scope at the end of a function makes the function's proof long. One that is handed to
-//! `drop` doesn't, since `drop` is generic.
+//! A request that goes out of scope at the end of a function makes the function's proof long. One that is
+//! handed to `drop` doesn't, since `drop` is generic.
 
 mod copies;
 mod generator;

@@ -1,10 +1,12 @@
+//! Responses as they are printed (RFC 9051, section 7).
+
 mod mailboxes;
 mod messages;
 mod values;
 
 use imap_lex::{Octets, Tag};
 use imap_print::*;
-use imap_syntax::{Atom, FieldName, Items};
+use imap_syntax::{Atom, FieldName, Items, Keywords};
 use imap_values::{Same, TryCopy};
 use std::alloc::{AllocError, Global};
 use std::process::Abort;
@@ -37,12 +39,14 @@ fn sets_rise_from_1(rt: HostRuntime) -> Result<(), Fail> {
     Ok(())
 }
 
-fn words(alloc: Global, texts: &[&str]) -> Result<Items<Atom>, AllocError> {
-    let mut words = Vec::new(alloc);
+/// The set of these keywords.
+fn words(alloc: Global, texts: &[&str]) -> Result<Keywords, AllocError> {
+    let mut words = Keywords::new(alloc);
     for text in texts {
-        words.push(Atom::read(alloc, text.as_bytes())?.ok_or(AllocError)?)?;
+        let word = Atom::read(alloc, text.as_bytes())?.ok_or(AllocError)?;
+        words.insert(alloc, &word)?;
     }
-    Ok(Items::from_vec(words))
+    Ok(words)
 }
 
 fn field_names(alloc: Global, texts: &[&str]) -> Result<Items<FieldName>, AllocError> {
@@ -59,8 +63,8 @@ fn shown_all(alloc: Global, responses: &[Response]) -> Result<String, AllocError
     String::from_utf8_lossy(alloc, printed.as_slice())
 }
 
-/// Prints a copy of one response, which says that it is the same. It is handed to `drop`, which is generic: the proof
-/// that a response is dropped is long.
+/// Prints a copy of one response, which says that it is the same. It is handed to `drop`, which is generic:
+/// the proof that a response is dropped is long.
 fn shown(alloc: Global, response: Response) -> Result<String, AllocError> {
     let text = shown_copy(alloc, &response);
     drop(response);

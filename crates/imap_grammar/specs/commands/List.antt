@@ -1,5 +1,6 @@
 -- LIST (RFC 9051, section 6.3.9).
-use Rattle.std.specs.Prelude.{ℕ, Bool, true, false, ◌==◌, ◌||◌, ◌&&◌, not, List, [], ◌∷◌, ◌++◌, codes, Option, Some, None}
+use Rattle.std.specs.Prelude.{ℕ, Bool, true, false, ◌==◌, ◌||◌, ◌&&◌, not, List, [], ◌∷◌}
+use Rattle.std.specs.Prelude.{◌++◌, codes, Option, Some, None}
 use Rattle.std.specs.List.{list_any, list_all}
 use Rattle.imap_grammar.specs.declared.command.Command.{Command}
 use Rattle.imap_grammar.specs.declared.command.Command.TheVariants as command
@@ -13,8 +14,10 @@ use Rattle.imap_grammar.specs.declared.commands.list.ReturnWord.{ReturnWord}
 use Rattle.imap_grammar.specs.declared.commands.list.ReturnWord.TheVariants.{Return}
 use Rattle.imap_grammar.specs.declared.commands.list.Patterns.{Patterns}
 use Rattle.imap_grammar.specs.declared.commands.list.Patterns.TheVariants.{One, Many}
-use Rattle.imap_grammar.specs.declared.commands.list.TheConstants.{SELECTIONS, LIST_RETURN_WORDS, RETURN_WORDS}
-use Rattle.imap_syntax.specs.Rule.{Rule, give, ◌>>=◌, ◌>>◌, ◌<|>◌, octet, some_of, when, flag, keyword, separated, listed, listed_end, listed_or_none}
+use Rattle.imap_grammar.specs.declared.commands.list.TheConstants.{SELECTIONS, LIST_RETURN_WORDS}
+use Rattle.imap_grammar.specs.declared.commands.list.TheConstants.{RETURN_WORDS}
+use Rattle.imap_syntax.specs.Rule.{Rule, give, ◌>>=◌, ◌>>◌, ◌<|>◌, octet, some_of, when, flag, keyword}
+use Rattle.imap_syntax.specs.Rule.{separated, listed, listed_end, listed_or_none}
 use Rattle.imap_syntax.specs.Lexical.{is_astring_char, space, string, astring}
 use Rattle.imap_syntax.specs.Writing as writing
 use Rattle.imap_syntax.specs.Writing.{Writing}

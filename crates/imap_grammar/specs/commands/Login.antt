@@ -1,5 +1,6 @@
 -- The rest of a LOGIN, AUTHENTICATE or STARTTLS line, whatever it is (RFC 9051, section 6.2).
-use Rattle.std.specs.Prelude.{◌≡◌, ℕ, zero, suc, Bool, true, false, ◌==◌, ◌||◌, not, List, ◌++◌, length, take, drop, Option, Some, None}
+use Rattle.std.specs.Prelude.{◌≡◌, ℕ, zero, suc, Bool, true, false, ◌==◌, ◌||◌, not, List, ◌++◌}
+use Rattle.std.specs.Prelude.{length, take, drop, Option, Some, None}
 use Rattle.std.specs.List.{prefix_len, AllByRecursion}
 use Rattle.imap_lex.specs.Mark.{Announced, line_mark}
 use Rattle.imap_lex.specs.Framing as framing

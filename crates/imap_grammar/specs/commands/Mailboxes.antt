@@ -2,6 +2,8 @@
 use Rattle.std.specs.Prelude.{ℕ, Bool, ◌&&◌, List, ◌∷◌, ◌++◌}
 use Rattle.imap_grammar.specs.declared.command.Command.{Command}
 use Rattle.imap_grammar.specs.declared.command.Command.TheVariants as command
+use Rattle.imap_grammar.specs.declared.commands.mailboxes.OneMailbox.{OneMailbox}
+use Rattle.imap_grammar.specs.declared.commands.mailboxes.OneMailbox.TheVariants as on
 use Rattle.imap_query.specs.declared.status.StatusItem.{StatusItem}
 use Rattle.imap_syntax.specs.Rule.{Rule, give, ◌>>=◌, ◌>>◌, listed}
 use Rattle.imap_syntax.specs.Lexical.{space}
@@ -13,6 +15,21 @@ use Rattle.imap_grammar.specs.commands.Argument.{argument, argument_text}
 use Rattle.imap_grammar.specs.commands.Messages.{messages_fit, messages_text}
 
 -- ---- as they are read
+
+-- the command on this mailbox
+abbrev pub command_on : OneMailbox → (mailbox : List ℕ) → Command
+command_on on.Create mailbox = command.Create mailbox
+command_on on.Delete mailbox = command.Delete mailbox
+command_on on.GetAcl mailbox = command.GetAcl mailbox
+command_on on.MyRights mailbox = command.MyRights mailbox
+command_on on.Subscribe mailbox = command.Subscribe mailbox
+command_on on.Unsubscribe mailbox = command.Unsubscribe mailbox
+
+-- SP mailbox, for a command of one mailbox
+abbrev pub one_mailbox : OneMailbox → Rule Command
+one_mailbox verb = do
+  mailbox ← argument
+  give (command_on verb mailbox)
 
 abbrev pub status : Rule Command
 status = do

@@ -1,5 +1,6 @@
 -- SELECT and EXAMINE (RFC 9051, section 6.3.2; RFC 7162, sections 3.1.8 and 3.2.5).
-use Rattle.std.specs.Prelude.{ℕ, Bool, true, false, not, ◌&&◌, List, [], ◌∷◌, ◌++◌, codes, decimal, Option, Some, None}
+use Rattle.std.specs.Prelude.{ℕ, Bool, true, false, not, ◌&&◌, List, [], ◌∷◌, ◌++◌}
+use Rattle.std.specs.Prelude.{codes, decimal, Option, Some, None}
 use Rattle.std.specs.List.{list_any}
 use Rattle.imap_syntax.specs.declared.set.SeqNumber.{SeqNumber}
 use Rattle.imap_syntax.specs.declared.set.SeqNumber.TheVariants.{Number, Last}

@@ -1,5 +1,6 @@
 -- The arguments of STORE after its set of messages (RFC 9051, section 6.4.6; RFC 7162, section 3.1.3).
-use Rattle.std.specs.Prelude.{ℕ, Bool, true, false, ◌&&◌, List, [], ◌∷◌, ◌++◌, codes, decimal, Option, Some, None}
+use Rattle.std.specs.Prelude.{ℕ, Bool, true, false, ◌&&◌, List, [], ◌∷◌, ◌++◌, codes}
+use Rattle.std.specs.Prelude.{decimal, Option, Some, None}
 use Rattle.std.specs.List.{list_all}
 use Rattle.imap_syntax.specs.declared.flag.Flag.{Flag}
 use Rattle.imap_grammar.specs.declared.commands.store.StoreChange.{StoreChange}

@@ -2,7 +2,9 @@
 
 ghost use Rattle.std.specs.Prelude.{◌≡◌, ◌++◌, ◌∷◌, [], OnOk};
 ghost use Rattle.imap_syntax.specs.Reading.{ReadsIfMemory, Reads};
-ghost use Rattle.imap_grammar.specs.commands.Append.{append_flags, append_date, message, append, date_fits, date_text, message_text, flags_text, append_fits, append_text};
+ghost use Rattle.imap_grammar.specs.commands.Append.{append_flags, append_date, message, append};
+ghost use Rattle.imap_grammar.specs.commands.Append.{date_fits, date_text, message_text, flags_text};
+ghost use Rattle.imap_grammar.specs.commands.Append.{append_fits, append_text};
 
 use crate::command::Command;
 use crate::commands::argument::{push_argument, read_argument};

@@ -3,7 +3,11 @@
 ghost use Rattle.std.specs.Prelude.{◌≡◌, ◌++◌, ◌∷◌, [], OnOk, codes};
 ghost use Rattle.std.specs.List.{list_any, list_all};
 ghost use Rattle.imap_syntax.specs.Reading.{ReadsIfMemory};
-ghost use Rattle.imap_grammar.specs.commands.List.{is_subscribed, is_recursive, may_be_selected, selections, is_list_char, pattern, patterns, list_return, list_returns, list, selection_fits, selection_text, patterns_fit, patterns_text, return_fits, returns_fit, returns_text, list_fits, list_text};
+ghost use Rattle.imap_grammar.specs.commands.List.{is_subscribed, is_recursive, may_be_selected, selections};
+ghost use Rattle.imap_grammar.specs.commands.List.{is_list_char, pattern, patterns, list_return};
+ghost use Rattle.imap_grammar.specs.commands.List.{list_returns, list, selection_fits, selection_text};
+ghost use Rattle.imap_grammar.specs.commands.List.{patterns_fit, patterns_text, return_fits, returns_fit};
+ghost use Rattle.imap_grammar.specs.commands.List.{returns_text, list_fits, list_text};
 
 use crate::command::Command;
 use imap_lex::{AstringChar, OctetClass, Octets, is_astring_char, leading};

@@ -3,7 +3,8 @@
 ghost use Rattle.std.specs.Prelude.{◌≡◌, ℕ, Some};
 ghost use Rattle.imap_lex.specs.Held.{held_size};
 ghost use Rattle.imap_syntax.specs.Reading.{Reads};
-ghost use Rattle.imap_grammar.specs.commands.Login.{is_line_char, line_rest, announced_literal, lines, any_arguments};
+ghost use Rattle.imap_grammar.specs.commands.Login.{is_line_char, line_rest, announced_literal};
+ghost use Rattle.imap_grammar.specs.commands.Login.{lines, any_arguments};
 
 use crate::command::Command;
 use imap_lex::{OctetClass, leading, line_mark};

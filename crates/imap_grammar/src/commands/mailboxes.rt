@@ -2,7 +2,9 @@
 
 ghost use Rattle.std.specs.Prelude.{◌≡◌, ◌&&◌, ◌++◌, OnOk};
 ghost use Rattle.imap_syntax.specs.Reading.{ReadsIfMemory};
-ghost use Rattle.imap_grammar.specs.commands.Mailboxes.{status, status_fits, status_text, mailbox_fits, mailbox_text};
+ghost use Rattle.imap_grammar.specs.commands.Mailboxes.{command_on, one_mailbox};
+ghost use Rattle.imap_grammar.specs.commands.Mailboxes.{status, status_fits, status_text};
+ghost use Rattle.imap_grammar.specs.commands.Mailboxes.{mailbox_fits, mailbox_text};
 ghost use Rattle.imap_grammar.specs.Reading.{arguments};
 
 use crate::command::Command;
@@ -15,18 +17,41 @@ use imap_query::StatusItem;
 use imap_syntax::{Cursor, ReadError, Word, WordOf, push_listed, some_fit, string_fits};
 use std::alloc::{AllocError, Global};
 
-pub(crate) fn read_create(cursor: &mut Cursor<'_>, alloc: Global) -> Result<Command, ReadError>
-    ensures { ReadsIfMemory (λ c. c) result cursor.new ((arguments Verb.Create).read cursor.old) }
-{
-    let mailbox = read_argument(cursor, alloc)?;
-    Ok(Command::Create { mailbox })
+/// A command whose one argument is the name of a mailbox.
+#[derive(Clone, Copy)]
+pub(crate) enum OneMailbox {
+    Create,
+    Delete,
+    GetAcl,
+    MyRights,
+    Subscribe,
+    Unsubscribe,
 }
 
-pub(crate) fn read_delete(cursor: &mut Cursor<'_>, alloc: Global) -> Result<Command, ReadError>
-    ensures { ReadsIfMemory (λ c. c) result cursor.new ((arguments Verb.Delete).read cursor.old) }
+/// Returns the command `verb` on `mailbox`.
+fn command_on(verb: OneMailbox, mailbox: Octets) -> Command
+    ensures { result ≡ command_on verb mailbox }
+{
+    match verb {
+        OneMailbox::Create => Command::Create { mailbox },
+        OneMailbox::Delete => Command::Delete { mailbox },
+        OneMailbox::GetAcl => Command::GetAcl { mailbox },
+        OneMailbox::MyRights => Command::MyRights { mailbox },
+        OneMailbox::Subscribe => Command::Subscribe { mailbox },
+        OneMailbox::Unsubscribe => Command::Unsubscribe { mailbox },
+    }
+}
+
+/// Reads the name of a mailbox, for the command `verb` on it.
+pub(crate) fn read_one_mailbox(
+    cursor: &mut Cursor<'_>,
+    alloc: Global,
+    verb: OneMailbox,
+) -> Result<Command, ReadError>
+    ensures { ReadsIfMemory (λ c. c) result cursor.new ((one_mailbox verb).read cursor.old) }
 {
     let mailbox = read_argument(cursor, alloc)?;
-    Ok(Command::Delete { mailbox })
+    Ok(command_on(verb, mailbox))
 }
 
 pub(crate) fn read_rename(cursor: &mut Cursor<'_>, alloc: Global) -> Result<Command, ReadError>
@@ -35,20 +60,6 @@ pub(crate) fn read_rename(cursor: &mut Cursor<'_>, alloc: Global) -> Result<Comm
     let from = read_argument(cursor, alloc)?;
     let to = read_argument(cursor, alloc)?;
     Ok(Command::Rename { from, to })
-}
-
-pub(crate) fn read_subscribe(cursor: &mut Cursor<'_>, alloc: Global) -> Result<Command, ReadError>
-    ensures { ReadsIfMemory (λ c. c) result cursor.new ((arguments Verb.Subscribe).read cursor.old) }
-{
-    let mailbox = read_argument(cursor, alloc)?;
-    Ok(Command::Subscribe { mailbox })
-}
-
-pub(crate) fn read_unsubscribe(cursor: &mut Cursor<'_>, alloc: Global) -> Result<Command, ReadError>
-    ensures { ReadsIfMemory (λ c. c) result cursor.new ((arguments Verb.Unsubscribe).read cursor.old) }
-{
-    let mailbox = read_argument(cursor, alloc)?;
-    Ok(Command::Unsubscribe { mailbox })
 }
 
 pub(crate) fn read_select(cursor: &mut Cursor<'_>, alloc: Global) -> Result<Command, ReadError>
@@ -106,13 +117,6 @@ pub(crate) fn read_delete_acl(cursor: &mut Cursor<'_>, alloc: Global) -> Result<
     })
 }
 
-pub(crate) fn read_get_acl(cursor: &mut Cursor<'_>, alloc: Global) -> Result<Command, ReadError>
-    ensures { ReadsIfMemory (λ c. c) result cursor.new ((arguments Verb.GetAcl).read cursor.old) }
-{
-    let mailbox = read_argument(cursor, alloc)?;
-    Ok(Command::GetAcl { mailbox })
-}
-
 pub(crate) fn read_list_rights(cursor: &mut Cursor<'_>, alloc: Global) -> Result<Command, ReadError>
     ensures { ReadsIfMemory (λ c. c) result cursor.new ((arguments Verb.ListRights).read cursor.old) }
 {
@@ -122,13 +126,6 @@ pub(crate) fn read_list_rights(cursor: &mut Cursor<'_>, alloc: Global) -> Result
         mailbox,
         identifier,
     })
-}
-
-pub(crate) fn read_my_rights(cursor: &mut Cursor<'_>, alloc: Global) -> Result<Command, ReadError>
-    ensures { ReadsIfMemory (λ c. c) result cursor.new ((arguments Verb.MyRights).read cursor.old) }
-{
-    let mailbox = read_argument(cursor, alloc)?;
-    Ok(Command::MyRights { mailbox })
 }
 
 fn status_fits(mailbox: &Octets, items: &[StatusItem]) -> bool

@@ -2,7 +2,9 @@
 
 ghost use Rattle.std.specs.Prelude.{◌≡◌, ◌++◌, OnOk};
 ghost use Rattle.imap_syntax.specs.Reading.{ReadsIfMemory};
-ghost use Rattle.imap_grammar.specs.commands.Messages.{copy, move, uid_expunge, store, fetch, search, uid_command, copy_text, fetch_text, search_text, store_text, messages_fit, messages_text};
+ghost use Rattle.imap_grammar.specs.commands.Messages.{copy, move, uid_expunge, store, fetch, search};
+ghost use Rattle.imap_grammar.specs.commands.Messages.{uid_command, copy_text, fetch_text, search_text};
+ghost use Rattle.imap_grammar.specs.commands.Messages.{store_text, messages_fit, messages_text};
 
 use crate::command::Command;
 use crate::commands::argument::{push_argument, read_argument};

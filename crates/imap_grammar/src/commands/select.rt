@@ -3,7 +3,12 @@
 ghost use Rattle.std.specs.Prelude.{◌≡◌, ◌++◌, ◌∷◌, [], OnOk, codes, decimal};
 ghost use Rattle.std.specs.List.{list_any};
 ghost use Rattle.imap_syntax.specs.Reading.{ReadsIfMemory};
-ghost use Rattle.imap_grammar.specs.commands.Select.{is_last, has_last, known_set, match_end, match_data, known_uids, qresync, parameter, one_parameter, both_parameters, another_parameter, parameters, known_fits, known_text, qresync_writing, qresync_fits, parameters_by, parameters_writing, selecting_fits, selecting_text};
+ghost use Rattle.imap_grammar.specs.commands.Select.{is_last, has_last, known_set, match_end, match_data};
+ghost use Rattle.imap_grammar.specs.commands.Select.{known_uids, qresync, parameter, one_parameter};
+ghost use Rattle.imap_grammar.specs.commands.Select.{both_parameters, another_parameter, parameters};
+ghost use Rattle.imap_grammar.specs.commands.Select.{known_fits, known_text, qresync_writing, qresync_fits};
+ghost use Rattle.imap_grammar.specs.commands.Select.{parameters_by, parameters_writing, selecting_fits};
+ghost use Rattle.imap_grammar.specs.commands.Select.{selecting_text};
 
 use crate::commands::argument::push_argument;
 use imap_lex::{AstringChar, Octets};

@@ -2,7 +2,9 @@
 
 ghost use Rattle.std.specs.Prelude.{◌≡◌, ◌++◌, decimal, OnOk};
 ghost use Rattle.imap_syntax.specs.Reading.{ReadsIfMemory, Reads};
-ghost use Rattle.imap_grammar.specs.commands.Store.{change_of, is_silent, condition, store_flags, store_spec, store_word, since_fits, since_text, store_flags_text, change_text, store_spec_writing};
+ghost use Rattle.imap_grammar.specs.commands.Store.{change_of, is_silent, condition, store_flags, store_spec};
+ghost use Rattle.imap_grammar.specs.commands.Store.{store_word, since_fits, since_text, store_flags_text};
+ghost use Rattle.imap_grammar.specs.commands.Store.{change_text, store_spec_writing};
 
 use imap_lex::AstringChar;
 use imap_syntax::{

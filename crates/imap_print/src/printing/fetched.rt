@@ -5,7 +5,8 @@ ghost use Rattle.std.specs.List.{concat};
 ghost use Rattle.imap_syntax.specs.Written.{literal_text};
 ghost use Rattle.imap_print.specs.Words.{GoesOn};
 ghost use Rattle.imap_print.specs.Fetched.{section_text, origin_text, body_text};
-ghost use Rattle.imap_print.specs.Fetched.{flags_words, date_words, mod_seq_words, fetched_words, fetched_text};
+ghost use Rattle.imap_print.specs.Fetched.{flags_words, date_words, mod_seq_words};
+ghost use Rattle.imap_print.specs.Fetched.{fetched_words, fetched_text};
 
 use super::flags::push_flags;
 use super::strings::push_names;

@@ -2,7 +2,8 @@
 
 ghost use Rattle.std.specs.Prelude.{◌≡◌, ◌++◌, IfOk, OnOk, false};
 ghost use Rattle.imap_print.specs.Words.{GoesOn, in_parentheses};
-ghost use Rattle.imap_print.specs.Flags.{system_flags, flag_words, flags_text, permanent_text, every_system_flag};
+ghost use Rattle.imap_print.specs.Flags.{system_flags, flag_words, flags_text};
+ghost use Rattle.imap_print.specs.Flags.{permanent_text, every_system_flag};
 
 use super::words::{push_given, push_words};
 use crate::flag::FlagSet;

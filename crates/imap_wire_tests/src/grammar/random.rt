@@ -223,7 +223,8 @@ fn dated_key(random: &mut Random) -> SearchKey {
     }
 }
 
-/// `value` beside that of `made`. This and the next two are generic, since the proof that a key is dropped is long.
+/// `value` beside that of `made`. This and the next two are generic, since the proof
+/// that a key is dropped is long.
 fn joined<T: Drop>(value: T, made: Result<T, AllocError>) -> Result<(T, T), AllocError> {
     Ok((value, made?))
 }

@@ -1,5 +1,5 @@
-//! Requests that are written, compared with the RFCs' examples in the one spelling that is written here: words in
-//! capitals, strings bare where they can be and else in quotes.
+//! Requests that are written, compared with the RFCs' examples in the one spelling that is written here:
+//! words in capitals, strings bare where they can be and else in quotes.
 
 use imap_grammar::*;
 use imap_lex::Octets;
@@ -207,8 +207,10 @@ fn listing(rt: HostRuntime) -> Result<(), Fail> {
             b"BBB LIST \"\" (INBOX Drafts Sent/%)\r\n",
         ),
         (
-            b"A1 LIST (SUBSCRIBED RECURSIVEMATCH REMOTE) \"\" % RETURN (SUBSCRIBED STATUS (MESSAGES UNSEEN))\r\n",
-            b"A1 LIST (SUBSCRIBED RECURSIVEMATCH REMOTE) \"\" % RETURN (SUBSCRIBED STATUS (MESSAGES UNSEEN))\r\n",
+            b"A1 LIST (SUBSCRIBED RECURSIVEMATCH REMOTE) \"\" % \
+                RETURN (SUBSCRIBED STATUS (MESSAGES UNSEEN))\r\n",
+            b"A1 LIST (SUBSCRIBED RECURSIVEMATCH REMOTE) \"\" % \
+                RETURN (SUBSCRIBED STATUS (MESSAGES UNSEEN))\r\n",
         ),
     ];
     check(&rt, rt.alloc(), &ROWS)?;

@@ -1,3 +1,5 @@
+//! Responses that name a mailbox.
+
 use super::{check, octets};
 use imap_print::*;
 use imap_query::StatusItem;
@@ -51,7 +53,8 @@ fn statuses(rt: HostRuntime) -> Result<(), Fail> {
         rt.alloc(),
         "Shared/Old News",
         &NEWS,
-        "* STATUS \"Shared/Old News\" (UIDVALIDITY 1 UNSEEN 0 DELETED 2 SIZE 9223372036854775807 HIGHESTMODSEQ 11)\r\n",
+        "* STATUS \"Shared/Old News\" (UIDVALIDITY 1 UNSEEN 0 DELETED 2 SIZE 9223372036854775807 \
+            HIGHESTMODSEQ 11)\r\n",
     )?;
     check_status(&rt, rt.alloc(), "A", &[], "* STATUS A ()\r\n")?;
     Ok(())

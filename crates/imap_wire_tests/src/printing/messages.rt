@@ -1,7 +1,9 @@
+//! Responses about the messages of the selected mailbox.
+
 use super::{check, field_names, numbers, octets, shown, words};
 use imap_print::*;
 use imap_query::Section;
-use imap_syntax::{Date, DateTime, Items, Month, Zone};
+use imap_syntax::{Date, DateTime, Items, Keywords, Month, Zone};
 use std::alloc::{AllocError, Global};
 use std::process::Abort;
 use std::test::Fail;
@@ -13,7 +15,7 @@ fn no_flags(alloc: Global) -> FlagSet {
         draft: false,
         flagged: false,
         seen: false,
-        keywords: Items::from_vec(Vec::new(alloc)),
+        keywords: Keywords::new(alloc),
     }
 }
 
@@ -87,8 +89,8 @@ fn flags_of_a_mailbox(rt: HostRuntime) -> Result<(), Fail> {
             "* FLAGS (\\Answered \\Deleted \\Draft \\Flagged \\Seen)\r\n",
         ),
         (
-            &["$Junk", "work"],
-            "* FLAGS (\\Answered \\Deleted \\Draft \\Flagged \\Seen $Junk work)\r\n",
+            &["work", "$Junk", "Work"],
+            "* FLAGS (\\Answered \\Deleted \\Draft \\Flagged \\Seen $junk work)\r\n",
         ),
     ];
     for &(keywords, line) in &ROWS {
@@ -132,8 +134,8 @@ fn flags_that_may_be_changed(rt: HostRuntime) -> Result<(), Fail> {
     check_permanent(&rt, alloc, some, false, "(\\Deleted \\Seen)")?;
     check_permanent(&rt, alloc, no_flags(alloc), false, "()")?;
     check_permanent(&rt, alloc, no_flags(alloc), true, "(\\*)")?;
-    let all = every_flag(alloc, &["$Junk", "work"])?;
-    let printed = "(\\Answered \\Deleted \\Draft \\Flagged \\Seen $Junk work \\*)";
+    let all = every_flag(alloc, &["work", "$Junk"])?;
+    let printed = "(\\Answered \\Deleted \\Draft \\Flagged \\Seen $junk work \\*)";
     check_permanent(&rt, alloc, all, true, printed)?;
     Ok(())
 }

@@ -1,16 +1,14 @@
-use Rattle.std.proofs.Common.{◌∙◌, ℕ, Bool, false, List, ap, sym}
-use Rattle.std.specs.Option.{unwrap_or}
+use Rattle.std.proofs.Common.{◌∙◌, List, ap, sym}
 use Rattle.imap_mailbox.specs.declared.own.SeenChange.{SeenChange}
 use Rattle.imap_mailbox.specs.History.{own_at}
 use Rattle.imap_mailbox.specs.Summary.{latest, latest_seen}
 use Rattle.imap_mailbox.specs.Held.{Held, lists}
 use Rattle.imap_mailbox.proofs.Keeping.{found_is, absent_is}
-use Rattle.imap_mailbox.proofs.Finding.{seen_unwrapped}
 use Rattle.imap_mailbox.proofs.mailbox.Mailbox.seen_of.Goals as goal
 
 pub returns-in-Some : goal.returns-in-Some
 returns-in-Some c =
-    ap (λ (p : ℕ × Bool). p.1) (c.unwrap_or.ensures ∙ ap (λ o. unwrap_or o (0, false)) c.latest.ensures) ∙ seen_unwrapped (latest c.args.uid c.in-Some.own.now.list)
+    c.is_seen.ensures
     ∙ ap (λ (l : List SeenChange). latest_seen (latest c.args.uid l)) (sym (found_is c.self.inside.own c.args.user.now c.get.result c.in-Some.own c.in-Some.is c.get.ensures))
     ∙ ap (λ (h : Held). latest_seen (latest c.args.uid (own_at (lists h.own) c.args.user.now))) c.self.view_is
 

@@ -1,0 +1,154 @@
+-- The table of a user's last own changes.
+use Rattle.std.proofs.Common.{◌≡◌, ⊎_elim, ℕ, zero, suc, ◌+◌, ◌<◌, ◌≤◌, eqb, ltb, Bool, true, false, cond, List, [], ◌∷◌, ◌++◌, length, get_or, set, Some, None, refl, sym, ap, subst, ◌∙◌, arith}
+use Rattle.std.specs.Prelude.{insert}
+use Rattle.std.proofs.lemmas.Bool.{ne_eqb, eq-eqb, eqb-true, ltb-true, ltb-false, cases_lt}
+use Rattle.std.proofs.lemmas.List.{length-map, get_or_default}
+use Rattle.std.specs.List.Sorted.{IsNonDecreasingBy}
+use Rattle.imap_mailbox.specs.declared.own.SeenChange.{SeenChange}
+use Rattle.imap_mailbox.specs.declared.latest.LastSeen.{LastSeen}
+use Rattle.imap_mailbox.specs.Summary.{Rises, AreRising, latest}
+use Rattle.imap_mailbox.specs.Latest.{last_uids, last_in, put_in, before_uid, IsAt, IsPlace, IsGap, AreLatest}
+use Rattle.imap_mailbox.proofs.Rising.{rises_lower, rises_upper}
+use Rattle.imap_mailbox.proofs.Finding.{up}
+use Rattle.imap_mailbox.proofs.Joined.{latest-after}
+
+-- ---- the place
+
+count : (table : List LastSeen) → length (last_uids table) ≡ length table
+count table = length-map table (λ l. l.uid)
+
+uid_at : (table : List LastSeen) (i e : ℕ) (d : LastSeen) → i < length table → get_or (last_uids table) i e ≡ (get_or table i d).uid
+uid_at [] i e d lt = absurd (omega arith)
+uid_at (l ∷ table) zero e d lt = refl
+uid_at (l ∷ table) (suc i) e d lt = uid_at table i e d (omega arith)
+
+pub no_decrease : (table : List LastSeen) → AreRising (last_uids table) → IsNonDecreasingBy (λ l. l.uid) table
+no_decrease table h i j d le lt =
+    omega (arith, count table, up h.0 h.1 (last_uids table) i j 0 h.2 le (omega (arith, count table, lt)), uid_at table i 0 d (omega arith), uid_at table j 0 d lt)
+
+-- ---- what is found there
+
+none_above : (uid low high : ℕ) (table : List LastSeen) → uid < low → Rises low high (last_uids table) → last_in uid table ≡ None
+none_above uid low high [] lt h = refl
+none_above uid low high (l ∷ table) lt h =
+    let at : low ≤ l.uid = h.0 in
+    ap (λ b. cond b (Some (l.number, l.seen)) (last_in uid table)) (ne_eqb uid l.uid (λ e. omega (arith, at, e)))
+    ∙ none_above uid (l.uid + 1) high table (omega (arith, at)) h.1
+
+found : (uid : ℕ) (table : List LastSeen) (i : ℕ) (x : LastSeen) → IsPlace uid table i → x ≡ get_or table i x → last_in uid table ≡ Some (x.number, x.seen)
+found uid [] i x p is = absurd (let lt = p.1.0 in omega (arith, lt))
+found uid (l ∷ table) i x p is = by (ltb l.uid uid) refl i p is (λ j. found uid table j x)
+  where
+    by : (b : Bool) → ltb l.uid uid ≡ b → (i : ℕ) → (i ≡ cond b (1 + before_uid uid table) 0) × IsAt uid (l ∷ table) i → x ≡ get_or (l ∷ table) i x
+        → ((j : ℕ) → IsPlace uid table j → x ≡ get_or table j x → last_in uid table ≡ Some (x.number, x.seen)) → last_in uid (l ∷ table) ≡ Some (x.number, x.seen)
+    by true t zero p is rest = let at = p.0 in absurd (omega (arith, at))
+    by true t (suc i) p is rest =
+        let at = p.0 in
+        let lt = p.1.0 in
+        ap (λ b. cond b (Some (l.number, l.seen)) (last_in uid table)) (ne_eqb uid l.uid (λ e. let less = ltb-true l.uid uid t in omega (arith, less, e)))
+        ∙ rest i (omega (arith, at), (omega (arith, lt), p.1.1)) is
+    by false t zero p is rest = ap (λ b. cond b (Some (l.number, l.seen)) (last_in uid table)) (eq-eqb uid l.uid (sym (p.1.1 x))) ∙ ap (λ (l : LastSeen). Some (l.number, l.seen)) (sym is)
+    by false t (suc i) p is rest = let at = p.0 in absurd (omega (arith, at))
+
+pub found_at : (uid : ℕ) (table : List LastSeen) (i : ℕ) (d : LastSeen) → IsPlace uid table i → last_in uid table ≡ Some ((get_or table i d).number, (get_or table i d).seen)
+found_at uid table i d p = found uid table i (get_or table i d) p (get_or_default table i d (get_or table i d) p.1.0)
+
+pub missed : (uid low high : ℕ) (table : List LastSeen) (i : ℕ) → Rises low high (last_uids table) → IsGap uid table i → last_in uid table ≡ None
+missed uid low high [] i h p = refl
+missed uid low high (l ∷ table) i h p = by (ltb l.uid uid) refl i p (λ j. missed uid (l.uid + 1) high table j h.1)
+  where
+    by : (b : Bool) → ltb l.uid uid ≡ b → (i : ℕ) → (i ≡ cond b (1 + before_uid uid table) 0) × (i ≤ length (l ∷ table)) × (IsAt uid (l ∷ table) i → ⊥)
+        → ((j : ℕ) → IsGap uid table j → last_in uid table ≡ None) → last_in uid (l ∷ table) ≡ None
+    by true t zero p rest = let at = p.0 in absurd (omega (arith, at))
+    by true t (suc i) p rest =
+        let at = p.0 in
+        let le = p.1 in
+        ap (λ b. cond b (Some (l.number, l.seen)) (last_in uid table)) (ne_eqb uid l.uid (λ e. let less = ltb-true l.uid uid t in omega (arith, less, e)))
+        ∙ rest i (omega (arith, at), omega (arith, le), λ there. p.2 (let lt = there.0 in omega (arith, lt), there.1))
+    by false t zero p rest =
+        let more = ltb-false l.uid uid t in
+        ap (λ b. cond b (Some (l.number, l.seen)) (last_in uid table)) (ne_eqb uid l.uid (λ e. p.2 (omega arith, λ d. sym e)))
+        ∙ none_above uid (l.uid + 1) high table (omega (arith, more)) h.1
+    by false t (suc i) p rest = let at = p.0 in absurd (omega (arith, at))
+
+-- ---- one that is put
+
+pub set_is : (last : LastSeen) (table : List LastSeen) (i : ℕ) → IsPlace last.uid table i → set table i last ≡ put_in last table
+set_is last [] i p = let lt = p.1.0 in absurd (omega (arith, lt))
+set_is last (l ∷ table) i p = by (ltb l.uid last.uid) i p (set_is last table)
+  where
+    by : (b : Bool) (i : ℕ) → (i ≡ cond b (1 + before_uid last.uid table) 0) × IsAt last.uid (l ∷ table) i
+        → ((j : ℕ) → IsPlace last.uid table j → set table j last ≡ put_in last table)
+        → set (l ∷ table) i last ≡ cond b (l ∷ put_in last table) (cond (eqb l.uid last.uid) (last ∷ table) (last ∷ l ∷ table))
+    by true zero p rest = let at = p.0 in absurd (omega (arith, at))
+    by true (suc i) p rest = let at = p.0 in let lt = p.1.0 in ap (λ t. l ∷ t) (rest i (omega (arith, at), (omega (arith, lt), p.1.1)))
+    by false zero p rest = sym (ap (λ b. cond b (last ∷ table) (last ∷ l ∷ table)) (eq-eqb l.uid last.uid (p.1.1 l)))
+    by false (suc i) p rest = let at = p.0 in absurd (omega (arith, at))
+
+pub insert_is : (last : LastSeen) (table : List LastSeen) (i : ℕ) → IsGap last.uid table i → insert table i last ≡ put_in last table
+insert_is last [] zero p = refl
+insert_is last [] (suc i) p = let le = p.1 in absurd (omega (arith, le))
+insert_is last (l ∷ table) i p = by (ltb l.uid last.uid) i p (insert_is last table)
+  where
+    by : (b : Bool) (i : ℕ) → (i ≡ cond b (1 + before_uid last.uid table) 0) × (i ≤ length (l ∷ table)) × (IsAt last.uid (l ∷ table) i → ⊥)
+        → ((j : ℕ) → IsGap last.uid table j → insert table j last ≡ put_in last table)
+        → insert (l ∷ table) i last ≡ cond b (l ∷ put_in last table) (cond (eqb l.uid last.uid) (last ∷ table) (last ∷ l ∷ table))
+    by true zero p rest = let at = p.0 in absurd (omega (arith, at))
+    by true (suc i) p rest = let at = p.0 in let le = p.1 in ap (λ t. l ∷ t) (rest i (omega (arith, at), omega (arith, le), λ there. p.2 (let lt = there.0 in omega (arith, lt), there.1)))
+    by false zero p rest = sym (ap (λ b. cond b (last ∷ table) (last ∷ l ∷ table)) (ne_eqb l.uid last.uid (λ e. p.2 (omega arith, λ d. e))))
+    by false (suc i) p rest = let at = p.0 in absurd (omega (arith, at))
+
+find_put : (uid : ℕ) (last : LastSeen) (table : List LastSeen) → last_in uid (put_in last table) ≡ cond (eqb uid last.uid) (Some (last.number, last.seen)) (last_in uid table)
+find_put uid last [] = refl
+find_put uid last (l ∷ table) = by (ltb l.uid last.uid) refl (eqb l.uid last.uid) refl (find_put uid last table)
+  where
+    turn : (a b : Bool) → eqb uid l.uid ≡ a → eqb uid last.uid ≡ b → ltb l.uid last.uid ≡ true
+        → cond a (Some (l.number, l.seen)) (cond b (Some (last.number, last.seen)) (last_in uid table)) ≡ cond b (Some (last.number, last.seen)) (cond a (Some (l.number, l.seen)) (last_in uid table))
+    turn true true e f t = let lt = ltb-true l.uid last.uid t in let here = eqb-true uid l.uid e in let there = eqb-true uid last.uid f in absurd (omega (arith, lt, here, there))
+    turn true false e f t = refl
+    turn false b e f t = refl
+
+    same : (b : Bool) → eqb uid last.uid ≡ b → l.uid ≡ last.uid
+        → cond b (Some (last.number, last.seen)) (last_in uid table) ≡ cond b (Some (last.number, last.seen)) (cond (eqb uid l.uid) (Some (l.number, l.seen)) (last_in uid table))
+    same true f e = refl
+    same false f e = sym (ap (λ b. cond b (Some (l.number, l.seen)) (last_in uid table)) (ap (eqb uid) e ∙ f))
+
+    by : (a : Bool) → ltb l.uid last.uid ≡ a → (b : Bool) → eqb l.uid last.uid ≡ b
+        → last_in uid (put_in last table) ≡ cond (eqb uid last.uid) (Some (last.number, last.seen)) (last_in uid table)
+        → last_in uid (cond a (l ∷ put_in last table) (cond b (last ∷ table) (last ∷ l ∷ table)))
+        ≡ cond (eqb uid last.uid) (Some (last.number, last.seen)) (cond (eqb uid l.uid) (Some (l.number, l.seen)) (last_in uid table))
+    by true t b e rest = ap (cond (eqb uid l.uid) (Some (l.number, l.seen))) rest ∙ turn (eqb uid l.uid) (eqb uid last.uid) refl refl t
+    by false t true e rest = same (eqb uid last.uid) refl (eqb-true l.uid last.uid e)
+    by false t false e rest = refl
+
+rises_put : (low high : ℕ) (last : LastSeen) (table : List LastSeen) → low ≤ last.uid → last.uid < high → Rises low high (last_uids table) → Rises low high (last_uids (put_in last table))
+rises_put low high last [] le lt h = (le, omega arith)
+rises_put low high last (l ∷ table) le lt h = by (ltb l.uid last.uid) refl (eqb l.uid last.uid) refl (λ more. rises_put (l.uid + 1) high last table more lt h.1)
+  where
+    by : (a : Bool) → ltb l.uid last.uid ≡ a → (b : Bool) → eqb l.uid last.uid ≡ b
+        → (l.uid + 1 ≤ last.uid → Rises (l.uid + 1) high (last_uids (put_in last table)))
+        → Rises low high (last_uids (cond a (l ∷ put_in last table) (cond b (last ∷ table) (last ∷ l ∷ table))))
+    by true t b e rest = let less = ltb-true l.uid last.uid t in (h.0, rest (omega (arith, less)))
+    by false t true e rest = (le, subst (λ n. Rises (n + 1) high (last_uids table)) (eqb-true l.uid last.uid e) h.1)
+    by false t false e rest =
+        let more = ltb-false l.uid last.uid t in
+        (le, ⊎_elim (λ less. (omega (arith, less), h.1)) (λ other. absurd (let z : true ≡ false = sym (eq-eqb l.uid last.uid (omega (arith, more, other))) ∙ e in cc z)) (cases_lt last.uid l.uid))
+
+rising_put : (last : LastSeen) (table : List LastSeen) → AreRising (last_uids table) → AreRising (last_uids (put_in last table))
+rising_put last table h = (
+  0,
+  h.1 + (last.uid + 1),
+  rises_put 0 (h.1 + (last.uid + 1)) last table (omega arith) (omega arith)
+      (rises_upper 0 h.1 (h.1 + (last.uid + 1)) (last_uids table) (omega arith) (rises_lower h.0 0 h.1 (last_uids table) (omega arith) h.2)),
+)
+
+-- after one more change
+pub latest_pushed : (table new : List LastSeen) (old own : List SeenChange) (s : SeenChange) (number : ℕ) → number ≡ 2 + (s.before + length old) → new ≡ put_in (record { uid = s.uid; number = number; seen = s.seen }) table
+    → own ≡ old ++ s ∷ [] → AreLatest table old → AreLatest new own
+latest_pushed table new old own s number is put pushed h = record {
+  rising = subst (λ t. AreRising (last_uids t)) (sym put) (rising_put (record { uid = s.uid; number = number; seen = s.seen }) table h.rising);
+  same = λ uid. ap (last_in uid) put ∙ find_put uid (record { uid = s.uid; number = number; seen = s.seen }) table
+      ∙ ap (cond (eqb uid s.uid) (Some (number, s.seen))) (h.same uid)
+      ∙ ap (λ n. cond (eqb uid s.uid) (Some (n, s.seen)) (latest uid old)) is
+      ∙ sym (latest-after uid old s) ∙ ap (latest uid) (sym pushed);
+}

@@ -1,6 +1,0 @@
-use Rattle.std.proofs.Common.{◌≡◌, ◌++◌, drop}
-use Rattle.imap_mailbox.specs.Words.{without_word}
-use Rattle.imap_mailbox.proofs.keywords.copy_others.Given as goal
-
-abbrev pub invariant-loop-kept : goal.invariant-loop-kept
-invariant-loop-kept l = l.copies.items ++ without_word l.word (drop l.kept-index l.words) ≡ without_word l.word l.words

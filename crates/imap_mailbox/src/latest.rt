@@ -1,0 +1,78 @@
+//! The last change of each UID, in the order of UIDs.
+
+ghost use Rattle.std.specs.Prelude.{◌≡◌, ℕ, ◌+◌, ◌<◌, ◌≤◌, ◌==◌, ◌↔◌, nat_lt, length, vec_len, Some, IsTrue};
+ghost use Rattle.std.specs.Prelude.{MatchResult, if◌then◌else◌};
+ghost use Rattle.std.specs.Vec.{vec_capacity};
+ghost use Rattle.imap_mailbox.specs.Summary.{AreRising};
+ghost use Rattle.imap_mailbox.specs.Latest.{last_uids, last_in, put_in, before_uid, IsAt, IsPlace, IsGap};
+
+/// The last change of a user's own `\Seen` of a UID.
+#[derive(Clone, Copy)]
+pub(crate) struct LastSeen {
+    pub uid: u32,
+    /// Its mod-sequence.
+    pub number: u64,
+    /// Whether it set the flag.
+    pub seen: bool,
+}
+
+/// Returns how many entries have a lower UID, by a search that halves.
+fn place_of(table: &[LastSeen], uid: u32) -> usize
+    requires { AreRising (last_uids table.now) }
+    ensures place { result ≡ before_uid uid table.now }
+    ensures within { result ≤ length table.now }
+{
+    table.partition_point(
+        |last: &LastSeen| -> bool
+            ensures { result ≡ nat_lt last.now.uid uid }
+        { last.uid < uid },
+    )
+}
+
+/// Whether the entry at `place` is that of the UID.
+fn is_at(table: &[LastSeen], place: usize, uid: u32) -> bool
+    ensures { IsTrue result ↔ IsAt uid table.now place }
+{
+    place < table.len() && table[place].uid == uid
+}
+
+/// Returns the place of the UID, or as an error the place that it would have.
+fn find_last(table: &[LastSeen], uid: u32) -> Result<usize, usize>
+    requires { AreRising (last_uids table.now) }
+    ensures { MatchResult result (IsPlace uid table.now) (IsGap uid table.now) }
+{
+    let place = place_of(table, uid);
+    if is_at(table, place, uid) {
+        Ok(place)
+    } else {
+        Err(place)
+    }
+}
+
+/// Returns the last change of the UID: its mod-sequence, and whether it set the flag.
+pub(crate) fn last_of(table: &[LastSeen], uid: u32) -> Option<(u64, bool)>
+    requires { AreRising (last_uids table.now) }
+    ensures { result ≡ last_in uid table.now }
+{
+    match find_last(table, uid) {
+        Ok(place) => {
+            let last = &table[place];
+            Some((last.number, last.seen))
+        }
+        Err(_) => None,
+    }
+}
+
+/// Makes this the last change of its UID, in room that is there.
+pub(crate) fn put_last(table: &mut Vec<LastSeen>, last: LastSeen)
+    requires rising { AreRising (last_uids table.old.items) }
+    requires room { vec_len table.old < vec_capacity table.old }
+    ensures items { table.new.items ≡ put_in last table.old.items }
+    ensures len { vec_len table.new ≤ vec_len table.old + 1 }
+    ensures capacity { vec_capacity table.old ≤ vec_capacity table.new }
+{
+    match find_last(table.as_slice(), last.uid) {
+        Ok(place) => table[place] = last,
+        Err(place) => drop(table.insert(place, last)),
+    }
+}
