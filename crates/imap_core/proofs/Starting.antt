@@ -17,7 +17,7 @@ use Rattle.std.specs.Ordering.{nat_cmp}
 use Rattle.std.specs.Prelude.{codes, unwrap_or}
 use Rattle.imap_names.specs.Name.{Name}
 use Rattle.imap_names.specs.Order.{Names}
-use Rattle.imap_names.proofs.NameLaws.{equal_names, get_put, is_name_at, is_name_at-same, named-same}
+use Rattle.imap_names.proofs.NameLaws.{equal_names, get_put, is_name_at, is_name_at-same, name_of-same}
 use Rattle.imap_world.specs.declared.change.Write.{Write}
 use Rattle.imap_world.specs.declared.change.Write.TheVariants as write
 use Rattle.imap_world.specs.declared.effect.Effect.{Effect}
@@ -249,7 +249,7 @@ same_subscriptions base [] world = refl
 same_subscriptions base (user ∷ users) world = same_subscriptions base users (with_row world (inbox_row base user))
 
 one_owner : (user owner : List ℕ) → inbox user ≡ inbox owner → user ≡ owner
-one_owner user owner e = (named-same user owner (codes "INBOX" ∷ []) (codes "INBOX" ∷ []) e).0
+one_owner user owner e = (name_of-same user owner (codes "INBOX" ∷ []) (codes "INBOX" ∷ []) e).0
 
 -- what is put under the name of each INBOX
 abbrev put_each : {X : Type 0} → (List ℕ → X) → List (List ℕ) → Names X → Names X

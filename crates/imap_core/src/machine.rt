@@ -29,7 +29,6 @@ use imap_view::View;
 use imap_world::{Change, Effect, Limits, Site, World};
 use std::alloc::{AllocError, Global};
 use std::marker::Model;
-use std::slice;
 
 /// The mailboxes and the open sessions of all users. Contracts see the state of the machine, and its
 /// world with the room for more.
@@ -221,9 +220,6 @@ impl Core {
             IfOk result (λ change. writes_of (effects_of effect.now) world ≡ Ok change) }
         ensures ready { IfOk result (λ change. world.IsReady change self.new.stored) }
     {
-        match effect {
-            Some(effect) => resolve_effects(alloc, &mut self.world, slice::from_ref(effect)),
-            None => Ok(Change::none(alloc)),
-        }
+        resolve_effects(alloc, &mut self.world, effect.as_slice())
     }
 }

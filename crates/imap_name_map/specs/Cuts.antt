@@ -36,4 +36,5 @@ IsPlace name entries place = (place ≡ before (λ x. name_cmp x name) entries) 
 -- the place that the name, which isn't there, would have
 abbrev pub IsGap : {X : Type 0} → Name → List (Name × X) → ℕ → Type 0
 IsGap name entries place =
-    (place ≡ before (λ x. name_cmp x name) entries) × (place ≤ length entries) × (find name_cmp name entries ≡ None)
+    (place ≡ before (λ x. name_cmp x name) entries) × (place ≤ length entries)
+    × (find name_cmp name entries ≡ None)

@@ -1,4 +1,5 @@
--- RENAME of a name with all names below it (RFC 9051, section 6.3.6): they move, under new names, to another place.
+-- RENAME of a name with all names below it (RFC 9051, section 6.3.6): they move, under new names, to
+-- another place.
 use Rattle.std.specs.Prelude.{◌≡◌, List, [], ◌∷◌, ◌++◌, Option, None, not, map, take, drop, if◌then◌else◌}
 use Rattle.std.specs.declared.cmp.Ordering.{Ordering}
 use Rattle.std.specs.FinMap as fin

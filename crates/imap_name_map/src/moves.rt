@@ -25,7 +25,8 @@ fn to_back<V>(entries: &mut [(Name, V)], start: usize, end: usize)
 pub(crate) fn from_back<V>(entries: &mut [(Name, V)], place: usize, count: usize)
     requires { place + count ≤ length entries.old }
     ensures items { let others = length entries.old - count in
-        entries.new ≡ take place entries.old ++ (drop others entries.old ++ drop place (take others entries.old)) }
+        entries.new
+        ≡ take place entries.old ++ (drop others entries.old ++ drop place (take others entries.old)) }
     ensures len { length entries.new ≡ length entries.old }
 {
     entries[place..].rotate_right(count);

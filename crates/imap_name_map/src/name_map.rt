@@ -1,5 +1,6 @@
 //! Maps from names.
-ghost use Rattle.std.specs.Prelude.{◌≡◌, ◌↔◌, ◌+◌, ◌<◌, ◌≤◌, [], true, not, length, drop, take, slice_index_or, IsTrue, IfOk, OnOk, OnSome, option_copied};
+ghost use Rattle.std.specs.Prelude.{◌≡◌, ◌↔◌, ◌+◌, ◌<◌, ◌≤◌, [], true, not, length, drop, take};
+ghost use Rattle.std.specs.Prelude.{slice_index_or, IsTrue, IfOk, OnOk, OnSome, option_copied};
 ghost use Rattle.std.specs.Borrow.{sem, LendsSo};
 ghost use Rattle.std.specs.FinMap as fin;
 ghost use Rattle.std.specs.List.{list_all};
@@ -99,7 +100,8 @@ impl<V> NameMap<V> {
         self.get_mut_near(end, name)
     }
 
-    /// The value of `name`, to be changed in its place. Takes one comparison if the name is the one at `place`.
+    /// The value of `name`, to be changed in its place. Takes one comparison if the name is the one at
+    /// `place`.
     pub fn get_mut_near(&mut self, place: usize, name: &NameRef<'_>) -> Option<&mut V>
         ensures* writes_back { sem 𝓛 (LendsSo (the_row V.row) V.row self.entry result
             (λ n w. OnSome result (n ≡ with_value self.old name.now w)) (λ n. n ≡ self.old)) }
@@ -182,8 +184,8 @@ impl<V: Drop> NameMap<V> {
 
     /// Sets the values of many names, all of them `top` or below it, in the room that there is.
     ///
-    /// What comes after them in the order moves once. Where they come in their order, and none of the run was there,
-    /// each takes one comparison.
+    /// What comes after them in the order moves once. Where they come in their order, and none of the run
+    /// was there, each takes one comparison.
     pub fn insert_run(&mut self, top: &NameRef<'_>, entries: Vec<(Name, V)>)
         requires room { length entries.items ≤ self.old.spare }
         requires within { list_all (λ e. is_within top.now e.0) entries.items ≡ true }
@@ -200,7 +202,8 @@ impl<V: Drop> NameMap<V> {
     {
         remove_entry(&mut self.entries, name);
     }
-    /// Moves `old` and all names below it to `new`, without memory. `names` are the names that they get, in order.
+    /// Moves `old` and all names below it to `new`, without memory. `names` are the names that they get, in
+    /// order.
     pub fn rename(&mut self, old: &NameRef<'_>, new: &NameRef<'_>, names: Vec<Name>)
         requires names { names.items ≡ moved_names old.now new.now self.old.map }
         requires free { run_of new.now self.old.map ≡ [] }

@@ -1,5 +1,6 @@
 //! Changes of the run of a name, that is of its entry and those of all names below it.
-ghost use Rattle.std.specs.Prelude.{◌≡◌, ◌↔◌, ◌+◌, ◌<◌, ◌≤◌, ◌++◌, length, vec_len, drop, take, IsTrue, MatchResult};
+ghost use Rattle.std.specs.Prelude.{◌≡◌, ◌↔◌, ◌+◌, ◌<◌, ◌≤◌, ◌++◌, length, vec_len, drop, take, IsTrue};
+ghost use Rattle.std.specs.Prelude.{MatchResult};
 ghost use Rattle.std.specs.FinMap.Entries.{is_sorted, put};
 ghost use Rattle.std.specs.Vec.{vec_capacity};
 ghost use Rattle.imap_names.specs.Order.{name_cmp, run_cmp};
@@ -105,8 +106,8 @@ fn run_from_end<V>(entries: &mut Vec<(Name, V)>, others: usize, top: &NameRef<'_
 
 /// Sets the values of many names, all of them `top` or below it.
 ///
-/// The run of `top` stands at the end meanwhile. So what comes after it moves once, and names that come in their
-/// order are pushed. Only a name before one that was in the run is inserted, since these are few.
+/// The run of `top` stands at the end meanwhile. So what comes after it moves once, and names that come in
+/// their order are pushed. Only a name before one that was in the run is inserted, since these are few.
 pub(crate) fn put_run<V: Drop>(
     entries: &mut Vec<(Name, V)>,
     top: &NameRef<'_>,

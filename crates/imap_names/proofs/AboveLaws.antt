@@ -3,10 +3,10 @@ use Rattle.std.proofs.Common.{◌≡◌, ◌≢◌, ℕ, ◌+◌, ◌<◌, Bool,
 use Rattle.std.specs.Prelude.{◌↔◌, codes, nat_eq}
 use Rattle.std.specs.List.{join_with_byte, starts_with}
 use Rattle.std.proofs.lemmas.List.{reverse-append, reverse-reverse, length-append}
-use Rattle.imap_names.specs.Name.{Name, named, root_of, IsAbove}
+use Rattle.imap_names.specs.Name.{Name, name_of, root_of, IsAbove}
 use Rattle.imap_names.specs.Text.{components_of}
 use Rattle.imap_names.proofs.PrefixLaws.{begins}
-use Rattle.imap_names.proofs.NameLaws.{named-same}
+use Rattle.imap_names.proofs.NameLaws.{name_of-same}
 use Rattle.imap_names.proofs.Parts.{HasFirst, components_of-first, components_of-joined, join-append, join-components_of}
 
 push_first : (xs : List (List ℕ)) (y : List ℕ) → HasFirst (xs ++ y ∷ [])
@@ -18,12 +18,12 @@ reverse_first xs h =
     let last : HasFirst (reverse h.more ++ h.first ∷ []) = push_first (reverse h.more) h.first in
     record { first = last.first; more = last.more; are = ap reverse h.are ∙ reverse-append (h.first ∷ []) h.more ∙ last.are }
 
-pub IsAbove-joined : (root path rest : List ℕ) → IsAbove (named root (components_of path)) (named root (components_of (path ++ 47 ∷ rest)))
+pub IsAbove-joined : (root path rest : List ℕ) → IsAbove (name_of root (components_of path)) (name_of root (components_of (path ++ 47 ∷ rest)))
 IsAbove-joined root path rest =
     let below : HasFirst (reverse (components_of rest)) = reverse_first (components_of rest) (components_of-first rest) in (
       below.first,
       below.more,
-      ap (named root) (components_of-joined path rest)
+      ap (name_of root) (components_of-joined path rest)
           ∙ ap (λ z. z ++ root ∷ []) (reverse-append (components_of path) (components_of rest))
           ∙ append_assoc (reverse (components_of rest)) (reverse (components_of path)) (root ∷ [])
           ∙ ap (λ z. z ++ (reverse (components_of path) ++ root ∷ [])) below.are,
@@ -37,15 +37,15 @@ join-two xs ys h k =
     ∙ ap (λ z. join_with_byte 47 z ++ 47 ∷ join_with_byte 47 (k.first ∷ k.more)) (sym h.are)
     ∙ ap (λ z. join_with_byte 47 xs ++ 47 ∷ join_with_byte 47 z) (sym k.are)
 
-pub joined-IsAbove : (r s path text : List ℕ) → IsAbove (named r (components_of path)) (named s (components_of text)) → (r ≡ s) × ((rest : List ℕ) × (text ≡ path ++ 47 ∷ rest))
+pub joined-IsAbove : (r s path text : List ℕ) → IsAbove (name_of r (components_of path)) (name_of s (components_of text)) → (r ≡ s) × ((rest : List ℕ) × (text ≡ path ++ 47 ∷ rest))
 joined-IsAbove r s path text above =
     let front : List (List ℕ) = above.0 ∷ above.1 in
-    let whole : named s (components_of text) ≡ named r (components_of path ++ reverse front) =
+    let whole : name_of s (components_of text) ≡ name_of r (components_of path ++ reverse front) =
     above.2
     ∙ sym (append_assoc front (reverse (components_of path)) (r ∷ []))
     ∙ ap (λ z. (z ++ reverse (components_of path)) ++ r ∷ []) (sym (reverse-reverse front))
     ∙ ap (λ z. z ++ r ∷ []) (sym (reverse-append (components_of path) (reverse front))) in
-    let parts = named-same s r (components_of text) (components_of path ++ reverse front) whole in
+    let parts = name_of-same s r (components_of text) (components_of path ++ reverse front) whole in
     let below : HasFirst (reverse front) = reverse_first front (record { first = above.0; more = above.1; are = refl }) in (
       sym parts.0,
       (

@@ -9,7 +9,7 @@ use Rattle.std.proofs.lemmas.List.Folds.{list_any-append}
 use Rattle.std.proofs.Math.Seq.{drop-append_seam}
 use Rattle.std.proofs.lemmas.Str.{IsUtf8-append, is_utf8-from_IsUtf8, IsUtf8-from_is_utf8}
 use Rattle.unicode_normalization.specs.Forms.{is_nfc}
-use Rattle.imap_names.specs.Name.{Name, named, root_of, components, path_of, is_empty}
+use Rattle.imap_names.specs.Name.{Name, name_of, root_of, components, path_of, is_empty}
 use Rattle.imap_names.specs.Order.{is_within, moved}
 use Rattle.imap_names.specs.Text.{components_of, has_control}
 use Rattle.imap_names.specs.Valid.{max_path_octets, max_depth, is_reserved, with_inbox, is_root, fits, IsName}
@@ -18,7 +18,7 @@ use Rattle.imap_names.proofs.FrontLaws.{chars-joined, is_nfc-behind, IsUtf8-back
 use Rattle.imap_names.proofs.MovedLaws.{root_of-moved}
 use Rattle.imap_names.proofs.OrderLaws.{below_from_within, moved_below}
 use Rattle.imap_names.proofs.Parts.{HasFirst, components_of-first, components_of-joined}
-use Rattle.imap_names.proofs.PathLaws.{has_component, named-valid}
+use Rattle.imap_names.proofs.PathLaws.{has_component, name_of-valid}
 use Rattle.imap_names.proofs.ShownLaws.{name_some}
 
 -- ---- the parts of a name below another
@@ -193,11 +193,23 @@ IsName-moved old new name in_old in_new was within fit =
 -- ---- the code's steps
 
 pub moved_name : (old new name : Name) (root text : List ℕ) → IsName old → IsName new → IsName name → is_within old name ≡ true → fits (moved old new name) ≡ true
-    → root ≡ root_of new → text ≡ path_of new ++ drop (length (path_of old)) (path_of name) → named root (components_of text) ≡ moved old new name
+    → root ≡ root_of new → text ≡ path_of new ++ drop (length (path_of old)) (path_of name) → name_of root (components_of text) ≡ moved old new name
 moved_name old new name root text in_old in_new was within fit r t =
     let m : MovesTo old new name (moved old new name) = moves_to old new name in_old in_new within in
     let long : 1 < length new = ltb-true 1 (length new) (has_component new in_new) in
     let back : drop (length (path_of old)) (path_of name) ≡ m.rest = ap (drop (length (path_of old))) m.before ∙ drop-append_seam (path_of old) m.rest in
-    named-valid (moved old new name) root text (IsName-moved old new name in_old in_new was within fit)
+    name_of-valid (moved old new name) root text (IsName-moved old new name in_old in_new was within fit)
     (r ∙ sym (root_of-moved old new name (omega (arith, long)) within))
     (t ∙ ap (λ z. path_of new ++ z) back ∙ sym m.after)
+
+pub moved_path : (old new name : Name) → IsName old → IsName new → is_within old name ≡ true → path_of (moved old new name) ≡ path_of new ++ drop (length (path_of old)) (path_of name)
+moved_path old new name in_old in_new within =
+    let m : MovesTo old new name (moved old new name) = moves_to old new name in_old in_new within in
+    m.after ∙ ap (λ z. path_of new ++ z) (sym (ap (drop (length (path_of old))) m.before ∙ drop-append_seam (path_of old) m.rest))
+
+-- there is room for its path
+pub moved_short : (old new name : Name) → IsName old → IsName new → is_within old name ≡ true → fits (moved old new name) ≡ true
+    → length (path_of new) + length (drop (length (path_of old)) (path_of name)) ≤ max_path_octets
+moved_short old new name in_old in_new within fit =
+    let short = not_more max_path_octets (length (path_of (moved old new name))) (and_parts (not (nat_lt max_path_octets (length (path_of (moved old new name))))) (not (nat_lt max_depth (length (components (moved old new name))))) fit).0 in
+    omega (arith, short, ap length (moved_path old new name in_old in_new within), length-append (path_of new) (drop (length (path_of old)) (path_of name)))

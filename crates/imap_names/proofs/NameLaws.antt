@@ -5,7 +5,7 @@ use Rattle.std.specs.Cmp.{tied_itself}
 use Rattle.std.specs.Ordering.{eq_by_cmp, is_eq}
 use Rattle.std.specs.FinMap as map
 use Rattle.std.specs.FinMap.{find, get-insert, get-remove, get-retain_keys, get-from_entries, from_entries_push, same_map}
-use Rattle.imap_names.specs.Name.{Name, named, root_of, components}
+use Rattle.imap_names.specs.Name.{Name, name_of, root_of, components}
 use Rattle.imap_names.specs.Order.{Names, name_cmp}
 use Rattle.imap_names.proofs.OrderLaws.{name_total, name_antisymmetric, tied}
 
@@ -45,8 +45,8 @@ root_of-push [] root = refl
 root_of-push (c ∷ []) root = refl
 root_of-push (c ∷ d ∷ more) root = root_of-push (d ∷ more) root
 
-pub root_of-named : (root : List ℕ) (parts : List (List ℕ)) → root_of (named root parts) ≡ root
-root_of-named root parts = root_of-push (reverse parts) root
+pub root_of-name_of : (root : List ℕ) (parts : List (List ℕ)) → root_of (name_of root parts) ≡ root
+root_of-name_of root parts = root_of-push (reverse parts) root
 
 pub components-push : (front : Name) (root : List ℕ) → components (front ++ root ∷ []) ≡ reverse front
 components-push [] root = refl
@@ -54,18 +54,18 @@ components-push (c ∷ []) root = refl
 components-push (c ∷ d ∷ more) root =
     ap (λ parts. parts ++ c ∷ []) (components-push (d ∷ more) root) ∙ sym (reverse-append (c ∷ []) (d ∷ more))
 
-pub components-named : (root : List ℕ) (parts : List (List ℕ)) → components (named root parts) ≡ parts
-components-named root parts = components-push (reverse parts) root ∙ reverse-reverse parts
+pub components-name_of : (root : List ℕ) (parts : List (List ℕ)) → components (name_of root parts) ≡ parts
+components-name_of root parts = components-push (reverse parts) root ∙ reverse-reverse parts
 
 -- a name is its components below its root
-pub named-parts : (name : Name) → name ≢ [] → named (root_of name) (components name) ≡ name
-named-parts [] some = absurd (some refl)
-named-parts (root ∷ []) some = refl
-named-parts (deepest ∷ above ∷ more) some =
+pub name_of-parts : (name : Name) → name ≢ [] → name_of (root_of name) (components name) ≡ name
+name_of-parts [] some = absurd (some refl)
+name_of-parts (root ∷ []) some = refl
+name_of-parts (deepest ∷ above ∷ more) some =
     ap (λ front. front ++ root_of (above ∷ more) ∷ []) (reverse-append (components (above ∷ more)) (deepest ∷ []))
-    ∙ ap (λ rest. deepest ∷ rest) (named-parts (above ∷ more) (λ e. cc))
+    ∙ ap (λ rest. deepest ∷ rest) (name_of-parts (above ∷ more) (λ e. cc))
 
 -- two names with one root and one list of components are one
-pub named-same : (r s : List ℕ) (xs ys : List (List ℕ)) → named r xs ≡ named s ys → (r ≡ s) × (xs ≡ ys)
-named-same r s xs ys e =
-    (sym (root_of-named r xs) ∙ ap root_of e ∙ root_of-named s ys, sym (components-named r xs) ∙ ap components e ∙ components-named s ys)
+pub name_of-same : (r s : List ℕ) (xs ys : List (List ℕ)) → name_of r xs ≡ name_of s ys → (r ≡ s) × (xs ≡ ys)
+name_of-same r s xs ys e =
+    (sym (root_of-name_of r xs) ∙ ap root_of e ∙ root_of-name_of s ys, sym (components-name_of r xs) ∙ ap components e ∙ components-name_of s ys)

@@ -7,7 +7,7 @@ use Rattle.std.specs.Cmp.Lexicographic.{slice_cmp, lists_total, nat_list_cmp_tot
 use Rattle.std.specs.FinMap.{IsAntisymmetric, slice_cmp-IsAntisymmetric, nat_cmp-IsAntisymmetric}
 use Rattle.std.proofs.lemmas.Bool.{and_parts, and_from, ltb-true, lt-ltb}
 use Rattle.std.proofs.lemmas.List.{reverse-append, reverse-reverse, take_at, length-append}
-use Rattle.imap_names.specs.Name.{Name, named, IsAbove, superior}
+use Rattle.imap_names.specs.Name.{Name, name_of, IsAbove, superior}
 use Rattle.imap_names.specs.Order.{path_cmp, name_cmp, front_cmp, path_run_cmp, run_cmp, is_within, is_below, moved}
 
 pub path_total : IsTotalOrder path_cmp
@@ -181,11 +181,11 @@ moved_within old new a e =
 
 -- ---- names by their root and their components
 
-reversed-named : (root : List ℕ) (parts : List (List ℕ)) → reverse (named root parts) ≡ root ∷ parts
-reversed-named root parts = reverse-append (reverse parts) (root ∷ []) ∙ ap (λ z. root ∷ z) (reverse-reverse parts)
+reversed-name_of : (root : List ℕ) (parts : List (List ℕ)) → reverse (name_of root parts) ≡ root ∷ parts
+reversed-name_of root parts = reverse-append (reverse parts) (root ∷ []) ∙ ap (λ z. root ∷ z) (reverse-reverse parts)
 
-pub name_cmp-named : (r s : List ℕ) (xs ys : List (List ℕ)) → name_cmp (named r xs) (named s ys) ≡ ordering_then (slice_cmp nat_cmp r s) (path_cmp xs ys)
-name_cmp-named r s xs ys = λ i. path_cmp (reversed-named r xs i) (reversed-named s ys i)
+pub name_cmp-name_of : (r s : List ℕ) (xs ys : List (List ℕ)) → name_cmp (name_of r xs) (name_of s ys) ≡ ordering_then (slice_cmp nat_cmp r s) (path_cmp xs ys)
+name_cmp-name_of r s xs ys = λ i. path_cmp (reversed-name_of r xs i) (reversed-name_of s ys i)
 
-pub run_cmp-named : (r s : List ℕ) (xs ys : List (List ℕ)) → run_cmp (named r xs) (named s ys) ≡ ordering_then (slice_cmp nat_cmp r s) (path_run_cmp xs ys)
-run_cmp-named r s xs ys = λ i. path_run_cmp (reversed-named r xs i) (reversed-named s ys i)
+pub run_cmp-name_of : (r s : List ℕ) (xs ys : List (List ℕ)) → run_cmp (name_of r xs) (name_of s ys) ≡ ordering_then (slice_cmp nat_cmp r s) (path_run_cmp xs ys)
+run_cmp-name_of r s xs ys = λ i. path_run_cmp (reversed-name_of r xs i) (reversed-name_of s ys i)

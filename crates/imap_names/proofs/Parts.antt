@@ -6,9 +6,9 @@ use Rattle.std.proofs.lemmas.List.Folds.{list_any-append}
 use Rattle.std.proofs.Math.Seq.{take-append_seam, drop-append-add}
 use Rattle.std.proofs.lemmas.Str.Pattern.{IsSplitOnceResult, split_parts}
 use Rattle.std.proofs.lemmas.List.Splits.{join_with_byte-slice_split}
-use Rattle.imap_names.specs.Name.{named, path_of}
+use Rattle.imap_names.specs.Name.{name_of, path_of}
 use Rattle.imap_names.specs.Text.{is_delimiter, components_of}
-use Rattle.imap_names.proofs.NameLaws.{components-named, named-same}
+use Rattle.imap_names.proofs.NameLaws.{components-name_of, name_of-same}
 
 pub undelimited : (text : List ℕ) → ((i : ℕ) → i < length text → get_or text i 0 ≢ 47) → list_any is_delimiter text ≡ false
 undelimited [] none = refl
@@ -65,16 +65,16 @@ join-append x (z ∷ zs) y ys =
 pub join-components_of : (text : List ℕ) → join_with_byte 47 (components_of text) ≡ text
 join-components_of text = join_with_byte-slice_split 47 text
 
-pub path_of-named : (root : List ℕ) (parts : List (List ℕ)) → path_of (named root parts) ≡ join_with_byte 47 parts
-path_of-named root parts = ap (join_with_byte 47) (components-named root parts)
+pub path_of-name_of : (root : List ℕ) (parts : List (List ℕ)) → path_of (name_of root parts) ≡ join_with_byte 47 parts
+path_of-name_of root parts = ap (join_with_byte 47) (components-name_of root parts)
 
-pub path_of-text : (root text : List ℕ) → path_of (named root (components_of text)) ≡ text
-path_of-text root text = path_of-named root (components_of text) ∙ join-components_of text
+pub path_of-text : (root text : List ℕ) → path_of (name_of root (components_of text)) ≡ text
+path_of-text root text = path_of-name_of root (components_of text) ∙ join-components_of text
 
 -- a root and a path make one name
-pub named-text : (r s p q : List ℕ) → named r (components_of p) ≡ named s (components_of q) → (r ≡ s) × (p ≡ q)
-named-text r s p q e =
-    let parts = named-same r s (components_of p) (components_of q) e in
+pub name_of-text : (r s p q : List ℕ) → name_of r (components_of p) ≡ name_of s (components_of q) → (r ≡ s) × (p ≡ q)
+name_of-text r s p q e =
+    let parts = name_of-same r s (components_of p) (components_of q) e in
     (parts.0, sym (join-components_of p) ∙ ap (join_with_byte 47) parts.1 ∙ join-components_of q)
 
 -- ---- the first delimiter

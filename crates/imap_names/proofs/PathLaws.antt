@@ -6,11 +6,11 @@ use Rattle.std.specs.List.{list_any}
 use Rattle.std.proofs.lemmas.Bool.{ltb-false, ltb-true, lt-ltb}
 use Rattle.unicode_normalization.specs.Forms.{is_nfc}
 use Rattle.imap_names.specs.declared.error.NameError.{NameError}
-use Rattle.imap_names.specs.Name.{Name, named, root_of, components, path_of, is_empty}
+use Rattle.imap_names.specs.Name.{Name, name_of, root_of, components, path_of, is_empty}
 use Rattle.imap_names.specs.Text.{components_of, has_control}
 use Rattle.imap_names.specs.Valid.{max_path_octets, max_depth, is_reserved, with_inbox, is_root, IsName}
 use Rattle.imap_names.specs.Reading.{path_fault}
-use Rattle.imap_names.proofs.NameLaws.{root_of-named, components-named, named-parts}
+use Rattle.imap_names.proofs.NameLaws.{root_of-name_of, components-name_of, name_of-parts}
 use Rattle.imap_names.proofs.Parts.{path_of-text}
 
 -- the path breaks no rule of the tree
@@ -26,11 +26,11 @@ pub record IsText (path : List ℕ) : Type 0 where
   pub nfc : is_nfc (chars path) ≡ true
   pub printable : has_control path ≡ false
 
-pub IsName-from : (root path : List ℕ) → is_root root ≡ true → KeepsRules root path → IsText path → with_inbox (components_of path) ≡ components_of path → IsName (named root (components_of path))
+pub IsName-from : (root path : List ℕ) → is_root root ≡ true → KeepsRules root path → IsText path → with_inbox (components_of path) ≡ components_of path → IsName (name_of root (components_of path))
 IsName-from root path tree rules text inbox =
-    let r : root_of (named root (components_of path)) ≡ root = root_of-named root (components_of path) in
-    let c : components (named root (components_of path)) ≡ components_of path = components-named root (components_of path) in
-    let p : path_of (named root (components_of path)) ≡ path = path_of-text root path in
+    let r : root_of (name_of root (components_of path)) ≡ root = root_of-name_of root (components_of path) in
+    let c : components (name_of root (components_of path)) ≡ components_of path = components-name_of root (components_of path) in
+    let p : path_of (name_of root (components_of path)) ≡ path = path_of-text root path in
     record {
       tree = ap is_root r ∙ tree;
       parted = ap components_of p ∙ sym c;
@@ -40,7 +40,7 @@ IsName-from root path tree rules text inbox =
       utf8 = ap is_utf8 p ∙ text.utf8;
       nfc = ap (λ z. is_nfc (chars z)) p ∙ text.nfc;
       printable = ap has_control p ∙ text.printable;
-      unreserved = ap (λ z. is_reserved z (components (named root (components_of path)))) r ∙ ap (is_reserved root) c ∙ rules.unreserved;
+      unreserved = ap (λ z. is_reserved z (components (name_of root (components_of path)))) r ∙ ap (is_reserved root) c ∙ rules.unreserved;
       inbox = ap with_inbox c ∙ inbox ∙ sym c;
     }
 
@@ -71,8 +71,8 @@ has_component (root ∷ []) valid = let clash : [] ∷ [] ≡ [] = valid.parted 
 has_component (part ∷ root ∷ more) valid = lt-ltb 1 (length (part ∷ root ∷ more)) (omega arith)
 
 -- it is its path below its root
-pub named-valid : (name : Name) (root path : List ℕ) → IsName name → root ≡ root_of name → path ≡ path_of name → named root (components_of path) ≡ name
-named-valid name root path valid r p =
-    (λ i. named (r i) (components_of (p i)))
-    ∙ ap (named (root_of name)) valid.parted
-    ∙ named-parts name (λ e. let long = ltb-true 1 (length name) (has_component name valid) in omega (arith, long, ap length e))
+pub name_of-valid : (name : Name) (root path : List ℕ) → IsName name → root ≡ root_of name → path ≡ path_of name → name_of root (components_of path) ≡ name
+name_of-valid name root path valid r p =
+    (λ i. name_of (r i) (components_of (p i)))
+    ∙ ap (name_of (root_of name)) valid.parted
+    ∙ name_of-parts name (λ e. let long = ltb-true 1 (length name) (has_component name valid) in omega (arith, long, ap length e))

@@ -8,7 +8,7 @@ use Rattle.std.proofs.lemmas.Bool.{cases_Bool, or_from, or_right, cond-true, con
 use Rattle.std.proofs.lemmas.Str.{chars-IsAscii, IsUtf8-from_ascii, is_utf8-from_IsUtf8, IsUtf8-from_is_utf8}
 use Rattle.unicode_normalization.specs.Forms.{is_nfc}
 use Rattle.std.specs.Prelude.{chars}
-use Rattle.imap_names.specs.Name.{Name, named, is_empty}
+use Rattle.imap_names.specs.Name.{Name, name_of, is_empty}
 use Rattle.imap_names.specs.Text.{components_of, composed, has_control}
 use Rattle.imap_names.specs.UserName.{is_user_name}
 use Rattle.imap_names.specs.Valid.{is_prefix_word, is_root, with_inbox, held_path, IsName}
@@ -25,9 +25,9 @@ use Rattle.imap_names.proofs.InboxWord.{holds_path, HoldsPath, is_reserved-inbox
 pub is_root-user : (root : List ℕ) → is_user_name root ≡ true → is_root root ≡ true
 is_root-user root valid = or_right (is_empty root) (is_user_name root) valid
 
-pub IsName-inbox : (user path : List ℕ) → is_user_name user ≡ true → path ≡ codes "INBOX" → IsName (named user (components_of path))
+pub IsName-inbox : (user path : List ℕ) → is_user_name user ≡ true → path ≡ codes "INBOX" → IsName (name_of user (components_of path))
 IsName-inbox user path valid same =
-    subst (λ p. IsName (named user (components_of p))) (sym same)
+    subst (λ p. IsName (name_of user (components_of p))) (sym same)
     (IsName-from user (codes "INBOX") (is_root-user user valid)
     (record { unreserved = is_reserved-inbox user []; filled = refl; short = omega arith; shallow = omega arith })
     (record {
@@ -38,7 +38,7 @@ IsName-inbox user path valid same =
     refl)
 
 -- a path by the rules, with its INBOX in upper case, in a tree
-pub IsName-held : (root path held : List ℕ) → is_root root ≡ true → KeepsRules root path → is_nfc (chars path) ≡ true → has_control path ≡ false → IsUtf8 held → held ≡ held_path path → IsName (named root (components_of held))
+pub IsName-held : (root path held : List ℕ) → is_root root ≡ true → KeepsRules root path → is_nfc (chars path) ≡ true → has_control path ≡ false → IsUtf8 held → held ≡ held_path path → IsName (name_of root (components_of held))
 IsName-held root path held tree rules nfc printable utf8 same =
     let holds : HoldsPath root path held = subst (HoldsPath root path) (sym same) (holds_path root path rules nfc printable) in
     IsName-from root held tree holds.rules (record { utf8 = is_utf8-from_IsUtf8 held utf8; nfc = holds.nfc; printable = holds.printable }) holds.inbox
@@ -47,10 +47,10 @@ pub components_of-held : (root path held : List ℕ) → KeepsRules root path �
 components_of-held root path held rules nfc printable same =
     ap components_of same ∙ (holds_path root path rules nfc printable).parts
 
-pub name_in-held : (root path held : List ℕ) → is_nfc (chars path) ≡ true → has_control path ≡ false → held ≡ held_path path → path_fault root path ≡ None → name_in root path ≡ Ok (named root (components_of held))
+pub name_in-held : (root path held : List ℕ) → is_nfc (chars path) ≡ true → has_control path ≡ false → held ≡ held_path path → path_fault root path ≡ None → name_in root path ≡ Ok (name_of root (components_of held))
 name_in-held root path held nfc printable same none =
-    ap (λ fault. unless_fault fault (named root (with_inbox (components_of path)))) none
-    ∙ ap (λ z. Ok (named root z)) (sym (components_of-held root path held (path_fault-none root path none) nfc printable same))
+    ap (λ fault. unless_fault fault (name_of root (with_inbox (components_of path)))) none
+    ∙ ap (λ z. Ok (name_of root z)) (sym (components_of-held root path held (path_fault-none root path none) nfc printable same))
 
 pub read_by-text : (own : Option (List ℕ)) (text owner path : List ℕ) → IsUtf8 text → owner ≡ composed (parts_of text).owner → path ≡ composed (parts_of text).path → read_by own text ≡ name_at own (parts_of text).namespace owner path
 unfolding read_by

@@ -7,13 +7,13 @@ use Rattle.std.proofs.lemmas.Bool.{cases_Bool, cond-true, cond-false, or_from, l
 use Rattle.std.proofs.lemmas.Slice.Eq.{bytes_eq-Decides}
 use Rattle.imap_names.specs.declared.read.Namespace.{Namespace}
 use Rattle.imap_names.specs.declared.read.Namespace.TheVariants.{Personal, OtherUsers, Shared}
-use Rattle.imap_names.specs.Name.{Name, named, root_of, components, path_of, is_empty}
+use Rattle.imap_names.specs.Name.{Name, name_of, root_of, components, path_of, is_empty}
 use Rattle.imap_names.specs.Text.{components_of, composed, has_control}
 use Rattle.imap_names.specs.UserName.{is_user_name}
 use Rattle.imap_names.specs.Reading.{NameParts, parts_of, root_at, path_fault, unless_fault, name_in, name_at, in_tree, read_by, name_read}
 use Rattle.imap_names.specs.Showing.{shown}
 use Rattle.imap_names.specs.Valid.{max_path_octets, max_depth, is_prefix_word, is_reserved, with_inbox, is_root, IsName}
-use Rattle.imap_names.proofs.NameLaws.{named-parts}
+use Rattle.imap_names.proofs.NameLaws.{name_of-parts}
 use Rattle.imap_names.proofs.Parts.{HasFirst, components_of-first}
 use Rattle.imap_names.proofs.PrefixLaws.{parts_of-personal, other_parts-user}
 use Rattle.imap_names.proofs.Composed.{composed-nfc, composed-empty, has_control-empty, is_utf8-front, is_utf8-append, ascii_by_test}
@@ -36,10 +36,10 @@ path_fault-valid name valid =
 pub name_in-valid : (name : Name) → IsName name → name_in (root_of name) (path_of name) ≡ Ok name
 name_in-valid name valid =
     let parts : components_of (path_of name) ≡ components name = valid.parted in
-    ap (λ fault. unless_fault fault (named (root_of name) (with_inbox (components_of (path_of name))))) (path_fault-valid name valid)
-    ∙ ap (λ p. Ok (named (root_of name) (with_inbox p))) parts
-    ∙ ap (λ p. Ok (named (root_of name) p)) valid.inbox
-    ∙ ap Ok (named-parts name (name_some name valid))
+    ap (λ fault. unless_fault fault (name_of (root_of name) (with_inbox (components_of (path_of name))))) (path_fault-valid name valid)
+    ∙ ap (λ p. Ok (name_of (root_of name) (with_inbox p))) parts
+    ∙ ap (λ p. Ok (name_of (root_of name) p)) valid.inbox
+    ∙ ap Ok (name_of-parts name (name_some name valid))
 
 -- a text whose owner and path are in NFC, in a tree that may be named
 name_at-valid : (own : Option (List ℕ)) (namespace : Namespace) (owner path : List ℕ) (root : List ℕ) → has_control owner ≡ false → has_control path ≡ false → root_at own namespace owner ≡ Ok root → name_at own namespace owner path ≡ name_in root path

@@ -9,10 +9,10 @@ use Rattle.std.proofs.lemmas.List.{reverse-append, length-append}
 use Rattle.std.proofs.lemmas.List.Folds.{list_any-append}
 use Rattle.std.proofs.lemmas.Str.{is_utf8-from_IsUtf8, IsUtf8-from_is_utf8}
 use Rattle.unicode_normalization.specs.Forms.{is_nfc}
-use Rattle.imap_names.specs.Name.{named, components, path_of, is_empty, superior}
+use Rattle.imap_names.specs.Name.{name_of, components, path_of, is_empty, superior}
 use Rattle.imap_names.specs.Text.{is_delimiter, components_of, has_control}
 use Rattle.imap_names.specs.Valid.{is_reserved, is_inbox_word, with_inbox, is_root, IsName}
-use Rattle.imap_names.proofs.NameLaws.{root_of-named, components-named}
+use Rattle.imap_names.proofs.NameLaws.{root_of-name_of, components-name_of}
 use Rattle.imap_names.proofs.Parts.{HasFirst, components_of-first, components_of-joined, components_of-whole, path_of-text}
 use Rattle.imap_names.proofs.AboveLaws.{reverse_first}
 use Rattle.imap_names.proofs.FrontLaws.{chars-joined, IsUtf8-front, is_nfc-to_delimiter}
@@ -26,19 +26,19 @@ superior-push part front root h =
     by [] = refl
     by (next ∷ more) = refl
 
-named-joined : (root front last : List ℕ) → list_any is_delimiter last ≡ false → named root (components_of (front ++ 47 ∷ last)) ≡ last ∷ reverse (components_of front) ++ root ∷ []
-named-joined root front last whole =
-    ap (named root) (components_of-joined front last ∙ ap (λ z. components_of front ++ z) (components_of-whole last whole))
+name_of-joined : (root front last : List ℕ) → list_any is_delimiter last ≡ false → name_of root (components_of (front ++ 47 ∷ last)) ≡ last ∷ reverse (components_of front) ++ root ∷ []
+name_of-joined root front last whole =
+    ap (name_of root) (components_of-joined front last ∙ ap (λ z. components_of front ++ z) (components_of-whole last whole))
     ∙ ap (λ z. z ++ root ∷ []) (reverse-append (components_of front) (last ∷ []))
 
 -- what stands before the last delimiter
-pub superior-joined : (root front last : List ℕ) → list_any is_delimiter last ≡ false → superior (named root (components_of (front ++ 47 ∷ last))) ≡ Some (named root (components_of front))
+pub superior-joined : (root front last : List ℕ) → list_any is_delimiter last ≡ false → superior (name_of root (components_of (front ++ 47 ∷ last))) ≡ Some (name_of root (components_of front))
 superior-joined root front last whole =
-    ap superior (named-joined root front last whole)
+    ap superior (name_of-joined root front last whole)
     ∙ superior-push last (reverse (components_of front)) root (reverse_first (components_of front) (components_of-first front))
 
-pub superior-whole : (root path : List ℕ) → list_any is_delimiter path ≡ false → superior (named root (components_of path)) ≡ None
-superior-whole root path whole = ap (λ z. superior (named root z)) (components_of-whole path whole)
+pub superior-whole : (root path : List ℕ) → list_any is_delimiter path ≡ false → superior (name_of root (components_of path)) ≡ None
+superior-whole root path whole = ap (λ z. superior (name_of root z)) (components_of-whole path whole)
 
 -- ---- it is a name
 
@@ -49,21 +49,21 @@ first_same : (c d : List ℕ) (cs ds : List (List ℕ)) → c ∷ cs ≡ d ∷ d
 first_same c d cs ds e = cc
 
 -- a name whose path goes on after a delimiter
-module _ (root front last : List ℕ) (h : IsName (named root (components_of (front ++ 47 ∷ last)))) where
-  parts : components (named root (components_of (front ++ 47 ∷ last))) ≡ components_of front ++ components_of last
-  parts = components-named root (components_of (front ++ 47 ∷ last)) ∙ components_of-joined front last
+module _ (root front last : List ℕ) (h : IsName (name_of root (components_of (front ++ 47 ∷ last)))) where
+  parts : components (name_of root (components_of (front ++ 47 ∷ last))) ≡ components_of front ++ components_of last
+  parts = components-name_of root (components_of (front ++ 47 ∷ last)) ∙ components_of-joined front last
 
-  text : path_of (named root (components_of (front ++ 47 ∷ last))) ≡ front ++ 47 ∷ last
+  text : path_of (name_of root (components_of (front ++ 47 ∷ last))) ≡ front ++ 47 ∷ last
   text = path_of-text root (front ++ 47 ∷ last)
 
   tree : is_root root ≡ true
-  tree = sym (ap is_root (root_of-named root (components_of (front ++ 47 ∷ last)))) ∙ h.tree
+  tree = sym (ap is_root (root_of-name_of root (components_of (front ++ 47 ∷ last)))) ∙ h.tree
 
   unreserved : is_reserved root (components_of front) ≡ false
   unreserved =
       let f : HasFirst (components_of front) = components_of-first front in
       ap (is_reserved root) f.are ∙ sym (ap (λ z. is_reserved root (z ++ components_of last)) f.are)
-      ∙ sym (λ i. is_reserved (root_of-named root (components_of (front ++ 47 ∷ last)) i) (parts i)) ∙ h.unreserved
+      ∙ sym (λ i. is_reserved (root_of-name_of root (components_of (front ++ 47 ∷ last)) i) (parts i)) ∙ h.unreserved
 
   filled : list_any is_empty (components_of front) ≡ false
   filled =
@@ -94,7 +94,7 @@ module _ (root front last : List ℕ) (h : IsName (named root (components_of (fr
       (sym (list_any-append is_control (chars front) (47 ∷ chars last)) ∙ sym (ap (list_any is_control) (chars-joined front last utf8)) ∙ sym (ap has_control text) ∙ h.printable)).0
 
   -- its front is a name's path too
-  pub IsName-front : IsName (named root (components_of front))
+  pub IsName-front : IsName (name_of root (components_of front))
   IsName-front =
       IsName-from root front tree rules
       (record {

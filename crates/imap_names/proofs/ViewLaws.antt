@@ -4,16 +4,16 @@ use Rattle.std.specs.Prelude.{◌↔◌, ◌&&◌, codes, nat_eq, bytes_eq}
 use Rattle.std.specs.List.{starts_with}
 use Rattle.std.proofs.lemmas.List.{append_cancel_left, length-append, length-reverse}
 use Rattle.std.proofs.lemmas.Slice.Eq.{bytes_eq-Decides}
-use Rattle.imap_names.specs.Name.{Name, named, root_of, path_of, owner, is_empty, is_inbox, IsAbove}
+use Rattle.imap_names.specs.Name.{Name, name_of, root_of, path_of, owner, is_empty, is_inbox, IsAbove}
 use Rattle.imap_names.specs.Text.{components_of}
-use Rattle.imap_names.proofs.NameLaws.{root_of-named}
-use Rattle.imap_names.proofs.Parts.{path_of-text, named-text}
+use Rattle.imap_names.proofs.NameLaws.{root_of-name_of}
+use Rattle.imap_names.proofs.Parts.{path_of-text, name_of-text}
 use Rattle.imap_names.proofs.AboveLaws.{IsAbove-joined, joined-IsAbove, goes_on}
 
 -- the name m is the path p below the root r
-module _ (r p : List ℕ) (m : Name) (e : named r (components_of p) ≡ m) where
+module _ (r p : List ℕ) (m : Name) (e : name_of r (components_of p) ≡ m) where
   pub root_is : root_of m ≡ r
-  root_is = ap root_of (sym e) ∙ root_of-named r (components_of p)
+  root_is = ap root_of (sym e) ∙ root_of-name_of r (components_of p)
 
   pub path_is : path_of m ≡ p
   path_is = ap path_of (sym e) ∙ path_of-text r p
@@ -28,7 +28,7 @@ module _ (r p : List ℕ) (m : Name) (e : named r (components_of p) ≡ m) where
   inbox_is b h c k = (λ i. not (h i) && k i) ∙ (λ i. not (is_empty (sym root_is i)) && bytes_eq (sym path_is i) (codes "INBOX"))
 
   -- and n is the path q below the root s
-  module _ (s q : List ℕ) (n : Name) (d : named s (components_of q) ≡ n) where
+  module _ (s q : List ℕ) (n : Name) (d : name_of s (components_of q) ≡ n) where
     -- they are equal if root and path are
     pub same_texts : (a : Bool) → a ≡ bytes_eq r s → (b : Bool) → b ≡ bytes_eq p q → (cond a b false ≡ true) ↔ (m ≡ n)
     same_texts a h b k = (forth a h b k, back)
@@ -37,22 +37,22 @@ module _ (r p : List ℕ) (m : Name) (e : named r (components_of p) ≡ m) where
         forth true h b k t =
             let root : r ≡ s = (bytes_eq-Decides r s).0 (sym h) in
             let path : p ≡ q = (bytes_eq-Decides p q).0 (sym k ∙ t) in
-            sym e ∙ (λ i. named (root i) (components_of (path i))) ∙ d
+            sym e ∙ (λ i. name_of (root i) (components_of (path i))) ∙ d
         forth false h b k t = cc
 
         back : m ≡ n → cond a b false ≡ true
         back same =
-            let texts = named-text r s p q (e ∙ same ∙ sym d) in
+            let texts = name_of-text r s p q (e ∙ same ∙ sym d) in
             (λ i. cond (h i) (k i) false)
             ∙ (λ i. cond ((bytes_eq-Decides r s).1 texts.0 i) (bytes_eq p q) false) ∙ (bytes_eq-Decides p q).1 texts.1
 
     -- m is above n if they have one root and n's path goes on after a delimiter
     above_from : r ≡ s → (rest : List ℕ) → q ≡ p ++ 47 ∷ rest → IsAbove m n
     above_from root rest path =
-        let above : IsAbove (named r (components_of p)) (named r (components_of (p ++ 47 ∷ rest))) = IsAbove-joined r p rest in (
+        let above : IsAbove (name_of r (components_of p)) (name_of r (components_of (p ++ 47 ∷ rest))) = IsAbove-joined r p rest in (
           above.0,
           above.1,
-          sym d ∙ ap (λ z. named z (components_of q)) (sym root) ∙ ap (λ z. named r (components_of z)) path ∙ above.2
+          sym d ∙ ap (λ z. name_of z (components_of q)) (sym root) ∙ ap (λ z. name_of r (components_of z)) path ∙ above.2
               ∙ ap (λ z. above.0 ∷ above.1 ++ z) e,
         )
 

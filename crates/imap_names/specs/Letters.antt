@@ -1,5 +1,6 @@
 -- The letters of a shown name, that a pattern is compared with.
-use Rattle.std.specs.Prelude.{ℕ, ◌-◌, true, false, ◌&&◌, nat_le, nat_lt, List, [], ◌∷◌, ◌++◌, length, map, take, drop, if◌then◌else◌}
+use Rattle.std.specs.Prelude.{ℕ, ◌-◌, true, false, ◌&&◌, nat_le, nat_lt, List, [], ◌∷◌, ◌++◌, length, map}
+use Rattle.std.specs.Prelude.{take, drop, if◌then◌else◌}
 use Rattle.std.specs.List.{before_first}
 use Rattle.imap_names.specs.declared.letters.Letter.{Letter}
 use Rattle.imap_names.specs.Reading.{parts_of}

@@ -1,3 +1,4 @@
+-- What mailbox names, user names and patterns of LIST are, and which texts mean them.
 pub mod Name
 pub mod Order
 pub mod Text

@@ -1,9 +1,10 @@
 -- Mailbox names as contracts see them (RFC 9051, section 5.1).
-use Rattle.std.specs.Prelude.{◌≡◌, ℕ, Bool, not, ◌==◌, ◌&&◌, length, List, [], ◌∷◌, ◌++◌, reverse, codes, bytes_eq, if◌then◌else◌, Option, Some, None}
+use Rattle.std.specs.Prelude.{◌≡◌, ℕ, Bool, not, ◌==◌, ◌&&◌, length, List, [], ◌∷◌, ◌++◌, reverse, codes}
+use Rattle.std.specs.Prelude.{bytes_eq, if◌then◌else◌, Option, Some, None}
 use Rattle.std.specs.List.{join_with_byte}
 
--- the components of the name, the deepest first, and last the root of its tree. The superiors of a name are its
--- proper tails
+-- the components of the name, the deepest first, and last the root of its tree. The superiors of a name are
+-- its proper tails
 abbrev pub Name : Type 0
 Name = List (List ℕ)
 
@@ -15,8 +16,8 @@ abbrev pub is_empty : List ℕ → Bool
 is_empty text = length text == 0
 
 -- the name with these components, the outermost first, below this root
-abbrev pub named : List ℕ → List (List ℕ) → Name
-named root components = reverse components ++ root ∷ []
+abbrev pub name_of : List ℕ → List (List ℕ) → Name
+name_of root components = reverse components ++ root ∷ []
 
 abbrev pub root_of : Name → List ℕ
 root_of [] = shared_root

@@ -1,6 +1,8 @@
--- The order of names: by tree, and then component by component from the root. In it a name and all below it stand
--- together, as one run. The order of their texts has no such runs: `a!` would stand between `a` and `a/b`.
-use Rattle.std.specs.Prelude.{ℕ, ◌-◌, Bool, not, ◌&&◌, nat_lt, List, [], ◌∷◌, ◌++◌, reverse, length, take, if◌then◌else◌}
+-- The order of names: by tree, and then component by component from the root. In it a name and all below it
+-- stand together, as one run. The order of their texts has no such runs: `a!` would stand between `a` and
+-- `a/b`.
+use Rattle.std.specs.Prelude.{ℕ, ◌-◌, Bool, not, ◌&&◌, nat_lt, List, [], ◌∷◌, ◌++◌, reverse, length, take}
+use Rattle.std.specs.Prelude.{if◌then◌else◌}
 use Rattle.std.specs.declared.cmp.Ordering.{Ordering}
 use Rattle.std.specs.declared.cmp.Ordering.TheVariants.{Less, Equal, Greater}
 use Rattle.std.specs.Ordering.{nat_cmp, bool_cmp, ordering_then, is_eq, on}
@@ -29,7 +31,8 @@ front_cmp R (x ∷ xs) (t ∷ top) = ordering_then (R x t) (front_cmp R xs top)
 abbrev pub path_run_cmp : List (List ℕ) → List (List ℕ) → Ordering
 path_run_cmp = front_cmp (slice_cmp nat_cmp)
 
--- where a name stands to the run of `top`, that is to `top` and all names below it: before it, in it or after it
+-- where a name stands to the run of `top`, that is to `top` and all names below it: before it, in it or
+-- after it
 abbrev pub run_cmp : Name → Name → Ordering
 run_cmp = on reverse path_run_cmp
 

@@ -1,12 +1,14 @@
 -- What a text names (RFC 9051, sections 5.1 and 5.1.2; RFC 5198).
-use Rattle.std.specs.Prelude.{ℕ, Bool, false, not, ◌||◌, nat_eq, nat_lt, List, [], codes, length, drop, bytes_eq, if◌then◌else◌, Option, Some, None, Result, Ok, Err}
+use Rattle.std.specs.Prelude.{ℕ, Bool, false, not, ◌||◌, nat_eq, nat_lt, List, [], codes, length, drop}
+use Rattle.std.specs.Prelude.{bytes_eq, if◌then◌else◌, Option, Some, None, Result, Ok, Err}
 use Rattle.std.specs.Str.{is_utf8}
 use Rattle.std.specs.List.{list_any, starts_with, before_first, after_first}
 use Rattle.imap_names.specs.declared.error.NameError.{NameError}
-use Rattle.imap_names.specs.declared.error.NameError.TheVariants.{EmptyComponent, TooLong, TooDeep, Reserved, Control}
+use Rattle.imap_names.specs.declared.error.NameError.TheVariants.{EmptyComponent, TooLong, TooDeep, Reserved}
+use Rattle.imap_names.specs.declared.error.NameError.TheVariants.{Control}
 use Rattle.imap_names.specs.declared.read.Namespace.{Namespace}
 use Rattle.imap_names.specs.declared.read.Namespace.TheVariants.{Personal, OtherUsers, Shared, Bare}
-use Rattle.imap_names.specs.Name.{Name, named, shared_root, is_empty}
+use Rattle.imap_names.specs.Name.{Name, name_of, shared_root, is_empty}
 use Rattle.imap_names.specs.Text.{is_delimiter, components_of, composed, has_control}
 use Rattle.imap_names.specs.UserName.{is_user_name}
 use Rattle.imap_names.specs.Valid.{max_path_octets, max_depth, is_prefix_word, is_reserved, with_inbox}
@@ -21,7 +23,11 @@ pub record NameParts : Type 0 where
 abbrev pub other_parts : List ℕ → NameParts
 other_parts rest =
     if list_any is_delimiter rest
-    then record { namespace = OtherUsers; owner = before_first is_delimiter rest; path = after_first is_delimiter rest }
+    then record {
+      namespace = OtherUsers;
+      owner = before_first is_delimiter rest;
+      path = after_first is_delimiter rest;
+    }
     else record { namespace = Bare; owner = rest; path = [] }
 
 abbrev pub parts_of : List ℕ → NameParts
@@ -68,7 +74,7 @@ unless_fault None name = Ok name
 
 -- the name with this path in the tree
 abbrev pub name_in : List ℕ → List ℕ → Result Name NameError
-name_in root path = unless_fault (path_fault root path) (named root (with_inbox (components_of path)))
+name_in root path = unless_fault (path_fault root path) (name_of root (with_inbox (components_of path)))
 
 abbrev pub in_tree : Result (List ℕ) NameError → List ℕ → Result Name NameError
 in_tree (Err error) path = Err error
@@ -84,7 +90,8 @@ name_at own namespace owner path =
 unfoldable pub read_by : Option (List ℕ) → List ℕ → Result Name NameError
 read_by own text =
     let parts : NameParts = parts_of text in
-    if is_utf8 text then name_at own parts.namespace (composed parts.owner) (composed parts.path) else Err Control
+    if is_utf8 text then name_at own parts.namespace (composed parts.owner) (composed parts.path)
+    else Err Control
 
 -- what a text names for a user
 abbrev pub name_read : List ℕ → List ℕ → Result Name NameError

@@ -1,5 +1,6 @@
 -- Which texts are user names.
-use Rattle.std.specs.Prelude.{◌≡◌, ℕ, ◌==◌, Bool, true, false, Option, MatchOption, not, ◌&&◌, ◌||◌, nat_eq, nat_lt, nat_le, List, chars, codes, length, bytes_eq}
+use Rattle.std.specs.Prelude.{◌≡◌, ℕ, ◌==◌, Bool, true, false, Option, MatchOption, not, ◌&&◌, ◌||◌, nat_eq}
+use Rattle.std.specs.Prelude.{nat_lt, nat_le, List, chars, codes, length, bytes_eq}
 use Rattle.std.specs.Char.{is_control}
 use Rattle.std.specs.Str.{is_utf8}
 use Rattle.std.specs.List.{list_any, starts_with}
@@ -12,7 +13,8 @@ is_barred char = char == 32 || char == 47 || is_control char
 -- an identifier of an ACL that is no user (RFC 4314, section 2), or that takes rights away (section 3.1)
 abbrev pub names_no_user : List ℕ → Bool
 names_no_user text =
-    bytes_eq text (codes "anyone") || starts_with nat_eq text (codes "-") || starts_with nat_eq text (codes "group:")
+    bytes_eq text (codes "anyone") || starts_with nat_eq text (codes "-")
+    || starts_with nat_eq text (codes "group:")
 
 -- the most octets of a user name
 abbrev pub max_user_name_octets : ℕ

@@ -1,5 +1,6 @@
 -- Which names a mailbox may have, and how a path is held.
-use Rattle.std.specs.Prelude.{◌≡◌, ℕ, ◌≤◌, Bool, true, false, not, ◌&&◌, ◌||◌, nat_lt, Option, Some, None, List, [], ◌∷◌, chars, codes, length, map, bytes_eq, if◌then◌else◌}
+use Rattle.std.specs.Prelude.{◌≡◌, ℕ, ◌≤◌, Bool, true, false, not, ◌&&◌, ◌||◌, nat_lt, Option, Some, None}
+use Rattle.std.specs.Prelude.{List, [], ◌∷◌, chars, codes, length, map, bytes_eq, if◌then◌else◌}
 use Rattle.std.specs.Char.{to_ascii_lowercase}
 use Rattle.std.specs.Str.{is_utf8}
 use Rattle.std.specs.List.{list_any, join_with_byte}

@@ -13,8 +13,8 @@ pub struct Letter {
     pub any_case: bool,
 }
 
-/// The letters of a shown name. The first component of its path has no case if it is INBOX (RFC 9051, section 5.1).
-/// Contracts see the list of letters.
+/// The letters of a shown name. The first component of its path has no case if it is INBOX (RFC 9051,
+/// section 5.1). Contracts see the list of letters.
 #[derive(Drop)]
 pub(crate) struct Letters<'a> {
     octets: &'a [u8],

@@ -1,8 +1,9 @@
-//! Mailbox names (RFC 9051, section 5.1): the name that a text means for a user, and the text that shows him a name.
+//! Mailbox names (RFC 9051, section 5.1): the name that a text means for a user, and the text that shows
+//! him a name.
 //!
 //! A name lies in a user's tree or in the tree that all share, and has a path of components there.
-//! A user writes a name in his own tree without a prefix, one in another's tree as `Other Users/NAME/PATH`, and one in
-//! the tree that all share as `Shared/PATH`. A [`Pattern`] of LIST is compared with these texts.
+//! A user writes a name in his own tree without a prefix, one in another's tree as `Other Users/NAME/PATH`,
+//! and one in the tree that all share as `Shared/PATH`. A [`Pattern`] of LIST is compared with these texts.
 #![tactic(auto)]
 
 pub mod error;

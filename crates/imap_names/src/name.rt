@@ -1,6 +1,6 @@
 //! Mailbox names.
 ghost use Rattle.std.specs.Prelude.{◌≡◌, ◌≢◌, ◌↔◌, ◌∷◌, [], true, codes, IsTrue, IfOk, MatchOption};
-ghost use Rattle.imap_names.specs.Name.{named, root_of, path_of, shared_root, is_inbox, IsAbove};
+ghost use Rattle.imap_names.specs.Name.{name_of, root_of, path_of, shared_root, is_inbox, IsAbove};
 ghost use Rattle.imap_names.specs.Tree.{root_of_tree};
 ghost use Rattle.imap_names.specs.Valid.{IsName, is_root};
 
@@ -68,10 +68,10 @@ impl Tree {
 
 /// The name of a mailbox, which may or may not exist.
 ///
-/// The path has at most [`MAX_DEPTH`] components, none of them empty, and [`MAX_PATH_OCTETS`] octets. It is NFC text
-/// without control characters. A first component that spells INBOX is in upper case, and in a user's tree it is neither
-/// `Other Users` nor `Shared`. Contracts see the list of its components, the deepest first, and last the root of its
-/// tree: the owner's name, or no octets. A copy shares the text.
+/// The path has at most [`MAX_DEPTH`] components, none of them empty, and [`MAX_PATH_OCTETS`] octets. It is
+/// NFC text without control characters. A first component that spells INBOX is in upper case, and in a
+/// user's tree it is neither `Other Users` nor `Shared`. Contracts see the list of its components, the
+/// deepest first, and last the root of its tree: the owner's name, or no octets. A copy shares the text.
 #[derive(Debug, Drop)]
 pub struct Name {
     pub(crate) tree: Tree,
@@ -154,7 +154,7 @@ impl Name {
 
 /// The user's INBOX (RFC 9051, section 5.1).
 pub fn inbox(alloc: Global, user: &UserName) -> Result<Name, AllocError>
-    ensures name { IfOk result (λ name. name ≡ named user.now (codes "INBOX" ∷ [])) }
+    ensures name { IfOk result (λ name. name ≡ name_of user.now (codes "INBOX" ∷ [])) }
     ensures valid { IfOk result IsName }
 {
     let tree = Tree::User(user.try_copy()?);
@@ -164,7 +164,7 @@ pub fn inbox(alloc: Global, user: &UserName) -> Result<Name, AllocError>
 
 /// The user's INBOX (RFC 9051, section 5.1), borrowed.
 pub fn inbox_ref(user: &UserName) -> NameRef<'_>
-    ensures { result ≡ named user.now (codes "INBOX" ∷ []) }
+    ensures { result ≡ name_of user.now (codes "INBOX" ∷ []) }
 {
     NameRef::new(user.as_str(), "INBOX")
 }

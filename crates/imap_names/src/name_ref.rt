@@ -1,7 +1,7 @@
 //! Borrowed mailbox names, and their order.
 ghost use Rattle.std.specs.Prelude.{◌≡◌, ◌+◌, ◌↔◌, length, option_copied, IsTrue, IfOk};
 ghost use Rattle.std.specs.Cmp.Lexicographic.{slice_cmp};
-ghost use Rattle.imap_names.specs.Name.{named, root_of, path_of, owner, superior, is_inbox};
+ghost use Rattle.imap_names.specs.Name.{name_of, root_of, path_of, owner, superior, is_inbox};
 ghost use Rattle.imap_names.specs.Order.{octet_cmp, path_cmp, path_run_cmp, end_cmp, name_cmp, run_cmp};
 ghost use Rattle.imap_names.specs.Text.{components_of};
 ghost use Rattle.imap_names.specs.Valid.{IsName};
@@ -15,8 +15,9 @@ use std::sync::ArcStr;
 
 /// The name of a mailbox, borrowed. It is what [`Name`](crate::Name) is, and contracts see the same list.
 ///
-/// Names are in the order of their trees (the tree that all share first, then by owner), and in a tree in that of their
-/// components from the root, each by its octets. In this order a name and all names below it stand together.
+/// Names are in the order of their trees (the tree that all share first, then by owner), and in a tree in
+/// that of their components from the root, each by its octets. In this order a name and all names below it
+/// stand together.
 #[derive(Debug, Drop)]
 pub struct NameRef<'a> {
     root: &'a str,
@@ -25,22 +26,22 @@ pub struct NameRef<'a> {
 
 impl<'a> Model for NameRef<'a> {
     ghost use Rattle.std.specs.Prelude.{ℕ, List};
-    ghost use Rattle.imap_names.specs.Name.{named};
+    ghost use Rattle.imap_names.specs.Name.{name_of};
     ghost use Rattle.imap_names.specs.Text.{components_of};
     ghost use Rattle.imap_names.specs.Valid.{IsName};
 
     ghost Value = { List (List ℕ) };
 
-    ghost view = { λ name. named name.root.now (components_of name.path.now) };
+    ghost view = { λ name. name_of name.root.now (components_of name.path.now) };
 
-    ghost invariant = { λ name. IsName (named name.root.now (components_of name.path.now)) };
+    ghost invariant = { λ name. IsName (name_of name.root.now (components_of name.path.now)) };
 }
 
 impl<'a> NameRef<'a> {
     /// The name with this path below this root.
     pub(crate) fn new(root: &'a str, path: &'a str) -> NameRef<'a>
-        requires { IsName (named root.now (components_of path.now)) }
-        ensures { result ≡ named root.now (components_of path.now) }
+        requires { IsName (name_of root.now (components_of path.now)) }
+        ensures { result ≡ name_of root.now (components_of path.now) }
     {
         NameRef { root, path }
     }
@@ -126,7 +127,8 @@ impl<'a> NameRef<'a> {
         }
     }
 
-    /// Whether the name stands before `top` and all names below it (`Less`), among them (`Equal`), or after them.
+    /// Whether the name stands before `top` and all names below it (`Less`), among them (`Equal`), or after
+    /// them.
     pub fn compare_to_run(&self, top: &NameRef<'_>) -> Ordering
         ensures { result ≡ run_cmp self.now top.now }
     {

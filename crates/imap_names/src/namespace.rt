@@ -3,8 +3,8 @@ ghost use Rattle.std.specs.Prelude.{◌≡◌};
 ghost use Rattle.imap_names.specs.Namespace.{personal_prefix, other_users_prefix, shared_prefix};
 ghost use Rattle.imap_names.specs.Text.{is_delimiter};
 
-/// What NAMESPACE says of the namespaces (RFC 2342, section 5): the prefix of the names of each, and the delimiter of
-/// all.
+/// What NAMESPACE says of the namespaces (RFC 2342, section 5): the prefix of the names of each, and the
+/// delimiter of all.
 #[derive(Clone, Copy)]
 pub struct NamespacePrefixes {
     pub personal: &'static str,

@@ -27,8 +27,8 @@ impl Model for Pattern {
 }
 
 impl Pattern {
-    /// Reads `pattern` after `reference`, joined and brought to NFC (RFC 5198). Wildcards of the reference count too.
-    /// Returns `None` for octets that aren't UTF-8 when joined: these match no name.
+    /// Reads `pattern` after `reference`, joined and brought to NFC (RFC 5198). Wildcards of the reference
+    /// count too. Returns `None` for octets that aren't UTF-8 when joined: these match no name.
     pub fn read(
         alloc: Global,
         reference: &[u8],
@@ -45,15 +45,16 @@ impl Pattern {
         Ok(Some(Pattern { tokens }))
     }
 
-    /// Whether a name matches, by the text that shows it to the reader. If the first component of its path is INBOX,
-    /// that component matches in any ASCII case.
+    /// Whether a name matches, by the text that shows it to the reader. If the first component of its path
+    /// is INBOX, that component matches in any ASCII case.
     pub fn matches(&self, text: &str) -> bool
         ensures { result ≡ is_match self.now text.now }
     {
         match_letters(self.tokens.as_slice(), &Letters::of(text))
     }
 
-    /// Whether the last octet is the wildcard `%`: the pattern then lists levels of hierarchy too (section 6.3.9).
+    /// Whether the last octet is the wildcard `%`: the pattern then lists levels of hierarchy too (section
+    /// 6.3.9).
     pub fn ends_in_percent(&self) -> bool
         ensures { result ≡ ends_in_percent self.now }
     {

@@ -1,14 +1,17 @@
 //! Reading a name from the octets of a command.
-ghost use Rattle.std.specs.Prelude.{◌≡◌, ℕ, List, ◌∷◌, false, true, chars, string_bytes, option_copied, length, IfOk, Err};
+ghost use Rattle.std.specs.Prelude.{◌≡◌, ℕ, List, ◌∷◌, false, true, chars, string_bytes, option_copied};
+ghost use Rattle.std.specs.Prelude.{length, IfOk, Err};
 ghost use Rattle.std.specs.List.{list_any};
 ghost use Rattle.std.specs.Str.{IsUtf8};
 ghost use Rattle.unicode_normalization.specs.Forms.{is_nfc};
 ghost use Rattle.imap_names.specs.Answer.{AnswersIfMemory, AnswersAsIfMemory, FailsBy};
 ghost use Rattle.imap_names.specs.Name.{is_empty};
-ghost use Rattle.imap_names.specs.Reading.{parts_of, other_parts, is_own, own_root, other_root, root_at, path_fault, name_in, name_at, read_by, name_read, full_name_read};
+ghost use Rattle.imap_names.specs.Reading.{parts_of, other_parts, is_own, own_root, other_root, root_at};
+ghost use Rattle.imap_names.specs.Reading.{path_fault, name_in, name_at, read_by, name_read, full_name_read};
 ghost use Rattle.imap_names.specs.Text.{components_of, has_control};
 ghost use Rattle.imap_names.specs.Tree.{root_of_tree};
-ghost use Rattle.imap_names.specs.Valid.{is_reserved, is_inbox_word, is_prefix_word, held_path, is_root, IsName};
+ghost use Rattle.imap_names.specs.Valid.{is_reserved, is_inbox_word, is_prefix_word, held_path, is_root};
+ghost use Rattle.imap_names.specs.Valid.{IsName};
 
 use crate::error::NameError;
 use crate::name::{MAX_DEPTH, MAX_PATH_OCTETS, Name, Tree};
@@ -28,7 +31,8 @@ pub(crate) enum Namespace {
     Bare,
 }
 
-/// A text by the parts of a name, as they are written: its namespace, the owner that it names there, and its path.
+/// A text by the parts of a name, as they are written: its namespace, the owner that it names there, and
+/// its path.
 #[derive(Clone, Copy)]
 pub(crate) struct NameParts<'a> {
     pub(crate) namespace: Namespace,

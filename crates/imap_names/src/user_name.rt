@@ -1,7 +1,8 @@
 //! Names of users.
 ghost use Rattle.std.specs.Prelude.{◌≡◌, ◌↔◌, true, chars, IsTrue, IfOk};
 ghost use Rattle.std.specs.List.{list_any};
-ghost use Rattle.imap_names.specs.UserName.{IsUserNameRead, is_user_name, has_user_form, is_barred, names_no_user};
+ghost use Rattle.imap_names.specs.UserName.{IsUserNameRead, is_user_name, has_user_form, is_barred};
+ghost use Rattle.imap_names.specs.UserName.{names_no_user};
 
 use std::alloc::{AllocError, Global};
 use std::marker::Model;
@@ -13,9 +14,9 @@ pub const MAX_USER_NAME_OCTETS: usize = 64;
 
 /// A user's name: NFC text (RFC 5198) without space, `/` or control character.
 ///
-/// It has at least one octet and at most [`MAX_USER_NAME_OCTETS`]. `anyone`, and a text that begins with `-` or
-/// `group:`, is no user name: these mean other things in an ACL (RFC 4314).
-/// Contracts see its octets. A copy shares them.
+/// It has at least one octet and at most [`MAX_USER_NAME_OCTETS`]. `anyone`, and a text that begins with
+/// `-` or `group:`, is no user name: these mean other things in an ACL (RFC 4314). Contracts see its
+/// octets. A copy shares them.
 #[derive(Debug, Drop)]
 pub struct UserName {
     text: ArcStr,

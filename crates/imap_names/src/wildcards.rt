@@ -1,7 +1,8 @@
 //! The wildcards of patterns: which letters match a list of tokens.
 //!
-//! Only the last `*` that was reached is tried again at later letters, and after it only the last `%`. So the cost goes
-//! by the pattern times the text, or the square of the text, and not by the ways to cut the text.
+//! Only the last `*` that was reached is tried again at later letters, and after it only the last `%`. So
+//! the cost goes by the pattern times the text, or the square of the text, and not by the ways to cut the
+//! text.
 ghost use Rattle.std.specs.Prelude.{◌≡◌, ◌≤◌, ◌↔◌, ◌∷◌, ◌-◌, IsTrue, length, take, drop, false};
 ghost use Rattle.std.specs.List.{list_any};
 ghost use Rattle.imap_names.specs.declared.token.Token.TheVariants.{Any, AnyInLevel};

@@ -20,7 +20,8 @@ entry acl identifier = unwrap_or (map.get acl identifier) no_rights
 -- what the entries give a user, less what the negative ones take away
 abbrev pub granted : List ℕ → AclMap → ℕ
 granted user acl =
-    less (union (entry acl user) (entry acl anyone)) (union (entry acl (negative user)) (entry acl (negative anyone)))
+    less (union (entry acl user) (entry acl anyone))
+    (union (entry acl (negative user)) (entry acl (negative anyone)))
 
 -- what an owner always has: to see the mailbox and to change its list
 abbrev pub owner_rights : ℕ

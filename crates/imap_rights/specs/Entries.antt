@@ -1,5 +1,6 @@
 -- The entries of an access control list as they are kept.
-use Rattle.std.specs.Prelude.{◌≡◌, ℕ, ◌≤◌, suc, Bool, IsTrue, length, true, false, List, [], ◌∷◌, map, find as find_item, bytes_eq, ◌==◌}
+use Rattle.std.specs.Prelude.{◌≡◌, ℕ, ◌≤◌, suc, Bool, IsTrue, length, true, false, List, [], ◌∷◌, map}
+use Rattle.std.specs.Prelude.{find as find_item, bytes_eq, ◌==◌}
 use Rattle.std.specs.Prelude.{◌&&◌, not, nat_le, is_some, option_map, unwrap_or, Result, Ok, Err}
 use Rattle.std.specs.Ordering.{nat_cmp, eq_by_cmp}
 use Rattle.std.specs.Cmp.Lexicographic.{slice_cmp}

@@ -25,11 +25,14 @@ is_given acl user bit = has_right (entry acl user) bit || has_right (entry acl a
 
 -- whether a negative entry, of a user or of everyone, has it
 abbrev pub is_taken : AclMap → List ℕ → ℕ → Bool
-is_taken acl user bit = has_right (entry acl (negative user)) bit || has_right (entry acl (negative anyone)) bit
+is_taken acl user bit =
+    has_right (entry acl (negative user)) bit || has_right (entry acl (negative anyone)) bit
 
--- a user has just the rights that are given and not taken away (RFC 4314, section 2), and an owner has l and a besides
+-- a user has just the rights that are given and not taken away (RFC 4314, section 2), and an owner has l
+-- and a besides
 abbrev pub RightsAreThoseGiven : Type 0
 RightsAreThoseGiven =
     (bit : ℕ) (user owner : List ℕ) (acl : AclMap)
     → has_right (effective user owner acl) bit
-    ≡ ((is_given acl user bit && not (is_taken acl user bit)) || (bytes_eq user owner && has_right owner_rights bit))
+    ≡ ((is_given acl user bit && not (is_taken acl user bit))
+    || (bytes_eq user owner && has_right owner_rights bit))

@@ -1,3 +1,4 @@
+-- Access control lists, rights and identifiers as contracts see them (RFC 4314).
 pub mod Rights
 pub mod Change
 pub mod Identifier

@@ -1,9 +1,13 @@
+//! Access control lists, and the rights that a user holds by one (RFC 4314, section 2).
+
 ghost use Rattle.std.specs.Prelude.{◌≡◌, ◌≤◌, ◌↔◌, true, IsTrue, IsErrOf, IfOk, OnOk, OnErr, IsOk, bytes_eq};
 ghost use Rattle.std.specs.FinMap as finite;
 ghost use Rattle.imap_rights.specs.Rights.{bits, known, no_rights};
-ghost use Rattle.imap_rights.specs.Acl.{IsAcl, is_some_rights, max_entries, with_entry, is_full_for, owner_acl};
+ghost use Rattle.imap_rights.specs.Acl.{IsAcl, is_some_rights, max_entries, with_entry, is_full_for};
+ghost use Rattle.imap_rights.specs.Acl.{owner_acl};
 ghost use Rattle.imap_rights.specs.Effective.{effective, entry, negative};
-ghost use Rattle.imap_rights.specs.Entries.{AreEntries, PutsEntry, pairs_of, rights_where, is_negative_of, position};
+ghost use Rattle.imap_rights.specs.Entries.{AreEntries, PutsEntry, pairs_of, rights_where, is_negative_of};
+ghost use Rattle.imap_rights.specs.Entries.{position};
 ghost use Rattle.imap_rights.specs.Entries.{without_pair, has_entry, is_full};
 
 use crate::identifier::Identifier;
@@ -141,8 +145,8 @@ impl Acl {
         }
     }
 
-    /// Sets the rights of the entry of `identifier`, and removes the entry if they are none. Bits of `rights` that
-    /// are none of the eleven rights are dropped.
+    /// Sets the rights of the entry of `identifier`, and removes the entry if they are none. Bits of
+    /// `rights` that are none of the eleven rights are dropped.
     pub fn set(&mut self, identifier: Identifier, rights: Rights) -> Result<(), AclError>
         ensures ok { OnOk result (self.new ≡ with_entry self.old identifier (bits rights)) }
         ensures err { OnErr result (self.new ≡ self.old) }
@@ -167,9 +171,9 @@ impl Acl {
         take_entry(&mut self.entries, identifier.as_bytes());
     }
 
-    /// The rights that `user` holds on a mailbox of `owner` with this list (RFC 4314, section 2): those of the
-    /// entries of the user and of `anyone`, less those of their entries with a leading `-`. The owner always has
-    /// l and a.
+    /// The rights that `user` holds on a mailbox of `owner` with this list (RFC 4314, section 2): those of
+    /// the entries of the user and of `anyone`, less those of their entries with a leading `-`. The owner
+    /// always has l and a.
     pub fn effective(&self, user: &str, owner: &str) -> Rights
         ensures { bits result ≡ effective user.now owner.now self.now }
     {

@@ -11,7 +11,6 @@ ghost use Rattle.imap_view.specs.TreeAfter.{validities_left};
 ghost use Rattle.imap_world.specs.Moving.{can_arrive};
 
 use crate::access::missing_right_refusal;
-use crate::create::are_validities_left;
 use crate::new_name::read_new_name;
 use imap_answer::{Answer, Call};
 use imap_lex::Octets;
@@ -130,7 +129,7 @@ fn are_superiors_left(view: &View<'_>, name: &Name) -> bool
     ensures { result ≡ validities_left view.now (missing_above view.now name.now) }
 {
     match name.as_ref().superior() {
-        Some(above) => are_validities_left(view, &above),
+        Some(above) => view.are_validities_left(&above),
         None => true,
     }
 }

@@ -8,9 +8,9 @@ use Rattle.imap_names.proofs.NameLaws.{same_names}
 use Rattle.imap_names.proofs.OrderLaws.{name_antisymmetric}
 use Rattle.imap_world.specs.declared.mailbox_entry.MailboxEntry.{MailboxEntry}
 use Rattle.imap_world.specs.Effects.{if_filled, with_subscribed}
-use Rattle.imap_world.specs.Finite.{keep}
+use Rattle.imap_user_map.specs.Finite.{keep}
 use Rattle.imap_world.specs.World.{World, NameSet, set_of, subscribed_by}
-use Rattle.imap_world.proofs.Finding.{get-keep}
+use Rattle.imap_user_map.proofs.KeptValues.{get-keep}
 use Rattle.imap_world.proofs.Sets.{is_user, equal_users, user_itself, get_with_option, set_of-if_filled}
 use Rattle.imap_view.specs.After.{DifferInHidden, HiddenIsAbsent, IsHidden, OthersSubscriptionsAreHidden}
 use Rattle.imap_view.specs.Seen.{Seen, seen_at}

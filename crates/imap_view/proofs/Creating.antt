@@ -20,7 +20,7 @@ use Rattle.imap_world.specs.World.{World, epoch, max_validity}
 use Rattle.imap_view.specs.Seen.{Seen, is_root, owner_by_root, owner_of, seen_at, seen_with}
 use Rattle.imap_view.specs.TreeAfter.{is_known, missing_in, new_seen, seen_or, validities_left, may_make, IsCreation, CreatingIsSeen}
 use Rattle.imap_view.specs.View.{View, view_of, seen_in, may_know_name, may_know_name_in, creatable_below, may_create, rights_of}
-use Rattle.imap_view.proofs.Narrowing.{makes_place, place_below, deeper_below, get_epochs}
+use Rattle.imap_view.proofs.Narrowing.{shows_names, place_below, deeper_below, get_epochs}
 use Rattle.imap_view.proofs.Placed.{each_weaker, each_push, each_mapped, row_of, IsNew, rows_seen}
 use Rattle.imap_view.proofs.Views.{administrator_of, user_of, get_seen, contains_taken}
 
@@ -49,7 +49,7 @@ creatable_is_below view (deepest ∷ above ∷ next ∷ more) e =
         (ap (λ o. creatable_below o (map.contains_key view.taken (above ∷ next ∷ more)) (may_create view (above ∷ next ∷ more))) (sym is) ∙ e)))
     by (Some s) is rest =
         place_below view.administrator view.user view.seen deepest (above ∷ next ∷ more)
-        (makes_place (map.get view.seen (above ∷ next ∷ more)) create refl
+        (shows_names (map.get view.seen (above ∷ next ∷ more)) create refl
         (ap (λ o. has_any (rights_of o) create) is ∙ ap (λ o. creatable_below o (map.contains_key view.taken (above ∷ next ∷ more)) (may_create view (above ∷ next ∷ more))) (sym is) ∙ e))
 
 -- the superior lets the user create too, if the user doesn't know of it

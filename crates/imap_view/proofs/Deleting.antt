@@ -12,14 +12,14 @@ use Rattle.imap_names.proofs.OrderLaws.{IsAbove_from_below}
 use Rattle.imap_name_map.specs.Rows.{has_below}
 use Rattle.imap_rights.specs.Rights.{has_any, delete_mailbox}
 use Rattle.imap_world.specs.declared.mailbox_entry.MailboxEntry.{MailboxEntry}
-use Rattle.imap_world.specs.Finite.{kept_entry}
+use Rattle.imap_user_map.specs.Finite.{kept_entry}
 use Rattle.imap_world.specs.Tree.{without}
 use Rattle.imap_world.specs.World.{World}
-use Rattle.imap_world.proofs.Finding.{entries-keep}
+use Rattle.imap_user_map.proofs.KeptValues.{entries-keep}
 use Rattle.imap_view.specs.Seen.{seen_at}
 use Rattle.imap_view.specs.TreeAfter.{view_without, DeletingIsSeen}
 use Rattle.imap_view.specs.View.{view_of, seen_in, if_true, shows_names_with, shows_names_below, may_know_name, rights_of, rights_in}
-use Rattle.imap_view.proofs.Narrowing.{in_use, seen_is, makes_place, place_below, deeper_below, below_within, put_within, get_taken, get_epochs, view_is_narrowed, seen_changed}
+use Rattle.imap_view.proofs.Narrowing.{in_use, seen_is, shows_names, place_below, deeper_below, below_within, put_within, get_taken, get_epochs, view_is_narrowed, seen_changed}
 use Rattle.imap_view.proofs.Views.{get_seen}
 
 -- ---- a right is held on what is there and seen
@@ -109,7 +109,7 @@ deleting administrator user world name may =
     let parts = and_parts _ _ may in
     let more = and_parts _ _ parts.1 in
     let place = ap (λ s. shows_names_below administrator user s name) (sym (seen_is administrator user world))
-    ∙ place_seen administrator user world name (makes_place (fin.get (view_of administrator user world).seen name) delete_mailbox refl parts.0) in
+    ∙ place_seen administrator user world name (shows_names (fin.get (view_of administrator user world).seen name) delete_mailbox refl parts.0) in
     record {
       there = held_is_there administrator user world name delete_mailbox parts.0;
       common = not-true _ more.0;

@@ -21,10 +21,10 @@ use Rattle.imap_rights.specs.Rights.{no_rights, all_rights, union, less, visible
 use Rattle.imap_world.specs.declared.mailbox_entry.MailboxEntry.{MailboxEntry}
 use Rattle.imap_world.specs.declared.error.WorldError.TheVariants.{Limit, Taken}
 use Rattle.imap_world.specs.Effects.{with_row, put_of, writes_then, after_result}
-use Rattle.imap_world.specs.Finite.{keep}
+use Rattle.imap_user_map.specs.Finite.{keep}
 use Rattle.imap_world.specs.NewMailbox.{NewMailbox}
 use Rattle.imap_world.specs.World.{World, epoch, inbox, max_validity}
-use Rattle.imap_world.proofs.Finding.{get-keep}
+use Rattle.imap_user_map.proofs.KeptValues.{get-keep}
 use Rattle.imap_world.proofs.Sets.{is_user, equal_users}
 use Rattle.imap_view.specs.After.{OthersInboxesAreHidden}
 use Rattle.imap_view.specs.Seen.{seen_at, seen_with, owner_by_root}

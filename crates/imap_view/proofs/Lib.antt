@@ -2,6 +2,7 @@ pub mod Afters
 pub mod ArrivalsKnown
 pub mod Arriving
 pub mod Asked
+pub mod Climbing
 pub mod Creating
 pub mod Deleting
 pub mod Inboxes

@@ -9,9 +9,9 @@ use Rattle.imap_names.specs.Name.{Name}
 use Rattle.imap_names.specs.Order.{name_cmp, is_below}
 use Rattle.imap_name_map.specs.Rows.{entries_below, below_of, has_below}
 use Rattle.imap_world.specs.declared.mailbox_entry.MailboxEntry.{MailboxEntry}
-use Rattle.imap_world.specs.Finite.{kept_entry}
+use Rattle.imap_user_map.specs.Finite.{kept_entry}
 use Rattle.imap_world.specs.World.{World, NameSet}
-use Rattle.imap_world.proofs.Finding.{entries-keep}
+use Rattle.imap_user_map.proofs.KeptValues.{entries-keep}
 use Rattle.imap_view.specs.Listing.{names_below, known_among, seen_among}
 use Rattle.imap_view.specs.Seen.{seen_at}
 use Rattle.imap_view.specs.View.{View, view_of, may_know_name_in, if_true}

@@ -17,13 +17,13 @@ use Rattle.imap_rights.specs.Rights.{delete_mailbox, has_any}
 use Rattle.imap_world.specs.declared.mailbox_entry.MailboxEntry.{MailboxEntry}
 use Rattle.imap_world.specs.Moving.{with_moved}
 use Rattle.imap_world.specs.World.{World, NameSet}
-use Rattle.imap_world.proofs.Finding.{get-keep}
+use Rattle.imap_user_map.proofs.KeptValues.{get-keep}
 use Rattle.imap_view.specs.RenameAfter.{view_with_moved}
 use Rattle.imap_view.specs.Seen.{is_root, owner_by_root, seen_at, seen_with, Seen}
 use Rattle.imap_view.specs.View.{view_of, seen_in, shows_names_below, shows_names_with, may_know_name, may_know_name_in, rights_in}
 use Rattle.imap_view.proofs.Arriving.{all_arrived, inserted_alike}
 use Rattle.imap_view.proofs.Deleting.{held_is_there, place_seen, below_between}
-use Rattle.imap_view.proofs.Narrowing.{in_use, seen_is, makes_place, deeper_below, IsWithin, IsCovered, below_within, get_taken, get_epochs, view_is_narrowed}
+use Rattle.imap_view.proofs.Narrowing.{in_use, seen_is, shows_names, deeper_below, IsWithin, IsCovered, below_within, get_taken, get_epochs, view_is_narrowed}
 
 -- The user holds x on the mailbox, and the new name lies in its tree, below a place, and no mailbox is there or below.
 pub record IsMove (administrator user : List ℕ) (world : World) (old new : Name) : Type 0 where
@@ -118,7 +118,7 @@ module _ (administrator user : List ℕ) (world : World) (old new : Name) (move 
   pub place : shows_names_below administrator user seen old ≡ true
   place =
       ap (λ s. shows_names_below administrator user s old) (sym (seen_is administrator user world))
-      ∙ place_seen administrator user world old (makes_place (map.get (view_of administrator user world).seen old) delete_mailbox refl move.deletable)
+      ∙ place_seen administrator user world old (shows_names (map.get (view_of administrator user world).seen old) delete_mailbox refl move.deletable)
 
   pub known : may_know_name administrator user seen new ≡ true
   unfolding view_of

@@ -10,11 +10,11 @@ use Rattle.imap_names.specs.Name.{Name}
 use Rattle.imap_names.specs.Order.{Names, name_cmp}
 use Rattle.imap_names.proofs.NameLaws.{is_name_at, equal_names, same_names, get_put, get_without, get_where}
 use Rattle.imap_names.proofs.OrderLaws.{name_antisymmetric}
-use Rattle.imap_rights.specs.Rights.{has_any, place_rights}
+use Rattle.imap_rights.specs.Rights.{has_any, names_below_rights}
 use Rattle.imap_world.specs.declared.mailbox_entry.MailboxEntry.{MailboxEntry}
-use Rattle.imap_world.specs.Finite.{keep}
+use Rattle.imap_user_map.specs.Finite.{keep}
 use Rattle.imap_world.specs.World.{World, NameSet, subscribed_by}
-use Rattle.imap_world.proofs.Finding.{get-keep}
+use Rattle.imap_user_map.proofs.KeptValues.{get-keep}
 use Rattle.imap_view.specs.Seen.{Seen, seen_at}
 use Rattle.imap_view.specs.TreeAfter.{put_option, narrowed}
 use Rattle.imap_view.specs.View.{view_of, view_by, seen_in, if_true, shows_names_with, shows_names_below, may_know_name, rights_of}
@@ -36,9 +36,9 @@ has_more n some all part has =
     (λ e. true≢false (sym has ∙ ap (λ m. not (m == 0)) (none_of_none n some all part (tested (bit_and n all) (bit_and n all == 0) refl e))))
 
 -- a right that makes a place
-pub makes_place : (o : Option Seen) (some : ℕ) → bit_and some place_rights ≡ some → has_any (rights_of o) some ≡ true → shows_names_with o ≡ true
-makes_place None some part has = absurd (true≢false (sym has ∙ ap (λ m. not (m == 0)) (and_zero_l some)))
-makes_place (Some seen) some part has = has_more seen.rights some place_rights part has
+pub shows_names : (o : Option Seen) (some : ℕ) → bit_and some names_below_rights ≡ some → has_any (rights_of o) some ≡ true → shows_names_with o ≡ true
+shows_names None some part has = absurd (true≢false (sym has ∙ ap (λ m. not (m == 0)) (and_zero_l some)))
+shows_names (Some seen) some part has = has_more seen.rights some names_below_rights part has
 
 -- ---- maps of which one value is another, and some values are kept
 

@@ -9,7 +9,7 @@ use Rattle.imap_names.proofs.NameLaws.{is_name_at, equal_names, same_names, get_
 use Rattle.imap_rights.specs.Acl.{AclMap}
 use Rattle.imap_world.specs.declared.mailbox_entry.MailboxEntry.{MailboxEntry}
 use Rattle.imap_world.specs.Effects.{with_row}
-use Rattle.imap_world.specs.Finite.{keep}
+use Rattle.imap_user_map.specs.Finite.{keep}
 use Rattle.imap_world.specs.NewMailbox.{NewMailbox}
 use Rattle.imap_world.specs.Tree.{with_rows}
 use Rattle.imap_world.specs.World.{World, epoch}

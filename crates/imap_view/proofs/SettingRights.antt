@@ -18,7 +18,7 @@ use Rattle.imap_view.specs.Seen.{Seen, is_root, owner_of, seen_at, seen_with}
 use Rattle.imap_view.specs.TreeAfter.{has_room_for, put_option, narrowed, seen_with_rights, IsRightsChange, SettingRightsIsSeen}
 use Rattle.imap_view.specs.View.{View, view_of, seen_in, shows_names_below, may_know_name, rights_of, acl_of, acl_in}
 use Rattle.imap_view.proofs.Deleting.{place_seen}
-use Rattle.imap_view.proofs.Narrowing.{in_use, seen_is, makes_place, below_within, put_within, get_taken, get_epochs, view_is_narrowed, seen_changed}
+use Rattle.imap_view.proofs.Narrowing.{in_use, seen_is, shows_names, below_within, put_within, get_taken, get_epochs, view_is_narrowed, seen_changed}
 use Rattle.imap_view.proofs.Views.{administrator_of, user_of, get_seen}
 
 -- ---- a list that is seen is the mailbox's
@@ -111,7 +111,7 @@ module _ (administrator user : List ℕ) (world : World) (name : Name) (identifi
       let at : map.get (view_of administrator user world).seen name ≡ seen_at administrator user name m = get_seen administrator user world name ∙ ap (option_and_then (seen_at administrator user name)) there in
       let shows = shown_at administrator user name m acl (ap acl_of (sym at) ∙ shown) in
       let place = ap (λ s. shows_names_below administrator user s name) (sym (seen_is administrator user world))
-      ∙ place_seen administrator user world name (makes_place (map.get (view_of administrator user world).seen name) administer refl (ap (λ o. has_any (rights_of o) administer) at ∙ shows.administers)) in
+      ∙ place_seen administrator user world name (shows_names (map.get (view_of administrator user world).seen name) administer refl (ap (λ o. has_any (rights_of o) administer) at ∙ shows.administers)) in
       let new : AclMap = with_entry acl identifier (applied change (entry acl identifier)) in
       record {
         mailbox = m;

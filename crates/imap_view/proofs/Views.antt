@@ -10,7 +10,7 @@ use Rattle.imap_rights.specs.Rights.{has_any, visible_rights, administer}
 use Rattle.imap_rights.specs.Effective.{effective}
 use Rattle.imap_world.specs.declared.mailbox_entry.MailboxEntry.{MailboxEntry}
 use Rattle.imap_world.specs.World.{World, epoch, subscribed_by}
-use Rattle.imap_world.proofs.Finding.{get-keep}
+use Rattle.imap_user_map.proofs.KeptValues.{get-keep}
 use Rattle.imap_view.specs.Seen.{Seen, is_root, owner_of, seen_at, seen_with}
 use Rattle.imap_view.specs.View.{View, view_of, seen_in, is_own_root, shows_names_below, may_know_name, may_know_name_in, if_true, epoch_in, creatable_below, may_create}
 

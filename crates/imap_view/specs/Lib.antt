@@ -1,3 +1,4 @@
+-- What a user may see of the mailboxes, before and after each effect.
 pub mod After
 pub mod Listing
 pub mod RenameAfter

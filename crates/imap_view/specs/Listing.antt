@@ -5,7 +5,7 @@ use Rattle.std.specs.Coded.{Coded, coded_list, coded×}
 use Rattle.imap_names.specs.Name.{Name}
 use Rattle.imap_name_map.specs.Rows.{below_of}
 use Rattle.imap_world.specs.declared.mailbox_entry.MailboxEntry.{MailboxEntry}
-use Rattle.imap_world.specs.Finite.{kept_entry}
+use Rattle.imap_user_map.specs.Finite.{kept_entry}
 use Rattle.imap_world.specs.World.{NameSet, name_code}
 use Rattle.imap_view.specs.Seen.{Seen, seen_at, seen_code}
 use Rattle.imap_view.specs.View.{View, may_know_name_in}

@@ -6,8 +6,8 @@ use Rattle.std.specs.Coded.{Coded, coded_ℕ, coded_list, coded×, code_by}
 use Rattle.imap_names.specs.Name.{Name}
 use Rattle.imap_names.specs.Order.{Names}
 use Rattle.imap_rights.specs.Acl.{AclMap}
-use Rattle.imap_rights.specs.Rights.{has_any, create, no_rights, place_rights}
-use Rattle.imap_world.specs.Finite.{keep}
+use Rattle.imap_rights.specs.Rights.{has_any, create, no_rights, names_below_rights}
+use Rattle.imap_user_map.specs.Finite.{keep}
 use Rattle.imap_world.specs.World.{World, NameSet, epoch, name_code, name_set_code, subscribed_by}
 use Rattle.imap_view.specs.Seen.{Seen, seen_at, seen_code, owner_by_root}
 
@@ -45,7 +45,7 @@ is_own_root administrator user root = bytes_eq (owner_by_root administrator root
 
 abbrev pub shows_names_with : Option Seen → Bool
 shows_names_with None = false
-shows_names_with (Some seen) = has_any seen.rights place_rights
+shows_names_with (Some seen) = has_any seen.rights names_below_rights
 
 abbrev pub shows_names_below : (administrator user : List ℕ) → Names Seen → Name → Bool
 shows_names_below administrator user seen [] = false

@@ -4,6 +4,7 @@
 //! commands that a user sends are answered by it alone.
 #![tactic(auto)]
 
+mod climb;
 pub mod laws;
 mod seen;
 mod seen_names;

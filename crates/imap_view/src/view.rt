@@ -121,18 +121,18 @@ impl<'a> View<'a> {
     }
 
     /// Whether the user may know which names are in use below `name`.
-    fn shows_names_below(&self, name: &NameRef<'_>) -> bool
+    pub(crate) fn shows_names_below(&self, name: &NameRef<'_>) -> bool
         requires { is_root name.now ≡ false }
         ensures { result ≡ shows_names_below self.now.administrator self.now.user self.now.seen name.now }
     {
         match self.seen(name) {
-            Some(seen) => seen.rights().make_place(),
+            Some(seen) => seen.rights().show_names_below(),
             None => false,
         }
     }
 
     /// Whether the tree that the name lies in is the user's own.
-    fn owns_tree(&self, name: &NameRef<'_>) -> bool
+    pub(crate) fn owns_tree(&self, name: &NameRef<'_>) -> bool
         ensures own { result ≡ is_own_root self.now.administrator self.now.user (root_of name.now) }
         ensures valid { IsName name.now }
     {
@@ -154,6 +154,14 @@ impl<'a> View<'a> {
         ensures { result ≡ map.contains_key self.now.taken name.now }
     {
         self.world.mailbox(name).is_some() && self.may_know_name(name)
+    }
+
+    /// The same, if `may_know` says whether the user may know.
+    pub(crate) fn is_taken_by(&self, name: &NameRef<'_>, may_know: bool) -> bool
+        requires { may_know ≡ may_know_name_in self.now name.now }
+        ensures { result ≡ map.contains_key self.now.taken name.now }
+    {
+        may_know && self.world.mailbox(name).is_some()
     }
 
     /// Whether a name below `name` is in use, as far as the user may know.
@@ -189,7 +197,15 @@ impl<'a> View<'a> {
     pub fn is_validity_left(&self, name: &NameRef<'_>) -> bool
         ensures { result ≡ nat_lt (epoch self.now.epochs name.now) max_validity }
     {
-        !self.may_know_name(name) || self.world.next_validity(name).is_some()
+        self.is_left_by(name, self.may_know_name(name))
+    }
+
+    /// The same, if `may_know` says whether the user may know.
+    pub(crate) fn is_left_by(&self, name: &NameRef<'_>, may_know: bool) -> bool
+        requires { may_know ≡ may_know_name_in self.now name.now }
+        ensures { result ≡ nat_lt (epoch self.now.epochs name.now) max_validity }
+    {
+        !may_know || self.world.next_validity(name).is_some()
     }
 
     /// Whether the user knows that the name is in use.

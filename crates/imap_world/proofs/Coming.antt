@@ -18,7 +18,7 @@ use Rattle.imap_world.specs.World.{epoch}
 use Rattle.imap_world.proofs.Resolved.{out_of_memory}
 
 module _ {X : Type 0} (epochs : Names ℕ) (f : Name → Name) where
-  abbrev can : Name × X → Bool
+  abbrev pub can : Name × X → Bool
   can = λ e. can_arrive epochs (f e.0)
 
   abbrev arrivals_of : List (Name × X) → List (Name × ℕ)
@@ -66,6 +66,17 @@ module _ {X : Type 0} (epochs : Names ℕ) (f : Name → Name) where
       by : (b : Bool) → can e ≡ b → AnswersOrMemory {A = Name × ℕ} (Err error) (cond b (Ok (f e.0, epoch epochs (f e.0) + 1)) (Err Limit)) → AnswersOrMemory {A = List (Name × ℕ)} (Err error) (meant es)
       by true may h = subst (λ r. AnswersOrMemory {A = List (Name × ℕ)} (Err r) (meant es)) (sym h) (out_of_memory (meant es))
       by false may h = subst (AnswersOrMemory {A = List (Name × ℕ)} (Err error)) (sym (none may)) h
+
+  -- without the names: one entry more can have its name
+  pub can_more : (es : List (Name × X)) (i : ℕ) (e : Name × X) → i < length es → e ≡ get_or es i e → can e ≡ true → list_all can (take i es) ≡ true → list_all can (take (i + 1) es) ≡ true
+  can_more es i e lt is here all = list_all_more can es i e lt ∙ ap (λ b. b && can (get_or es i e)) all ∙ ap can (sym is) ∙ here
+
+  -- or can't, and so not all can
+  pub can_not : (es : List (Name × X)) (i : ℕ) (e : Name × X) → i < length es → e ≡ get_or es i e → can e ≡ false → false ≡ list_all (can_arrive epochs) (map_list (λ e. f e.0) es)
+  can_not es i e lt is here = sym (list_all-map (can_arrive epochs) (λ (x : Name × X). f x.0) es ∙ list_all_at can es i e lt (ap can (sym is) ∙ here))
+
+  pub can_all : (es : List (Name × X)) (i : ℕ) → length es ≤ i → list_all can (take i es) ≡ true → true ≡ list_all (can_arrive epochs) (map_list (λ e. f e.0) es)
+  can_all es i le all = sym (list_all-map (can_arrive epochs) (λ (x : Name × X). f x.0) es ∙ ap (list_all can) (sym (take_all i es le)) ∙ all)
 
   -- all have come
   pub all_came : (es : List (Name × X)) (i : ℕ) (came : List (Name × ℕ)) → length es ≤ i → came ≡ arrivals_of (take i es) → list_all can (take i es) ≡ true → AnswersOrMemory (Ok came) (meant es)

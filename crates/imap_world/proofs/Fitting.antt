@@ -11,7 +11,7 @@ use Rattle.imap_name_map.specs.Rows.{has_below, has_within}
 use Rattle.imap_names.specs.Name.{Name, is_inbox}
 use Rattle.imap_names.specs.Order.{Names, is_within}
 use Rattle.imap_names.proofs.MovedLaws.{within_itself}
-use Rattle.imap_names.proofs.NameLaws.{equal_names, get_put, is_name_at, is_name_at-same, named-same}
+use Rattle.imap_names.proofs.NameLaws.{equal_names, get_put, is_name_at, is_name_at-same, name_of-same}
 use Rattle.imap_rights.specs.Acl.{AclMap, owner_acl}
 use Rattle.imap_rights.specs.declared.change.RightsChange.{RightsChange}
 use Rattle.imap_world.specs.declared.change.Write.{Write}
@@ -292,7 +292,7 @@ module _ (world : World) where
   inbox_apart : (user other : List ℕ) (row : NewMailbox) → row.name ≡ inbox user → bytes_eq user other ≡ false → is_name_at (inbox other) row.name ≡ false
   inbox_apart user other row is differ =
       false_from_ne_true _ (λ at.
-      let same : other ≡ user = (named-same other user (codes "INBOX" ∷ []) (codes "INBOX" ∷ []) (equal_names (inbox other) row.name at ∙ is)).0 in
+      let same : other ≡ user = (name_of-same other user (codes "INBOX" ∷ []) (codes "INBOX" ∷ []) (equal_names (inbox other) row.name at ∙ is)).0 in
       true≢false (sym (same_user user) ∙ ap (bytes_eq user) (sym same) ∙ differ))
 
   -- no user differs from all and is one of them

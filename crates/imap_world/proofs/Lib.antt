@@ -1,8 +1,9 @@
 pub mod ByName
 pub mod Changed
 pub mod Coming
-pub mod Finding
+pub mod Current
 pub mod Fitting
+pub mod Fresh
 pub mod Histories
 pub mod Limited
 pub mod Made

@@ -1,10 +1,11 @@
 -- The values that are written for effects, one effect further.
-use Rattle.std.proofs.Common.{◌≡◌, inl, inr, ℕ, ◌+◌, ◌<◌, List, [], ◌∷◌, ◌++◌, append_assoc, append-nil, length, get_or, drop, drop-cons, add-one, suc, Result, Ok, Err, refl, sym, ap, subst, ◌∙◌}
+use Rattle.std.proofs.Common.{◌≡◌, inl, inr, ℕ, ◌+◌, ◌<◌, Bool, true, false, cond, not, List, [], ◌∷◌, ◌++◌, append_assoc, append-nil, length, get_or, drop, drop-cons, add-one, suc, Result, Ok, Err, refl, sym, ap, subst, ◌∙◌}
+use Rattle.std.specs.Result.{is_ok}
 use Rattle.imap_world.specs.declared.change.Write.{Write}
 use Rattle.imap_world.specs.declared.effect.Effect.{Effect}
 use Rattle.imap_world.specs.declared.error.WorldError.{WorldError}
-use Rattle.imap_world.specs.declared.error.WorldError.TheVariants.{Limit, Memory}
-use Rattle.imap_world.specs.Changing.{AnswersOrMemory, AnswersUpToLimit}
+use Rattle.imap_world.specs.declared.error.WorldError.TheVariants.{Cannot, Limit, Memory, NoSuch, Taken}
+use Rattle.imap_world.specs.Changing.{Answers, AnswersOrMemory}
 use Rattle.imap_world.specs.Effects.{writes_for, writes_then, writes_of}
 use Rattle.imap_world.specs.World.{World}
 
@@ -52,29 +53,42 @@ module _ (world : World) (effects : List Effect) (i : ℕ) (e : Effect) (cut : d
 -- ---- one effect alone
 
 -- it is resolved, and so is the list of it
-pub alone_of : (effect : Effect) (result : Writes) (meant : Writes) → AnswersUpToLimit result meant → AnswersOrMemory result (writes_then meant (Ok []))
+pub alone_of : (effect : Effect) (result : Writes) (meant : Writes) → Answers result meant → AnswersOrMemory result (writes_then meant (Ok []))
 alone_of effect (Ok ws) (Ok wanted) h = h ∙ sym (append-nil wanted)
 alone_of effect (Ok ws) (Err refusal) h = absurd h
 alone_of effect (Err error) (Ok wanted) h = h
-alone_of effect (Err error) (Err refusal) (inl is) = inl is
-alone_of effect (Err error) (Err refusal) (inr limit) = inr limit.1
+alone_of effect (Err error) (Err refusal) h = inl h
 
 -- memory ran out after that
-pub memory_after : {A : Type 0} (x : A) (meant : Result A WorldError) → AnswersUpToLimit (Ok x) meant → AnswersUpToLimit {A = A} (Err Memory) meant
+pub memory_after : {A : Type 0} (x : A) (meant : Result A WorldError) → Answers (Ok x) meant → Answers {A = A} (Err Memory) meant
 memory_after x (Ok wanted) h = refl
 memory_after x (Err refusal) h = absurd h
+
+-- ---- limits that are found first
 
 -- what is refused by a limit alone
 abbrev pub IsLimited : {A : Type 0} → Result A WorldError → Type 0
 IsLimited meant = (error : WorldError) → meant ≡ Err error → error ≡ Limit
 
-pub up_to_limit : {A : Type 0} (result meant : Result A WorldError) → IsLimited meant → AnswersOrMemory result meant → AnswersUpToLimit result meant
-up_to_limit (Ok value) (Ok wanted) limited h = h
-up_to_limit (Ok value) (Err refusal) limited h = absurd h
-up_to_limit (Err error) (Ok wanted) limited h = h
-up_to_limit (Err error) (Err refusal) limited (inl is) = inl is
-up_to_limit (Err error) (Err refusal) limited (inr is) = inr (limited refusal refl, is)
+-- a limit is met
+pub limit_found : {A : Type 0} (meant : Result A WorldError) → IsLimited meant → is_ok meant ≡ false → Answers {A = A} (Err Limit) meant
+limit_found (Ok wanted) limited not_ok = absurd (cc not_ok)
+limit_found (Err refusal) limited not_ok = sym (limited refusal refl)
+
+-- none is, so that only memory can run out
+pub no_limit : {A : Type 0} (result meant : Result A WorldError) → is_ok meant ≡ true → AnswersOrMemory result meant → Answers result meant
+no_limit (Ok value) (Ok wanted) ok h = h
+no_limit (Err error) (Ok wanted) ok h = h
+no_limit result (Err refusal) ok h = absurd (cc ok)
 
 pub out_of_memory : {A : Type 0} (meant : Result A WorldError) → AnswersOrMemory (Err Memory) meant
 out_of_memory (Ok wanted) = refl
 out_of_memory (Err refusal) = inr refl
+
+-- a mailbox that is there may move to a free name
+pub renaming_of : (result meant : Writes) {there can used : Bool} → there ≡ true → can ≡ true → used ≡ false
+    → Answers result meant → Answers result (cond there (cond (not can) (Err Cannot) (cond used (Err Taken) meant)) (Err NoSuch))
+renaming_of result meant {there} {can} {used} is may free h =
+    subst (λ b. Answers result (cond b (cond (not can) (Err Cannot) (cond used (Err Taken) meant)) (Err NoSuch))) (sym is)
+    (subst (λ b. Answers result (cond (not b) (Err Cannot) (cond used (Err Taken) meant))) (sym may)
+    (subst (λ b. Answers result (cond b (Err Taken) meant)) (sym free) h))

@@ -16,7 +16,7 @@ use Rattle.imap_user_map.specs.Rows.{Users}
 use Rattle.imap_world.specs.declared.change.Write.{Write}
 use Rattle.imap_world.specs.declared.change.Write.TheVariants as write
 use Rattle.imap_world.specs.Effects.{after_write}
-use Rattle.imap_world.specs.Ready.{HasNameRoom, HasRoom, IsOneReady, IsReady, Leaves, KeepsRoom, LeavesRoom, MayBeWritten, count_of, counts_of}
+use Rattle.imap_world.specs.Ready.{HasNameRoom, HasRoom, AreReady, IsOneReady, Leaves, KeepsRoom, LeavesRoom, MayBeWritten, count_of, counts_of}
 use Rattle.imap_world.specs.Stored.{Stored, Subscriptions, world_of}
 use Rattle.imap_world.proofs.Sets.{is_user, equal_users, user_itself}
 
@@ -64,7 +64,7 @@ module _ (counted : ℕ) (old new : Stored) (leaves : Leaves counted old new) wh
   all_less more [] h = tt
   all_less more (w ∷ ws) h = (one_less more w h.0, all_less more ws h.1)
 
-  pub rest_ready : (w : Write) (ws : List Write) → counted ≡ count_of w → world_of new ≡ after_write w (world_of old) → IsReady (w ∷ ws) old → IsReady ws new
+  pub rest_ready : (w : Write) (ws : List Write) → counted ≡ count_of w → world_of new ≡ after_write w (world_of old) → AreReady (w ∷ ws) old → AreReady ws new
   rest_ready w ws counts is ready = record {
     room = record {
       mailboxes = omega (arith, leaves.mailboxes, ready.room.mailboxes);
@@ -82,7 +82,7 @@ at_least_one s n (write.Move from to arrivals) le h = tt
 at_least_one s n (write.Subscribe user name) le h = fewer (map.get s.map user) 1 n le h
 at_least_one s n (write.Unsubscribe user name) le h = tt
 
-pub first_ready : (s : Stored) (w : Write) (ws : List Write) → IsReady (w ∷ ws) s → IsOneReady s w
+pub first_ready : (s : Stored) (w : Write) (ws : List Write) → AreReady (w ∷ ws) s → IsOneReady s w
 first_ready s w ws ready = record {
   mailboxes = omega (arith, ready.room.mailboxes);
   epochs = omega (arith, ready.room.epochs);

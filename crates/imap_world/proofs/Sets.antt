@@ -17,7 +17,7 @@ use Rattle.imap_user_map.proofs.Entries.{same_answers}
 use Rattle.imap_world.specs.Effects.{if_filled, with_option}
 use Rattle.imap_world.specs.Stored.{Subscriptions, filled_sets, names_in}
 use Rattle.imap_world.specs.World.{NameSet, set_of}
-use Rattle.imap_world.proofs.Finding.{get-keep}
+use Rattle.imap_user_map.proofs.KeptValues.{get-keep}
 
 -- whether two users are one
 abbrev pub is_user : List ℕ → List ℕ → Bool

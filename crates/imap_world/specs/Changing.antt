@@ -7,7 +7,7 @@ use Rattle.imap_rights.specs.Acl.{AclMap}
 use Rattle.imap_rights.specs.declared.change.RightsChange.{RightsChange}
 use Rattle.imap_world.specs.declared.mailbox_entry.MailboxEntry.{MailboxEntry}
 use Rattle.imap_world.specs.declared.error.WorldError.{WorldError}
-use Rattle.imap_world.specs.declared.error.WorldError.TheVariants.{NoSuch, Taken, Limit, Memory}
+use Rattle.imap_world.specs.declared.error.WorldError.TheVariants.{NoSuch, Taken, Memory}
 use Rattle.imap_world.specs.Kept.{superior_is_there}
 use Rattle.imap_world.specs.NewMailbox.{NewMailbox}
 use Rattle.imap_world.specs.World.{World}
@@ -20,13 +20,6 @@ Answers (Ok value) (Ok wanted) = value ≡ wanted
 Answers (Ok value) (Err refusal) = ⊥
 Answers (Err error) (Ok wanted) = error ≡ Memory
 Answers (Err error) (Err refusal) = error ≡ refusal
-
--- The same, but memory may run out before a limit is found.
-abbrev pub AnswersUpToLimit : {A : Type 0} → Result A WorldError → Result A WorldError → Type 0
-AnswersUpToLimit (Ok value) (Ok wanted) = value ≡ wanted
-AnswersUpToLimit (Ok value) (Err refusal) = ⊥
-AnswersUpToLimit (Err error) (Ok wanted) = error ≡ Memory
-AnswersUpToLimit (Err error) (Err refusal) = (error ≡ refusal) ⊎ ((refusal ≡ Limit) × (error ≡ Memory))
 
 -- The same, but memory may run out before an error is found.
 abbrev pub AnswersOrMemory : {A : Type 0} → Result A WorldError → Result A WorldError → Type 0

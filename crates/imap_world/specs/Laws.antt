@@ -5,13 +5,15 @@ use Rattle.std.specs.FinMap as map
 use Rattle.std.specs.List.{AllByRecursion}
 use Rattle.imap_names.specs.Name.{Name}
 use Rattle.imap_names.specs.Order.{Names, is_within, moved}
+use Rattle.imap_rights.specs.Acl.{with_entry}
 use Rattle.imap_world.specs.declared.change.Write.{Write}
+use Rattle.imap_world.specs.declared.change.Write.TheVariants as write
 use Rattle.imap_world.specs.declared.effect.Effect.TheVariants as effect
 use Rattle.imap_world.specs.declared.effect.Effect.{Effect}
 use Rattle.imap_world.specs.declared.mailbox_entry.MailboxEntry.{MailboxEntry}
 use Rattle.imap_world.specs.Effects.{after_steps, after_writes, writes_for}
 use Rattle.imap_world.specs.Kept.{IsSound}
-use Rattle.imap_world.specs.Ready.{AreApart}
+use Rattle.imap_world.specs.Ready.{AreApart, IsCurrent}
 use Rattle.imap_world.specs.Tree.{inherited}
 use Rattle.imap_world.specs.World.{World, epoch, inbox}
 
@@ -35,6 +37,25 @@ pub record KeepsValidities (old new : World) : Type 0 where
 abbrev pub ValiditiesAreUsedOnce : Type 0
 ValiditiesAreUsedOnce = (world : World) (steps : List (List Effect))
     → AllByRecursion AreApart steps → KeepsValidities world (after_steps steps world)
+
+-- ---- changes that are current
+
+-- A list that is set is the mailbox's as it is, with one entry changed. What goes or moves is there.
+abbrev pub IsFresh : World → Write → Type 0
+IsFresh world (write.Put row) = Unit {0}
+IsFresh world (write.SetAcl name acl) =
+    (mailbox : MailboxEntry) × (identifier : List ℕ) × (rights : ℕ)
+    × (map.get world.mailboxes name ≡ Some mailbox) × (acl ≡ with_entry mailbox.acl identifier rights)
+IsFresh world (write.Remove name) = map.contains_key world.mailboxes name ≡ true
+IsFresh world (write.Move old new arrivals) = map.contains_key world.mailboxes old ≡ true
+IsFresh world (write.Subscribe user name) = Unit {0}
+IsFresh world (write.Unsubscribe user name) = Unit {0}
+
+-- What was found for a mailbox is not current once the mailbox is gone, nor once its list has changed by more
+-- than the entry that was asked for.
+abbrev pub CurrentIsFresh : Type 0
+CurrentIsFresh =
+    (change : List Write) (world : World) → IsCurrent change world → AllByRecursion (IsFresh world) change
 
 -- ---- what commands make, name by name
 

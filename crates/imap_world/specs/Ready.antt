@@ -1,6 +1,6 @@
 -- What a change needs of a world, so that it is made in memory that is there.
 use Rattle.std.specs.Prelude.{◌≡◌, ◌⊎◌, ℕ, ◌+◌, ◌<◌, ◌≤◌, Bool, true, false, List, [], ◌∷◌, bytes_eq, length}
-use Rattle.std.specs.Prelude.{Option, Some, None}
+use Rattle.std.specs.Prelude.{Option, Some, None, Ok}
 use Rattle.std.specs.FinMap as map
 use Rattle.std.specs.List.{AllByRecursion, IsDistinct, filter_map, list_all}
 use Rattle.imap_name_map.specs.Renaming.{moved_names}
@@ -10,7 +10,7 @@ use Rattle.imap_world.specs.declared.change.Write.{Write}
 use Rattle.imap_world.specs.declared.change.Write.TheVariants as write
 use Rattle.imap_world.specs.declared.effect.Effect.{Effect}
 use Rattle.imap_world.specs.declared.effect.Effect.TheVariants as effect
-use Rattle.imap_world.specs.Effects.{after_write}
+use Rattle.imap_world.specs.Effects.{after_all, after_write, writes_of}
 use Rattle.imap_world.specs.Kept.{superior_is_there}
 use Rattle.imap_world.specs.Moving.{arrivals_at, can_move}
 use Rattle.imap_world.specs.NewMailbox.{NewMailbox}
@@ -124,9 +124,23 @@ pub record IsOneReady (stored : Stored) (write : Write) : Type 0 where
   pub set : HasNameRoom stored.subscriptions 1 write
   pub may : MayWrite write (world_of stored)
 
+-- The writes can be made one after another, in the room that there is.
+pub record AreReady (writes : List Write) (stored : Stored) : Type 0 where
+  pub room : HasRoomFor writes stored
+  pub may : MayBeWritten writes (world_of stored)
+
+-- The change is what is written for some effects by the world as it is. A change that was found before
+-- another was committed need not be.
+abbrev pub IsCurrent : (change : List Write) → World → Type 0
+IsCurrent change world = (effects : List Effect) × AreApart effects × (writes_of effects world ≡ Ok change)
+
 pub record IsReady (change : List Write) (stored : Stored) : Type 0 where
   pub room : HasRoomFor change stored
-  pub may : MayBeWritten change (world_of stored)
+  pub current : IsCurrent change (world_of stored)
+
+-- The second world is what some effects make of the first, each of them resolved by it.
+abbrev pub IsMadeByEffects : (old new : World) → Type 0
+IsMadeByEffects old new = (effects : List Effect) × AreApart effects × (new ≡ after_all effects old)
 
 -- each user's room in the first is left in the second
 abbrev pub KeepsRoom : Subscriptions → Subscriptions → Type 0

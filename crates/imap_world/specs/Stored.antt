@@ -7,7 +7,7 @@ use Rattle.imap_name_map.specs.Rows as name
 use Rattle.imap_user_map.specs.Rows as user
 use Rattle.imap_world.specs.declared.mailbox_entry.MailboxEntry.{MailboxEntry}
 use Rattle.imap_world.specs.Effects.{if_filled}
-use Rattle.imap_world.specs.Finite.{keep}
+use Rattle.imap_user_map.specs.Finite.{keep}
 use Rattle.imap_user_map.specs.Rows.{Users}
 use Rattle.imap_world.specs.World.{World, NameSet, mailbox_code}
 

@@ -3,7 +3,7 @@ use Rattle.std.specs.Prelude.{ℕ, List, [], ◌∷◌, codes, Option, Some, Non
 use Rattle.std.specs.FinMap as map
 use Rattle.std.specs.Coded.{Coded, coded_ℕ, coded_list, coded×, code_by}
 use base.Stored.{coded_unit}
-use Rattle.imap_names.specs.Name.{Name, named}
+use Rattle.imap_names.specs.Name.{Name, name_of}
 use Rattle.imap_names.specs.Order.{Names}
 use Rattle.imap_rights.specs.Acl.{AclMap, acl_code}
 use Rattle.imap_user_map.specs.Rows.{Users, users_code}
@@ -54,4 +54,4 @@ abbrev pub subscribed_by : World → List ℕ → NameSet
 subscribed_by world user = set_of (map.get world.subscriptions user)
 
 abbrev pub inbox : List ℕ → Name
-inbox user = named user (codes "INBOX" ∷ [])
+inbox user = name_of user (codes "INBOX" ∷ [])

@@ -1,6 +1,7 @@
 //! What holds of worlds, whatever effects are made.
 
-ghost use Rattle.imap_world.specs.Laws.{CreatesByName, RenamesByName, ValiditiesAreUsedOnce, WorldsStaySound};
+ghost use Rattle.imap_world.specs.Laws.{CreatesByName, CurrentIsFresh, RenamesByName, ValiditiesAreUsedOnce};
+ghost use Rattle.imap_world.specs.Laws.{WorldsStaySound};
 
 /// The superiors of mailboxes stay there, and the UIDVALIDITYs of mailboxes stay counted.
 pub fn worlds_stay_sound()
@@ -11,6 +12,12 @@ pub fn worlds_stay_sound()
 /// of its name had before, or one above all that were used there.
 pub fn validities_are_used_once()
     ensures { ValiditiesAreUsedOnce }
+{}
+
+/// A change that is current sets no list that was found before another changed it, and removes or moves no
+/// mailbox that is gone.
+pub fn current_changes_are_fresh()
+    ensures { CurrentIsFresh }
 {}
 
 /// CREATE makes a mailbox at the name and at each superior of it that wasn't there, each with the inherited

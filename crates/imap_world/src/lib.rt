@@ -9,6 +9,7 @@ mod change;
 mod effect;
 mod error;
 pub mod laws;
+mod limits;
 mod mailbox_entry;
 mod moving;
 mod new_mailbox;

@@ -4,7 +4,7 @@ ghost use Rattle.std.specs.Prelude.{◌≡◌, true, IfOk, Ok};
 ghost use Rattle.std.specs.FinMap as map;
 ghost use Rattle.imap_names.specs.Order.{is_within, moved};
 ghost use Rattle.imap_names.specs.Valid.{fits};
-ghost use Rattle.imap_world.specs.Changing.{AnswersOrMemory, AnswersUpToLimit};
+ghost use Rattle.imap_world.specs.Changing.{Answers, AnswersOrMemory};
 ghost use Rattle.imap_world.specs.declared.effect.Effect.TheVariants as effect;
 ghost use Rattle.imap_world.specs.Effects.{move_after, puts_of, writes_for};
 ghost use Rattle.imap_world.specs.Moving as specs;
@@ -30,7 +30,7 @@ impl World {
         new: &Name,
     ) -> Result<Change, WorldError>
         ensures { let asked = effect.Rename owner.now old.now new.now in
-            AnswersUpToLimit result (writes_for asked (world_of self.now)) }
+            Answers result (writes_for asked (world_of self.now)) }
     {
         if self.mailbox(&old.as_ref()).is_none() {
             return Err(WorldError::NoSuch);
@@ -41,10 +41,13 @@ impl World {
         if !self.mailboxes().is_free(&new.as_ref()) {
             return Err(WorldError::Taken);
         }
+        if !self.is_within_limits(old, new) {
+            return Err(WorldError::Limit);
+        }
         self.resolve_move(alloc, owner, old, new)
     }
 
-    /// The same, once the mailbox is there and can move to the name, which is free.
+    /// The same, once the mailbox is there and can move to the name, which is free, within the limits.
     fn resolve_move(
         &self,
         alloc: Global,

@@ -1,7 +1,7 @@
 //! The values that are written for effects.
 
 ghost use Rattle.std.specs.Prelude.{◌≡◌, ◌∷◌, [], IfOk, Ok};
-ghost use Rattle.imap_world.specs.Changing.{Answers, AnswersOrMemory, AnswersUpToLimit};
+ghost use Rattle.imap_world.specs.Changing.{Answers, AnswersOrMemory};
 ghost use Rattle.imap_world.specs.Effects.{put_of, puts_of, writes_for, writes_of, writes_then};
 ghost use Rattle.imap_world.specs.Stored.{world_of};
 ghost use Rattle.imap_rights.specs.Acl.{owner_acl};
@@ -30,7 +30,7 @@ impl World {
     ) -> Result<Change, WorldError>
         ensures change { AnswersOrMemory result (writes_of effects.now (world_of self.now)) }
         ensures alone { (effect : Effect) → effects.now ≡ effect ∷ []
-            → AnswersUpToLimit result (writes_for effect (world_of self.now)) }
+            → Answers result (writes_for effect (world_of self.now)) }
     {
         match effects {
             [effect] => self.resolve(alloc, effect),
@@ -54,7 +54,7 @@ impl World {
 
     /// Finds the values to be written for one effect.
     fn resolve(&self, alloc: Global, effect: &Effect) -> Result<Change, WorldError>
-        ensures { AnswersUpToLimit result (writes_for effect.now (world_of self.now)) }
+        ensures { Answers result (writes_for effect.now (world_of self.now)) }
     {
         match effect {
             Effect::CreateInbox(user) => self.resolve_inbox(alloc, user),
@@ -96,10 +96,13 @@ impl World {
         name: &Name,
     ) -> Result<Change, WorldError>
         ensures { let effect = Effect.Create owner.now name.now in
-            AnswersUpToLimit result (writes_for effect (world_of self.now)) }
+            Answers result (writes_for effect (world_of self.now)) }
     {
         if self.mailbox(&name.as_ref()).is_some() {
             return Err(WorldError::Taken);
+        }
+        if !self.can_make(&name.as_ref()) {
+            return Err(WorldError::Limit);
         }
         self.resolve_rows(alloc, owner, &name.as_ref())
     }

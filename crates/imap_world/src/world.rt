@@ -4,14 +4,14 @@ ghost use Rattle.std.specs.Prelude.{◌≡◌, ◌+◌, ◌<◌, ◌≤◌, ◌�
 ghost use Rattle.std.specs.Prelude.{OnErr, OnOk, option_copied};
 ghost use Rattle.std.specs.FinMap as map;
 ghost use Rattle.imap_name_map.specs.Rows.{has_below};
-ghost use Rattle.imap_world.specs.Changing.{Answers, AnswersOrMemory, AnswersUpToLimit, Changes};
+ghost use Rattle.imap_world.specs.Changing.{Answers, AnswersOrMemory, Changes};
 ghost use Rattle.imap_world.specs.Changing.{world_with_placed, world_with_rights};
 ghost use Rattle.imap_world.specs.Effects.{after_write, after_writes, writes_for, writes_of};
 ghost use Rattle.imap_world.specs.Kept.{IsSound};
 ghost use Rattle.imap_world.specs.Laws.{KeepsValidities};
 ghost use Rattle.imap_world.specs.Moving.{with_moved};
-ghost use Rattle.imap_world.specs.Ready.{AreApart, HasRoomFor, IsOneReady, IsReady, Leaves, MayMove, MayPut};
-ghost use Rattle.imap_world.specs.Ready.{count_of};
+ghost use Rattle.imap_world.specs.Ready.{AreApart, HasRoomFor, IsMadeByEffects, IsOneReady, IsReady, Leaves};
+ghost use Rattle.imap_world.specs.Ready.{MayMove, MayPut, count_of};
 ghost use Rattle.imap_world.specs.Stored.{names_in, world_of};
 ghost use Rattle.imap_world.specs.Tree.{new_row, with_acl, with_row, without};
 ghost use Rattle.imap_world.specs.World.{epoch, max_validity, subscribed_by};
@@ -183,7 +183,7 @@ impl World {
 
     /// Finds the values to be written for the effects, and reserves all room. Changes nothing that is kept.
     ///
-    /// Memory may run out before a limit is found, and before the fault of an effect that isn't the first.
+    /// Memory may run out before the fault of an effect that isn't the first.
     ///
     /// Fails with the first fault: `Taken` if a mailbox is to be made or to move to a name that is in use,
     /// `NoSuch` if one isn't there that is to go, to move or to have other rights, `Cannot` if an INBOX is
@@ -195,7 +195,7 @@ impl World {
         ensures unchanged { world_of self.new ≡ world_of self.old }
         ensures change { AnswersOrMemory result (writes_of effects.now (world_of self.old)) }
         ensures alone { (effect : Effect) → effects.now ≡ effect ∷ []
-            → AnswersUpToLimit result (writes_for effect (world_of self.old)) }
+            → Answers result (writes_for effect (world_of self.old)) }
         ensures ready { IfOk result (λ change. IsReady change self.new) }
     {
         let change = self.resolve_all(alloc, effects)?;
@@ -214,10 +214,12 @@ impl World {
         make_room_for(&mut self.subscriptions, alloc, change.writes(), more)
     }
 
-    /// Writes what was prepared. Since then nothing else may have been written.
+    /// Writes what was prepared. It must still be what effects ask for by the world as it is: since it was
+    /// prepared nothing else may have been written.
     pub fn commit(&mut self, change: Change)
         requires { IsReady change self.old }
         ensures world { world_of self.new ≡ after_writes change (world_of self.old) }
+        ensures effects { IsMadeByEffects (world_of self.old) (world_of self.new) }
         ensures validities { KeepsValidities (world_of self.old) (world_of self.new) }
     {
         let mut writes = VecDeque::from_vec(change.writes);

@@ -1,0 +1,101 @@
+-- What is written for effects is found by the world as it is.
+use Rattle.std.proofs.Common.{◌≡◌, ℕ, Bool, true, false, cond, not, List, [], ◌∷◌, ◌++◌, Option, Some, None, Result, Ok, Err, refl, subst}
+use Rattle.std.specs.FinMap as map
+use Rattle.std.specs.List.{AllByRecursion}
+use Rattle.imap_name_map.specs.Rows.{has_below, has_within}
+use Rattle.imap_names.specs.Name.{Name, is_inbox}
+use Rattle.imap_rights.specs.Acl.{is_full_for, owner_acl, with_entry}
+use Rattle.imap_rights.specs.Change.{applied}
+use Rattle.imap_rights.specs.Effective.{entry}
+use Rattle.imap_rights.specs.declared.change.RightsChange.{RightsChange}
+use Rattle.imap_world.specs.declared.change.Write.{Write}
+use Rattle.imap_world.specs.declared.change.Write.TheVariants as write
+use Rattle.imap_world.specs.declared.effect.Effect.{Effect}
+use Rattle.imap_world.specs.declared.effect.Effect.TheVariants as effect
+use Rattle.imap_world.specs.declared.error.WorldError.{WorldError}
+use Rattle.imap_world.specs.declared.error.WorldError.TheVariants.{Below, Cannot, Limit, NoSuch, Taken}
+use Rattle.imap_world.specs.declared.mailbox_entry.MailboxEntry.{MailboxEntry}
+use Rattle.imap_world.specs.Effects.{list_changed, list_set, move_after, put_of, puts, puts_of, writes_for, writes_of, writes_then}
+use Rattle.imap_world.specs.Laws.{IsFresh}
+use Rattle.imap_world.specs.Moving.{arrivals, can_move, superior_rows}
+use Rattle.imap_world.specs.NewMailbox.{NewMailbox}
+use Rattle.imap_world.specs.Ready.{IsCurrent}
+use Rattle.imap_world.specs.Tree.{created_rows, new_row}
+use Rattle.imap_world.specs.World.{World, inbox}
+use Rattle.imap_world.proofs.Fitting.{ok_same}
+
+abbrev Writes : Type 0
+Writes = Result (List Write) WorldError
+
+module _ (world : World) where
+  abbrev AreFresh : List Write → Type 0
+  AreFresh ws = AllByRecursion (IsFresh world) ws
+
+  puts_are : (rows : List NewMailbox) → AreFresh (puts rows)
+  puts_are [] = tt
+  puts_are (row ∷ rows) = (tt, puts_are rows)
+
+  both_are : (ws more : List Write) → AreFresh ws → AreFresh more → AreFresh (ws ++ more)
+  both_are [] more h k = k
+  both_are (w ∷ ws) more h k = (h.0, both_are ws more h.1 k)
+
+  inbox_is : (b : Bool) (row : Result NewMailbox WorldError) (ws : List Write) → ◌≡◌ {A = Writes} (cond b (Err Taken) (put_of row)) (Ok ws) → AreFresh ws
+  inbox_is true row ws e = absurd (cc e)
+  inbox_is false (Err error) ws e = absurd (cc e)
+  inbox_is false (Ok row) ws e = subst AreFresh (ok_same (write.Put row ∷ []) ws e) (tt, tt)
+
+  created_are : (b : Bool) (rows : Result (List NewMailbox) WorldError) (ws : List Write) → ◌≡◌ {A = Writes} (cond b (Err Taken) (puts_of rows)) (Ok ws) → AreFresh ws
+  created_are true rows ws e = absurd (cc e)
+  created_are false (Err error) ws e = absurd (cc e)
+  created_are false (Ok rows) ws e = subst AreFresh (ok_same (puts rows) ws e) (puts_are rows)
+
+  removed_is : (name : Name) (b : Bool) → map.contains_key world.mailboxes name ≡ b → (own below : Bool) (ws : List Write)
+      → ◌≡◌ {A = Writes} (cond b (cond own (Err Cannot) (cond below (Err Below) (Ok (write.Remove name ∷ [])))) (Err NoSuch)) (Ok ws) → AreFresh ws
+  removed_is name false there own below ws e = absurd (cc e)
+  removed_is name true there true below ws e = absurd (cc e)
+  removed_is name true there false true ws e = absurd (cc e)
+  removed_is name true there false false ws e = subst AreFresh (ok_same (write.Remove name ∷ []) ws e) (there, tt)
+
+  moved_are : (old new : Name) (b : Bool) → map.contains_key world.mailboxes old ≡ b → (can used : Bool) (rows : Result (List NewMailbox) WorldError) (came : Result (List (Name × ℕ)) WorldError) (ws : List Write)
+      → ◌≡◌ {A = Writes} (cond b (cond (not can) (Err Cannot) (cond used (Err Taken) (move_after old new (puts_of rows) came))) (Err NoSuch)) (Ok ws) → AreFresh ws
+  moved_are old new false there can used rows came ws e = absurd (cc e)
+  moved_are old new true there false used rows came ws e = absurd (cc e)
+  moved_are old new true there true true rows came ws e = absurd (cc e)
+  moved_are old new true there true false (Err error) came ws e = absurd (cc e)
+  moved_are old new true there true false (Ok rows) (Err error) ws e = absurd (cc e)
+  moved_are old new true there true false (Ok rows) (Ok came) ws e =
+      subst AreFresh (ok_same (puts rows ++ write.Move old new came ∷ []) ws e) (both_are (puts rows) (write.Move old new came ∷ []) (puts_are rows) (there, tt))
+
+  list_is : (name : Name) (identifier : List ℕ) (rights : ℕ) (mailbox : MailboxEntry) → map.get world.mailboxes name ≡ Some mailbox → (full : Bool) (ws : List Write)
+      → list_set name (cond full (Err Limit) (Ok (with_entry mailbox.acl identifier rights))) ≡ Ok ws → AreFresh ws
+  list_is name identifier rights mailbox there true ws e = absurd (cc e)
+  list_is name identifier rights mailbox there false ws e =
+      subst AreFresh (ok_same (write.SetAcl name (with_entry mailbox.acl identifier rights) ∷ []) ws e) ((mailbox, identifier, rights, there, refl), tt)
+
+  lists_are : (name : Name) (identifier : List ℕ) (change : RightsChange) (o : Option MailboxEntry) → map.get world.mailboxes name ≡ o → (ws : List Write) → list_changed name identifier change o ≡ Ok ws → AreFresh ws
+  lists_are name identifier change None there ws e = absurd (cc e)
+  lists_are name identifier change (Some mailbox) there ws e =
+      let rights : ℕ = applied change (entry mailbox.acl identifier) in
+      list_is name identifier rights mailbox there (is_full_for mailbox.acl identifier rights) ws e
+
+  effect_is : (e : Effect) (ws : List Write) → writes_for e world ≡ Ok ws → AreFresh ws
+  effect_is (effect.CreateInbox user) ws is = inbox_is (map.contains_key world.mailboxes (inbox user)) (new_row world.epochs (inbox user) (owner_acl user)) ws is
+  effect_is (effect.Create owner name) ws is = created_are (map.contains_key world.mailboxes name) (created_rows world owner name) ws is
+  effect_is (effect.Delete name) ws is = removed_is name (map.contains_key world.mailboxes name) refl (is_inbox name) (has_below name world.mailboxes) ws is
+  effect_is (effect.Rename owner old new) ws is =
+      moved_are old new (map.contains_key world.mailboxes old) refl (can_move old new) (has_within new world.mailboxes) (superior_rows world owner new) (arrivals world old new) ws is
+  effect_is (effect.SetRights name identifier change) ws is = lists_are name identifier change (map.get world.mailboxes name) refl ws is
+  effect_is (effect.Subscribe user name) ws is = subst AreFresh (ok_same (write.Subscribe user name ∷ []) ws is) (tt, tt)
+  effect_is (effect.Unsubscribe user name) ws is = subst AreFresh (ok_same (write.Unsubscribe user name ∷ []) ws is) (tt, tt)
+
+  then_are : (first rest : Writes) (ws : List Write) → writes_then first rest ≡ Ok ws → ((vs : List Write) → first ≡ Ok vs → AreFresh vs) → ((vs : List Write) → rest ≡ Ok vs → AreFresh vs) → AreFresh ws
+  then_are (Err error) rest ws e h k = absurd (cc e)
+  then_are (Ok vs) (Err error) ws e h k = absurd (cc e)
+  then_are (Ok vs) (Ok more) ws e h k = subst AreFresh (ok_same (vs ++ more) ws e) (both_are vs more (h vs refl) (k more refl))
+
+  effects_are : (effects : List Effect) (ws : List Write) → writes_of effects world ≡ Ok ws → AreFresh ws
+  effects_are [] ws is = subst AreFresh (ok_same [] ws is) tt
+  effects_are (e ∷ effects) ws is = then_are (writes_for e world) (writes_of effects world) ws is (effect_is e) (effects_are effects)
+
+pub current_is_fresh : (change : List Write) (world : World) → IsCurrent change world → AllByRecursion (IsFresh world) change
+current_is_fresh change world (effects, apart, writes) = effects_are world effects change writes
