@@ -9,8 +9,6 @@ use std::alloc::{AllocError, Global};
 use std::process::Abort;
 use std::test::Fail;
 
-// ---- values
-
 /// Some octets without NUL, of which some are no text.
 fn text(random: &mut Random, alloc: Global) -> Result<Octets, AllocError> {
     let mut octets = Vec::new(alloc);
