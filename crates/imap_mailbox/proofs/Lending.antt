@@ -1,5 +1,6 @@
 -- Messages that are lent.
-use Rattle.std.proofs.Common.{◌≡◌, ℕ, zero, suc, ◌+◌, ◌<◌, ◌≤◌, ltb, cond, List, [], ◌∷◌, length, map, get_or, Option, Some, None, refl, ap, arith}
+use Rattle.std.proofs.Common.{◌≡◌, ℕ, zero, suc, ◌+◌, ◌<◌, ◌≤◌, ltb, cond, List, [], ◌∷◌, length, map, get_or, Option, Some, None, refl, sym, ap, subst, ◌∙◌, arith}
+use Rattle.std.proofs.lemmas.List.{length-map}
 use Rattle.std.specs.List.{prefix_len}
 use Rattle.std.specs.Option.{option_copied}
 use Rattle.std.specs.Borrow.{Bor}
@@ -28,6 +29,13 @@ lower_lent uid own (m ∷ messages) = ap (λ n. cond (ltb m.uid uid) (1 + n) 0) 
 
 pub lent_last : (messages : List Message) (own : List SeenChange) (i : ℕ) (d : Message) → IsLent messages own → i < length messages → (get_or messages i d).place ≤ max_events
 lent_last messages own i d h lt = let below = last_in (max_events + 1) messages i d h.place lt in omega (arith, below)
+
+-- the last event of a message that is lent
+pub place_lent : (messages : List Message) (own : List SeenChange) (rows : List Row) (i : ℕ) (x : Message) → IsLent messages own → map (row_in own) messages ≡ rows → i < length rows
+    → x ≡ get_or messages i x → x.place ≤ max_events
+place_lent messages own rows i x h view lt is =
+    let count = ap length (sym view) ∙ length-map messages (row_in own) in
+    subst (λ (k : Message). k.place ≤ max_events) (sym is) (lent_last messages own i x h (omega (arith, lt, count)))
 
 below_more : (n more : ℕ) (messages : List Message) → n ≤ more → ArePlacesBelow n messages → ArePlacesBelow more messages
 below_more n more [] le h = tt

@@ -23,7 +23,7 @@ pub mod Bounds
 pub mod Last
 pub mod Sizes
 pub mod BroughtUp
-pub mod ExpungesShown
+pub mod DecidedShown
 pub mod Since
 pub mod Lawful
 pub mod Admitted

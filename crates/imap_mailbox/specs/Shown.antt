@@ -2,13 +2,16 @@
 use Rattle.std.specs.Prelude.{◌≡◌, ◌≢◌, ℕ, ◌+◌, ◌-◌, Bool, true, false, ◌||◌, if◌then◌else◌}
 use Rattle.std.specs.Prelude.{List, [], ◌∷◌, length, Option, Some, None, option_map}
 use Rattle.imap_modseq.specs.Numbers.{first_number}
-use Rattle.imap_mailbox.specs.Rows.{Arrival, Event, Expunged, Shared, SeenSet, Row, row_step, gone_step}
+use Rattle.imap_mailbox.specs.declared.flags.SharedFlags.{SharedFlags}
+use Rattle.imap_mailbox.specs.Rows.{Arrival, Event, FlagsSet, Expunged, Shared, SeenSet, Row, row_step}
+use Rattle.imap_mailbox.specs.Rows.{gone_step}
 use Rattle.imap_mailbox.specs.Rows.{next_step, is_among, IsGiven}
 use Rattle.imap_mailbox.specs.Lent.{row_uids}
 use Rattle.imap_mailbox.specs.Expunging.{with_expunges}
 use Rattle.imap_mailbox.specs.History.{own_at, room_by}
-use Rattle.imap_mailbox.specs.Summary.{Summary, with_arrival, step, with_seen, rows_of, gone_of, room_of}
-use Rattle.imap_mailbox.specs.Summary.{IsSound}
+use Rattle.imap_mailbox.specs.Summary.{Summary, with_arrival, with_flags, with_expunge, with_seen, step}
+use Rattle.imap_mailbox.specs.Summary.{rows_of, gone_of, room_of, IsSound}
+use Rattle.imap_mailbox.specs.Calls.{if_there}
 
 -- the rights of RFC 4314, section 2.1, that decide what is shown
 pub record Rights : Type 0 where
@@ -105,11 +108,25 @@ OwnSeenIsSeen =
     shown_to max_messages user r (with_seen user uid seen s)
     ≡ record { content = option_map (content_with_seen uid seen) before.content; room = before.room }
 
--- ---- several messages that are expunged
+-- ---- changes that are decided already: of a UID that no message has they change nothing
 
--- a UID that no message has changes nothing
+abbrev pub if_shown : ℕ → Content → Content → Content
+if_shown uid new c = if is_among uid (row_uids c.rows) then new else c
+
+-- they are a function of what was seen and of the change
+abbrev pub DecidedIsSeen : Type 0
+DecidedIsSeen = (user : List ℕ) (s : Summary) (uid : ℕ) → IsSound s →
+    let before = content_of user s in
+    ((flags : SharedFlags) → content_of user (if_there uid (with_flags uid flags s) s)
+    ≡ if_shown uid (content_after (FlagsSet uid flags) before) before)
+    × ((seen : Bool) → content_of user (if_there uid (with_seen user uid seen s) s)
+    ≡ if_shown uid (content_with_seen uid seen before) before)
+    × (content_of user (if_there uid (with_expunge uid s) s)
+    ≡ if_shown uid (content_after (Expunged uid) before) before)
+
+-- several messages that are expunged
 abbrev pub content_without : ℕ → Content → Content
-content_without uid c = if is_among uid (row_uids c.rows) then content_after (Expunged uid) c else c
+content_without uid c = if_shown uid (content_after (Expunged uid) c) c
 
 abbrev pub content_expunged : List ℕ → Content → Content
 content_expunged [] c = c

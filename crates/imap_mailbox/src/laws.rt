@@ -13,7 +13,7 @@ ghost use Rattle.imap_mailbox.specs.Brought.{EventsAreLater, SeenIsLater, ShownI
 ghost use Rattle.imap_mailbox.specs.Called.{CallsAreEvents, FlagsAreTested};
 ghost use Rattle.imap_mailbox.specs.Client.{ClientIsBroughtUp};
 ghost use Rattle.imap_mailbox.specs.Shown.{AnothersSeenIsHidden, AddIsSeenAsRoom, EventIsSeen};
-ghost use Rattle.imap_mailbox.specs.Shown.{ExpungesAreSeen, OwnSeenIsSeen};
+ghost use Rattle.imap_mailbox.specs.Shown.{DecidedIsSeen, ExpungesAreSeen, OwnSeenIsSeen};
 
 /// The messages of the summary, as a user has them, are those that the user's events give, with flags and
 /// numbers.
@@ -60,6 +60,13 @@ pub fn add_is_seen_as_room()
 /// What a reader sees after a shared event is a function of what was seen before and of the event.
 pub fn event_is_seen()
     ensures { EventIsSeen }
+{}
+
+/// What a reader sees after a change that was decided before, as the methods of
+/// [`Mailbox`](crate::Mailbox) make it that end in `_reserved`, is a function of what was seen before and of
+/// the change.
+pub fn decided_is_seen()
+    ensures { DecidedIsSeen }
 {}
 
 /// What a reader sees after several messages were expunged is a function of what was seen before and of their

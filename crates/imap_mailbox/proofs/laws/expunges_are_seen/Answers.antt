@@ -1,4 +1,4 @@
-use Rattle.imap_mailbox.proofs.ExpungesShown.{expunges_are_seen}
+use Rattle.imap_mailbox.proofs.DecidedShown.{expunges_are_seen}
 use Rattle.imap_mailbox.proofs.laws.expunges_are_seen.Goals as goal
 
 pub returns : goal.returns

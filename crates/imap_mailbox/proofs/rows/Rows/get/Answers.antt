@@ -1,22 +1,11 @@
-use Rattle.std.proofs.Common.{◌<◌, ◌≤◌, ◌∙◌, length, ap, sym, subst, arith}
-use Rattle.std.proofs.lemmas.List.{length-map}
-use Rattle.imap_modseq.specs.Numbers.{max_events}
-use Rattle.imap_mailbox.specs.declared.message.Message.{Message}
-use Rattle.imap_mailbox.specs.Summary.{row_in}
 use Rattle.imap_mailbox.specs.Lent.{own_lent}
-use Rattle.imap_mailbox.proofs.Lending.{lent_last}
+use Rattle.imap_mailbox.proofs.Lending.{place_lent}
 use Rattle.imap_mailbox.proofs.rows.Rows.get.Goals as goal
 
 pub own_row-requires-clause-place : goal.own_row-requires-clause-place
 own_row-requires-clause-place c =
-    let count = ap length (sym c.self.view_is) ∙ length-map c.self.inside.messages.now.items (row_in (own_lent c.self.inside.own)) in
-    let asked = c.requires in
-    let lt : c.args.place < length c.self.inside.messages.now.items = omega (arith, asked, count) in
-    subst (λ (k : Message). k.place ≤ max_events) (sym c.index-message.ensures) (lent_last c.self.inside.messages.now.items (own_lent c.self.inside.own) c.args.place c.index-message.result.now c.self.invariant lt)
+    place_lent c.self.inside.messages.now.items (own_lent c.self.inside.own) c.args.self.now c.args.place c.index-message.result.now c.self.invariant c.self.view_is c.requires c.index-message.ensures
 
 pub plain_row-requires : goal.plain_row-requires
 plain_row-requires c =
-    let count = ap length (sym c.self.view_is) ∙ length-map c.self.inside.messages.now.items (row_in (own_lent c.self.inside.own)) in
-    let asked = c.requires in
-    let lt : c.args.place < length c.self.inside.messages.now.items = omega (arith, asked, count) in
-    subst (λ (k : Message). k.place ≤ max_events) (sym c.index-message.ensures) (lent_last c.self.inside.messages.now.items (own_lent c.self.inside.own) c.args.place c.index-message.result.now c.self.invariant lt)
+    place_lent c.self.inside.messages.now.items (own_lent c.self.inside.own) c.args.self.now c.args.place c.index-message.result.now c.self.invariant c.self.view_is c.requires c.index-message.ensures
