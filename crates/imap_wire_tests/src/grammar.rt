@@ -4,8 +4,6 @@
 //! handed to `drop` doesn't, since `drop` is generic.
 
 mod copies;
-mod generator;
-mod random;
 mod unwritten;
 mod written;
 
