@@ -274,7 +274,7 @@ fn gone_since_a_number(rt: HostRuntime) -> Result<(), Fail> {
 }
 
 /// Keywords of two letters, as many as `count`.
-fn many_words(alloc: Global, count: u8) -> Result<SharedFlags, MailboxError> {
+pub(crate) fn many_words(alloc: Global, count: u8) -> Result<SharedFlags, MailboxError> {
     let mut flags = SharedFlags::new(alloc);
     insert_many(alloc, &mut flags, count)?;
     Ok(flags)

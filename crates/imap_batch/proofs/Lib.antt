@@ -1,0 +1,6 @@
+pub mod Steps
+pub mod Known
+pub mod Kept
+pub mod Sights
+pub mod Planning
+pub mod Entering

@@ -1,0 +1,91 @@
+-- What is asked of the messages of one mailbox, and the numbers that are found for it.
+use Rattle.std.specs.Prelude.{ℕ, ◌+◌, nat_le, ◌==◌, not, Bool, true, ◌&&◌, ◌||◌, if◌then◌else◌}
+use Rattle.std.specs.Prelude.{List, [], ◌∷◌, length, map, Option, Some, None, is_some, Result, Ok, Err}
+use Rattle.std.specs.List.{list_all}
+use Rattle.imap_modseq.specs.Numbers.{max_events}
+use Rattle.imap_mailbox.specs.declared.flags.SharedFlags.{SharedFlags}
+use Rattle.imap_mailbox.specs.Flags.{has_too_many}
+use Rattle.imap_mailbox.specs.Rows.{is_among}
+use Rattle.imap_mailbox.specs.History.{end_uid, own_at}
+use Rattle.imap_mailbox.specs.Summary.{Summary, uids_in}
+use Rattle.imap_batch.specs.declared.batch.NewMessage.{NewMessage}
+use Rattle.imap_batch.specs.declared.batch.Mark.{Mark}
+use Rattle.imap_batch.specs.declared.batch.Batch.{Batch}
+use Rattle.imap_batch.specs.declared.write.BatchWrite.{BatchWrite}
+use Rattle.imap_batch.specs.declared.error.BatchError.{BatchError}
+use Rattle.imap_batch.specs.declared.error.BatchError.TheVariants.{Limit, NoSuchUid}
+
+-- ---- what is counted
+
+-- 1 for an event that is one
+abbrev pub one_if : Bool → ℕ
+one_if b = if b then 1 else 0
+
+-- the shared events of marks
+abbrev pub flag_count : List Mark → ℕ
+flag_count [] = 0
+flag_count (k ∷ marks) = one_if (is_some k.flags) + flag_count marks
+
+-- the changes of the user's own \Seen of messages that are added
+abbrev pub added_seen_count : List NewMessage → ℕ
+added_seen_count [] = 0
+added_seen_count (m ∷ added) = one_if m.seen + added_seen_count added
+
+abbrev pub mark_seen_count : List Mark → ℕ
+mark_seen_count [] = 0
+mark_seen_count (k ∷ marks) = one_if (is_some k.seen) + mark_seen_count marks
+
+abbrev pub seen_count : Batch → ℕ
+seen_count b = added_seen_count b.added + mark_seen_count b.marks
+
+-- the shared events
+abbrev pub event_count : Batch → ℕ
+event_count b = length b.added + (flag_count b.marks + length b.expunged)
+
+abbrev pub mark_uids : List Mark → List ℕ
+mark_uids marks = map (λ k. k.uid) marks
+
+-- ---- what is refused
+
+abbrev pub are_few : Option SharedFlags → Bool
+are_few None = true
+are_few (Some flags) = not (has_too_many flags)
+
+-- no message gets more keywords than it may have
+abbrev pub has_few_keywords : Batch → Bool
+has_few_keywords b =
+    list_all (λ m. not (has_too_many m.flags)) b.added && list_all (λ k. are_few k.flags) b.marks
+
+-- UIDs are left for the messages, if `next` is UIDNEXT
+abbrev pub has_uids : (count next : ℕ) → Bool
+has_uids count next = count == 0 || nat_le (next + count) end_uid
+
+-- UIDs and shared events are left
+abbrev pub has_numbers : Batch → Summary → Bool
+has_numbers b s = has_uids (length b.added) s.next && nat_le (s.shared + event_count b) max_events
+
+-- the UIDs rise from `low` on, and each is one of those that are known
+abbrev pub are_known : (low : ℕ) → List ℕ → (known : List ℕ) → Bool
+are_known low [] known = true
+are_known low (uid ∷ uids) known = nat_le low uid && (is_among uid known && are_known (uid + 1) uids known)
+
+-- messages have the UIDs of marks, and those that are expunged, and both rise
+abbrev pub has_messages : Batch → Summary → Bool
+has_messages b s =
+    are_known 0 (mark_uids b.marks) (uids_in s.messages) && are_known 0 b.expunged (uids_in s.messages)
+
+-- ---- what is found
+
+abbrev pub write_of : Batch → Summary → BatchWrite
+write_of b s = record {
+  batch = b;
+  first_uid = s.next;
+  first_place = s.shared;
+  own_before = length (own_at s.own b.user);
+}
+
+abbrev pub write_for : Batch → Summary → Result BatchWrite BatchError
+write_for b s =
+    if has_few_keywords b && has_numbers b s
+    then (if has_messages b s then Ok (write_of b s) else Err NoSuchUid)
+    else Err Limit

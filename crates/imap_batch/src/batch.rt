@@ -1,0 +1,85 @@
+//! What is asked of the messages of one mailbox.
+
+ghost use Rattle.std.specs.Prelude.{◌≡◌, IfOk};
+
+use imap_lex::Octets;
+use imap_mailbox::SharedFlags;
+use imap_names::UserName;
+use imap_syntax::{DateTime, Items};
+use imap_values::TryCopy;
+use std::alloc::{AllocError, Global};
+
+/// A message that is added. It gets its UID when the batch is resolved.
+#[derive(Drop)]
+pub struct NewMessage {
+    pub date: DateTime,
+    pub octets: Octets,
+    pub flags: SharedFlags,
+    /// Whether the user has seen it.
+    pub seen: bool,
+}
+
+impl TryCopy for NewMessage {
+    fn try_copy(&self, alloc: Global) -> Result<NewMessage, AllocError> {
+        let octets = self.octets.try_copy()?;
+        let flags = self.flags.try_copy(alloc)?;
+        Ok(NewMessage {
+            date: self.date,
+            octets,
+            flags,
+            seen: self.seen,
+        })
+    }
+}
+
+/// The flags of a message that change. The shared ones change first, and then the user's own `\Seen`.
+#[derive(Drop)]
+pub struct Mark {
+    pub uid: u32,
+    /// All shared flags that the message has then, or `None` if they stay.
+    pub flags: Option<SharedFlags>,
+    /// Whether the user has seen it then, or `None` if that stays.
+    pub seen: Option<bool>,
+}
+
+impl TryCopy for Mark {
+    fn try_copy(&self, alloc: Global) -> Result<Mark, AllocError> {
+        let flags = self.flags.try_copy(alloc)?;
+        Ok(Mark {
+            uid: self.uid,
+            flags,
+            seen: self.seen,
+        })
+    }
+}
+
+/// What is asked of the messages of one mailbox: first messages are added, then flags change, then messages
+/// are expunged.
+#[derive(Drop)]
+pub struct Batch {
+    /// Whose own `\Seen` is meant.
+    pub user: UserName,
+    pub added: Items<NewMessage>,
+    /// In the order of UIDs.
+    pub marks: Items<Mark>,
+    /// UIDs, in their order.
+    pub expunged: Items<u32>,
+}
+
+impl Batch {
+    /// Returns an equal copy, which shares octets and keywords.
+    pub fn try_copy(&self, alloc: Global) -> Result<Batch, AllocError>
+        ensures { IfOk result (λ copy. copy ≡ self.now) }
+    {
+        let user = self.user.try_copy()?;
+        let added = self.added.try_copy(alloc)?;
+        let marks = self.marks.try_copy(alloc)?;
+        let expunged = self.expunged.try_copy(alloc)?;
+        Ok(Batch {
+            user,
+            added,
+            marks,
+            expunged,
+        })
+    }
+}

@@ -1,0 +1,146 @@
+//! What is written for a batch, by the mailbox as it is.
+
+ghost use Rattle.std.specs.Prelude.{◌≡◌, ◌≤◌, not, length, IfOk};
+ghost use Rattle.std.specs.List.{list_all};
+ghost use Rattle.imap_mailbox.specs.Flags.{has_too_many};
+ghost use Rattle.imap_mailbox.specs.Held.{summary_in};
+ghost use Rattle.imap_mailbox.specs.Summary.{uids_in};
+ghost use Rattle.imap_batch.specs.Batch.{are_few, has_few_keywords, has_numbers, has_uids, has_messages};
+ghost use Rattle.imap_batch.specs.Batch.{are_known, flag_count, mark_uids, write_for};
+ghost use Rattle.imap_batch.specs.Written.{MayWrite};
+
+use crate::batch::{Batch, Mark, NewMessage};
+use crate::error::BatchError;
+use crate::write::BatchWrite;
+use imap_mailbox::{MAX_KEYWORDS, Mailbox, SharedFlags};
+use imap_modseq::MAX_EVENTS;
+
+/// Finds the numbers by which a batch is written. Fails with `Limit` if a message would have over
+/// [`MAX_KEYWORDS`] keywords, or too few UIDs or shared events are left, and else with `NoSuchUid` if the
+/// UIDs of marks or those that are expunged don't rise, or one of them is of no message. It takes no memory.
+pub fn resolve(mailbox: &Mailbox, batch: Batch) -> Result<BatchWrite, BatchError>
+    ensures result { result ≡ write_for batch (summary_in mailbox.now) }
+    ensures may { IfOk result (λ write. MayWrite write (summary_in mailbox.now)) }
+{
+    if !has_few_keywords(&batch) || !has_numbers(mailbox, &batch) {
+        return Err(BatchError::Limit);
+    }
+    if !has_messages(mailbox, &batch) {
+        return Err(BatchError::NoSuchUid);
+    }
+    let own_before = mailbox.own_len(batch.user.as_str());
+    Ok(BatchWrite {
+        batch,
+        first_uid: mailbox.next_uid(),
+        first_place: mailbox.shared_len(),
+        own_before,
+    })
+}
+
+fn is_few(flags: &SharedFlags) -> bool
+    ensures { result ≡ not (has_too_many flags.now) }
+{
+    flags.keywords.len() <= MAX_KEYWORDS
+}
+
+fn are_few(flags: &Option<SharedFlags>) -> bool
+    ensures { result ≡ are_few flags.now }
+{
+    match flags {
+        Some(flags) => is_few(flags),
+        None => true,
+    }
+}
+
+fn are_new_few(added: &[NewMessage]) -> bool
+    ensures { result ≡ list_all (λ m. not (has_too_many m.flags)) added.now }
+{
+    added.iter().all(|message| is_few(&message.flags))
+}
+
+fn are_marks_few(marks: &[Mark]) -> bool
+    ensures { result ≡ list_all (λ k. are_few k.flags) marks.now }
+{
+    marks.iter().all(|mark| are_few(&mark.flags))
+}
+
+/// Whether no message gets over [`MAX_KEYWORDS`] keywords.
+fn has_few_keywords(batch: &Batch) -> bool
+    ensures { result ≡ has_few_keywords batch.now }
+{
+    are_new_few(batch.added.as_slice()) && are_marks_few(batch.marks.as_slice())
+}
+
+/// Returns the number of shared events of marks.
+fn flag_count(marks: &[Mark]) -> usize
+    ensures { result ≡ flag_count marks.now }
+{
+    let mut count = 0;
+    for mark in marks {
+        let sets = mark.flags.is_some();
+        count += sets as usize;
+    }
+    count
+}
+
+/// Whether UIDs and shared events are left for all that is asked.
+fn has_numbers(mailbox: &Mailbox, batch: &Batch) -> bool
+    ensures { result ≡ has_numbers batch.now (summary_in mailbox.now) }
+{
+    let added = batch.added.as_slice().len() as u64;
+    let flags = flag_count(batch.marks.as_slice()) as u64;
+    let expunged = batch.expunged.as_slice().len() as u64;
+    let events = added.saturating_add(flags.saturating_add(expunged));
+    has_uids(mailbox, added) && mailbox.shared_len().saturating_add(events) <= MAX_EVENTS
+}
+
+/// Whether UIDs are left for `added` messages.
+fn has_uids(mailbox: &Mailbox, added: u64) -> bool
+    ensures { result ≡ has_uids added mailbox.now.next }
+{
+    added == 0 || (mailbox.next_uid() as u64).saturating_add(added) <= u32::MAX as u64
+}
+
+/// Whether messages have the UIDs of marks, and those that are expunged, which rise.
+fn has_messages(mailbox: &Mailbox, batch: &Batch) -> bool
+    ensures { result ≡ has_messages batch.now (summary_in mailbox.now) }
+{
+    are_marks_known(mailbox, batch.marks.as_slice())
+        && are_known(mailbox, batch.expunged.as_slice())
+}
+
+fn are_known(mailbox: &Mailbox, uids: &[u32]) -> bool
+    ensures { result ≡ are_known 0 uids.now (uids_in mailbox.now.messages) }
+{
+    let end = mailbox.next_uid();
+    let mut low: u32 = 0;
+    for uid in uids {
+        if *uid < low {
+            return false;
+        }
+        if !mailbox.contains(*uid) {
+            return false;
+        }
+        prove!(*uid < end);
+        low = *uid + 1;
+    }
+    true
+}
+
+fn are_marks_known(mailbox: &Mailbox, marks: &[Mark]) -> bool
+    ensures { result ≡ are_known 0 (mark_uids marks.now) (uids_in mailbox.now.messages) }
+{
+    let end = mailbox.next_uid();
+    let mut low: u32 = 0;
+    for mark in marks {
+        if mark.uid < low {
+            return false;
+        }
+        if !mailbox.contains(mark.uid) {
+            return false;
+        }
+        prove!(mark.uid < end);
+        low = mark.uid + 1;
+    }
+    true
+}
