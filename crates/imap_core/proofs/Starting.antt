@@ -226,7 +226,7 @@ owners_of (user ∷ users) = ap (λ others. user ∷ others) (owners_of users)
 -- ---- what is written
 
 abbrev inbox_row : World → List ℕ → NewMailbox
-inbox_row base user = record { name = inbox user; mailbox = new_inbox base user }
+inbox_row base user = record { name = inbox user; validity = epoch base.epochs (inbox user) + 1; acl = owner_acl user }
 
 abbrev inboxes : World → List (List ℕ) → List Write
 inboxes base users = puts (map_list (inbox_row base) users)

@@ -4,9 +4,9 @@ use Rattle.std.specs.List.{list_any}
 use Rattle.std.specs.FinMap as map
 use Rattle.imap_names.specs.Name.{Name}
 use Rattle.imap_rights.specs.Acl.{owner_acl}
-use Rattle.imap_world.specs.declared.mailbox_entry.MailboxEntry.{MailboxEntry}
 use Rattle.imap_world.specs.declared.site.Limits.{Limits}
 use Rattle.imap_world.specs.declared.site.Site.{Site}
+use Rattle.imap_world.specs.Mailbox.{Mailbox, new_mailbox}
 use Rattle.imap_world.specs.World.{World, epoch, inbox}
 use Rattle.imap_core.specs.Machine.{State}
 use Rattle.imap_core.specs.Opening.{needs_inbox, state_at_start}
@@ -19,9 +19,9 @@ is_one_of users user = list_any (bytes_eq user) users
 abbrev pub gets_inbox : World → List (List ℕ) → List ℕ → Bool
 gets_inbox world users user = is_one_of users user && needs_inbox world user
 
--- it has the next UIDVALIDITY (RFC 9051, section 2.3.1.1), and is its owner's alone
-abbrev pub new_inbox : World → List ℕ → MailboxEntry
-new_inbox world user = record { validity = epoch world.epochs (inbox user) + 1; acl = owner_acl user }
+-- it has the next UIDVALIDITY (RFC 9051, section 2.3.1.1) and no messages, and is its owner's alone
+abbrev pub new_inbox : World → List ℕ → Mailbox
+new_inbox world user = new_mailbox (epoch world.epochs (inbox user) + 1) (owner_acl user)
 
 -- The state has a new INBOX for each user who gets one, and counts its UIDVALIDITY as used. All other
 -- mailboxes, also an INBOX that is there, all other used UIDVALIDITYs and the subscriptions are the

@@ -83,7 +83,7 @@ impl Mailboxes {
         made.sort_by(|one, other| one.0.as_ref().compare(&other.0.as_ref()))?;
         let mut world = World::new(alloc);
         for (name, acl) in made {
-            world.place(name, acl)?;
+            world.place(alloc, name, acl)?;
         }
         Ok(world)
     }

@@ -1,28 +1,19 @@
-//! The calls of the machine, where they succeed and where they are refused.
+//! The calls of the machine, where they succeed and where they are refused. A machine is lent to a function
+//! and let go before a `?`: a `?` within reach of one takes long to prove.
 
+use crate::world::{give, place, subscribe, user};
 use imap_core::{Act, Core, Moment, SessionId, SessionNumber, Step};
 use imap_grammar::parse;
 use imap_lex::Octets;
-use imap_names::{Name, UserName, read_full};
 use imap_print::{Response, print};
-use imap_rights::{Acl, Identifier, read_rights};
-use imap_world::{Effect, Limits, World};
+use imap_world::{Limits, World};
 use std::alloc::Global;
-use std::slice;
 use std::test::Fail;
 
 const LIMITS: Limits = Limits {
     max_messages: 10_000,
     max_octets: 33_554_432,
 };
-
-fn user(alloc: Global, text: &str) -> Result<UserName, Fail> {
-    Ok(UserName::read(alloc, text)?.ok_or("no user name")?)
-}
-
-fn name(alloc: Global, text: &[u8]) -> Result<Name, Fail> {
-    Ok(read_full(alloc, text)?)
-}
 
 /// Root's first session.
 fn session(alloc: Global) -> Result<SessionId, Fail> {
@@ -59,10 +50,19 @@ fn a_host_starts_with_an_inbox_for_each_user(rt: HostRuntime) -> Result<(), Fail
     let alloc = rt.alloc();
     let root = user(alloc, "root")?;
     let users = vec![in alloc; user(alloc, "ann")?, user(alloc, "ann")?]?;
-    let (_core, change) = Core::open(alloc, World::new(alloc), root, &users, LIMITS)?;
-    assert_eq!(rt; change.writes().len(), 2);
-    assert!(rt; !change.is_empty());
+    let (core, change) = Core::open(alloc, World::new(alloc), root, &users, LIMITS)?;
+    drop(core);
+    let made = (change.writes().len(), change.is_empty());
+    drop(change);
+    assert_eq!(rt; made, (2, false));
     Ok(())
+}
+
+/// A machine over the world, where root is the administrator.
+fn machine(alloc: Global, world: World) -> Result<Core, Fail> {
+    let root = user(alloc, "root")?;
+    let (core, _change) = Core::open(alloc, world, root, &[], LIMITS)?;
+    Ok(core)
 }
 
 /// Root's first session opens.
@@ -72,13 +72,18 @@ fn opening(alloc: Global) -> Result<Vec<Step>, Fail> {
     Ok(steps)
 }
 
+fn push_command(alloc: Global, steps: &mut Vec<Step>, octets: &[u8]) -> Result<(), Fail> {
+    let act = command(alloc, octets)?;
+    steps.push(step(session(alloc)?, act))?;
+    Ok(())
+}
+
 /// Root's first session opens, asks and leaves, and then comes a late command.
 fn visit(alloc: Global) -> Result<Vec<Step>, Fail> {
-    let mut steps = Vec::new(alloc);
-    steps.push(step(session(alloc)?, Act::Open))?;
-    steps.push(step(session(alloc)?, command(alloc, b"a1 NOOP\r\n")?))?;
+    let mut steps = opening(alloc)?;
+    push_command(alloc, &mut steps, b"a1 NOOP\r\n")?;
     steps.push(step(session(alloc)?, Act::Leave))?;
-    steps.push(step(session(alloc)?, command(alloc, b"a2 NOOP\r\n")?))?;
+    push_command(alloc, &mut steps, b"a2 NOOP\r\n")?;
     Ok(steps)
 }
 
@@ -93,34 +98,33 @@ fn counts(alloc: Global, said: &[Vec<Response>]) -> Result<Vec<usize>, Fail> {
 #[test]
 fn a_run_makes_its_steps_in_order(rt: HostRuntime) -> Result<(), Fail> {
     let alloc = rt.alloc();
-    let root = user(alloc, "root")?;
-    let (mut core, _change) = Core::open(alloc, World::new(alloc), root, &[], LIMITS)?;
     let steps = visit(alloc)?;
-    let said = core.run(alloc, &steps)?;
-    let counted = counts(alloc, &said)?;
+    let mut core = machine(alloc, World::new(alloc))?;
+    let said = core.run(alloc, &steps);
+    drop(core);
+    let counted = counts(alloc, &said?)?;
     assert_eq!(rt; counted.as_slice(), [1, 1, 0, 0].as_slice());
     Ok(())
 }
 
-/// A world with Shared/News, which all may look up, and with this many names that root subscribed to.
-fn world_with_subscriptions(alloc: Global, count: u32) -> Result<World, Fail> {
-    let mut world = World::new(alloc);
-    let news = name(alloc, b"Shared/News")?;
-    world.place(news.try_copy()?, Acl::new(alloc))?;
-    let rights = read_rights(b"l").ok_or("no rights")?;
-    world.set_acl(&news.as_ref(), Identifier::read(alloc, b"anyone")?, rights)?;
+/// Makes Shared/News, which all may look up, and subscribes root to this many names.
+fn place_and_subscribe(alloc: Global, world: &mut World, count: u32) -> Result<(), Fail> {
+    place(alloc, world, b"Shared/News")?.map_err(|_| "not placed")?;
+    give(alloc, world, b"Shared/News", b"anyone", b"l")?.map_err(|_| "not given")?;
     for number in 0..count {
-        subscribe(alloc, &mut world, number)?;
+        let text = format!(in alloc; "Shared/{number}")?;
+        subscribe(alloc, world, "root", text.as_bytes())?;
     }
-    Ok(world)
+    Ok(())
 }
 
-fn subscribe(alloc: Global, world: &mut World, number: u32) -> Result<(), Fail> {
-    let text = format!(in alloc; "Shared/{number}")?;
-    let effect = Effect::Subscribe(user(alloc, "root")?, name(alloc, text.as_bytes())?);
-    let change = world.prepare(alloc, slice::from_ref(&effect))?;
-    world.commit(change);
-    Ok(())
+/// A world with Shared/News and this many names that root subscribed to.
+fn world_with_subscriptions(alloc: Global, count: u32) -> Result<World, Fail> {
+    let mut world = World::new(alloc);
+    match place_and_subscribe(alloc, &mut world, count) {
+        Ok(()) => Ok(world),
+        Err(fail) => Err(fail),
+    }
 }
 
 /// What root's open session is answered. A step that is refused for want of memory is made once more.
@@ -137,17 +141,23 @@ fn answered(alloc: Global, core: &mut Core, octets: &[u8]) -> Result<Vec<u8>, Fa
     Ok(print(alloc, &replies)?)
 }
 
-/// What root is answered who subscribed to `count` names.
-fn answers_to_subscriber(alloc: Global, count: u32, commands: &[&[u8]]) -> Result<Vec<u8>, Fail> {
-    let world = world_with_subscriptions(alloc, count)?;
-    let root = user(alloc, "root")?;
-    let (mut core, _change) = Core::open(alloc, world, root, &[], LIMITS)?;
-    let _ = core.run(alloc, &opening(alloc)?)?;
+/// What root's first session is answered, which opens before.
+fn all_answered(alloc: Global, core: &mut Core, commands: &[&[u8]]) -> Result<Vec<u8>, Fail> {
+    let steps = opening(alloc)?;
+    drop(core.run(alloc, &steps)?);
     let mut written = Vec::new(alloc);
     for octets in commands.iter() {
-        written.extend_from_slice(&answered(alloc, &mut core, *octets)?)?;
+        written.extend_from_slice(&answered(alloc, core, *octets)?)?;
     }
     Ok(written)
+}
+
+/// What root is answered who subscribed to `count` names.
+fn answers_to_subscriber(alloc: Global, count: u32, commands: &[&[u8]]) -> Result<Vec<u8>, Fail> {
+    let mut core = machine(alloc, world_with_subscriptions(alloc, count)?)?;
+    let written = all_answered(alloc, &mut core, commands);
+    drop(core);
+    written
 }
 
 #[test]
@@ -184,24 +194,34 @@ fn is_copied(alloc: Global, step: &Step) -> Result<bool, Fail> {
     Ok(same)
 }
 
+fn are_copied(alloc: Global, steps: &[Step]) -> Result<bool, Fail> {
+    for step in steps {
+        if !is_copied(alloc, step)? {
+            return Ok(false);
+        }
+    }
+    Ok(true)
+}
+
 #[test]
 fn steps_are_copied(rt: HostRuntime) -> Result<(), Fail> {
-    let alloc = rt.alloc();
-    for step in visit(alloc)?.iter() {
-        assert!(rt; is_copied(alloc, step)?);
-    }
+    let steps = visit(rt.alloc())?;
+    let copied = are_copied(rt.alloc(), &steps);
+    drop(steps);
+    assert!(rt; copied?);
     Ok(())
 }
 
 #[test]
 fn a_copy_of_the_machine_answers_alike(rt: HostRuntime) -> Result<(), Fail> {
     let alloc = rt.alloc();
-    let root = user(alloc, "root")?;
-    let (mut core, _change) = Core::open(alloc, World::new(alloc), root, &[], LIMITS)?;
-    let _ = core.run(alloc, &opening(alloc)?)?;
-    let mut copy = core.try_copy(alloc)?;
-    let written = answered(alloc, &mut copy, b"a1 MYRIGHTS INBOX\r\n")?;
+    let core = machine(alloc, World::new(alloc))?;
+    let copy = core.try_copy(alloc);
+    drop(core);
+    let mut copy = copy?;
+    let written = all_answered(alloc, &mut copy, &[b"a1 MYRIGHTS INBOX\r\n"]);
+    drop(copy);
     let wanted: &[u8] = b"* MYRIGHTS INBOX lrswipkxtea\r\na1 OK done\r\n";
-    assert_eq!(rt; written.as_slice(), wanted);
+    assert_eq!(rt; written?.as_slice(), wanted);
     Ok(())
 }

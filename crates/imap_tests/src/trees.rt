@@ -76,9 +76,14 @@ fn look(rt: &impl Abort, alloc: Global, world: &World, site: &Site) -> Result<()
     know(rt, &View::new(world, site, &bob), &top, &hidden)
 }
 
+fn look_of_bob(rt: &impl Abort, alloc: Global, world: &mut World) -> Result<(), Fail> {
+    world_of_bob(alloc, world)?;
+    let site = site(alloc)?;
+    look(rt, alloc, world, &site)
+}
+
 #[test]
 fn names_below_a_place_are_known(rt: HostRuntime) -> Result<(), Fail> {
     let mut world = World::new(rt.alloc());
-    world_of_bob(rt.alloc(), &mut world)?;
-    look(&rt, rt.alloc(), &world, &site(rt.alloc())?)
+    look_of_bob(&rt, rt.alloc(), &mut world)
 }

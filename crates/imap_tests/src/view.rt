@@ -52,9 +52,14 @@ fn list(rt: &impl Abort, alloc: Global, world: &World, site: &Site) -> Result<()
     list_seen(rt, alloc, &view)
 }
 
+fn list_of_bob(rt: &impl Abort, alloc: Global, world: &mut World) -> Result<(), Fail> {
+    world_of_bob(alloc, world)?;
+    let site = site(alloc)?;
+    list(rt, alloc, world, &site)
+}
+
 #[test]
 fn names_are_listed(rt: HostRuntime) -> Result<(), Fail> {
     let mut world = World::new(rt.alloc());
-    world_of_bob(rt.alloc(), &mut world)?;
-    list(&rt, rt.alloc(), &world, &site(rt.alloc())?)
+    list_of_bob(&rt, rt.alloc(), &mut world)
 }

@@ -32,7 +32,7 @@ pub(crate) fn place(
     world: &mut World,
     text: &[u8],
 ) -> Result<Result<(), WorldError>, Fail> {
-    Ok(world.place(name(alloc, text)?, Acl::new(alloc)))
+    Ok(world.place(alloc, name(alloc, text)?, Acl::new(alloc)))
 }
 
 /// Gives rights on a mailbox.
@@ -121,8 +121,7 @@ fn names_are_subscribed(rt: HostRuntime) -> Result<(), Fail> {
     change_subscriptions(&rt, rt.alloc(), &mut world)
 }
 
-fn compare_copy(rt: &impl Abort, alloc: Global, world: &World) -> Result<(), Fail> {
-    let copy = world.try_copy(alloc)?;
+fn compare(rt: &impl Abort, alloc: Global, copy: &World) -> Result<(), Fail> {
     let news = name(alloc, b"Shared/News")?;
     assert_eq!(rt; copy.mailbox(&news.as_ref()).map(|m| m.validity), Some(1));
     assert_eq!(rt; copy.epoch(&news.as_ref()), 1);
@@ -131,23 +130,31 @@ fn compare_copy(rt: &impl Abort, alloc: Global, world: &World) -> Result<(), Fai
     Ok(())
 }
 
+fn copy_and_compare(rt: &impl Abort, alloc: Global, world: &mut World) -> Result<(), Fail> {
+    place(alloc, world, b"Shared/News")?.map_err(|_| "not placed")?;
+    subscribe(alloc, world, "bob", b"Shared/News")?;
+    let copy = world.try_copy(alloc)?;
+    compare(rt, alloc, &copy)
+}
+
 #[test]
 fn a_world_is_copied(rt: HostRuntime) -> Result<(), Fail> {
     let mut world = World::new(rt.alloc());
-    place(rt.alloc(), &mut world, b"Shared/News")?.map_err(|_| "not placed")?;
-    subscribe(rt.alloc(), &mut world, "bob", b"Shared/News")?;
-    compare_copy(&rt, rt.alloc(), &world)
+    copy_and_compare(&rt, rt.alloc(), &mut world)
+}
+
+fn make_inbox(rt: &impl Abort, alloc: Global, world: &mut World) -> Result<(), Fail> {
+    let effect = Effect::CreateInbox(user(alloc, "ann")?);
+    assert_eq!(rt; make(alloc, world, effect)?, 1);
+    let inbox = name(alloc, b"Other Users/ann/INBOX")?;
+    assert_eq!(rt; world.mailbox(&inbox.as_ref()).map(|m| m.validity), Some(1));
+    Ok(())
 }
 
 #[test]
 fn an_inbox_is_made(rt: HostRuntime) -> Result<(), Fail> {
-    let alloc = rt.alloc();
-    let mut world = World::new(alloc);
-    let effect = Effect::CreateInbox(user(alloc, "ann")?);
-    assert_eq!(rt; make(alloc, &mut world, effect)?, 1);
-    let inbox = name(alloc, b"Other Users/ann/INBOX")?;
-    assert_eq!(rt; world.mailbox(&inbox.as_ref()).map(|m| m.validity), Some(1));
-    Ok(())
+    let mut world = World::new(rt.alloc());
+    make_inbox(&rt, rt.alloc(), &mut world)
 }
 
 /// A superior on which bob holds `lk` with a hidden mailbox below, and one on which he holds `l` alone.

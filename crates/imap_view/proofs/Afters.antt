@@ -6,7 +6,7 @@ use Rattle.imap_names.specs.Name.{Name}
 use Rattle.imap_names.specs.Order.{Names, name_cmp}
 use Rattle.imap_names.proofs.NameLaws.{same_names}
 use Rattle.imap_names.proofs.OrderLaws.{name_antisymmetric}
-use Rattle.imap_world.specs.declared.mailbox_entry.MailboxEntry.{MailboxEntry}
+use Rattle.imap_world.specs.Mailbox.{Mailbox}
 use Rattle.imap_world.specs.Effects.{if_filled, with_subscribed}
 use Rattle.imap_user_map.specs.Finite.{keep}
 use Rattle.imap_world.specs.World.{World, NameSet, set_of, subscribed_by}
@@ -117,7 +117,7 @@ module _ (administrator user : List ℕ) (one other : World) (differ : DifferInH
       by (inr hidden) = inr hidden.unknown
 
   taken_same : (view_by administrator user seen one).taken ≡ (view_by administrator user seen other).taken
-  taken_same = kept_known (λ (m : MailboxEntry). tt) one.mailboxes other.mailboxes known_mailboxes
+  taken_same = kept_known (λ (m : Mailbox). tt) one.mailboxes other.mailboxes known_mailboxes
 
   epochs_same : (view_by administrator user seen one).epochs ≡ (view_by administrator user seen other).epochs
   unfolding view_of

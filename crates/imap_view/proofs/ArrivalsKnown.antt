@@ -14,14 +14,14 @@ use Rattle.imap_names.specs.Valid.{fits}
 use Rattle.imap_names.proofs.MovedLaws.{moved_within}
 use Rattle.imap_world.specs.declared.error.WorldError.{WorldError}
 use Rattle.imap_world.specs.declared.error.WorldError.TheVariants.{Limit}
-use Rattle.imap_world.specs.declared.mailbox_entry.MailboxEntry.{MailboxEntry}
+use Rattle.imap_world.specs.Mailbox.{Mailbox}
 use Rattle.imap_world.specs.Moving.{arrivals, arrivals_at, can_arrive}
 use Rattle.imap_world.specs.World.{World, epoch, max_validity}
 use Rattle.imap_view.specs.Listing.{known_among}
 use Rattle.imap_view.specs.RenameAfter.{names_after}
 use Rattle.imap_view.specs.View.{View, view_of, may_know_name_in}
 use Rattle.imap_view.proofs.Deleting.{known_below}
-use Rattle.imap_view.proofs.Listings.{names_taken}
+use Rattle.imap_view.proofs.Listings.{taken_names_are}
 use Rattle.imap_view.proofs.Moving.{IsMove, place, there, known, known_within, epochs_there}
 
 -- ---- the names
@@ -34,7 +34,7 @@ module _ (administrator user : List ℕ) (world : World) (old new : Name) (move 
   unfolding view_of
   all_known q below = known_below administrator user world old (place administrator user world old new move) q below
 
-  known_names : (es : List (Name × MailboxEntry)) → known_among view (entries_below old es) ≡ map_list (λ e. e.0) (entries_below old es)
+  known_names : (es : List (Name × Mailbox)) → known_among view (entries_below old es) ≡ map_list (λ e. e.0) (entries_below old es)
   known_names [] = refl
   known_names (e ∷ es) = by (is_below old e.0) refl (known_names es)
     where
@@ -51,7 +51,7 @@ module _ (administrator user : List ℕ) (world : World) (old new : Name) (move 
       sym (map-map (moved old new) (λ e. e.0) (run_of old world.mailboxes))
       ∙ ap (map_list (moved old new))
       (run_names old world.mailboxes (there administrator user world old new move)
-      ∙ ap (λ names. old ∷ names) (sym (known_names (map.entries world.mailboxes)) ∙ names_taken administrator user world view refl old))
+      ∙ ap (λ names. old ∷ names) (sym (known_names (map.entries world.mailboxes)) ∙ taken_names_are administrator user world view refl old))
 
 -- ---- their validities
 

@@ -5,29 +5,29 @@ use Rattle.imap_name_map.specs.Rows.{inserted_all}
 use Rattle.imap_names.specs.Name.{Name}
 use Rattle.imap_names.specs.Order.{Names}
 use Rattle.imap_names.proofs.NameLaws.{is_name_at, equal_names, get_put}
-use Rattle.imap_world.specs.declared.mailbox_entry.MailboxEntry.{MailboxEntry}
+use Rattle.imap_world.specs.Mailbox.{Mailbox}
 use Rattle.imap_world.specs.Moving.{with_validity, with_validities}
 
 -- ---- what doesn't look at the validity of a mailbox
 
-abbrev pub IgnoresValidity : {Y : Type 0} → (Option MailboxEntry → Y) → Type 0
-IgnoresValidity f = (m : MailboxEntry) (validity : ℕ) → f (Some (record m { validity = validity })) ≡ f (Some m)
+abbrev pub IgnoresValidity : {Y : Type 0} → (Option Mailbox → Y) → Type 0
+IgnoresValidity f = (m : Mailbox) (validity : ℕ) → f (Some (record m { validity = validity })) ≡ f (Some m)
 
-module _ {Y : Type 0} (f : Option MailboxEntry → Y) (ignores : IgnoresValidity f) where
-  one_arrived : (mailboxes : Names MailboxEntry) (name : Name) (validity : ℕ) (q : Name)
+module _ {Y : Type 0} (f : Option Mailbox → Y) (ignores : IgnoresValidity f) where
+  one_arrived : (mailboxes : Names Mailbox) (name : Name) (validity : ℕ) (q : Name)
       → f (map.get (with_validity mailboxes name validity (map.get mailboxes name)) q) ≡ f (map.get mailboxes q)
   one_arrived mailboxes name validity q = by (map.get mailboxes name) refl
     where
-      at : (m : MailboxEntry) → map.get mailboxes name ≡ Some m → (b : Bool) → is_name_at q name ≡ b
+      at : (m : Mailbox) → map.get mailboxes name ≡ Some m → (b : Bool) → is_name_at q name ≡ b
           → f (cond b (Some (record m { validity = validity })) (map.get mailboxes q)) ≡ f (map.get mailboxes q)
       at m is true e = ignores m validity ∙ ap f (sym (ap (map.get mailboxes) (equal_names q name e) ∙ is))
       at m is false e = refl
 
-      by : (o : Option MailboxEntry) → map.get mailboxes name ≡ o → f (map.get (with_validity mailboxes name validity o) q) ≡ f (map.get mailboxes q)
+      by : (o : Option Mailbox) → map.get mailboxes name ≡ o → f (map.get (with_validity mailboxes name validity o) q) ≡ f (map.get mailboxes q)
       by None is = refl
       by (Some m) is = ap f (get_put mailboxes name (record m { validity = validity }) q) ∙ at m is (is_name_at q name) refl
 
-  pub all_arrived : (mailboxes : Names MailboxEntry) (arrivals : List (Name × ℕ)) (q : Name) → f (map.get (with_validities mailboxes arrivals) q) ≡ f (map.get mailboxes q)
+  pub all_arrived : (mailboxes : Names Mailbox) (arrivals : List (Name × ℕ)) (q : Name) → f (map.get (with_validities mailboxes arrivals) q) ≡ f (map.get mailboxes q)
   all_arrived mailboxes [] q = refl
   all_arrived mailboxes (a ∷ arrivals) q =
       all_arrived (with_validity mailboxes a.0 a.1 (map.get mailboxes a.0)) arrivals q ∙ one_arrived mailboxes a.0 a.1 q

@@ -12,7 +12,7 @@ use Rattle.imap_rights.specs.Acl.{AclMap, owner_acl}
 use Rattle.imap_rights.specs.Effective.{effective}
 use Rattle.imap_rights.specs.Rights.{create, has_any}
 use Rattle.imap_world.specs.declared.error.WorldError.TheVariants.{Limit}
-use Rattle.imap_world.specs.declared.mailbox_entry.MailboxEntry.{MailboxEntry}
+use Rattle.imap_world.specs.Mailbox.{Mailbox, new_mailbox}
 use Rattle.imap_world.specs.Effects.{new_row}
 use Rattle.imap_world.specs.NewMailbox.{NewMailbox}
 use Rattle.imap_world.specs.Tree.{acl_or, inherited, with_last, rows_for}
@@ -171,22 +171,22 @@ module _ (administrator user : List ℕ) (world : World) where
       rest_free : is_some (map.get view.seen (above ∷ next ∷ more)) ≡ false → map.contains_key view.taken (above ∷ next ∷ more) ≡ false
       rest_free none = unknown (map.get view.seen (above ∷ next ∷ more)) (map.contains_key view.taken (above ∷ next ∷ more)) (may_create view (above ∷ next ∷ more)) none may
 
-      there : (o : Option MailboxEntry) → map.get world.mailboxes (above ∷ next ∷ more) ≡ o → map.get view.seen (above ∷ next ∷ more) ≡ option_and_then (seen_at administrator user (above ∷ next ∷ more)) o
+      there : (o : Option Mailbox) → map.get world.mailboxes (above ∷ next ∷ more) ≡ o → map.get view.seen (above ∷ next ∷ more) ≡ option_and_then (seen_at administrator user (above ∷ next ∷ more)) o
       there o is = get_seen administrator user world (above ∷ next ∷ more) ∙ ap (option_and_then (seen_at administrator user (above ∷ next ∷ more))) is
 
-      shown : (m : MailboxEntry) → map.get world.mailboxes (above ∷ next ∷ more) ≡ Some m → (o : Option Seen) → map.get view.seen (above ∷ next ∷ more) ≡ o
+      shown : (m : Mailbox) → map.get world.mailboxes (above ∷ next ∷ more) ≡ Some m → (o : Option Seen) → map.get view.seen (above ∷ next ∷ more) ≡ o
           → seen_by owner m.acl ≡ seen_or o (new_seen view (above ∷ next ∷ more))
       shown m is (Some s) at = sym (there (Some m) is) ∙ at
       shown m is None at =
           absurd (true≢false (sym (sym (rest_free (ap is_some at)) ∙ taken_is_there (above ∷ next ∷ more) (rest_may (ap is_some at)) ∙ ap is_some is)))
 
-      by : (o : Option MailboxEntry) → map.get world.mailboxes (above ∷ next ∷ more) ≡ o → (may_create view (above ∷ next ∷ more) ≡ true → seen_by owner (inherited world.mailboxes owner (above ∷ next ∷ more)) ≡ new_seen view (above ∷ next ∷ more))
+      by : (o : Option Mailbox) → map.get world.mailboxes (above ∷ next ∷ more) ≡ o → (may_create view (above ∷ next ∷ more) ≡ true → seen_by owner (inherited world.mailboxes owner (above ∷ next ∷ more)) ≡ new_seen view (above ∷ next ∷ more))
           → seen_by owner (acl_or o (inherited world.mailboxes owner (above ∷ next ∷ more))) ≡ seen_or (map.get view.seen (above ∷ next ∷ more)) (new_seen view (above ∷ next ∷ more))
       by None is rest = rest (rest_may (ap is_some (there None is))) ∙ ap (λ o. seen_or o (new_seen view (above ∷ next ∷ more))) (sym (there None is))
       by (Some m) is rest = shown m is (map.get view.seen (above ∷ next ∷ more)) refl
 
   seen_alike : (name : Name) → may_create view name ≡ true → (q : Name) → is_root q ≡ false → root_of q ≡ root_of name → (validity : ℕ)
-      → seen_at administrator user q (record { validity = validity; acl = inherited world.mailboxes (owner_of administrator name) name }) ≡ new_seen view name
+      → seen_at administrator user q (new_mailbox validity (inherited world.mailboxes (owner_of administrator name) name)) ≡ new_seen view name
   seen_alike name may q named tree validity =
       (λ i. cond (named i) None (seen_by (owner_by_root administrator (tree i)) (inherited world.mailboxes (owner_of administrator name) name)))
       ∙ inherits name may

@@ -11,7 +11,7 @@ use Rattle.imap_names.proofs.NameLaws.{is_name_at, get_without}
 use Rattle.imap_names.proofs.OrderLaws.{IsAbove_from_below}
 use Rattle.imap_name_map.specs.Rows.{has_below}
 use Rattle.imap_rights.specs.Rights.{has_any, delete_mailbox}
-use Rattle.imap_world.specs.declared.mailbox_entry.MailboxEntry.{MailboxEntry}
+use Rattle.imap_world.specs.Mailbox.{Mailbox}
 use Rattle.imap_user_map.specs.Finite.{kept_entry}
 use Rattle.imap_world.specs.Tree.{without}
 use Rattle.imap_world.specs.World.{World}
@@ -31,7 +31,7 @@ none_held some has = true≢false (sym has ∙ ap (λ m. not (m == 0)) (and_zero
 pub held_is_there : (administrator user : List ℕ) (world : World) (name : Name) (some : ℕ) → has_any (rights_in (view_of administrator user world) name) some ≡ true → fin.contains_key world.mailboxes name ≡ true
 held_is_there administrator user world name some has = by (fin.get world.mailboxes name) refl
   where
-    by : (o : Option MailboxEntry) → fin.get world.mailboxes name ≡ o → is_some o ≡ true
+    by : (o : Option Mailbox) → fin.get world.mailboxes name ≡ o → is_some o ≡ true
     by None is = absurd (none_held some (ap (λ o. has_any (rights_of o) some) (sym (get_seen administrator user world name ∙ ap (option_and_then (seen_at administrator user name)) is)) ∙ has))
     by (Some m) is = refl
 
@@ -39,12 +39,12 @@ held_is_there administrator user world name some has = by (fin.get world.mailbox
 pub place_seen : (administrator user : List ℕ) (world : World) (name : Name) → shows_names_with (fin.get (view_of administrator user world).seen name) ≡ true → shows_names_below administrator user (view_of administrator user world).seen name ≡ true
 place_seen administrator user world [] e = absurd (true≢false (sym e ∙ ap shows_names_with (get_seen administrator user world [] ∙ none (fin.get world.mailboxes []))))
   where
-    none : (o : Option MailboxEntry) → option_and_then (seen_at administrator user []) o ≡ None
+    none : (o : Option Mailbox) → option_and_then (seen_at administrator user []) o ≡ None
     none None = refl
     none (Some m) = refl
 place_seen administrator user world (root ∷ []) e = absurd (true≢false (sym e ∙ ap shows_names_with (get_seen administrator user world (root ∷ []) ∙ none (fin.get world.mailboxes (root ∷ [])))))
   where
-    none : (o : Option MailboxEntry) → option_and_then (seen_at administrator user (root ∷ [])) o ≡ None
+    none : (o : Option Mailbox) → option_and_then (seen_at administrator user (root ∷ [])) o ≡ None
     none None = refl
     none (Some m) = refl
 place_seen administrator user world (deepest ∷ above ∷ more) e = e
@@ -55,7 +55,7 @@ module _ (administrator user : List ℕ) (world : World) (name : Name) where
   abbrev is_known_below : Name → Bool
   is_known_below = may_know_name administrator user (seen_in administrator user world)
 
-  abbrev known_entry : Name → MailboxEntry → Option (Unit {0})
+  abbrev known_entry : Name → Mailbox → Option (Unit {0})
   known_entry q mailbox = if_true (is_known_below q) tt
 
   module _ (place : shows_names_below administrator user (seen_in administrator user world) name ≡ true) where
@@ -67,7 +67,7 @@ module _ (administrator user : List ℕ) (world : World) (name : Name) where
     pub known_below : (q : Name) → is_below name q ≡ true → is_known_below q ≡ true
     known_below q below = let above = IsAbove_from_below name q below in ap is_known_below above.2 ∙ below_between above.0 above.1
 
-    any_known : (es : List (Name × MailboxEntry)) → list_any (λ e. is_below name e.0) (filter_map (kept_entry known_entry) es) ≡ list_any (λ e. is_below name e.0) es
+    any_known : (es : List (Name × Mailbox)) → list_any (λ e. is_below name e.0) (filter_map (kept_entry known_entry) es) ≡ list_any (λ e. is_below name e.0) es
     any_known [] = refl
     any_known (e ∷ es) = by (is_known_below e.0) refl (is_below name e.0) refl (any_known es)
       where

@@ -18,11 +18,11 @@ use Rattle.imap_names.proofs.UserLaws.{user_name_facts}
 use Rattle.imap_rights.specs.Acl.{AclMap, owner_acl}
 use Rattle.imap_rights.specs.Effective.{anyone, negative, entry, granted, effective, owner_rights}
 use Rattle.imap_rights.specs.Rights.{no_rights, all_rights, union, less, visible_rights, administer, has_any}
-use Rattle.imap_world.specs.declared.mailbox_entry.MailboxEntry.{MailboxEntry}
+use Rattle.imap_world.specs.Mailbox.{Mailbox, new_mailbox}
 use Rattle.imap_world.specs.declared.error.WorldError.TheVariants.{Limit, Taken}
 use Rattle.imap_world.specs.Effects.{with_row, put_of, writes_then, after_result}
 use Rattle.imap_user_map.specs.Finite.{keep}
-use Rattle.imap_world.specs.NewMailbox.{NewMailbox}
+use Rattle.imap_world.specs.NewMailbox.{NewMailbox, mailbox_in}
 use Rattle.imap_world.specs.World.{World, epoch, inbox, max_validity}
 use Rattle.imap_user_map.proofs.KeptValues.{get-keep}
 use Rattle.imap_world.proofs.Sets.{is_user, equal_users}
@@ -42,9 +42,9 @@ kept_same f m k x new old = same_names _ _ (λ q. get-keep name_cmp f name_antis
     by q false at = refl
 
 module _ (administrator user : List ℕ) (world : World) (row : NewMailbox) where
-  module _ (absent : map.get world.mailboxes row.name ≡ None) (unseen : seen_at administrator user row.name row.mailbox ≡ None) (unknown : may_know_name administrator user (seen_in administrator user world) row.name ≡ false) where
+  module _ (absent : map.get world.mailboxes row.name ≡ None) (unseen : seen_at administrator user row.name (mailbox_in row) ≡ None) (unknown : may_know_name administrator user (seen_in administrator user world) row.name ≡ false) where
     seen_same : seen_in administrator user (with_row world row) ≡ seen_in administrator user world
-    seen_same = kept_same (seen_at administrator user) world.mailboxes row.name row.mailbox unseen (ap (option_and_then (seen_at administrator user row.name)) absent)
+    seen_same = kept_same (seen_at administrator user) world.mailboxes row.name (mailbox_in row) unseen (ap (option_and_then (seen_at administrator user row.name)) absent)
 
     abbrev if_known : {X Y : Type 0} → (X → Y) → Name → X → Option Y
     if_known f name x = if_true (may_know_name administrator user (seen_in administrator user world) name) (f x)
@@ -53,11 +53,11 @@ module _ (administrator user : List ℕ) (world : World) (row : NewMailbox) wher
     nothing_known f None = refl
     nothing_known f (Some x) = ap (λ b. if_true b (f x)) unknown
 
-    taken_same : keep (if_known {X = MailboxEntry} {Y = Unit {0}} (λ mailbox. tt)) (with_row world row).mailboxes ≡ keep (if_known {X = MailboxEntry} {Y = Unit {0}} (λ mailbox. tt)) world.mailboxes
-    taken_same = kept_same (if_known (λ mailbox. tt)) world.mailboxes row.name row.mailbox (ap (λ b. if_true b tt) unknown) (nothing_known (λ mailbox. tt) (map.get world.mailboxes row.name))
+    taken_same : keep (if_known {X = Mailbox} {Y = Unit {0}} (λ mailbox. tt)) (with_row world row).mailboxes ≡ keep (if_known {X = Mailbox} {Y = Unit {0}} (λ mailbox. tt)) world.mailboxes
+    taken_same = kept_same (if_known (λ mailbox. tt)) world.mailboxes row.name (mailbox_in row) (ap (λ b. if_true b tt) unknown) (nothing_known (λ mailbox. tt) (map.get world.mailboxes row.name))
 
     epochs_same : keep (if_known {X = ℕ} {Y = ℕ} (λ validity. validity)) (with_row world row).epochs ≡ keep (if_known {X = ℕ} {Y = ℕ} (λ validity. validity)) world.epochs
-    epochs_same = kept_same (if_known (λ validity. validity)) world.epochs row.name row.mailbox.validity (ap (λ b. if_true b row.mailbox.validity) unknown) (nothing_known (λ validity. validity) (map.get world.epochs row.name))
+    epochs_same = kept_same (if_known (λ validity. validity)) world.epochs row.name row.validity (ap (λ b. if_true b row.validity) unknown) (nothing_known (λ validity. validity) (map.get world.epochs row.name))
 
     -- the view stays
     pub put_is_hidden : view_of administrator user (with_row world row) ≡ view_of administrator user world
@@ -97,7 +97,7 @@ module _ (other : List ℕ) where
   seen_without acl = ap (λ n. cond (not (n == 0)) (Some (record { rights = no_rights; acl = cond (has_any no_rights administer) (Some acl) None })) None) (and_zero_l visible_rights)
 
   module _ (administrator user : List ℕ) (some : 0 < length other) (someone : other ≢ anyone) (differ : other ≢ user) where
-    inbox_unseen : (validity : ℕ) → seen_at administrator user (inbox other) (record { validity = validity; acl = owner_acl other }) ≡ None
+    inbox_unseen : (validity : ℕ) → seen_at administrator user (inbox other) (new_mailbox validity (owner_acl other)) ≡ None
     inbox_unseen validity =
         ap (λ o. seen_with (effective user o (owner_acl other)) (owner_acl other)) (own_root administrator other some)
         ∙ ap (λ b. seen_with (cond b (union (granted user (owner_acl other)) owner_rights) (granted user (owner_acl other))) (owner_acl other)) (not_bytes user other (λ e. differ (sym e)))
@@ -109,11 +109,11 @@ module _ (other : List ℕ) where
         ∙ ap (λ b. b || (false || false)) (not_bytes other user differ)
 
     inbox_hidden : (world : World) (there : Bool) → map.contains_key world.mailboxes (inbox other) ≡ there → (b : Bool)
-        → view_of administrator user (after_result (writes_then (cond there (Err Taken) (put_of (cond b (Err Limit) (Ok (record { name = inbox other; mailbox = record { validity = epoch world.epochs (inbox other) + 1; acl = owner_acl other } }))))) (Ok [])) world) ≡ view_of administrator user world
+        → view_of administrator user (after_result (writes_then (cond there (Err Taken) (put_of (cond b (Err Limit) (Ok (record { name = inbox other; validity = epoch world.epochs (inbox other) + 1; acl = owner_acl other }))))) (Ok [])) world) ≡ view_of administrator user world
     inbox_hidden world true is b = refl
     inbox_hidden world false is true = refl
     inbox_hidden world false is false =
-        put_is_hidden administrator user world (record { name = inbox other; mailbox = record { validity = epoch world.epochs (inbox other) + 1; acl = owner_acl other } }) (none_of (map.get world.mailboxes (inbox other)) is) (inbox_unseen (epoch world.epochs (inbox other) + 1)) (inbox_unknown world)
+        put_is_hidden administrator user world (record { name = inbox other; validity = epoch world.epochs (inbox other) + 1; acl = owner_acl other }) (none_of (map.get world.mailboxes (inbox other)) is) (inbox_unseen (epoch world.epochs (inbox other) + 1)) (inbox_unknown world)
 
 not_anyone : (other : List ℕ) → is_user_name other ≡ true → other ≢ anyone
 not_anyone other valid e =

@@ -14,7 +14,7 @@ use Rattle.imap_names.proofs.NameLaws.{is_name_at, is_name_at-same, equal_names,
 use Rattle.imap_names.proofs.OrderLaws.{name_antisymmetric, below_from_within}
 use Rattle.imap_rights.specs.Effective.{effective}
 use Rattle.imap_rights.specs.Rights.{delete_mailbox, has_any}
-use Rattle.imap_world.specs.declared.mailbox_entry.MailboxEntry.{MailboxEntry}
+use Rattle.imap_world.specs.Mailbox.{Mailbox}
 use Rattle.imap_world.specs.Moving.{with_moved}
 use Rattle.imap_world.specs.World.{World, NameSet}
 use Rattle.imap_user_map.proofs.KeptValues.{get-keep}
@@ -69,7 +69,7 @@ within_one_root : (top q : Name) → 1 < length top → is_within top q ≡ true
 within_one_root top q long e = root_of-within top q (omega (arith, long)) e
 
 -- what is seen of a mailbox is the same under any name of the tree
-seen_alike : (administrator user : List ℕ) (q p : Name) → is_root q ≡ false → is_root p ≡ false → root_of q ≡ root_of p → (o : Option MailboxEntry) → option_and_then (seen_at administrator user q) o ≡ option_and_then (seen_at administrator user p) o
+seen_alike : (administrator user : List ℕ) (q p : Name) → is_root q ≡ false → is_root p ≡ false → root_of q ≡ root_of p → (o : Option Mailbox) → option_and_then (seen_at administrator user q) o ≡ option_and_then (seen_at administrator user p) o
 seen_alike administrator user q p a b e None = refl
 seen_alike administrator user q p a b e (Some m) =
     (λ i. cond (a i) None (seen_with (effective user (owner_by_root administrator (e i)) m.acl) m.acl))
@@ -198,7 +198,7 @@ module _ (administrator user : List ℕ) (world : World) (old new : Name) (move 
       let (x, is) = below_from_within old p e in
       by x is (is_name_at p old) refl ∙ sym (get_put (view_of administrator user world).taken old tt p)
     where
-      used : (o : Option MailboxEntry) → is_some o ≡ true → in_use o ≡ Some tt
+      used : (o : Option Mailbox) → is_some o ≡ true → in_use o ≡ Some tt
       used None h = absurd (true≢false (sym h))
       used (Some m) h = refl
 

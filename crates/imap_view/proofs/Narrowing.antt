@@ -11,7 +11,7 @@ use Rattle.imap_names.specs.Order.{Names, name_cmp}
 use Rattle.imap_names.proofs.NameLaws.{is_name_at, equal_names, same_names, get_put, get_without, get_where}
 use Rattle.imap_names.proofs.OrderLaws.{name_antisymmetric}
 use Rattle.imap_rights.specs.Rights.{has_any, names_below_rights}
-use Rattle.imap_world.specs.declared.mailbox_entry.MailboxEntry.{MailboxEntry}
+use Rattle.imap_world.specs.Mailbox.{Mailbox}
 use Rattle.imap_user_map.specs.Finite.{keep}
 use Rattle.imap_world.specs.World.{World, NameSet, subscribed_by}
 use Rattle.imap_user_map.proofs.KeptValues.{get-keep}
@@ -56,7 +56,7 @@ get_kept {X = X} {Y = Y} p f m q = get-keep name_cmp (λ name x. if_true (p name
     when false (Some x) = refl
 
 -- the name of a mailbox is in use
-abbrev pub in_use : Option MailboxEntry → Option (Unit {0})
+abbrev pub in_use : Option Mailbox → Option (Unit {0})
 in_use mailbox = option_map (λ m. tt) mailbox
 
 pub seen_is : (administrator user : List ℕ) (world : World) → (view_of administrator user world).seen ≡ seen_in administrator user world
@@ -151,7 +151,7 @@ module _ (administrator user : List ℕ) where
   same_value (Some x) = refl
 
   pub get_taken : (seen : Names Seen) (world : World) (q : Name) → map.get (view_by administrator user seen world).taken q ≡ cond (may_know_name administrator user seen q) (in_use (map.get world.mailboxes q)) None
-  get_taken seen world q = get_kept (may_know_name administrator user seen) (λ (m : MailboxEntry). tt) world.mailboxes q
+  get_taken seen world q = get_kept (may_know_name administrator user seen) (λ (m : Mailbox). tt) world.mailboxes q
 
   pub get_epochs : (seen : Names Seen) (world : World) (q : Name) → map.get (view_by administrator user seen world).epochs q ≡ cond (may_know_name administrator user seen q) (map.get world.epochs q) None
   get_epochs seen world q = get_kept (may_know_name administrator user seen) (λ n. n) world.epochs q ∙ ap (λ o. cond (may_know_name administrator user seen q) o None) (same_value (map.get world.epochs q))
@@ -178,7 +178,7 @@ module _ (administrator user : List ℕ) where
 
   -- ---- what is seen of a world in which one mailbox is another, or gone
 
-  pub seen_changed : (world new : World) (k : Name) (o : Option MailboxEntry)
+  pub seen_changed : (world new : World) (k : Name) (o : Option Mailbox)
       → ((q : Name) → map.get new.mailboxes q ≡ cond (is_name_at q k) o (map.get world.mailboxes q))
       → seen_in administrator user new ≡ put_option (seen_in administrator user world) k (option_and_then (seen_at administrator user k) o)
   seen_changed world new k o is =

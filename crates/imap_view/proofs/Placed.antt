@@ -7,10 +7,10 @@ use Rattle.imap_names.specs.Name.{Name}
 use Rattle.imap_names.specs.Order.{Names}
 use Rattle.imap_names.proofs.NameLaws.{is_name_at, equal_names, same_names, get_put}
 use Rattle.imap_rights.specs.Acl.{AclMap}
-use Rattle.imap_world.specs.declared.mailbox_entry.MailboxEntry.{MailboxEntry}
+use Rattle.imap_world.specs.Mailbox.{Mailbox, new_mailbox}
 use Rattle.imap_world.specs.Effects.{with_row}
 use Rattle.imap_user_map.specs.Finite.{keep}
-use Rattle.imap_world.specs.NewMailbox.{NewMailbox}
+use Rattle.imap_world.specs.NewMailbox.{NewMailbox, mailbox_in}
 use Rattle.imap_world.specs.Tree.{with_rows}
 use Rattle.imap_world.specs.World.{World, epoch}
 use Rattle.imap_view.specs.Seen.{Seen, seen_at}
@@ -52,10 +52,10 @@ kept_with f m k x after before same holds =
 module _ (administrator user : List ℕ) (world : World) (row : NewMailbox) where
   module _ (below : may_know_name administrator user (seen_in administrator user world) row.name ≡ true) where
     abbrev new : Option Seen
-    new = seen_at administrator user row.name row.mailbox
+    new = seen_at administrator user row.name (mailbox_in row)
 
     seen_new : seen_in administrator user (with_row world row) ≡ put_option (seen_in administrator user world) row.name new
-    seen_new = seen_changed administrator user world (with_row world row) row.name (Some row.mailbox) (get_put world.mailboxes row.name row.mailbox)
+    seen_new = seen_changed administrator user world (with_row world row) row.name (Some (mailbox_in row)) (get_put world.mailboxes row.name (mailbox_in row))
 
     abbrev after : Name → Bool
     after = may_know_name administrator user (put_option (seen_in administrator user world) row.name new)
@@ -71,12 +71,12 @@ module _ (administrator user : List ℕ) (world : World) (row : NewMailbox) wher
     places_same q = ap (λ s. may_know_name administrator user s q) seen_new ∙ same q
 
     takens : (view_by administrator user (put_option (seen_in administrator user world) row.name new) (with_row world row)).taken ≡ map.insert (view_by administrator user (seen_in administrator user world) world).taken row.name tt
-    takens = kept_with (λ (m : MailboxEntry). tt) world.mailboxes row.name row.mailbox after before same below
+    takens = kept_with (λ (m : Mailbox). tt) world.mailboxes row.name (mailbox_in row) after before same below
 
-    all_epochs : (view_by administrator user (put_option (seen_in administrator user world) row.name new) (with_row world row)).epochs ≡ map.insert (view_by administrator user (seen_in administrator user world) world).epochs row.name row.mailbox.validity
-    all_epochs = kept_with (λ (n : ℕ). n) world.epochs row.name row.mailbox.validity after before same below
+    all_epochs : (view_by administrator user (put_option (seen_in administrator user world) row.name new) (with_row world row)).epochs ≡ map.insert (view_by administrator user (seen_in administrator user world) world).epochs row.name row.validity
+    all_epochs = kept_with (λ (n : ℕ). n) world.epochs row.name row.validity after before same below
 
-    pub view_with_row : view_of administrator user (with_row world row) ≡ view_with_mailbox (view_of administrator user world) new row.name row.mailbox.validity
+    pub view_with_row : view_of administrator user (with_row world row) ≡ view_with_mailbox (view_of administrator user world) new row.name row.validity
     unfolding view_of
     view_with_row =
         ap (λ s. view_by administrator user s (with_row world row)) seen_new
@@ -102,20 +102,20 @@ pub rows_elsewhere : (rows : List NewMailbox) (world : World) (q : Name) → All
 rows_elsewhere [] world q each = refl
 rows_elsewhere (row ∷ rows) world q each =
     rows_elsewhere rows (with_row world row) q each.1
-    ∙ get_put world.mailboxes row.name row.mailbox q
-    ∙ ap (λ b. cond b (Some row.mailbox) (map.get world.mailboxes q)) each.0
+    ∙ get_put world.mailboxes row.name (mailbox_in row) q
+    ∙ ap (λ b. cond b (Some (mailbox_in row)) (map.get world.mailboxes q)) each.0
 
 -- ---- several, that are seen alike
 
 -- the mailbox that is made under a name
 abbrev pub row_of : Names ℕ → AclMap → Name → NewMailbox
-row_of epochs acl name = record { name = name; mailbox = record { validity = epoch epochs name + 1; acl = acl } }
+row_of epochs acl name = record { name = name; validity = epoch epochs name + 1; acl = acl }
 
 module _ (administrator user : List ℕ) (epochs known : Names ℕ) (acl : AclMap) (seen : Option Seen) where
   -- below a place, with a list by which it is seen so, and the user knows the validities
   pub record IsNew (world : World) (name : Name) : Type 0 where
     pub below : may_know_name administrator user (seen_in administrator user world) name ≡ true
-    pub shown : (validity : ℕ) → seen_at administrator user name (record { validity = validity; acl = acl }) ≡ seen
+    pub shown : (validity : ℕ) → seen_at administrator user name (new_mailbox validity acl) ≡ seen
     pub counted : epoch epochs name ≡ epoch known name
 
   pub rows_seen : (names : List Name) (world : World) → AllByRecursion (IsNew world) names

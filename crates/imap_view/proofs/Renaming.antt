@@ -11,7 +11,7 @@ use Rattle.imap_names.proofs.MovedLaws.{within_no_shorter}
 use Rattle.imap_names.proofs.NameLaws.{is_name_at, equal_names}
 use Rattle.imap_rights.specs.Acl.{AclMap}
 use Rattle.imap_rights.specs.Rights.{delete_mailbox, has_any}
-use Rattle.imap_world.specs.declared.mailbox_entry.MailboxEntry.{MailboxEntry}
+use Rattle.imap_world.specs.Mailbox.{Mailbox}
 use Rattle.imap_world.specs.Moving.{arrivals_at, can_move, superior_rows}
 use Rattle.imap_world.specs.NewMailbox.{NewMailbox}
 use Rattle.imap_world.specs.Tree.{inherited, new_row, rows_for, with_last, with_rows}
@@ -109,7 +109,7 @@ module _ (administrator user : List ℕ) (world : World) (new : Name) where
       (taken_there administrator user world q (known_within administrator user world new known q e)
       ∙ none_found new (view_of administrator user world).taken q (run_is_empty new (view_of administrator user world).taken free) e))
     where
-      unused : (o : Option MailboxEntry) → in_use o ≡ None → o ≡ None
+      unused : (o : Option Mailbox) → in_use o ≡ None → o ≡ None
       unused None e = refl
       unused (Some m) e = cc
 

@@ -11,7 +11,7 @@ use Rattle.imap_rights.specs.Change.{applied}
 use Rattle.imap_rights.specs.Effective.{entry, effective}
 use Rattle.imap_rights.specs.Rights.{has_any, visible_rights, administer}
 use Rattle.imap_world.specs.declared.error.WorldError.TheVariants.{Limit}
-use Rattle.imap_world.specs.declared.mailbox_entry.MailboxEntry.{MailboxEntry}
+use Rattle.imap_world.specs.Mailbox.{Mailbox}
 use Rattle.imap_world.specs.Tree.{with_acl, mailboxes_with_list}
 use Rattle.imap_world.specs.World.{World}
 use Rattle.imap_view.specs.Seen.{Seen, is_root, owner_of, seen_at, seen_with}
@@ -43,7 +43,7 @@ shown_by rights mine shown e = by (has_any rights visible_rights) refl (has_any 
           administers = ap (λ b. has_any (rights_of (cond b (Some (record { rights = rights; acl = cond (has_any rights administer) (Some mine) None })) None)) administer) is ∙ at;
         }
 
-shown_at : (administrator user : List ℕ) (name : Name) (m : MailboxEntry) (shown : AclMap) → acl_of (seen_at administrator user name m) ≡ Some shown → ShowsList (seen_at administrator user name m) (is_root name) m.acl shown
+shown_at : (administrator user : List ℕ) (name : Name) (m : Mailbox) (shown : AclMap) → acl_of (seen_at administrator user name m) ≡ Some shown → ShowsList (seen_at administrator user name m) (is_root name) m.acl shown
 shown_at administrator user name m shown e = by (is_root name) refl
   where
     by : (b : Bool) → is_root name ≡ b → ShowsList (seen_at administrator user name m) (is_root name) m.acl shown
@@ -59,7 +59,7 @@ shown_at administrator user name m shown e = by (is_root name) refl
 
 -- ---- the view after it
 
-module _ (administrator user : List ℕ) (world : World) (name : Name) (m : MailboxEntry) (acl : AclMap) where
+module _ (administrator user : List ℕ) (world : World) (name : Name) (m : Mailbox) (acl : AclMap) where
   module _ (there : map.get world.mailboxes name ≡ Some m) (named : is_root name ≡ false) (place : shows_names_below administrator user (seen_in administrator user world) name ≡ true) where
     after : World
     after = record world { mailboxes = map.insert world.mailboxes name (record m { acl = acl }) }
@@ -104,7 +104,7 @@ module _ (administrator user : List ℕ) (world : World) (name : Name) (identifi
   abbrev as_seen : Option Seen → View
   as_seen o = narrowed (record (view_of administrator user world) { seen = put_option (view_of administrator user world).seen name o })
 
-  with_list : (m : MailboxEntry) (acl : AclMap) → map.get world.mailboxes name ≡ Some m
+  with_list : (m : Mailbox) (acl : AclMap) → map.get world.mailboxes name ≡ Some m
       → acl_in (view_of administrator user world) name ≡ Some acl → is_full_for acl identifier (applied change (entry acl identifier)) ≡ false
       → IsRightsChange administrator user world name identifier change
   with_list m acl there shown room =
@@ -128,7 +128,7 @@ module _ (administrator user : List ℕ) (world : World) (name : Name) (identifi
       → IsRightsChange administrator user world name identifier change
   listed acl shown room = by (map.get world.mailboxes name) refl
     where
-      by : (o : Option MailboxEntry) → map.get world.mailboxes name ≡ o → IsRightsChange administrator user world name identifier change
+      by : (o : Option Mailbox) → map.get world.mailboxes name ≡ o → IsRightsChange administrator user world name identifier change
       by None is = absurd (cc (sym shown ∙ ap acl_of (get_seen administrator user world name ∙ ap (option_and_then (seen_at administrator user name)) is)))
       by (Some m) is = with_list m acl is shown room
 

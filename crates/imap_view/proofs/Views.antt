@@ -8,7 +8,7 @@ use Rattle.imap_names.specs.Valid.{IsName}
 use Rattle.imap_names.proofs.OrderLaws.{name_antisymmetric}
 use Rattle.imap_rights.specs.Rights.{has_any, visible_rights, administer}
 use Rattle.imap_rights.specs.Effective.{effective}
-use Rattle.imap_world.specs.declared.mailbox_entry.MailboxEntry.{MailboxEntry}
+use Rattle.imap_world.specs.Mailbox.{Mailbox}
 use Rattle.imap_world.specs.World.{World, epoch, subscribed_by}
 use Rattle.imap_user_map.proofs.KeptValues.{get-keep}
 use Rattle.imap_view.specs.Seen.{Seen, is_root, owner_of, seen_at, seen_with}
@@ -83,7 +83,7 @@ module _ (administrator user : List ℕ) (world : World) where
   pub absent_is_unseen : (q : Name) → map.get world.mailboxes q ≡ None → map.get (view_of administrator user world).seen q ≡ None
   absent_is_unseen q absent = get_seen q ∙ ap (option_and_then (seen_at administrator user q)) absent
 
-  module _ (view : View) (is : view_of administrator user world ≡ view) (q : Name) (mailbox : MailboxEntry) where
+  module _ (view : View) (is : view_of administrator user world ≡ view) (q : Name) (mailbox : Mailbox) where
     administrator_there : administrator ≡ view.administrator
     administrator_there = sym administrator_of ∙ ap (λ (v : View). v.administrator) is
 

@@ -5,7 +5,7 @@ use Rattle.imap_names.specs.Name.{Name, root_of}
 use Rattle.imap_rights.specs.Rights.{bits, has_any, visible_rights, administer}
 use Rattle.imap_rights.specs.Acl.{AclMap, acl_code}
 use Rattle.imap_rights.specs.Effective.{effective}
-use Rattle.imap_world.specs.declared.mailbox_entry.MailboxEntry.{MailboxEntry}
+use Rattle.imap_world.specs.Mailbox.{Mailbox}
 use Rattle.imap_view.specs.declared.seen.Seen.{Seen as SeenMailbox}
 
 -- the tree that all share is the administrator's, every other one its user's
@@ -39,7 +39,7 @@ is_root (root ∷ []) = true
 is_root (deepest ∷ above ∷ more) = false
 
 -- the mailbox of this name, for a user who holds a right by which it is visible
-abbrev pub seen_at : List ℕ → List ℕ → Name → MailboxEntry → Option Seen
+abbrev pub seen_at : List ℕ → List ℕ → Name → Mailbox → Option Seen
 seen_at administrator user name mailbox =
     if is_root name then None
     else seen_with (effective user (owner_of administrator name) mailbox.acl) mailbox.acl

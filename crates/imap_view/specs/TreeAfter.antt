@@ -12,7 +12,7 @@ use Rattle.imap_rights.specs.Acl.{AclMap, is_full_for, with_entry, owner_acl}
 use Rattle.imap_rights.specs.Change.{applied}
 use Rattle.imap_rights.specs.Effective.{entry, effective}
 use Rattle.imap_rights.specs.Rights.{delete_mailbox, has_any}
-use Rattle.imap_world.specs.declared.mailbox_entry.MailboxEntry.{MailboxEntry}
+use Rattle.imap_world.specs.Mailbox.{Mailbox}
 use Rattle.imap_world.specs.Changing.{acl_with_rights}
 use Rattle.imap_world.specs.NewMailbox.{NewMailbox}
 use Rattle.imap_world.specs.Tree.{with_acl, without, created_rows, with_rows}
@@ -66,7 +66,7 @@ view_with_rights view name identifier change = narrowed (record view {
 pub record IsRightsChange
     (administrator user : List ℕ) (world : World) (name : Name) (identifier : List ℕ) (change : RightsChange)
     : Type 0 where
-  pub mailbox : MailboxEntry
+  pub mailbox : Mailbox
   pub acl : AclMap
   pub there : map.get world.mailboxes name ≡ Some mailbox
   pub changed : acl_with_rights mailbox.acl identifier change ≡ Ok acl

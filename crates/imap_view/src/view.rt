@@ -11,6 +11,7 @@ ghost use Rattle.imap_view.specs.Seen.{is_root, owner_by_root, owner_of, seen_at
 ghost use Rattle.imap_view.specs.View.{acl_in, epoch_in, rights_in, may_know_name_in, is_own_root};
 ghost use Rattle.imap_view.specs.View.{shows_names_below, may_create, view_of};
 ghost use Rattle.imap_view.specs.TreeAfter.{is_known};
+ghost use Rattle.imap_world.specs.Mailbox.{plain};
 ghost use Rattle.imap_world.specs.Stored.{names_in, world_of};
 ghost use Rattle.imap_world.specs.World.{epoch, max_validity};
 
@@ -79,7 +80,7 @@ impl<'a> View<'a> {
     /// A mailbox of this name as the user sees it, if the user does.
     pub(crate) fn seen_of(&self, name: &NameRef<'_>, mailbox: &'a MailboxEntry) -> Option<Seen<'a>>
         ensures { option_map shown result
-            ≡ seen_at self.now.administrator self.now.user name.now mailbox.now }
+            ≡ seen_at self.now.administrator self.now.user name.now (plain mailbox.now) }
     {
         let owner = owner_by_root(self.site, name.root());
         let rights = mailbox.acl.effective(self.user.as_str(), owner);

@@ -21,12 +21,12 @@ use Rattle.imap_world.specs.declared.change.Write.{Write}
 use Rattle.imap_world.specs.declared.change.Write.TheVariants as write
 use Rattle.imap_world.specs.declared.error.WorldError.{WorldError}
 use Rattle.imap_world.specs.declared.error.WorldError.TheVariants.{Cannot, Limit, NoSuch, Taken}
-use Rattle.imap_world.specs.declared.mailbox_entry.MailboxEntry.{MailboxEntry}
+use Rattle.imap_world.specs.Mailbox.{Mailbox, new_mailbox}
 use Rattle.imap_world.specs.Effects.{after_write, after_writes, move_after, puts, puts_of}
 use Rattle.imap_world.specs.Kept.{IsSound, is_there, superior_is_there}
 use Rattle.imap_world.specs.Laws.{CreatesByName, IsCreated, IsRenamed, RenamesByName, entry_made, entry_moved, is_made_with}
 use Rattle.imap_world.specs.Moving.{arrivals, arrivals_at, can_arrive, can_move, superior_rows, with_moved, with_validities, with_validity}
-use Rattle.imap_world.specs.NewMailbox.{NewMailbox}
+use Rattle.imap_world.specs.NewMailbox.{NewMailbox, mailbox_in}
 use Rattle.imap_world.specs.Ready.{MayMove}
 use Rattle.imap_world.specs.Tree.{acl_or, created_rows, inherited, new_row, rows_for, with_last, with_row, with_rows}
 use Rattle.imap_world.specs.World.{World, epoch, inbox, max_validity}
@@ -62,7 +62,7 @@ comparable a b (deepest ∷ q) e f = by (within_cases a deepest q e) (within_cas
     by (inr within) (inr also) rest = rest within also
 
 -- a name without a component makes none
-made_short : (m : Names MailboxEntry) (name q : Name) → length name ≤ 1 → is_made_with m name q ≡ false
+made_short : (m : Names Mailbox) (name q : Name) → length name ≤ 1 → is_made_with m name q ≡ false
 made_short m name q short = by (is_within q name) refl (nat_lt 1 (length q)) refl
   where
     by : (a : Bool) → is_within q name ≡ a → (b : Bool) → nat_lt 1 (length q) ≡ b → (a && (b && not (map.contains_key m q))) ≡ false
@@ -70,10 +70,10 @@ made_short m name q short = by (is_within q name) refl (nat_lt 1 (length q)) ref
     by true e false f = refl
     by true e true f = absurd (omega (arith, short, within_no_shorter q name e, ltb-true _ _ f))
 
-made_step : (m : Names MailboxEntry) (deepest : List ℕ) (above q : Name) → is_name_at q (deepest ∷ above) ≡ false → is_made_with m (deepest ∷ above) q ≡ is_made_with m above q
+made_step : (m : Names Mailbox) (deepest : List ℕ) (above q : Name) → is_name_at q (deepest ∷ above) ≡ false → is_made_with m (deepest ∷ above) q ≡ is_made_with m above q
 made_step m deepest above q apart = ap (λ b. b && (nat_lt 1 (length q) && not (map.contains_key m q))) (within_step q deepest above apart)
 
-made_itself : (m : Names MailboxEntry) (deepest above : List ℕ) (more : Name) → map.contains_key m (deepest ∷ above ∷ more) ≡ false → is_made_with m (deepest ∷ above ∷ more) (deepest ∷ above ∷ more) ≡ true
+made_itself : (m : Names Mailbox) (deepest above : List ℕ) (more : Name) → map.contains_key m (deepest ∷ above ∷ more) ≡ false → is_made_with m (deepest ∷ above ∷ more) (deepest ∷ above ∷ more) ≡ true
 made_itself m deepest above more absent =
     ap (λ b. b && (nat_lt 1 (length (deepest ∷ above ∷ more)) && not (map.contains_key m (deepest ∷ above ∷ more)))) (within_itself (deepest ∷ above ∷ more))
     ∙ ap (λ b. b && not (map.contains_key m (deepest ∷ above ∷ more))) (long (length (deepest ∷ above ∷ more)) (omega arith))
@@ -122,8 +122,8 @@ module _ (world : World) where
 
   -- ---- rows
 
-  abbrev new_at : AclMap → Name → MailboxEntry
-  new_at acl q = record { validity = epoch world.epochs q + 1; acl = acl }
+  abbrev new_at : AclMap → Name → Mailbox
+  new_at acl q = new_mailbox (epoch world.epochs q + 1) acl
 
   record AreMadeAt (acl : AclMap) (name : Name) (rows : List NewMailbox) : Type 0 where
     mailbox : (q : Name) → map.get (with_rows world rows).mailboxes q ≡ cond (is_made_with world.mailboxes name q) (Some (new_at acl q)) (map.get world.mailboxes q)
@@ -142,10 +142,10 @@ module _ (world : World) where
     name = deepest ∷ above ∷ more
 
     abbrev row : NewMailbox
-    row = record { name = name; mailbox = new_at acl name }
+    row = record { name = name; validity = epoch world.epochs name + 1; acl = acl }
 
     by_mailbox : (q : Name) (b : Bool) → is_name_at q name ≡ b
-        → cond b (Some row.mailbox) (map.get (with_rows world rows).mailboxes q) ≡ cond (is_made_with world.mailboxes name q) (Some (new_at acl q)) (map.get world.mailboxes q)
+        → cond b (Some (mailbox_in row)) (map.get (with_rows world rows).mailboxes q) ≡ cond (is_made_with world.mailboxes name q) (Some (new_at acl q)) (map.get world.mailboxes q)
     by_mailbox q true at =
         ap (λ n. Some (new_at acl n)) (sym (equal_names q name at))
         ∙ sym (ap (λ b. cond b (Some (new_at acl q)) (map.get world.mailboxes q)) (ap (is_made_with world.mailboxes name) (equal_names q name at) ∙ made_itself world.mailboxes deepest above more absent))
@@ -153,7 +153,7 @@ module _ (world : World) where
         made.mailbox q ∙ ap (λ b. cond b (Some (new_at acl q)) (map.get world.mailboxes q)) (sym (made_step world.mailboxes deepest (above ∷ more) q apart))
 
     by_epoch : (q : Name) (b : Bool) → is_name_at q name ≡ b
-        → cond b (Some row.mailbox.validity) (map.get (with_rows world rows).epochs q) ≡ cond (is_made_with world.mailboxes name q) (Some (epoch world.epochs q + 1)) (map.get world.epochs q)
+        → cond b (Some row.validity) (map.get (with_rows world rows).epochs q) ≡ cond (is_made_with world.mailboxes name q) (Some (epoch world.epochs q + 1)) (map.get world.epochs q)
     by_epoch q true at =
         ap (λ n. Some (epoch world.epochs n + 1)) (sym (equal_names q name at))
         ∙ sym (ap (λ b. cond b (Some (epoch world.epochs q + 1)) (map.get world.epochs q)) (ap (is_made_with world.mailboxes name) (equal_names q name at) ∙ made_itself world.mailboxes deepest above more absent))
@@ -162,15 +162,15 @@ module _ (world : World) where
 
     one_more_made : AreMadeAt acl name (rows ++ row ∷ [])
     one_more_made = record {
-      mailbox = λ q. ap (λ w. map.get w.mailboxes q) (with_rows-last rows row world) ∙ get_put (with_rows world rows).mailboxes name row.mailbox q ∙ by_mailbox q (is_name_at q name) refl;
-      epochs = λ q. ap (λ w. map.get w.epochs q) (with_rows-last rows row world) ∙ get_put (with_rows world rows).epochs name row.mailbox.validity q ∙ by_epoch q (is_name_at q name) refl;
+      mailbox = λ q. ap (λ w. map.get w.mailboxes q) (with_rows-last rows row world) ∙ get_put (with_rows world rows).mailboxes name (mailbox_in row) q ∙ by_mailbox q (is_name_at q name) refl;
+      epochs = λ q. ap (λ w. map.get w.epochs q) (with_rows-last rows row world) ∙ get_put (with_rows world rows).epochs name row.validity q ∙ by_epoch q (is_name_at q name) refl;
       subscriptions = ap (λ w. w.subscriptions) (with_rows-last rows row world) ∙ made.subscriptions;
     }
 
-  row_is : (acl : AclMap) (name : Name) (row : NewMailbox) → new_row world.epochs name acl ≡ Ok row → row ≡ record { name = name; mailbox = new_at acl name }
+  row_is : (acl : AclMap) (name : Name) (row : NewMailbox) → new_row world.epochs name acl ≡ Ok row → row ≡ record { name = name; validity = epoch world.epochs name + 1; acl = acl }
   row_is acl name row = by (epoch world.epochs name == max_validity)
     where
-      by : (b : Bool) → ◌≡◌ {A = Result NewMailbox WorldError} (cond b (Err Limit) (Ok (record { name = name; mailbox = new_at acl name }))) (Ok row) → row ≡ record { name = name; mailbox = new_at acl name }
+      by : (b : Bool) → ◌≡◌ {A = Result NewMailbox WorldError} (cond b (Err Limit) (Ok (record { name = name; validity = epoch world.epochs name + 1; acl = acl }))) (Ok row) → row ≡ record { name = name; validity = epoch world.epochs name + 1; acl = acl }
       by true e = absurd (cc e)
       by false e = sym (ok_same _ row e)
 
@@ -199,7 +199,7 @@ module _ (world : World) where
   inherited_above owner deepest (root ∷ []) q closed e = absurd (true≢false (sym e ∙ made_short world.mailboxes (root ∷ []) q (omega arith)))
   inherited_above owner deepest (above ∷ next ∷ more) q closed e = by (map.get world.mailboxes (above ∷ next ∷ more)) refl
     where
-      by : (o : Option MailboxEntry) → map.get world.mailboxes (above ∷ next ∷ more) ≡ o → acl_or o (inherited world.mailboxes owner (above ∷ next ∷ more)) ≡ inherited world.mailboxes owner (above ∷ next ∷ more)
+      by : (o : Option Mailbox) → map.get world.mailboxes (above ∷ next ∷ more) ≡ o → acl_or o (inherited world.mailboxes owner (above ∷ next ∷ more)) ≡ inherited world.mailboxes owner (above ∷ next ∷ more)
       by None is = refl
       by (Some mailbox) is = absurd (true≢false (sym e ∙ none_made_there closed (above ∷ next ∷ more) q (ap is_some is)))
 
@@ -245,25 +245,25 @@ creates_by_name world owner name ws sound = by (map.contains_key world.mailboxes
 
 -- ---- mailboxes under their new names
 
-abbrev with_new : ℕ → MailboxEntry → MailboxEntry
+abbrev with_new : ℕ → Mailbox → Mailbox
 with_new validity mailbox = record mailbox { validity = validity }
 
-validity_at : (m : Names MailboxEntry) (name : Name) (validity : ℕ) (q : Name) → map.get (with_validity m name validity (map.get m name)) q ≡ cond (is_name_at q name) (option_map (with_new validity) (map.get m q)) (map.get m q)
+validity_at : (m : Names Mailbox) (name : Name) (validity : ℕ) (q : Name) → map.get (with_validity m name validity (map.get m name)) q ≡ cond (is_name_at q name) (option_map (with_new validity) (map.get m q)) (map.get m q)
 validity_at m name validity q = by (map.get m name) refl (is_name_at q name) refl
   where
     same : (b : Bool) → is_name_at q name ≡ b → map.get m name ≡ None → map.get m q ≡ cond b (option_map (with_new validity) (map.get m q)) (map.get m q)
     same true at is = let none : map.get m q ≡ None = ap (map.get m) (equal_names q name at) ∙ is in none ∙ sym (ap (option_map (with_new validity)) none)
     same false at is = refl
 
-    changed : (b : Bool) → is_name_at q name ≡ b → (before : MailboxEntry) → map.get m name ≡ Some before → cond b (Some (with_new validity before)) (map.get m q) ≡ cond b (option_map (with_new validity) (map.get m q)) (map.get m q)
+    changed : (b : Bool) → is_name_at q name ≡ b → (before : Mailbox) → map.get m name ≡ Some before → cond b (Some (with_new validity before)) (map.get m q) ≡ cond b (option_map (with_new validity) (map.get m q)) (map.get m q)
     changed true at before is = sym (ap (option_map (with_new validity)) (ap (map.get m) (equal_names q name at) ∙ is))
     changed false at before is = refl
 
-    by : (o : Option MailboxEntry) → map.get m name ≡ o → (b : Bool) → is_name_at q name ≡ b → map.get (with_validity m name validity o) q ≡ cond (is_name_at q name) (option_map (with_new validity) (map.get m q)) (map.get m q)
+    by : (o : Option Mailbox) → map.get m name ≡ o → (b : Bool) → is_name_at q name ≡ b → map.get (with_validity m name validity o) q ≡ cond (is_name_at q name) (option_map (with_new validity) (map.get m q)) (map.get m q)
     by None is b at = same (is_name_at q name) refl is
     by (Some before) is b at = get_put m name (with_new validity before) q ∙ changed (is_name_at q name) refl before is
 
-validities_at : (epochs : Names ℕ) (names : List Name) (m : Names MailboxEntry) (q : Name)
+validities_at : (epochs : Names ℕ) (names : List Name) (m : Names Mailbox) (q : Name)
     → map.get (with_validities m (arrivals_at epochs names)) q ≡ cond (is_among q names) (option_map (with_new (epoch epochs q + 1)) (map.get m q)) (map.get m q)
 validities_at epochs [] m q = refl
 validities_at epochs (name ∷ names) m q =
@@ -271,7 +271,7 @@ validities_at epochs (name ∷ names) m q =
     ∙ ap (λ o. cond (is_among q names) (option_map (with_new (epoch epochs q + 1)) o) o) (validity_at m name (epoch epochs name + 1) q)
     ∙ by (is_name_at q name) refl (is_among q names)
   where
-    twice : (o : Option MailboxEntry) (n : ℕ) (rest : Bool) → cond rest (option_map (with_new n) (option_map (with_new n) o)) (option_map (with_new n) o) ≡ option_map (with_new n) o
+    twice : (o : Option Mailbox) (n : ℕ) (rest : Bool) → cond rest (option_map (with_new n) (option_map (with_new n) o)) (option_map (with_new n) o) ≡ option_map (with_new n) o
     twice None n true = refl
     twice (Some mailbox) n true = refl
     twice o n false = refl
@@ -383,7 +383,7 @@ module _ (world : World) (sound : IsSound world) (owner : List ℕ) (old : Name)
       ∙ ap (λ o. cond (is_among q names) (option_map (with_new (unwrap_or o 0 + 1)) (map.get world.mailboxes (moved new old q))) (map.get world.mailboxes (moved new old q))) (at_new q e).epoch
       ∙ by (map.get world.mailboxes (moved new old q)) refl (is_among q names) refl
     where
-      by : (o : Option MailboxEntry) → map.get world.mailboxes (moved new old q) ≡ o → (b : Bool) → is_among q names ≡ b → cond b (option_map (with_new (epoch world.epochs q + 1)) o) o ≡ option_map (entry_moved world q) o
+      by : (o : Option Mailbox) → map.get world.mailboxes (moved new old q) ≡ o → (b : Bool) → is_among q names ≡ b → cond b (option_map (with_new (epoch world.epochs q + 1)) o) o ≡ option_map (entry_moved world q) o
       by None there true among = refl
       by None there false among = refl
       by (Some mailbox) there true among = refl
@@ -395,7 +395,7 @@ module _ (world : World) (sound : IsSound world) (owner : List ℕ) (old : Name)
       sym (ap is_some (get_in_run old mid.mailboxes (moved new old q) ∙ ap (λ b. cond b (map.get mid.mailboxes (moved new old q)) None) (moved_within new old q within)))
       ∙ among_found old new q (run_of old mid.mailboxes) (run_within old mid.mailboxes) among
 
-  some_moved : (q : Name) (o : Option MailboxEntry) → is_some (option_map (entry_moved world q) o) ≡ is_some o
+  some_moved : (q : Name) (o : Option Mailbox) → is_some (option_map (entry_moved world q) o) ≡ is_some o
   some_moved q None = refl
   some_moved q (Some mailbox) = refl
 

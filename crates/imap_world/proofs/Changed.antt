@@ -7,7 +7,7 @@ use Rattle.imap_names.specs.Order.{Names}
 use Rattle.imap_names.proofs.NameLaws.{is_name_at, equal_names, same_names, get_put}
 use Rattle.imap_rights.specs.Acl.{AclMap}
 use Rattle.imap_rights.specs.declared.change.RightsChange.{RightsChange}
-use Rattle.imap_world.specs.declared.mailbox_entry.MailboxEntry.{MailboxEntry}
+use Rattle.imap_world.specs.Mailbox.{Mailbox}
 use Rattle.imap_world.specs.declared.error.WorldError.{WorldError}
 use Rattle.imap_world.specs.Kept.{IsSound}
 use Rattle.imap_world.specs.World.{World}
@@ -21,13 +21,13 @@ insert_same m k x there = same_names _ _ (λ q. get_put m k x q ∙ by q (is_nam
     by q true at = sym there ∙ ap (map.get m) (sym (equal_names q k at))
     by q false at = refl
 
-changes_there : (r : Result (Unit {0}) WorldError) (m : Names MailboxEntry) (name : Name) (mailbox : MailboxEntry) (new : AclMap) (meant : Result AclMap WorldError) → Changes r new meant → Changes r (map.insert m name (record mailbox { acl = new })) (mailboxes_with_acl m name mailbox meant)
+changes_there : (r : Result (Unit {0}) WorldError) (m : Names Mailbox) (name : Name) (mailbox : Mailbox) (new : AclMap) (meant : Result AclMap WorldError) → Changes r new meant → Changes r (map.insert m name (record mailbox { acl = new })) (mailboxes_with_acl m name mailbox meant)
 changes_there (Ok done) m name mailbox new (Ok wanted) h = ap (λ acl. map.insert m name (record mailbox { acl = acl })) h
 changes_there (Ok done) m name mailbox new (Err refusal) h = h
 changes_there (Err error) m name mailbox new (Ok wanted) h = h
 changes_there (Err error) m name mailbox new (Err refusal) h = h
 
-pub rights_there : (m : Names MailboxEntry) (name : Name) (identifier : List ℕ) (change : RightsChange) (before : MailboxEntry) (new : AclMap) (r : Result (Unit {0}) WorldError) → map.get m name ≡ Some before → Changes r new (acl_with_rights before.acl identifier change)
+pub rights_there : (m : Names Mailbox) (name : Name) (identifier : List ℕ) (change : RightsChange) (before : Mailbox) (new : AclMap) (r : Result (Unit {0}) WorldError) → map.get m name ≡ Some before → Changes r new (acl_with_rights before.acl identifier change)
     → Changes r (map.insert m name (record before { acl = new })) (mailboxes_with_rights m name identifier change)
 rights_there m name identifier change before new r there h =
     subst (λ o. Changes r (map.insert m name (record before { acl = new })) (mailboxes_with_rights_at m name identifier change o)) (sym there)
@@ -39,18 +39,18 @@ nothing_changed (Err error) new old kept was h f = f h
 
 -- ---- the world
 
-pub world_there : (r : Result (Unit {0}) WorldError) (world : World) (new : Names MailboxEntry) (meant : Result (Names MailboxEntry) WorldError) → Changes r new meant → Changes r (record world { mailboxes = new }) (with_mailboxes world meant)
+pub world_there : (r : Result (Unit {0}) WorldError) (world : World) (new : Names Mailbox) (meant : Result (Names Mailbox) WorldError) → Changes r new meant → Changes r (record world { mailboxes = new }) (with_mailboxes world meant)
 world_there (Ok done) world new (Ok wanted) h = ap (λ mailboxes. record world { mailboxes = mailboxes }) h
 world_there (Ok done) world new (Err refusal) h = h
 world_there (Err error) world new (Ok wanted) h = h
 world_there (Err error) world new (Err refusal) h = h
 
 module _ (old new : World) (name : Name) (identifier : List ℕ) (change : RightsChange) (counted : new.epochs ≡ old.epochs) (sound : IsSound old) where
-  by_acl : (before : MailboxEntry) → map.get old.mailboxes name ≡ Some before → (meant : Result AclMap WorldError) → Changes (Ok tt) new.mailboxes (mailboxes_with_acl old.mailboxes name before meant) → IsSound new
+  by_acl : (before : Mailbox) → map.get old.mailboxes name ≡ Some before → (meant : Result AclMap WorldError) → Changes (Ok tt) new.mailboxes (mailboxes_with_acl old.mailboxes name before meant) → IsSound new
   by_acl before there (Ok acl) h = changed_is_sound old new name before (record before { acl = acl }) h counted there refl sound
   by_acl before there (Err refusal) h = absurd h
 
-  by_mailbox : (o : Option MailboxEntry) → map.get old.mailboxes name ≡ o → Changes (Ok tt) new.mailboxes (mailboxes_with_rights_at old.mailboxes name identifier change o) → IsSound new
+  by_mailbox : (o : Option Mailbox) → map.get old.mailboxes name ≡ o → Changes (Ok tt) new.mailboxes (mailboxes_with_rights_at old.mailboxes name identifier change o) → IsSound new
   by_mailbox None there h = absurd h
   by_mailbox (Some before) there h = by_acl before there (acl_with_rights before.acl identifier change) h
 

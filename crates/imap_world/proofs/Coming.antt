@@ -11,7 +11,7 @@ use Rattle.imap_names.specs.Name.{Name}
 use Rattle.imap_names.specs.Order.{Names, is_within}
 use Rattle.imap_world.specs.declared.error.WorldError.{WorldError}
 use Rattle.imap_world.specs.declared.error.WorldError.TheVariants.{Limit}
-use Rattle.imap_world.specs.declared.mailbox_entry.MailboxEntry.{MailboxEntry}
+use Rattle.imap_world.specs.Mailbox.{Mailbox}
 use Rattle.imap_world.specs.Changing.{AnswersOrMemory}
 use Rattle.imap_world.specs.Moving.{arrival_at, arrivals_at, can_arrive, with_validities, with_validity}
 use Rattle.imap_world.specs.World.{epoch}
@@ -96,7 +96,7 @@ within_run {X} old m es i e run lt is = by (is_within old e.0) refl
 
 -- ---- the mailboxes get their validities, one further
 
-pub one_set : (m new : Names MailboxEntry) (validities : List (Name × ℕ)) (i : ℕ) (e : Name × ℕ) → i < length validities → e ≡ get_or validities i e
+pub one_set : (m new : Names Mailbox) (validities : List (Name × ℕ)) (i : ℕ) (e : Name × ℕ) → i < length validities → e ≡ get_or validities i e
     → new ≡ with_validity m e.0 e.1 (map.get m e.0) → with_validities new (drop (i + 1) validities) ≡ with_validities m (drop i validities)
 one_set m new validities i e lt is set =
     let cut : drop i validities ≡ e ∷ drop (i + 1) validities = rw add-one (drop-cons validities i e lt ∙ ap (λ x. x ∷ drop (suc i) validities) (sym is)) in

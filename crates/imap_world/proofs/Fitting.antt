@@ -20,12 +20,12 @@ use Rattle.imap_world.specs.declared.effect.Effect.{Effect}
 use Rattle.imap_world.specs.declared.effect.Effect.TheVariants as effect
 use Rattle.imap_world.specs.declared.error.WorldError.{WorldError}
 use Rattle.imap_world.specs.declared.error.WorldError.TheVariants.{NoSuch, Taken, Below, Cannot, Limit}
-use Rattle.imap_world.specs.declared.mailbox_entry.MailboxEntry.{MailboxEntry}
+use Rattle.imap_world.specs.Mailbox.{Mailbox}
 use Rattle.imap_world.specs.Effects.{after_write, after_writes, list_changed, list_set, move_after, put_of, puts, puts_of, writes_for, writes_of, writes_then}
 use Rattle.imap_world.specs.Kept.{IsSound, superior_is_there}
 use Rattle.imap_world.specs.Moving.{arrivals, arrivals_at, can_arrive, can_move, superior_rows}
 use Rattle.imap_world.specs.Ready.{AreApart, MayBeWritten, MayMove, MayPut, MayWrite, inbox_owner, is_plain}
-use Rattle.imap_world.specs.NewMailbox.{NewMailbox}
+use Rattle.imap_world.specs.NewMailbox.{NewMailbox, mailbox_in}
 use Rattle.imap_world.specs.Tree.{acl_with_rights, created_rows, inherited, new_row, rows_for, with_last, with_acl, with_row, with_rows, without}
 use Rattle.imap_world.specs.World.{World, epoch, inbox, max_validity}
 use Rattle.imap_world.proofs.Made.{AreTails, StaysAt, below_is_apart, free_alike, moved_arrivals_alike, other_is_apart, rows_are_tails, rows_keep, stays_at}
@@ -39,7 +39,7 @@ ok_same x y e = cc
 -- ---- writes that may be written keep a world sound
 
 write_is_sound : (w : Write) (world : World) → MayWrite w world → IsSound world → IsSound (after_write w world)
-write_is_sound (write.Put row) world may sound = put_is_sound world (with_row world row) row.name row.mailbox refl refl may.superior (omega (arith, may.next)) sound
+write_is_sound (write.Put row) world may sound = put_is_sound world (with_row world row) row.name (mailbox_in row) refl refl may.superior (omega (arith, may.next)) sound
 write_is_sound (write.SetAcl name acl) world may sound = list_is_sound world (with_acl world name acl) name acl refl refl sound
 write_is_sound (write.Remove name) world may sound = removed_is_sound world (without world name) name refl refl may sound
 write_is_sound (write.Move old new arrivals) world may sound = moved_is_sound world old new arrivals may sound
@@ -64,13 +64,13 @@ after-last (v ∷ ws) w world = after-last ws w (after_write v world)
 
 record IsNewRow (epochs : Names ℕ) (name : Name) (row : NewMailbox) : Type 0 where
   is : row.name ≡ name
-  next : row.mailbox.validity ≡ epoch epochs name + 1
+  next : row.validity ≡ epoch epochs name + 1
 
 row_is_new : (epochs : Names ℕ) (name : Name) (acl : AclMap) (row : NewMailbox) → new_row epochs name acl ≡ Ok row → IsNewRow epochs name row
 row_is_new epochs name acl row made = by (epoch epochs name == max_validity) made
   where
     new : NewMailbox
-    new = record { name = name; mailbox = record { validity = epoch epochs name + 1; acl = acl } }
+    new = record { name = name; validity = epoch epochs name + 1; acl = acl }
 
     by : (b : Bool) → ◌≡◌ {A = Result NewMailbox WorldError} (cond b (Err Limit) (Ok new)) (Ok row) → IsNewRow epochs name row
     by true e = absurd (cc e)
@@ -93,7 +93,7 @@ module _ (world : World) where
   superior_after rows deepest above [] there = refl
   superior_after rows deepest above (next ∷ more) there = there
 
-  put_is_there : (m : Names MailboxEntry) (name : Name) (mailbox : MailboxEntry) → map.contains_key (map.insert m name mailbox) name ≡ true
+  put_is_there : (m : Names Mailbox) (name : Name) (mailbox : Mailbox) → map.contains_key (map.insert m name mailbox) name ≡ true
   put_is_there m name mailbox = ap is_some (get_put m name mailbox name) ∙ ap (λ b. is_some (cond b (Some mailbox) (map.get m name))) (is_name_at-same name)
 
   -- what is written is what is made
@@ -120,8 +120,8 @@ module _ (world : World) where
     may = subst (λ ws. MayBeWritten ws world) (sym (puts-last rows row)) (may-last (puts rows) (write.Put row) world made.may (last_may deepest above more rows row made tails absent new));
     there =
         ap (λ (w : World). map.contains_key w.mailboxes (deepest ∷ above ∷ more)) (ap (λ ws. after_writes ws world) (puts-last rows row) ∙ after-last (puts rows) (write.Put row) world)
-        ∙ ap (λ n. map.contains_key (map.insert (after_writes (puts rows) world).mailboxes n row.mailbox) (deepest ∷ above ∷ more)) new.is
-        ∙ put_is_there (after_writes (puts rows) world).mailboxes (deepest ∷ above ∷ more) row.mailbox;
+        ∙ ap (λ n. map.contains_key (map.insert (after_writes (puts rows) world).mailboxes n (mailbox_in row)) (deepest ∷ above ∷ more)) new.is
+        ∙ put_is_there (after_writes (puts rows) world).mailboxes (deepest ∷ above ∷ more) (mailbox_in row);
   }
 
   rows_made : (acl : AclMap) (name : Name) (rows : List NewMailbox) → rows_for world acl name ≡ Ok rows → AreMade name rows
@@ -248,7 +248,7 @@ module _ (world : World) where
   list_fits name (Err error) ws e = absurd (cc e)
   list_fits name (Ok acl) ws e = subst (λ vs. MayBeWritten vs world) (ok_same (write.SetAcl name acl ∷ []) ws e) (tt, tt)
 
-  rights_fit : (name : Name) (identifier : List ℕ) (change : RightsChange) (o : Option MailboxEntry) (ws : List Write) → list_changed name identifier change o ≡ Ok ws → MayBeWritten ws world
+  rights_fit : (name : Name) (identifier : List ℕ) (change : RightsChange) (o : Option Mailbox) (ws : List Write) → list_changed name identifier change o ≡ Ok ws → MayBeWritten ws world
   rights_fit name identifier change None ws e = absurd (cc e)
   rights_fit name identifier change (Some mailbox) ws e = list_fits name (acl_with_rights mailbox.acl identifier change) ws e
 
@@ -306,8 +306,8 @@ module _ (world : World) where
 
   put_keeps_at : (q : Name) (row : NewMailbox) (later : World) → is_name_at q row.name ≡ false → StaysAt q world later → StaysAt q world (with_row later row)
   put_keeps_at q row later apart stays = record {
-    mailbox = get_put later.mailboxes row.name row.mailbox q ∙ ap (λ b. cond b (Some row.mailbox) (map.get later.mailboxes q)) apart ∙ stays.mailbox;
-    epoch = get_put later.epochs row.name row.mailbox.validity q ∙ ap (λ b. cond b (Some row.mailbox.validity) (map.get later.epochs q)) apart ∙ stays.epoch;
+    mailbox = get_put later.mailboxes row.name (mailbox_in row) q ∙ ap (λ b. cond b (Some (mailbox_in row)) (map.get later.mailboxes q)) apart ∙ stays.mailbox;
+    epoch = get_put later.epochs row.name row.validity q ∙ ap (λ b. cond b (Some row.validity) (map.get later.epochs q)) apart ∙ stays.epoch;
   }
 
   -- what is written for the effect may be written, and leaves the others as they were

@@ -14,7 +14,7 @@ use Rattle.imap_world.specs.declared.effect.Effect.{Effect}
 use Rattle.imap_world.specs.declared.effect.Effect.TheVariants as effect
 use Rattle.imap_world.specs.declared.error.WorldError.{WorldError}
 use Rattle.imap_world.specs.declared.error.WorldError.TheVariants.{Below, Cannot, Limit, NoSuch, Taken}
-use Rattle.imap_world.specs.declared.mailbox_entry.MailboxEntry.{MailboxEntry}
+use Rattle.imap_world.specs.Mailbox.{Mailbox}
 use Rattle.imap_world.specs.Effects.{list_changed, list_set, move_after, put_of, puts, puts_of, writes_for, writes_of, writes_then}
 use Rattle.imap_world.specs.Laws.{IsFresh}
 use Rattle.imap_world.specs.Moving.{arrivals, can_move, superior_rows}
@@ -66,13 +66,13 @@ module _ (world : World) where
   moved_are old new true there true false (Ok rows) (Ok came) ws e =
       subst AreFresh (ok_same (puts rows ++ write.Move old new came ∷ []) ws e) (both_are (puts rows) (write.Move old new came ∷ []) (puts_are rows) (there, tt))
 
-  list_is : (name : Name) (identifier : List ℕ) (rights : ℕ) (mailbox : MailboxEntry) → map.get world.mailboxes name ≡ Some mailbox → (full : Bool) (ws : List Write)
+  list_is : (name : Name) (identifier : List ℕ) (rights : ℕ) (mailbox : Mailbox) → map.get world.mailboxes name ≡ Some mailbox → (full : Bool) (ws : List Write)
       → list_set name (cond full (Err Limit) (Ok (with_entry mailbox.acl identifier rights))) ≡ Ok ws → AreFresh ws
   list_is name identifier rights mailbox there true ws e = absurd (cc e)
   list_is name identifier rights mailbox there false ws e =
       subst AreFresh (ok_same (write.SetAcl name (with_entry mailbox.acl identifier rights) ∷ []) ws e) ((mailbox, identifier, rights, there, refl), tt)
 
-  lists_are : (name : Name) (identifier : List ℕ) (change : RightsChange) (o : Option MailboxEntry) → map.get world.mailboxes name ≡ o → (ws : List Write) → list_changed name identifier change o ≡ Ok ws → AreFresh ws
+  lists_are : (name : Name) (identifier : List ℕ) (change : RightsChange) (o : Option Mailbox) → map.get world.mailboxes name ≡ o → (ws : List Write) → list_changed name identifier change o ≡ Ok ws → AreFresh ws
   lists_are name identifier change None there ws e = absurd (cc e)
   lists_are name identifier change (Some mailbox) there ws e =
       let rights : ℕ = applied change (entry mailbox.acl identifier) in

@@ -10,20 +10,21 @@ use Rattle.imap_world.specs.declared.change.Write.{Write}
 use Rattle.imap_world.specs.declared.change.Write.TheVariants as write
 use Rattle.imap_world.specs.declared.effect.Effect.{Effect}
 use Rattle.imap_world.specs.declared.error.WorldError.{WorldError}
-use Rattle.imap_world.specs.declared.mailbox_entry.MailboxEntry.{MailboxEntry}
+use Rattle.imap_world.specs.Mailbox.{Mailbox}
 use Rattle.imap_world.specs.Effects.{writes_of, after_write, after_writes, after_result, after_all, after_steps}
-use Rattle.imap_world.specs.Kept.{IsSound}
-use Rattle.imap_world.specs.Laws.{IsKeptOrNew, KeepsValidities, WorldsStaySound, ValiditiesAreUsedOnce}
+use Rattle.imap_world.specs.Kept.{AreKept, IsSound}
+use Rattle.imap_world.specs.Laws.{IsKeptOrNew, KeepsValidities, MessagesStayKept, WorldsStaySound, ValiditiesAreUsedOnce}
 use Rattle.imap_world.specs.Ready.{AreApart, MayBeWritten, MayWrite}
-use Rattle.imap_world.specs.NewMailbox.{NewMailbox}
+use Rattle.imap_world.specs.NewMailbox.{NewMailbox, mailbox_in}
 use Rattle.imap_world.specs.Tree.{mailboxes_with_list, with_acl, with_row, without}
 use Rattle.imap_world.specs.World.{World, epoch}
 use Rattle.imap_world.proofs.Fitting.{apart_may, writes_are_sound}
+use Rattle.imap_world.proofs.KeptMessages.{messages_kept}
 use Rattle.imap_world.proofs.Moves.{moved_is_kept}
 use Rattle.imap_world.proofs.Sound.{found_before}
 
-there : (o : Option MailboxEntry) (mailbox : MailboxEntry) → o ≡ Some mailbox → option_map (λ (m : MailboxEntry). m.validity) o ≡ Some mailbox.validity
-there o mailbox is = ap (option_map (λ (m : MailboxEntry). m.validity)) is
+there : (o : Option Mailbox) (mailbox : Mailbox) → o ≡ Some mailbox → option_map (λ (m : Mailbox). m.validity) o ≡ Some mailbox.validity
+there o mailbox is = ap (option_map (λ (m : Mailbox). m.validity)) is
 
 pub keeps_itself : (old : World) → KeepsValidities old old
 keeps_itself old = record {
@@ -38,37 +39,37 @@ module _ (old world : World) (keeps : KeepsValidities old world) where
   same_kept : (new : World) → new.mailboxes ≡ world.mailboxes → new.epochs ≡ world.epochs → KeepsValidities old new
   same_kept new is counted = record {
     epochs = λ name. subst (λ (m : Names ℕ). epoch old.epochs name ≤ epoch m name) (sym counted) (keeps.epochs name);
-    mailboxes = λ name mailbox e. keeps.mailboxes name mailbox (ap (λ (m : Names MailboxEntry). map.get m name) (sym is) ∙ e);
+    mailboxes = λ name mailbox e. keeps.mailboxes name mailbox (ap (λ (m : Names Mailbox). map.get m name) (sym is) ∙ e);
   }
 
   -- a mailbox is put under the next validity
-  module _ (row : NewMailbox) (next : row.mailbox.validity ≡ epoch world.epochs row.name + 1) where
-    epoch_at : (name : Name) (b : Bool) → is_name_at name row.name ≡ b → epoch old.epochs name ≤ unwrap_or (cond b (Some row.mailbox.validity) (map.get world.epochs name)) 0
+  module _ (row : NewMailbox) (next : row.validity ≡ epoch world.epochs row.name + 1) where
+    epoch_at : (name : Name) (b : Bool) → is_name_at name row.name ≡ b → epoch old.epochs name ≤ unwrap_or (cond b (Some row.validity) (map.get world.epochs name)) 0
     epoch_at name true at = omega (arith, next, keeps.epochs row.name, ap (epoch old.epochs) (equal_names name row.name at))
     epoch_at name false at = keeps.epochs name
 
-    mailbox_at : (name : Name) (other : MailboxEntry) (b : Bool) → is_name_at name row.name ≡ b → cond b (Some row.mailbox) (map.get world.mailboxes name) ≡ Some other → IsKeptOrNew old name other.validity
+    mailbox_at : (name : Name) (other : Mailbox) (b : Bool) → is_name_at name row.name ≡ b → cond b (Some (mailbox_in row)) (map.get world.mailboxes name) ≡ Some other → IsKeptOrNew old name other.validity
     mailbox_at name other true at e =
-        let same : other.validity ≡ row.mailbox.validity = ap (λ (o : Option MailboxEntry). (unwrap_or o row.mailbox).validity) (sym e) in
+        let same : other.validity ≡ row.validity = ap (λ (o : Option Mailbox). (unwrap_or o (mailbox_in row)).validity) (sym e) in
         inr (omega (arith, next, same, keeps.epochs row.name, ap (epoch old.epochs) (equal_names name row.name at)))
     mailbox_at name other false at e = keeps.mailboxes name other e
 
     row_kept : KeepsValidities old (with_row world row)
     row_kept = record {
-      epochs = λ name. subst (λ (o : Option ℕ). epoch old.epochs name ≤ unwrap_or o 0) (sym (get_put world.epochs row.name row.mailbox.validity name)) (epoch_at name (is_name_at name row.name) refl);
-      mailboxes = λ name other e. mailbox_at name other (is_name_at name row.name) refl (sym (get_put world.mailboxes row.name row.mailbox name) ∙ e);
+      epochs = λ name. subst (λ (o : Option ℕ). epoch old.epochs name ≤ unwrap_or o 0) (sym (get_put world.epochs row.name row.validity name)) (epoch_at name (is_name_at name row.name) refl);
+      mailboxes = λ name other e. mailbox_at name other (is_name_at name row.name) refl (sym (get_put world.mailboxes row.name (mailbox_in row) name) ∙ e);
     }
 
   -- a mailbox has another list
   module _ (k : Name) (acl : AclMap) where
-    changed_at : (before : MailboxEntry) → map.get world.mailboxes k ≡ Some before → (name : Name) (other : MailboxEntry) (b : Bool) → is_name_at name k ≡ b
+    changed_at : (before : Mailbox) → map.get world.mailboxes k ≡ Some before → (name : Name) (other : Mailbox) (b : Bool) → is_name_at name k ≡ b
         → cond b (Some (record before { acl = acl })) (map.get world.mailboxes name) ≡ Some other → IsKeptOrNew old name other.validity
     changed_at before is name other true at e =
-        let same : before.validity ≡ other.validity = ap (λ (o : Option MailboxEntry). (unwrap_or o before).validity) e in
+        let same : before.validity ≡ other.validity = ap (λ (o : Option Mailbox). (unwrap_or o before).validity) e in
         subst (IsKeptOrNew old name) same (keeps.mailboxes name before (ap (map.get world.mailboxes) (equal_names name k at) ∙ is))
     changed_at before is name other false at e = keeps.mailboxes name other e
 
-    list_kept_at : (o : Option MailboxEntry) → map.get world.mailboxes k ≡ o → (name : Name) (other : MailboxEntry) → map.get (mailboxes_with_list world.mailboxes k acl o) name ≡ Some other → IsKeptOrNew old name other.validity
+    list_kept_at : (o : Option Mailbox) → map.get world.mailboxes k ≡ o → (name : Name) (other : Mailbox) → map.get (mailboxes_with_list world.mailboxes k acl o) name ≡ Some other → IsKeptOrNew old name other.validity
     list_kept_at None is name other e = keeps.mailboxes name other e
     list_kept_at (Some before) is name other e =
         changed_at before is name other (is_name_at name k) refl (sym (get_put world.mailboxes k (record before { acl = acl }) name) ∙ e)
@@ -113,7 +114,7 @@ effects_sound effects old apart sound = by (writes_of effects old) refl
     by (Err error) is = sound
     by (Ok ws) is = writes_are_sound ws old (apart_may old effects ws apart is) sound
 
-kept_through : (old mid : World) → KeepsValidities old mid → (name : Name) (o : Option MailboxEntry) (validity : ℕ) → map.get mid.mailboxes name ≡ o → option_map (λ (m : MailboxEntry). m.validity) o ≡ Some validity → IsKeptOrNew old name validity
+kept_through : (old mid : World) → KeepsValidities old mid → (name : Name) (o : Option Mailbox) (validity : ℕ) → map.get mid.mailboxes name ≡ o → option_map (λ (m : Mailbox). m.validity) o ≡ Some validity → IsKeptOrNew old name validity
 kept_through old mid first name None validity is e = cc
 kept_through old mid first name (Some before) validity is e =
     subst (IsKeptOrNew old name) (ap (λ o. unwrap_or o validity) e) (first.mailboxes name before is)
@@ -135,3 +136,14 @@ steps_stay_sound world (effects ∷ steps) apart sound = steps_stay_sound (after
 pub used_once : ValiditiesAreUsedOnce
 used_once world [] apart = keeps_itself world
 used_once world (effects ∷ steps) apart = keeps_on world (after_all effects world) (after_steps steps (after_all effects world)) (effects_kept effects world apart.0) (used_once (after_all effects world) steps apart.1)
+
+effects_keep : (effects : List Effect) (old : World) → AreApart effects → AreKept old.mailboxes → AreKept (after_all effects old).mailboxes
+effects_keep effects old apart kept = by (writes_of effects old) refl
+  where
+    by : (r : Result (List Write) WorldError) → writes_of effects old ≡ r → AreKept (after_result r old).mailboxes
+    by (Err error) is = kept
+    by (Ok ws) is = messages_kept ws old (apart_may old effects ws apart is) kept
+
+pub all_stay_kept : MessagesStayKept
+all_stay_kept world [] apart kept = kept
+all_stay_kept world (effects ∷ steps) apart kept = all_stay_kept (after_all effects world) steps apart.1 (effects_keep effects world apart.0 kept)

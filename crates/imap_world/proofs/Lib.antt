@@ -1,10 +1,13 @@
 pub mod ByName
 pub mod Changed
 pub mod Coming
+pub mod Contents
+pub mod Copied
 pub mod Current
 pub mod Fitting
 pub mod Fresh
 pub mod Histories
+pub mod KeptMessages
 pub mod Limited
 pub mod Made
 pub mod Moves

@@ -27,7 +27,7 @@ same_error x y e = cc
 new_row_limited : (epochs : Names ℕ) (name : Name) (acl : AclMap) → IsLimited (new_row epochs name acl)
 new_row_limited epochs name acl error = by (epoch epochs name == max_validity)
   where
-    by : (b : Bool) → ◌≡◌ {A = Result NewMailbox WorldError} (cond b (Err Limit) (Ok (record { name = name; mailbox = record { validity = epoch epochs name + 1; acl = acl } }))) (Err error) → error ≡ Limit
+    by : (b : Bool) → ◌≡◌ {A = Result NewMailbox WorldError} (cond b (Err Limit) (Ok (record { name = name; validity = epoch epochs name + 1; acl = acl }))) (Err error) → error ≡ Limit
     by true e = sym (same_error {A = NewMailbox} Limit error e)
     by false e = absurd (cc e)
 
@@ -87,7 +87,7 @@ is_ok-with_last (Ok rows) (Ok row) = refl
 is_ok-new_row : (epochs : Names ℕ) (name : Name) (acl : AclMap) → is_ok (new_row epochs name acl) ≡ not (epoch epochs name == max_validity)
 is_ok-new_row epochs name acl = by (epoch epochs name == max_validity)
   where
-    by : (b : Bool) → is_ok {T = NewMailbox} {E = WorldError} (cond b (Err Limit) (Ok (record { name = name; mailbox = record { validity = epoch epochs name + 1; acl = acl } }))) ≡ not b
+    by : (b : Bool) → is_ok {T = NewMailbox} {E = WorldError} (cond b (Err Limit) (Ok (record { name = name; validity = epoch epochs name + 1; acl = acl }))) ≡ not b
     by true = refl
     by false = refl
 

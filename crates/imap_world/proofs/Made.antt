@@ -16,7 +16,7 @@ use Rattle.imap_rights.specs.Acl.{AclMap}
 use Rattle.imap_world.specs.declared.error.WorldError.{WorldError}
 use Rattle.imap_world.specs.declared.error.WorldError.TheVariants.{Limit}
 use Rattle.imap_world.specs.Moving.{arrivals_at}
-use Rattle.imap_world.specs.NewMailbox.{NewMailbox}
+use Rattle.imap_world.specs.NewMailbox.{NewMailbox, mailbox_in}
 use Rattle.imap_world.specs.Tree.{new_row, rows_for, with_last, with_row, with_rows}
 use Rattle.imap_world.specs.World.{World, epoch}
 
@@ -43,7 +43,7 @@ tails-last name (first ∷ rows) row all last = (all.0, tails-last name rows row
 named_so : (epochs : Names ℕ) (name : Name) (acl : AclMap) (row : NewMailbox) → new_row epochs name acl ≡ Ok row → row.name ≡ name
 named_so epochs name acl row made = by _ made
   where
-    by : (b : Bool) → ◌≡◌ {A = Result NewMailbox WorldError} (cond b (Err Limit) (Ok (record { name = name; mailbox = record { validity = epoch epochs name + 1; acl = acl } }))) (Ok row) → row.name ≡ name
+    by : (b : Bool) → ◌≡◌ {A = Result NewMailbox WorldError} (cond b (Err Limit) (Ok (record { name = name; validity = epoch epochs name + 1; acl = acl }))) (Ok row) → row.name ≡ name
     by true e = absurd (cc e)
     by false e = ap (λ (r : NewMailbox). r.name) (sym (ok_rows _ row e))
 
@@ -80,16 +80,16 @@ stays_at q [] world apart = record { mailbox = refl; epoch = refl }
 stays_at q (row ∷ rows) world apart =
     let rest = stays_at q rows (with_row world row) apart.1 in
     record {
-      mailbox = rest.mailbox ∙ get_put world.mailboxes row.name row.mailbox q ∙ ap (λ b. cond b (Some row.mailbox) (map.get world.mailboxes q)) apart.0;
-      epoch = rest.epoch ∙ get_put world.epochs row.name row.mailbox.validity q ∙ ap (λ b. cond b (Some row.mailbox.validity) (map.get world.epochs q)) apart.0;
+      mailbox = rest.mailbox ∙ get_put world.mailboxes row.name (mailbox_in row) q ∙ ap (λ b. cond b (Some (mailbox_in row)) (map.get world.mailboxes q)) apart.0;
+      epoch = rest.epoch ∙ get_put world.epochs row.name row.validity q ∙ ap (λ b. cond b (Some row.validity) (map.get world.epochs q)) apart.0;
     }
 
 -- which mailboxes are there is never less
 pub rows_keep : (q : Name) (rows : List NewMailbox) (world : World) → map.contains_key world.mailboxes q ≡ true → map.contains_key (with_rows world rows).mailboxes q ≡ true
 rows_keep q [] world there = there
-rows_keep q (row ∷ rows) world there = rows_keep q rows (with_row world row) (ap is_some (get_put world.mailboxes row.name row.mailbox q) ∙ by (is_name_at q row.name))
+rows_keep q (row ∷ rows) world there = rows_keep q rows (with_row world row) (ap is_some (get_put world.mailboxes row.name (mailbox_in row) q) ∙ by (is_name_at q row.name))
   where
-    by : (b : Bool) → is_some (cond b (Some row.mailbox) (map.get world.mailboxes q)) ≡ true
+    by : (b : Bool) → is_some (cond b (Some (mailbox_in row)) (map.get world.mailboxes q)) ≡ true
     by true = refl
     by false = there
 

@@ -18,7 +18,7 @@ use Rattle.imap_names.proofs.MovedLaws.{moved_within, there_and_back}
 use Rattle.imap_names.proofs.NameLaws.{is_name_at, is_name_at-same, equal_names, get_put}
 use Rattle.imap_names.proofs.PathLaws.{has_component}
 use Rattle.imap_names.proofs.OrderLaws.{below_from_IsAbove, below_from_within}
-use Rattle.imap_world.specs.declared.mailbox_entry.MailboxEntry.{MailboxEntry}
+use Rattle.imap_world.specs.Mailbox.{Mailbox}
 use Rattle.imap_world.specs.Kept.{IsSound, is_there, superior_is_there}
 use Rattle.imap_world.specs.Laws.{IsKeptOrNew, KeepsValidities}
 use Rattle.imap_world.specs.Moving.{arrivals_at, can_move, with_moved, with_validities, with_validity}
@@ -32,26 +32,26 @@ is_among q names = list_any (is_name_at q) names
 -- ---- the mailboxes get their validities
 
 -- which mailboxes are there stays
-validity_keeps : (m : Names MailboxEntry) (name : Name) (validity : ℕ) (q : Name) → map.contains_key (with_validity m name validity (map.get m name)) q ≡ map.contains_key m q
+validity_keeps : (m : Names Mailbox) (name : Name) (validity : ℕ) (q : Name) → map.contains_key (with_validity m name validity (map.get m name)) q ≡ map.contains_key m q
 validity_keeps m name validity q = by (map.get m name) refl
   where
-    at : (before : MailboxEntry) → map.get m name ≡ Some before → (b : Bool) → is_name_at q name ≡ b → is_some (cond b (Some (record before { validity = validity })) (map.get m q)) ≡ is_some (map.get m q)
+    at : (before : Mailbox) → map.get m name ≡ Some before → (b : Bool) → is_name_at q name ≡ b → is_some (cond b (Some (record before { validity = validity })) (map.get m q)) ≡ is_some (map.get m q)
     at before is true e = sym (ap is_some (ap (map.get m) (equal_names q name e) ∙ is))
     at before is false e = refl
 
-    by : (o : Option MailboxEntry) → map.get m name ≡ o → map.contains_key (with_validity m name validity o) q ≡ map.contains_key m q
+    by : (o : Option Mailbox) → map.get m name ≡ o → map.contains_key (with_validity m name validity o) q ≡ map.contains_key m q
     by None is = refl
     by (Some before) is = ap is_some (get_put m name (record before { validity = validity }) q) ∙ at before is (is_name_at q name) refl
 
-validities_keep : (arrivals : List (Name × ℕ)) (m : Names MailboxEntry) (q : Name) → map.contains_key (with_validities m arrivals) q ≡ map.contains_key m q
+validities_keep : (arrivals : List (Name × ℕ)) (m : Names Mailbox) (q : Name) → map.contains_key (with_validities m arrivals) q ≡ map.contains_key m q
 validities_keep [] m q = refl
 validities_keep (a ∷ arrivals) m q = validities_keep arrivals (with_validity m a.0 a.1 (map.get m a.0)) q ∙ validity_keeps m a.0 a.1 q
 
 -- What holds of the next validity of each name that a mailbox gets, and of the validities of all other mailboxes, holds of
 -- all mailboxes.
 module _ (P : Name → ℕ → Type 0) (epochs : Names ℕ) where
-  abbrev HoldsOrComes : Names MailboxEntry → List Name → Type 0
-  HoldsOrComes m names = (q : Name) (mailbox : MailboxEntry) → map.get m q ≡ Some mailbox → P q mailbox.validity ⊎ (is_among q names ≡ true)
+  abbrev HoldsOrComes : Names Mailbox → List Name → Type 0
+  HoldsOrComes m names = (q : Name) (mailbox : Mailbox) → map.get m q ≡ Some mailbox → P q mailbox.validity ⊎ (is_among q names ≡ true)
 
   abbrev IsNextOf : List Name → Type 0
   IsNextOf names = (q : Name) → is_among q names ≡ true → P q (epoch epochs q + 1)
@@ -60,25 +60,25 @@ module _ (P : Name → ℕ → Type 0) (epochs : Names ℕ) where
   not_here q name names apart (inl here) = inl here
   not_here q name names apart (inr among) = inr (ap (λ b. b || is_among q names) (sym apart) ∙ among)
 
-  one_more : (name : Name) (names : List Name) (m : Names MailboxEntry) → IsNextOf (name ∷ names) → HoldsOrComes m (name ∷ names) → HoldsOrComes (with_validity m name (epoch epochs name + 1) (map.get m name)) names
+  one_more : (name : Name) (names : List Name) (m : Names Mailbox) → IsNextOf (name ∷ names) → HoldsOrComes m (name ∷ names) → HoldsOrComes (with_validity m name (epoch epochs name + 1) (map.get m name)) names
   one_more name names m next holds q mailbox = by (map.get m name) refl
     where
       none : map.get m name ≡ None → (b : Bool) → is_name_at q name ≡ b → map.get m q ≡ Some mailbox → P q mailbox.validity ⊎ (is_among q names ≡ true)
       none is true e there = absurd (cc (sym there ∙ ap (map.get m) (equal_names q name e) ∙ is))
       none is false e there = not_here q name names e (holds q mailbox there)
 
-      at : (before : MailboxEntry) → (b : Bool) → is_name_at q name ≡ b → cond b (Some (record before { validity = epoch epochs name + 1 })) (map.get m q) ≡ Some mailbox
+      at : (before : Mailbox) → (b : Bool) → is_name_at q name ≡ b → cond b (Some (record before { validity = epoch epochs name + 1 })) (map.get m q) ≡ Some mailbox
           → P q mailbox.validity ⊎ (is_among q names ≡ true)
       at before true e there =
-          let same : epoch epochs q + 1 ≡ mailbox.validity = ap (λ n. epoch epochs n + 1) (equal_names q name e) ∙ ap (λ (o : Option MailboxEntry). (unwrap_or o mailbox).validity) there in
+          let same : epoch epochs q + 1 ≡ mailbox.validity = ap (λ n. epoch epochs n + 1) (equal_names q name e) ∙ ap (λ (o : Option Mailbox). (unwrap_or o mailbox).validity) there in
           inl (subst (P q) same (next q (or_first (is_name_at q name) (is_among q names) e)))
       at before false e there = not_here q name names e (holds q mailbox there)
 
-      by : (o : Option MailboxEntry) → map.get m name ≡ o → map.get (with_validity m name (epoch epochs name + 1) o) q ≡ Some mailbox → P q mailbox.validity ⊎ (is_among q names ≡ true)
+      by : (o : Option Mailbox) → map.get m name ≡ o → map.get (with_validity m name (epoch epochs name + 1) o) q ≡ Some mailbox → P q mailbox.validity ⊎ (is_among q names ≡ true)
       by None is there = none is (is_name_at q name) refl there
       by (Some before) is there = at before (is_name_at q name) refl (sym (get_put m name (record before { validity = epoch epochs name + 1 }) q) ∙ there)
 
-  arrived : (names : List Name) (m : Names MailboxEntry) → IsNextOf names → HoldsOrComes m names → (q : Name) (mailbox : MailboxEntry) → map.get (with_validities m (arrivals_at epochs names)) q ≡ Some mailbox → P q mailbox.validity
+  arrived : (names : List Name) (m : Names Mailbox) → IsNextOf names → HoldsOrComes m names → (q : Name) (mailbox : Mailbox) → map.get (with_validities m (arrivals_at epochs names)) q ≡ Some mailbox → P q mailbox.validity
   arrived [] m next holds q mailbox there = by (holds q mailbox there)
     where
       by : P q mailbox.validity ⊎ (false ≡ true) → P q mailbox.validity
@@ -134,7 +134,7 @@ module _ {X : Type 0} (old new : Name) where
 
 -- a mailbox stands at a new name, or stands where it stood
 module _ (world : World) (old new : Name) (free : run_of new world.mailboxes ≡ []) where
-  came_or_stayed : (q : Name) (mailbox : MailboxEntry) → map.get (renamed old new world.mailboxes) q ≡ Some mailbox
+  came_or_stayed : (q : Name) (mailbox : Mailbox) → map.get (renamed old new world.mailboxes) q ≡ Some mailbox
       → (map.get world.mailboxes q ≡ Some mailbox) ⊎ (is_among q (moved_names old new world.mailboxes) ≡ true)
   came_or_stayed q mailbox there =
       by (is_within new q) refl (is_within old q) (sym (get_renamed old new world.mailboxes q free) ∙ there)

@@ -8,7 +8,7 @@ use Rattle.imap_names.specs.Valid.{IsName}
 use Rattle.imap_rights.specs.Acl.{AclMap, owner_acl}
 use Rattle.imap_world.specs.declared.change.Write.TheVariants as write
 use Rattle.imap_world.specs.declared.error.WorldError.{WorldError}
-use Rattle.imap_world.specs.declared.mailbox_entry.MailboxEntry.{MailboxEntry}
+use Rattle.imap_world.specs.Mailbox.{Mailbox}
 use Rattle.imap_world.specs.Effects.{put_of, puts, puts_of, writes_then}
 use Rattle.imap_world.specs.NewMailbox.{NewMailbox}
 use Rattle.imap_world.specs.Tree.{acl_or, inherited, new_row, rows_for, with_last}
@@ -28,7 +28,7 @@ superior_is_above (deepest ∷ first ∷ next ∷ more) above is = (deepest, [],
 
 -- ---- the list that is inherited
 
-module _ (mailboxes : Names MailboxEntry) (owner : List ℕ) where
+module _ (mailboxes : Names Mailbox) (owner : List ℕ) where
   pub inherited-root : (q : Name) → superior q ≡ None → inherited mailboxes owner q ≡ owner_acl owner
   inherited-root [] is = refl
   inherited-root (root ∷ []) is = refl

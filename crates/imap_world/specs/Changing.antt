@@ -5,7 +5,7 @@ use Rattle.imap_names.specs.Name.{Name}
 use Rattle.imap_names.specs.Order.{Names}
 use Rattle.imap_rights.specs.Acl.{AclMap}
 use Rattle.imap_rights.specs.declared.change.RightsChange.{RightsChange}
-use Rattle.imap_world.specs.declared.mailbox_entry.MailboxEntry.{MailboxEntry}
+use Rattle.imap_world.specs.Mailbox.{Mailbox}
 use Rattle.imap_world.specs.declared.error.WorldError.{WorldError}
 use Rattle.imap_world.specs.declared.error.WorldError.TheVariants.{NoSuch, Taken, Memory}
 use Rattle.imap_world.specs.Kept.{superior_is_there}
@@ -49,26 +49,26 @@ world_with_placed world name acl =
     else Err NoSuch
 
 abbrev pub mailboxes_with_acl :
-    Names MailboxEntry → Name → MailboxEntry → Result AclMap WorldError
-    → Result (Names MailboxEntry) WorldError
+    Names Mailbox → Name → Mailbox → Result AclMap WorldError
+    → Result (Names Mailbox) WorldError
 mailboxes_with_acl mailboxes name mailbox (Err error) = Err error
 mailboxes_with_acl mailboxes name mailbox (Ok acl) =
     Ok (map.insert mailboxes name (record mailbox { acl = acl }))
 
 abbrev pub mailboxes_with_rights_at :
-    Names MailboxEntry → Name → List ℕ → RightsChange → Option MailboxEntry
-    → Result (Names MailboxEntry) WorldError
+    Names Mailbox → Name → List ℕ → RightsChange → Option Mailbox
+    → Result (Names Mailbox) WorldError
 mailboxes_with_rights_at mailboxes name identifier change None = Err NoSuch
 mailboxes_with_rights_at mailboxes name identifier change (Some mailbox) =
     mailboxes_with_acl mailboxes name mailbox (acl_with_rights mailbox.acl identifier change)
 
 -- the mailboxes, with an identifier's rights on one of them changed
 abbrev pub mailboxes_with_rights :
-    Names MailboxEntry → Name → List ℕ → RightsChange → Result (Names MailboxEntry) WorldError
+    Names Mailbox → Name → List ℕ → RightsChange → Result (Names Mailbox) WorldError
 mailboxes_with_rights mailboxes name identifier change =
     mailboxes_with_rights_at mailboxes name identifier change (map.get mailboxes name)
 
-abbrev pub with_mailboxes : World → Result (Names MailboxEntry) WorldError → Result World WorldError
+abbrev pub with_mailboxes : World → Result (Names Mailbox) WorldError → Result World WorldError
 with_mailboxes world (Err error) = Err error
 with_mailboxes world (Ok mailboxes) = Ok (record world { mailboxes = mailboxes })
 

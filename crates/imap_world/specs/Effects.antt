@@ -13,7 +13,7 @@ use Rattle.imap_world.specs.declared.effect.Effect.{Effect}
 use Rattle.imap_world.specs.declared.effect.Effect.TheVariants as effect
 use Rattle.imap_world.specs.declared.error.WorldError.{WorldError}
 use Rattle.imap_world.specs.declared.error.WorldError.TheVariants.{NoSuch, Taken, Below, Cannot}
-use Rattle.imap_world.specs.declared.mailbox_entry.MailboxEntry.{MailboxEntry}
+use Rattle.imap_world.specs.Mailbox.{Mailbox}
 use Rattle.imap_world.specs.Moving.{arrivals, can_move, superior_rows, with_moved}
 use Rattle.imap_world.specs.NewMailbox.{NewMailbox}
 use Rattle.imap_world.specs.Tree.{acl_with_rights, with_acl, without, created_rows}
@@ -88,7 +88,7 @@ list_set name (Err error) = Err error
 list_set name (Ok acl) = Ok (write.SetAcl name acl ∷ [])
 
 -- the list of the mailbox, if it is there, with an identifier's rights changed
-abbrev pub list_changed : Name → List ℕ → RightsChange → Option MailboxEntry → Result (List Write) WorldError
+abbrev pub list_changed : Name → List ℕ → RightsChange → Option Mailbox → Result (List Write) WorldError
 list_changed name identifier change None = Err NoSuch
 list_changed name identifier change (Some mailbox) =
     list_set name (acl_with_rights mailbox.acl identifier change)

@@ -10,9 +10,9 @@ use Rattle.imap_world.specs.declared.change.Write.{Write}
 use Rattle.imap_world.specs.declared.change.Write.TheVariants as write
 use Rattle.imap_world.specs.declared.effect.Effect.TheVariants as effect
 use Rattle.imap_world.specs.declared.effect.Effect.{Effect}
-use Rattle.imap_world.specs.declared.mailbox_entry.MailboxEntry.{MailboxEntry}
+use Rattle.imap_world.specs.Mailbox.{Mailbox, new_mailbox}
 use Rattle.imap_world.specs.Effects.{after_steps, after_writes, writes_for}
-use Rattle.imap_world.specs.Kept.{IsSound}
+use Rattle.imap_world.specs.Kept.{AreKept, IsSound}
 use Rattle.imap_world.specs.Ready.{AreApart, IsCurrent}
 use Rattle.imap_world.specs.Tree.{inherited}
 use Rattle.imap_world.specs.World.{World, epoch, inbox}
@@ -22,15 +22,20 @@ abbrev pub WorldsStaySound : Type 0
 WorldsStaySound = (world : World) (steps : List (List Effect))
     → AllByRecursion AreApart steps → IsSound world → IsSound (after_steps steps world)
 
+-- What the type of a mailbox keeps goes on holding of the messages of each.
+abbrev pub MessagesStayKept : Type 0
+MessagesStayKept = (world : World) (steps : List (List Effect))
+    → AllByRecursion AreApart steps → AreKept world.mailboxes → AreKept (after_steps steps world).mailboxes
+
 -- a mailbox had this UIDVALIDITY under the name before, or it is above all that were used there
 abbrev pub IsKeptOrNew : World → Name → ℕ → Type 0
 IsKeptOrNew old name validity =
-    (option_map (λ (m : MailboxEntry). m.validity) (map.get old.mailboxes name) ≡ Some validity)
+    (option_map (λ (m : Mailbox). m.validity) (map.get old.mailboxes name) ≡ Some validity)
     ⊎ (epoch old.epochs name < validity)
 
 pub record KeepsValidities (old new : World) : Type 0 where
   pub epochs : (name : Name) → epoch old.epochs name ≤ epoch new.epochs name
-  pub mailboxes : (name : Name) (mailbox : MailboxEntry)
+  pub mailboxes : (name : Name) (mailbox : Mailbox)
       → map.get new.mailboxes name ≡ Some mailbox → IsKeptOrNew old name mailbox.validity
 
 -- No UIDVALIDITY is used twice under a name (RFC 9051, section 2.3.1.1).
@@ -44,7 +49,7 @@ ValiditiesAreUsedOnce = (world : World) (steps : List (List Effect))
 abbrev pub IsFresh : World → Write → Type 0
 IsFresh world (write.Put row) = Unit {0}
 IsFresh world (write.SetAcl name acl) =
-    (mailbox : MailboxEntry) × (identifier : List ℕ) × (rights : ℕ)
+    (mailbox : Mailbox) × (identifier : List ℕ) × (rights : ℕ)
     × (map.get world.mailboxes name ≡ Some mailbox) × (acl ≡ with_entry mailbox.acl identifier rights)
 IsFresh world (write.Remove name) = map.contains_key world.mailboxes name ≡ true
 IsFresh world (write.Move old new arrivals) = map.contains_key world.mailboxes old ≡ true
@@ -60,14 +65,14 @@ CurrentIsFresh =
 -- ---- what commands make, name by name
 
 -- a mailbox is made at the name, or right above others that are made, where none is yet
-abbrev pub is_made_with : Names MailboxEntry → (name q : Name) → Bool
+abbrev pub is_made_with : Names Mailbox → (name q : Name) → Bool
 is_made_with mailboxes name q =
     is_within q name && (nat_lt 1 (length q) && not (map.contains_key mailboxes q))
 
--- a mailbox that is made at a name has the next UIDVALIDITY and the inherited list
-abbrev pub entry_made : World → (owner : List ℕ) → Name → MailboxEntry
+-- a mailbox that is made at a name has the next UIDVALIDITY, the inherited list and no messages
+abbrev pub entry_made : World → (owner : List ℕ) → Name → Mailbox
 entry_made world owner name =
-    record { validity = epoch world.epochs name + 1; acl = inherited world.mailboxes owner name }
+    new_mailbox (epoch world.epochs name + 1) (inherited world.mailboxes owner name)
 
 -- A mailbox is made at the name, and at each superior of it that wasn't there. All else stays.
 pub record IsCreated (owner : List ℕ) (name : Name) (old new : World) : Type 0 where
@@ -87,8 +92,8 @@ CreatesByName = (world : World) (owner : List ℕ) (name : Name) (writes : List 
     → IsSound world → writes_for (effect.Create owner name) world ≡ Ok writes
     → IsCreated owner name world (after_writes writes world)
 
--- a mailbox under its new name: it keeps its list, and has the next UIDVALIDITY
-abbrev pub entry_moved : World → Name → MailboxEntry → MailboxEntry
+-- a mailbox under its new name: it keeps its list and its messages, and has the next UIDVALIDITY
+abbrev pub entry_moved : World → Name → Mailbox → Mailbox
 entry_moved world name mailbox = record mailbox { validity = epoch world.epochs name + 1 }
 
 -- Under the new names stands what stood under the old ones, where nothing is left. The superiors of the new

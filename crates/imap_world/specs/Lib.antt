@@ -3,6 +3,7 @@ pub mod Changing
 pub mod Effects
 pub mod Kept
 pub mod Laws
+pub mod Mailbox
 pub mod Moving
 pub mod Ready
 pub mod NewMailbox

@@ -8,7 +8,7 @@ use Rattle.imap_name_map.specs.Rows.{inserted_all}
 use Rattle.imap_names.specs.Name.{Name, is_inbox, root_of}
 use Rattle.imap_names.specs.Order.{Names, is_below}
 use Rattle.imap_names.specs.Valid.{fits}
-use Rattle.imap_world.specs.declared.mailbox_entry.MailboxEntry.{MailboxEntry}
+use Rattle.imap_world.specs.Mailbox.{Mailbox}
 use Rattle.imap_world.specs.declared.error.WorldError.{WorldError}
 use Rattle.imap_world.specs.declared.error.WorldError.TheVariants.{Limit}
 use Rattle.imap_world.specs.NewMailbox.{NewMailbox}
@@ -40,13 +40,13 @@ arrivals world old new =
     if list_all (can_arrive world.epochs) names then Ok (arrivals_at world.epochs names) else Err Limit
 
 abbrev pub with_validity :
-    Names MailboxEntry → Name → (validity : ℕ) → Option MailboxEntry → Names MailboxEntry
+    Names Mailbox → Name → (validity : ℕ) → Option Mailbox → Names Mailbox
 with_validity mailboxes name validity None = mailboxes
 with_validity mailboxes name validity (Some mailbox) =
     map.insert mailboxes name (record mailbox { validity = validity })
 
 -- each of these mailboxes has this UIDVALIDITY
-abbrev pub with_validities : Names MailboxEntry → List (Name × ℕ) → Names MailboxEntry
+abbrev pub with_validities : Names Mailbox → List (Name × ℕ) → Names Mailbox
 with_validities mailboxes [] = mailboxes
 with_validities mailboxes (a ∷ arrivals) =
     with_validities (with_validity mailboxes a.0 a.1 (map.get mailboxes a.0)) arrivals

@@ -55,7 +55,7 @@ AreApart effects = (length effects ≤ 1) ⊎ ArePlain effects
 pub record MayPut (row : NewMailbox) (world : World) : Type 0 where
   pub free : map.contains_key world.mailboxes row.name ≡ false
   pub superior : superior_is_there world.mailboxes row.name ≡ true
-  pub next : row.mailbox.validity ≡ epoch world.epochs row.name + 1
+  pub next : row.validity ≡ epoch world.epochs row.name + 1
 
 -- Mailboxes move to names at and below which nothing is, below one that is there. Each gets the next
 -- UIDVALIDITY that was never used under its name.

@@ -5,11 +5,13 @@ use Rattle.std.specs.FinMap as map
 use base.Stored.{coded_unit}
 use Rattle.imap_name_map.specs.Rows as name
 use Rattle.imap_user_map.specs.Rows as user
+use Rattle.imap_world.specs.contracts.mailbox_entry.MailboxEntry as entry
 use Rattle.imap_world.specs.declared.mailbox_entry.MailboxEntry.{MailboxEntry}
+use Rattle.imap_world.specs.Mailbox.{plain_all}
 use Rattle.imap_world.specs.Effects.{if_filled}
 use Rattle.imap_user_map.specs.Finite.{keep}
 use Rattle.imap_user_map.specs.Rows.{Users}
-use Rattle.imap_world.specs.World.{World, NameSet, mailbox_code}
+use Rattle.imap_world.specs.World.{World, NameSet}
 
 -- a user's set may be empty: it keeps its room
 abbrev pub Subscriptions : Type 0
@@ -23,7 +25,7 @@ pub record Stored : Type 0 where
 abbrev pub stored_code : Coded Stored
 stored_code =
     code_by (name.Rows MailboxEntry × (name.Rows ℕ × Subscriptions))
-    (coded× (name.rows_code mailbox_code)
+    (coded× (name.rows_code entry.the_row.coded)
     (coded× (name.rows_code coded_ℕ) (user.rows_code (name.rows_code coded_unit))))
     (λ s. (s.mailboxes, (s.epochs, s.subscriptions)))
     (λ p. record { mailboxes = p.0; epochs = p.1.0; subscriptions = p.1.1 }) (λ _. refl)
@@ -35,7 +37,7 @@ filled_sets subscriptions = keep (λ user rows. if_filled rows.map) subscription
 -- the world, without its room
 abbrev pub world_of : Stored → World
 world_of stored = record {
-  mailboxes = stored.mailboxes.map;
+  mailboxes = plain_all stored.mailboxes.map;
   epochs = stored.epochs.map;
   subscriptions = filled_sets stored.subscriptions;
 }

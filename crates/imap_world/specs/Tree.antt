@@ -9,10 +9,10 @@ use Rattle.imap_rights.specs.Acl.{AclMap, owner_acl, with_entry, is_full_for}
 use Rattle.imap_rights.specs.Change.{applied}
 use Rattle.imap_rights.specs.Effective.{entry}
 use Rattle.imap_rights.specs.declared.change.RightsChange.{RightsChange}
-use Rattle.imap_world.specs.declared.mailbox_entry.MailboxEntry.{MailboxEntry}
+use Rattle.imap_world.specs.Mailbox.{Mailbox}
 use Rattle.imap_world.specs.declared.error.WorldError.{WorldError}
 use Rattle.imap_world.specs.declared.error.WorldError.TheVariants.{Limit}
-use Rattle.imap_world.specs.NewMailbox.{NewMailbox}
+use Rattle.imap_world.specs.NewMailbox.{NewMailbox, mailbox_in}
 use Rattle.imap_world.specs.World.{World, epoch, max_validity}
 
 -- ---- access control lists
@@ -24,7 +24,7 @@ acl_with_rights acl identifier change =
     let rights = applied change (entry acl identifier) in
     if is_full_for acl identifier rights then Err Limit else Ok (with_entry acl identifier rights)
 
-abbrev pub mailboxes_with_list : Names MailboxEntry → Name → AclMap → Option MailboxEntry → Names MailboxEntry
+abbrev pub mailboxes_with_list : Names Mailbox → Name → AclMap → Option Mailbox → Names Mailbox
 mailboxes_with_list mailboxes name acl None = mailboxes
 mailboxes_with_list mailboxes name acl (Some mailbox) =
     map.insert mailboxes name (record mailbox { acl = acl })
@@ -45,22 +45,22 @@ without world name = record world { mailboxes = map.remove world.mailboxes name 
 -- with this mailbox under the name; its UIDVALIDITY is the greatest that was used there
 abbrev pub with_row : World → NewMailbox → World
 with_row world row = record world {
-  mailboxes = map.insert world.mailboxes row.name row.mailbox;
-  epochs = map.insert world.epochs row.name row.mailbox.validity;
+  mailboxes = map.insert world.mailboxes row.name (mailbox_in row);
+  epochs = map.insert world.epochs row.name row.validity;
 }
 
 -- a mailbox that is made under the name has the next UIDVALIDITY, if one is left (RFC 9051, section 2.3.1.1)
 abbrev pub new_row : Names ℕ → Name → AclMap → Result NewMailbox WorldError
 new_row epochs name acl =
     if epoch epochs name == max_validity then Err Limit
-    else Ok (record { name = name; mailbox = record { validity = epoch epochs name + 1; acl = acl } })
+    else Ok (record { name = name; validity = epoch epochs name + 1; acl = acl })
 
-abbrev pub acl_or : Option MailboxEntry → AclMap → AclMap
+abbrev pub acl_or : Option Mailbox → AclMap → AclMap
 acl_or None deeper = deeper
 acl_or (Some mailbox) deeper = mailbox.acl
 
 -- the list of the nearest superior that is there; that of a root gives its owner all rights
-abbrev pub inherited : Names MailboxEntry → (owner : List ℕ) → Name → AclMap
+abbrev pub inherited : Names Mailbox → (owner : List ℕ) → Name → AclMap
 inherited mailboxes owner [] = owner_acl owner
 inherited mailboxes owner (root ∷ []) = owner_acl owner
 inherited mailboxes owner (deepest ∷ root ∷ []) = owner_acl owner

@@ -5,9 +5,8 @@ use Rattle.std.specs.Coded.{Coded, coded_ℕ, coded_list, coded×, code_by}
 use base.Stored.{coded_unit}
 use Rattle.imap_names.specs.Name.{Name, name_of}
 use Rattle.imap_names.specs.Order.{Names}
-use Rattle.imap_rights.specs.Acl.{AclMap, acl_code}
 use Rattle.imap_user_map.specs.Rows.{Users, users_code}
-use Rattle.imap_world.specs.declared.mailbox_entry.MailboxEntry.{MailboxEntry}
+use Rattle.imap_world.specs.Mailbox.{Mailbox, mailbox_code}
 
 abbrev pub NameSet : Type 0
 NameSet = Names (Unit {0})
@@ -15,24 +14,19 @@ NameSet = Names (Unit {0})
 -- by name, the mailboxes, and the greatest UIDVALIDITY that was ever used; by user, the names that the user
 -- subscribed to, if there are any
 pub record World : Type 0 where
-  pub mailboxes : Names MailboxEntry
+  pub mailboxes : Names Mailbox
   pub epochs : Names ℕ
   pub subscriptions : Users NameSet
 
 abbrev pub name_code : Coded Name
 name_code = coded_list (coded_list coded_ℕ)
 
-abbrev pub mailbox_code : Coded MailboxEntry
-mailbox_code =
-    code_by (ℕ × AclMap) (coded× coded_ℕ acl_code)
-    (λ m. (m.validity, m.acl)) (λ p. record { validity = p.0; acl = p.1 }) (λ _. refl)
-
 abbrev pub name_set_code : Coded NameSet
 name_set_code = map.code name_code coded_unit
 
 abbrev pub world_code : Coded World
 world_code =
-    code_by (Names MailboxEntry × (Names ℕ × Users NameSet))
+    code_by (Names Mailbox × (Names ℕ × Users NameSet))
     (coded× (map.code name_code mailbox_code)
     (coded× (map.code name_code coded_ℕ) (users_code name_set_code)))
     (λ w. (w.mailboxes, (w.epochs, w.subscriptions)))

@@ -11,16 +11,16 @@ use std::alloc::{AllocError, Global};
 use std::marker::Model;
 
 /// One value that is written.
-#[derive(Debug, Drop)]
+#[derive(Drop)]
 pub enum Write {
-    /// A mailbox is made. Its UIDVALIDITY is the greatest that was used under its name.
+    /// A mailbox is made, without messages. Its UIDVALIDITY is the greatest that was used under its name.
     Put(NewMailbox),
     /// The mailbox has this access control list.
     SetAcl(Name, Acl),
-    /// The mailbox goes. Its UIDVALIDITY stays counted as used.
+    /// The mailbox goes, with its messages. Its UIDVALIDITY stays counted as used.
     Remove(Name),
     /// The mailbox of the first name and all below it are called by the second name. These are the names
-    /// that they get. They keep their lists.
+    /// that they get. They keep their lists and their messages.
     Move(Name, Name, Arrivals),
     Subscribe(UserName, Name),
     Unsubscribe(UserName, Name),
@@ -64,7 +64,7 @@ impl Write {
 }
 
 /// What is written, in order. Contracts see the list.
-#[derive(Debug, Drop)]
+#[derive(Drop)]
 pub struct Change {
     pub(crate) writes: Vec<Write>,
 }

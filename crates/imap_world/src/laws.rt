@@ -1,11 +1,16 @@
 //! What holds of worlds, whatever effects are made.
 
-ghost use Rattle.imap_world.specs.Laws.{CreatesByName, CurrentIsFresh, RenamesByName, ValiditiesAreUsedOnce};
-ghost use Rattle.imap_world.specs.Laws.{WorldsStaySound};
+ghost use Rattle.imap_world.specs.Laws.{CreatesByName, CurrentIsFresh, MessagesStayKept, RenamesByName};
+ghost use Rattle.imap_world.specs.Laws.{ValiditiesAreUsedOnce, WorldsStaySound};
 
 /// The superiors of mailboxes stay there, and the UIDVALIDITYs of mailboxes stay counted.
 pub fn worlds_stay_sound()
     ensures { WorldsStaySound }
+{}
+
+/// What the type of a mailbox keeps goes on holding of the messages of each mailbox.
+pub fn messages_stay_kept()
+    ensures { MessagesStayKept }
 {}
 
 /// No UIDVALIDITY is used twice under a name (RFC 9051, section 2.3.1.1): a mailbox has one that a mailbox
@@ -21,14 +26,14 @@ pub fn current_changes_are_fresh()
 {}
 
 /// CREATE makes a mailbox at the name and at each superior of it that wasn't there, each with the inherited
-/// list and the next UIDVALIDITY, and changes nothing else (RFC 9051, section 6.3.4).
+/// list, the next UIDVALIDITY and no messages, and changes nothing else (RFC 9051, section 6.3.4).
 pub fn creates_by_name()
     ensures { CreatesByName }
 {}
 
-/// After RENAME each mailbox at or below the old name stands at the new one, with its list and the next
-/// UIDVALIDITY there, and nothing is left at the old one. Superiors of the new name that weren't there are
-/// made, and all else stays (RFC 9051, section 6.3.6).
+/// After RENAME each mailbox at or below the old name stands at the new one, with its list, its messages and
+/// the next UIDVALIDITY there, and nothing is left at the old one. Superiors of the new name that weren't
+/// there are made, and all else stays (RFC 9051, section 6.3.6).
 pub fn renames_by_name()
     ensures { RenamesByName }
 {}

@@ -6,6 +6,7 @@
 
 mod arrivals;
 mod change;
+mod copies;
 mod effect;
 mod error;
 pub mod laws;

@@ -1,33 +1,43 @@
 //! What a name stands for.
 
 ghost use Rattle.std.specs.Prelude.{◌≡◌, IfOk};
+ghost use Rattle.imap_world.specs.Mailbox.{new_mailbox, plain};
 
+use imap_mailbox::Mailbox;
 use imap_rights::Acl;
-use imap_values::TryCopy;
 use std::alloc::{AllocError, Global};
 
-/// A mailbox, apart from its name.
-#[derive(Debug, Drop)]
+/// A mailbox, apart from its name. Contracts see it with its room; `plain` leaves that out.
+#[derive(Drop)]
 pub struct MailboxEntry {
     /// UIDVALIDITY (RFC 9051, section 2.3.1.1).
     pub validity: u32,
     pub acl: Acl,
+    /// A box keeps the entries small, which move when a name is added before them.
+    pub messages: Box<Mailbox>,
 }
 
 impl MailboxEntry {
-    /// An equal copy.
-    pub fn try_copy(&self, alloc: Global) -> Result<MailboxEntry, AllocError>
-        ensures { IfOk result (λ copy. copy ≡ self.now) }
+    /// A mailbox without messages.
+    pub(crate) fn new(alloc: Global, validity: u32, acl: Acl) -> Result<MailboxEntry, AllocError>
+        ensures { IfOk result (λ entry. plain entry ≡ new_mailbox validity acl) }
     {
+        Ok(MailboxEntry {
+            validity,
+            acl,
+            messages: Box::new(alloc, Mailbox::new(alloc))?,
+        })
+    }
+
+    /// Returns a copy that shares octets and keywords. Its room may be another.
+    pub fn try_copy(&self, alloc: Global) -> Result<MailboxEntry, AllocError>
+        ensures { IfOk result (λ copy. plain copy ≡ plain self.now) }
+    {
+        let messages = self.messages.try_copy(alloc)?;
         Ok(MailboxEntry {
             validity: self.validity,
             acl: self.acl.try_copy(alloc)?,
+            messages: Box::new(alloc, messages)?,
         })
-    }
-}
-
-impl TryCopy for MailboxEntry {
-    fn try_copy(&self, alloc: Global) -> Result<MailboxEntry, AllocError> {
-        MailboxEntry::try_copy(self, alloc)
     }
 }

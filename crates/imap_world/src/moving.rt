@@ -7,6 +7,7 @@ ghost use Rattle.imap_names.specs.Valid.{fits};
 ghost use Rattle.imap_world.specs.Changing.{Answers, AnswersOrMemory};
 ghost use Rattle.imap_world.specs.declared.effect.Effect.TheVariants as effect;
 ghost use Rattle.imap_world.specs.Effects.{move_after, puts_of, writes_for};
+ghost use Rattle.imap_world.specs.Mailbox.{plain_all};
 ghost use Rattle.imap_world.specs.Moving as specs;
 ghost use Rattle.imap_world.specs.Stored.{world_of};
 
@@ -38,7 +39,7 @@ impl World {
         if !can_move(old, new) {
             return Err(WorldError::Cannot);
         }
-        if !self.mailboxes().is_free(&new.as_ref()) {
+        if !self.is_free(&new.as_ref()) {
             return Err(WorldError::Taken);
         }
         if !self.is_within_limits(old, new) {
@@ -156,7 +157,8 @@ pub(crate) fn set_validities(
     top: &NameRef<'_>,
     validities: &[(Name, u32)],
 )
-    ensures mailboxes { mailboxes.new.map ≡ specs.with_validities mailboxes.old.map validities.now }
+    ensures mailboxes { let before = plain_all mailboxes.old.map in
+        plain_all mailboxes.new.map ≡ specs.with_validities before validities.now }
     ensures spare { mailboxes.new.spare ≡ mailboxes.old.spare }
 {
     let (mut place, _) = mailboxes.run(top);
@@ -173,8 +175,9 @@ fn set_validity(
     name: &NameRef<'_>,
     validity: u32,
 )
-    ensures mailboxes { let there = map.get mailboxes.old.map name.now in
-        mailboxes.new.map ≡ specs.with_validity mailboxes.old.map name.now validity there }
+    ensures mailboxes { let before = plain_all mailboxes.old.map in
+        plain_all mailboxes.new.map
+        ≡ specs.with_validity before name.now validity (map.get before name.now) }
     ensures spare { mailboxes.new.spare ≡ mailboxes.old.spare }
 {
     match mailboxes.get_mut_near(place, name) {

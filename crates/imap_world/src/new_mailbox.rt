@@ -1,14 +1,17 @@
 //! A mailbox that is made.
 
 ghost use Rattle.std.specs.Prelude.{◌≡◌, IfOk};
+ghost use Rattle.imap_world.specs.Mailbox.{plain};
+ghost use Rattle.imap_world.specs.NewMailbox.{mailbox_in};
 
 use crate::mailbox_entry::MailboxEntry;
 use imap_names::Name;
+use imap_rights::Acl;
 use std::alloc::{AllocError, Global};
 use std::marker::Model;
 
-/// A mailbox that is made, with its name.
-#[derive(Debug, Drop)]
+/// A mailbox that is made, with its name. It has no messages.
+#[derive(Drop)]
 pub struct NewMailbox {
     pub(crate) name: Name,
     /// The same name, for the table of validities.
@@ -18,23 +21,36 @@ pub struct NewMailbox {
 
 impl Model for NewMailbox {
     ghost use Rattle.std.specs.Prelude.{◌≡◌};
+    ghost use Rattle.imap_mailbox.specs.Held.{summary_in};
+    ghost use Rattle.imap_world.specs.Mailbox.{no_messages};
     ghost use Rattle.imap_world.specs.NewMailbox as specs;
 
     ghost Value = { specs.NewMailbox };
 
     ghost coded = { specs.new_mailbox_code };
 
-    ghost view = { λ row. record { name = row.name; mailbox = row.mailbox } };
+    ghost view = { λ row. record {
+      name = row.name;
+      validity = row.mailbox.validity;
+      acl = row.mailbox.acl;
+    } };
 
-    ghost invariant = { λ row. row.epoch_name ≡ row.name };
+    ghost invariant = { λ row.
+        (row.epoch_name ≡ row.name) × (summary_in row.mailbox.messages.value ≡ no_messages) };
 }
 
 impl NewMailbox {
-    /// The mailbox, which is made under the name.
-    pub(crate) fn new(name: Name, mailbox: MailboxEntry) -> Result<NewMailbox, AllocError>
-        ensures { IfOk result (λ row. row ≡ record { name = name; mailbox = mailbox }) }
+    /// A mailbox without messages, which is made under the name.
+    pub(crate) fn new(
+        alloc: Global,
+        name: Name,
+        validity: u32,
+        acl: Acl,
+    ) -> Result<NewMailbox, AllocError>
+        ensures { IfOk result (λ row. row ≡ record { name = name; validity = validity; acl = acl }) }
     {
         let epoch_name = name.try_copy()?;
+        let mailbox = MailboxEntry::new(alloc, validity, acl)?;
         Ok(NewMailbox {
             name,
             epoch_name,
@@ -51,7 +67,7 @@ impl NewMailbox {
 
     /// The mailbox.
     pub fn mailbox(&self) -> &MailboxEntry
-        ensures { result.now ≡ self.now.mailbox }
+        ensures { plain result.now ≡ mailbox_in self.now }
     {
         &self.mailbox
     }

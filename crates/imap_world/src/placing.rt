@@ -4,6 +4,7 @@ ghost use Rattle.std.specs.Prelude.{◌≡◌, ◌+◌, ◌<◌, MatchOption};
 ghost use Rattle.imap_world.specs.Changing.{Answers};
 ghost use Rattle.imap_world.specs.Tree.{new_row};
 ghost use Rattle.imap_world.specs.Kept.{superior_is_there};
+ghost use Rattle.imap_world.specs.Mailbox.{plain_all};
 ghost use Rattle.imap_world.specs.World.{epoch, max_validity};
 
 use crate::error::WorldError;
@@ -12,10 +13,11 @@ use crate::new_mailbox::NewMailbox;
 use imap_name_map::NameMap;
 use imap_names::{Name, NameRef};
 use imap_rights::Acl;
+use std::alloc::Global;
 
 /// Whether the name lies right below a mailbox or the root of its tree.
 pub(crate) fn has_superior(mailboxes: &NameMap<MailboxEntry>, name: &NameRef<'_>) -> bool
-    ensures { result ≡ superior_is_there mailboxes.now.map name.now }
+    ensures { result ≡ superior_is_there (plain_all mailboxes.now.map) name.now }
 {
     match name.superior() {
         Some(above) => mailboxes.get(&above).is_some(),
@@ -47,11 +49,16 @@ pub(crate) fn next_validity(epochs: &NameMap<u32>, name: &NameRef<'_>) -> Option
 }
 
 /// The mailbox that is made under a name, with the next UIDVALIDITY. Fails with `Limit` if none is left.
-pub(crate) fn new_row(epochs: &NameMap<u32>, name: Name, acl: Acl) -> Result<NewMailbox, WorldError>
+pub(crate) fn new_row(
+    alloc: Global,
+    epochs: &NameMap<u32>,
+    name: Name,
+    acl: Acl,
+) -> Result<NewMailbox, WorldError>
     ensures { Answers result (new_row epochs.now.map name acl) }
 {
     match next_validity(epochs, &name.as_ref()) {
-        Some(validity) => Ok(NewMailbox::new(name, MailboxEntry { validity, acl })?),
+        Some(validity) => Ok(NewMailbox::new(alloc, name, validity, acl)?),
         None => Err(WorldError::Limit),
     }
 }

@@ -12,7 +12,6 @@ ghost use Rattle.imap_world.specs.World.{inbox};
 use crate::change::{Change, Write};
 use crate::effect::Effect;
 use crate::error::WorldError;
-use crate::mailbox_entry::MailboxEntry;
 use crate::new_mailbox::NewMailbox;
 use crate::owner::owner_acl;
 use crate::rights::changed_acl;
@@ -152,15 +151,21 @@ impl World {
             None => Change::none(alloc),
         };
         let own = name.to_name(alloc)?;
-        self.with_last_row(change, own, acl.try_copy(alloc)?)
+        self.with_last_row(alloc, change, own, acl.try_copy(alloc)?)
     }
 
     /// The change, and after it the mailbox that is made under `name`.
-    fn with_last_row(&self, mut change: Change, name: Name, acl: Acl) -> Result<Change, WorldError>
+    fn with_last_row(
+        &self,
+        alloc: Global,
+        mut change: Change,
+        name: Name,
+        acl: Acl,
+    ) -> Result<Change, WorldError>
         ensures { let row = new_row (world_of self.now).epochs name acl in
             AnswersOrMemory result (writes_then (Ok change) (put_of row)) }
     {
-        let row = self.next_row(name, acl)?;
+        let row = self.next_row(alloc, name, acl)?;
         change.push(Write::Put(row))?;
         Ok(change)
     }
@@ -175,7 +180,7 @@ impl World {
         if name.is_inbox() {
             return Err(WorldError::Cannot);
         }
-        if self.mailboxes().has_below(&name.as_ref()) {
+        if self.has_below(&name.as_ref()) {
             return Err(WorldError::Below);
         }
         Ok(Change::of(alloc, Write::Remove(name.try_copy()?))?)
@@ -204,11 +209,11 @@ impl World {
 
 /// Writes a user's INBOX, with this UIDVALIDITY and all rights for the user alone.
 fn inbox_change(alloc: Global, user: &UserName, validity: u32) -> Result<Change, AllocError>
-    ensures { let mailbox : MailboxEntry = record { validity = validity; acl = owner_acl user.now } in
-        let row : made.NewMailbox = record { name = inbox user.now; mailbox = mailbox } in
+    ensures { let acl = owner_acl user.now in
+        let row : made.NewMailbox = record { name = inbox user.now; validity = validity; acl = acl } in
         IfOk result (λ change. change ≡ Write.Put row ∷ []) }
 {
     let acl = owner_acl(alloc, user)?;
-    let row = NewMailbox::new(inbox(alloc, user)?, MailboxEntry { validity, acl })?;
+    let row = NewMailbox::new(alloc, inbox(alloc, user)?, validity, acl)?;
     Change::of(alloc, Write::Put(row))
 }

@@ -3,6 +3,7 @@
 ghost use Rattle.std.specs.Prelude.{◌≡◌, OnErr};
 ghost use Rattle.std.specs.FinMap as map;
 ghost use Rattle.imap_world.specs.Changing.{Answers, Changes, mailboxes_with_rights};
+ghost use Rattle.imap_world.specs.Mailbox.{plain_all};
 ghost use Rattle.imap_world.specs.Tree.{acl_with_rights, mailboxes_with_list};
 
 use crate::error::WorldError;
@@ -19,8 +20,9 @@ pub(crate) fn set_rights(
     identifier: Identifier,
     change: RightsChange,
 ) -> Result<(), WorldError>
-    ensures mailboxes { let meant = mailboxes_with_rights mailboxes.old.map name.now identifier change in
-        Changes result mailboxes.new.map meant }
+    ensures mailboxes { let before = plain_all mailboxes.old.map in
+        let meant = mailboxes_with_rights before name.now identifier change in
+        Changes result (plain_all mailboxes.new.map) meant }
     ensures err { OnErr result (mailboxes.new ≡ mailboxes.old) }
     ensures spare { mailboxes.new.spare ≡ mailboxes.old.spare }
 {
@@ -51,8 +53,8 @@ pub(crate) fn changed_acl(
 
 /// Sets the list of a mailbox, if it is there.
 pub(crate) fn put_acl(mailboxes: &mut NameMap<MailboxEntry>, name: &NameRef<'_>, acl: Acl)
-    ensures mailboxes { let there = map.get mailboxes.old.map name.now in
-        mailboxes.new.map ≡ mailboxes_with_list mailboxes.old.map name.now acl there }
+    ensures mailboxes { let before = plain_all mailboxes.old.map in
+        plain_all mailboxes.new.map ≡ mailboxes_with_list before name.now acl (map.get before name.now) }
     ensures spare { mailboxes.new.spare ≡ mailboxes.old.spare }
 {
     match mailboxes.get_mut(name) {

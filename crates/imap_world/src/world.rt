@@ -1,14 +1,15 @@
 //! The world.
 
-ghost use Rattle.std.specs.Prelude.{◌≡◌, ◌+◌, ◌<◌, ◌≤◌, ◌∷◌, [], false, true, length, IfOk, MatchOption, Ok};
-ghost use Rattle.std.specs.Prelude.{OnErr, OnOk, option_copied};
+ghost use Rattle.std.specs.Prelude.{◌≡◌, ◌+◌, ◌<◌, ◌≤◌, ◌∷◌, [], false, true, not, length, IfOk, Ok};
+ghost use Rattle.std.specs.Prelude.{MatchOption, OnErr, OnOk, option_copied};
 ghost use Rattle.std.specs.FinMap as map;
-ghost use Rattle.imap_name_map.specs.Rows.{has_below};
+ghost use Rattle.imap_name_map.specs.Rows.{has_below, has_within};
 ghost use Rattle.imap_world.specs.Changing.{Answers, AnswersOrMemory, Changes};
 ghost use Rattle.imap_world.specs.Changing.{world_with_placed, world_with_rights};
 ghost use Rattle.imap_world.specs.Effects.{after_write, after_writes, writes_for, writes_of};
-ghost use Rattle.imap_world.specs.Kept.{IsSound};
+ghost use Rattle.imap_world.specs.Kept.{AreKept, IsSound};
 ghost use Rattle.imap_world.specs.Laws.{KeepsValidities};
+ghost use Rattle.imap_world.specs.Mailbox.{plain_all, plain_lent};
 ghost use Rattle.imap_world.specs.Moving.{with_moved};
 ghost use Rattle.imap_world.specs.Ready.{AreApart, HasRoomFor, IsMadeByEffects, IsOneReady, IsReady, Leaves};
 ghost use Rattle.imap_world.specs.Ready.{MayMove, MayPut, count_of};
@@ -18,6 +19,7 @@ ghost use Rattle.imap_world.specs.World.{epoch, max_validity, subscribed_by};
 
 use crate::arrivals::Arrivals;
 use crate::change::{Change, Write};
+use crate::copies::copy_mailboxes;
 use crate::effect::Effect;
 use crate::error::WorldError;
 use crate::mailbox_entry::MailboxEntry;
@@ -37,7 +39,8 @@ use std::marker::Model;
 /// The mailboxes by their names, the greatest UIDVALIDITY that was ever used under each name, and the names
 /// that each user subscribed to.
 ///
-/// The superiors of a mailbox are there, and its UIDVALIDITY is counted among those that were used.
+/// The superiors of a mailbox are there, and its UIDVALIDITY is counted among those that were used. Its
+/// messages meet what a mailbox promises of them.
 /// Contracts see the room for more, too; `world_of` leaves it out.
 #[derive(Drop)]
 pub struct World {
@@ -47,7 +50,8 @@ pub struct World {
 }
 
 impl Model for World {
-    ghost use Rattle.imap_world.specs.Kept.{IsSound};
+    ghost use Rattle.imap_world.specs.Kept.{AreKept, IsSound};
+    ghost use Rattle.imap_world.specs.Mailbox.{plain_all};
     ghost use Rattle.imap_world.specs.Stored.{Stored, stored_code, world_of};
 
     ghost Value = { Stored };
@@ -62,7 +66,7 @@ impl Model for World {
           mailboxes = w.mailboxes;
           epochs = w.epochs;
           subscriptions = w.subscriptions;
-        })) };
+        })) × AreKept (plain_all w.mailboxes.map) };
 }
 
 impl World {
@@ -79,12 +83,12 @@ impl World {
         }
     }
 
-    /// Returns an equal copy.
+    /// Returns a copy. Its room may be another.
     pub fn try_copy(&self, alloc: Global) -> Result<World, AllocError>
         ensures { IfOk result (λ copy. world_of copy ≡ world_of self.now) }
     {
         Ok(World {
-            mailboxes: self.mailboxes.try_copy(alloc)?,
+            mailboxes: copy_mailboxes(alloc, &self.mailboxes)?,
             epochs: self.epochs.try_copy(alloc)?,
             subscriptions: self.subscriptions.try_copy(alloc)?,
         })
@@ -92,17 +96,32 @@ impl World {
 
     /// The mailbox of this name, or `None` if there is none.
     pub fn mailbox(&self, name: &NameRef<'_>) -> Option<&MailboxEntry>
-        ensures there { option_copied result ≡ map.get (world_of self.now).mailboxes name.now }
+        ensures there { plain_lent result ≡ map.get (world_of self.now).mailboxes name.now }
         ensures valid { IsSound (world_of self.now) }
+        ensures kept { AreKept (world_of self.now).mailboxes }
     {
         self.mailboxes.get(name)
     }
 
     /// All mailboxes, in the order of their names.
     pub fn mailboxes(&self) -> &NameMap<MailboxEntry>
-        ensures { result.now.map ≡ (world_of self.now).mailboxes }
+        ensures { plain_all result.now.map ≡ (world_of self.now).mailboxes }
     {
         &self.mailboxes
+    }
+
+    /// Whether there is a mailbox below the name.
+    pub(crate) fn has_below(&self, name: &NameRef<'_>) -> bool
+        ensures { result ≡ has_below name.now (world_of self.now).mailboxes }
+    {
+        self.mailboxes.has_below(name)
+    }
+
+    /// Whether neither the name nor one below it is in use.
+    pub(crate) fn is_free(&self, name: &NameRef<'_>) -> bool
+        ensures { result ≡ not (has_within name.now (world_of self.now).mailboxes) }
+    {
+        self.mailboxes.is_free(name)
     }
 
     /// The greatest UIDVALIDITY that was ever used under the name, and 0 if none was.
@@ -119,9 +138,10 @@ impl World {
         self.subscriptions.get(user)
     }
 
-    /// Makes a mailbox. Fails with `Taken` if it is there, else with `NoSuch` if its superior isn't, else
-    /// with `Limit` if no UIDVALIDITY is left under its name. The root of a tree counts as there.
-    pub fn place(&mut self, name: Name, acl: Acl) -> Result<(), WorldError>
+    /// Makes a mailbox without messages. Fails with `Taken` if it is there, else with `NoSuch` if its
+    /// superior isn't, else with `Limit` if no UIDVALIDITY is left under its name. The root of a tree counts
+    /// as there.
+    pub fn place(&mut self, alloc: Global, name: Name, acl: Acl) -> Result<(), WorldError>
         ensures world { Changes result (world_of self.new) (world_with_placed (world_of self.old) name acl) }
         ensures err { OnErr result (world_of self.new ≡ world_of self.old) }
     {
@@ -131,7 +151,7 @@ impl World {
         if !has_superior(&self.mailboxes, &name.as_ref()) {
             return Err(WorldError::NoSuch);
         }
-        match new_row(&self.epochs, name, acl) {
+        match new_row(alloc, &self.epochs, name, acl) {
             Ok(row) => self.add(row),
             Err(error) => Err(error),
         }
@@ -175,10 +195,15 @@ impl World {
     }
 
     /// The mailbox that is made under a name, with the next UIDVALIDITY. Fails with `Limit` if none is left.
-    pub(crate) fn next_row(&self, name: Name, acl: Acl) -> Result<NewMailbox, WorldError>
+    pub(crate) fn next_row(
+        &self,
+        alloc: Global,
+        name: Name,
+        acl: Acl,
+    ) -> Result<NewMailbox, WorldError>
         ensures { Answers result (new_row (world_of self.now).epochs name acl) }
     {
-        new_row(&self.epochs, name, acl)
+        new_row(alloc, &self.epochs, name, acl)
     }
 
     /// Finds the values to be written for the effects, and reserves all room. Changes nothing that is kept.
@@ -271,16 +296,16 @@ impl World {
         put_acl(&mut self.mailboxes, name, acl);
     }
 
-    /// Removes a mailbox, if it is there.
+    /// Removes a mailbox with its messages, if it is there.
     fn remove(&mut self, name: &NameRef<'_>)
-        requires { has_below name.now self.old.mailboxes.map ≡ false }
+        requires { has_below name.now (world_of self.old).mailboxes ≡ false }
         ensures world { world_of self.new ≡ without (world_of self.old) name.now }
         ensures room { Leaves 0 self.old self.new }
     {
         self.mailboxes.remove(name);
     }
 
-    /// Calls a mailbox and all below it by a new name.
+    /// Calls a mailbox and all below it by a new name. They keep their lists and their messages.
     fn move_run(&mut self, old: &NameRef<'_>, new: &NameRef<'_>, arrivals: Arrivals)
         requires room { length arrivals ≤ self.old.epochs.spare }
         requires may { MayMove old.now new.now arrivals (world_of self.old) }

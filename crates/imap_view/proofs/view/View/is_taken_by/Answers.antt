@@ -1,7 +1,6 @@
-use Rattle.std.proofs.Common.{◌≡◌, ◌&&◌, Bool, rules, sym, ap, ◌∙◌}
+use Rattle.std.proofs.Common.{◌≡◌, ◌&&◌, rules, sym, ap, ◌∙◌}
 use Rattle.std.specs.FinMap as map
 use Rattle.imap_world.specs.Stored.{world_of}
-use Rattle.imap_view.specs.View.{may_know_name_in}
 use Rattle.imap_view.proofs.Climbing.{and_false, and_true}
 use Rattle.imap_view.proofs.Views.{taken_at}
 use Rattle.imap_view.proofs.view.View.is_taken_by.Goals as goal

@@ -1,5 +1,4 @@
-use Rattle.std.proofs.Common.{ap, ◌∙◌}
-use Rattle.std.specs.FinMap as map
+use Rattle.std.proofs.Common.{◌∙◌}
 use Rattle.imap_world.specs.Stored.{world_of}
 use Rattle.imap_view.specs.Listing.{seen_among}
 use Rattle.imap_view.proofs.Listings.{names_seen}
@@ -7,5 +6,5 @@ use Rattle.imap_view.proofs.view.View.seen_names.Goals as goal
 
 pub returns : goal.returns
 returns c =
-    (λ i. seen_among ((c.new.ensures ∙ c.self.view_is) i) ((c.entries.ensures ∙ ap map.entries c.mailboxes.ensures) i))
-    ∙ names_seen c.self.inside.site.now.administrator c.self.inside.user.now (world_of c.self.inside.world.now) c.args.self.now c.self.view_is
+    (λ i. seen_among ((c.new.ensures ∙ c.self.view_is) i) (c.entries.ensures i))
+    ∙ names_seen c.self.inside.site.now.administrator c.self.inside.user.now (world_of c.self.inside.world.now) c.args.self.now c.self.view_is c.mailboxes.result.now.map c.mailboxes.ensures

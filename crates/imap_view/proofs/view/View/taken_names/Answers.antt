@@ -1,5 +1,4 @@
-use Rattle.std.proofs.Common.{ap, ◌∙◌}
-use Rattle.imap_name_map.specs.Rows.{below_of}
+use Rattle.std.proofs.Common.{◌∙◌}
 use Rattle.imap_world.specs.Stored.{world_of}
 use Rattle.imap_view.specs.Listing.{known_among}
 use Rattle.imap_view.proofs.Listings.{names_taken}
@@ -7,5 +6,5 @@ use Rattle.imap_view.proofs.view.View.taken_names.Goals as goal
 
 pub returns : goal.returns
 returns c =
-    (λ i. known_among ((c.new.ensures ∙ c.self.view_is) i) ((c.entries_below.ensures ∙ ap (below_of c.args.name.now) c.mailboxes.ensures) i))
-    ∙ names_taken c.self.inside.site.now.administrator c.self.inside.user.now (world_of c.self.inside.world.now) c.args.self.now c.self.view_is c.args.name.now
+    (λ i. known_among ((c.new.ensures ∙ c.self.view_is) i) (c.entries_below.ensures i))
+    ∙ names_taken c.self.inside.site.now.administrator c.self.inside.user.now (world_of c.self.inside.world.now) c.args.self.now c.self.view_is c.args.name.now c.mailboxes.result.now.map c.mailboxes.ensures
