@@ -3,6 +3,7 @@ use Rattle.std.proofs.Common.{◌≡◌, ℕ, List, Option, Some, None, refl, sy
 use Rattle.imap_view.proofs.Asked.{own_effects}
 use Rattle.imap_view.specs.After.{view_after}
 use Rattle.imap_view.specs.View.{View, view_of}
+use Rattle.imap_world.specs.declared.site.Site.{Site}
 use Rattle.imap_world.specs.declared.effect.Effect.{Effect}
 use Rattle.imap_world.specs.Effects.{after_all}
 use Rattle.imap_world.specs.World.{World}
@@ -15,18 +16,18 @@ abbrev pub view_after_asking : Option Effect → View → View
 view_after_asking None view = view
 view_after_asking (Some effect) view = view_after effect view
 
-pub after_asking : (administrator user : List ℕ) (world : World) (asked : Option Effect) → MayBeAsked (view_of administrator user world) asked
-    → view_of administrator user (after_all (effects_of asked) world) ≡ view_after_asking asked (view_of administrator user world)
-after_asking administrator user world None may = refl
-after_asking administrator user world (Some effect) may = own_effects administrator user world effect may
+pub after_asking : (site : Site) (user : List ℕ) (world : World) (asked : Option Effect) → MayBeAsked (view_of site user world) asked
+    → view_of site user (after_all (effects_of asked) world) ≡ view_after_asking asked (view_of site user world)
+after_asking site user world None may = refl
+after_asking site user world (Some effect) may = own_effects site user world effect may
 
 -- answers that are fit
 pub answers_alike : (answer : View → Answer) → ((view : View) → IsFit view (answer view)) → AnswersAlike answer
-answers_alike answer fit administrator user world other same =
-    let here = view_of administrator user world in
-    let there = view_of administrator user other in (
+answers_alike answer fit site user world other same =
+    let here = view_of site user world in
+    let there = view_of site user other in (
       ap answer same,
-      after_asking administrator user world (answer here).effect (fit here).asks
+      after_asking site user world (answer here).effect (fit here).asks
           ∙ ap (λ view. view_after_asking (answer view).effect view) same
-          ∙ sym (after_asking administrator user other (answer there).effect (fit there).asks),
+          ∙ sym (after_asking site user other (answer there).effect (fit there).asks),
     )

@@ -1,6 +1,7 @@
 -- A command in two worlds that are alike to its user.
 use Rattle.std.specs.Prelude.{◌≡◌, ℕ, List, [], ◌∷◌, Option, Some, None}
 use Rattle.imap_view.specs.View.{View, view_of}
+use Rattle.imap_world.specs.declared.site.Site.{Site}
 use Rattle.imap_world.specs.declared.effect.Effect.{Effect}
 use Rattle.imap_world.specs.Effects.{after_all}
 use Rattle.imap_world.specs.World.{World}
@@ -13,10 +14,10 @@ effects_of (Some effect) = effect ∷ []
 -- A command with this answer is answered alike in two worlds that are alike to its user, and leaves them
 -- alike to that user.
 abbrev pub AnswersAlike : (View → Answer) → Type 0
-AnswersAlike answer = (administrator user : List ℕ) (world other : World)
-    → view_of administrator user world ≡ view_of administrator user other →
-    let here = answer (view_of administrator user world) in
-    let there = answer (view_of administrator user other) in
+AnswersAlike answer = (site : Site) (user : List ℕ) (world other : World)
+    → view_of site user world ≡ view_of site user other →
+    let here = answer (view_of site user world) in
+    let there = answer (view_of site user other) in
     (here ≡ there)
-    × (view_of administrator user (after_all (effects_of here.effect) world)
-    ≡ view_of administrator user (after_all (effects_of there.effect) other))
+    × (view_of site user (after_all (effects_of here.effect) world)
+    ≡ view_of site user (after_all (effects_of there.effect) other))

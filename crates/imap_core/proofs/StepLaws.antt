@@ -10,6 +10,7 @@ use Rattle.std.specs.FinMap.{get-insert, get-remove}
 use Rattle.std.specs.Cmp.{nat_cmp_total}
 use Rattle.imap_view.proofs.Asked.{own_effects_made}
 use Rattle.imap_view.specs.View.{view_of}
+use Rattle.imap_world.specs.declared.site.Site.{Site}
 use Rattle.imap_world.specs.declared.effect.Effect.{Effect}
 use Rattle.imap_world.specs.Effects.{after_all}
 use Rattle.imap_world.specs.World.{World}
@@ -77,13 +78,13 @@ other_users_stay state step user apart = own_in-other state step user apart
 
 -- ---- effects
 
-made_if_asked : (administrator user : List ℕ) (world : World) (asked : Option Effect) → MayBeAsked (view_of administrator user world) asked → IsMadeIfAsked asked world
-made_if_asked administrator user world None may = tt
-made_if_asked administrator user world (Some effect) may = own_effects_made administrator user world effect may
+made_if_asked : (site : Site) (user : List ℕ) (world : World) (asked : Option Effect) → MayBeAsked (view_of site user world) asked → IsMadeIfAsked asked world
+made_if_asked site user world None may = tt
+made_if_asked site user world (Some effect) may = own_effects_made site user world effect may
 
 pub effects_made : EffectsAreMade
 effects_made state step =
-    made_if_asked state.site.administrator step.who.user state.world (outcome state step).effect
+    made_if_asked state.site step.who.user state.world (outcome state step).effect
     (outcome_fits (view_in state step.who.user) (own_in state step.who.user) step).asks
 
 -- ---- refusals

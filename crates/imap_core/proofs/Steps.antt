@@ -25,7 +25,7 @@ view_next view own step = view_after_asking (outcome_for view own step).effect v
 
 pub view_in-next : (state : State) (step : Step) → view_in (next state step) step.who.user ≡ view_next (view_in state step.who.user) (own_in state step.who.user) step
 view_in-next state step =
-    after_asking state.site.administrator step.who.user state.world (outcome state step).effect
+    after_asking state.site step.who.user state.world (outcome state step).effect
     (outcome_fits (view_in state step.who.user) (own_in state step.who.user) step).asks
 
 -- ---- sessions

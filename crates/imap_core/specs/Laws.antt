@@ -54,4 +54,4 @@ NeverUnavailable = (state : State) (step : Step) → list_any is_unavailable (an
 -- To a user, states are alike that differ in hidden mailboxes alone, and in their used validities.
 abbrev pub HiddenIsAlike : Type 0
 HiddenIsAlike = (user : List ℕ) (s t : State) → s.site ≡ t.site → own_in s user ≡ own_in t user
-    → DifferInHidden s.site.administrator user s.world t.world → Alike user s t
+    → DifferInHidden s.site user s.world t.world → Alike user s t

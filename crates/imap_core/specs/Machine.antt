@@ -3,7 +3,7 @@ use Rattle.std.specs.Prelude.{◌≡◌, ℕ, ◌<◌, List, [], ◌∷◌, leng
 use Rattle.std.specs.Coded.{Coded, coded_ℕ, coded_list, coded×, code_by}
 use Rattle.std.specs.FinMap as map
 use Rattle.imap_print.specs.declared.response.Response.{Response}
-use Rattle.imap_view.specs.View.{View, view_of}
+use Rattle.imap_view.specs.View.{View, site_code, view_of}
 use Rattle.imap_answer.specs.Alike.{effects_of}
 use Rattle.imap_world.specs.declared.site.Site.{Site}
 use Rattle.imap_world.specs.Effects.{after_all}
@@ -28,13 +28,6 @@ pub record Machine : Type 0 where
   pub state : State
   pub stored : Stored
 
-abbrev pub site_code : Coded Site
-site_code =
-    code_by (List ℕ × (ℕ × ℕ)) (coded× (coded_list coded_ℕ) (coded× coded_ℕ coded_ℕ))
-    (λ s. (s.administrator, (s.limits.max_messages, s.limits.max_octets)))
-    (λ p. record { administrator = p.0; limits = record { max_messages = p.1.0; max_octets = p.1.1 } })
-    (λ _. refl)
-
 abbrev pub state_code : Coded State
 state_code =
     code_by (Site × (World × Accounts)) (coded× site_code (coded× world_code accounts_code))
@@ -49,7 +42,7 @@ machine_code =
 
 -- what a user may see, and the user's own sessions, if the user is known
 abbrev pub view_in : State → List ℕ → View
-view_in state user = view_of state.site.administrator user state.world
+view_in state user = view_of state.site user state.world
 
 abbrev pub own_in : State → List ℕ → Option Own
 own_in state user = map.get state.accounts user

@@ -63,3 +63,51 @@ fn names_are_listed(rt: HostRuntime) -> Result<(), Fail> {
     let mut world = World::new(rt.alloc());
     list_of_bob(&rt, rt.alloc(), &mut world)
 }
+
+/// The UIDVALIDITY and the room of a new mailbox that a user with these rights is shown.
+const SHOWN: [(&[u8], Option<u32>, Option<u64>); 4] = [
+    (b"l", None, None),
+    (b"i", None, Some(10_000)),
+    (b"r", Some(1), Some(10_000)),
+    (b"a", Some(1), Some(10_000)),
+];
+
+fn show_new(
+    rt: &impl Abort,
+    view: &View<'_>,
+    name: &Name,
+    validity: Option<u32>,
+    room: Option<u64>,
+) -> Result<(), Fail> {
+    let seen = view.seen(&name.as_ref()).ok_or("not seen")?;
+    assert_eq!(rt; seen.validity(), validity);
+    assert_eq!(rt; seen.room(), room);
+    // UIDNEXT and HIGHESTMODSEQ are 1.
+    assert_eq!(rt; seen.next_uid(), validity);
+    assert_eq!(rt; seen.highest(), validity.map(|one| one as u64));
+    assert_eq!(rt; seen.rows().map(|rows| rows.len()), validity.map(|_| 0));
+    assert_eq!(rt; seen.gone().map(|gone| gone.len()), validity.map(|_| 0));
+    Ok(())
+}
+
+fn show_all(rt: &impl Abort, alloc: Global, world: &mut World, site: &Site) -> Result<(), Fail> {
+    let bob = user(alloc, "bob")?;
+    let top = name(alloc, b"Shared/V")?;
+    for &(letters, validity, room) in &SHOWN {
+        give(alloc, world, b"Shared/V", b"bob", letters)?.map_err(|_| "not given")?;
+        show_new(rt, &View::new(world, site, &bob), &top, validity, room)?;
+    }
+    Ok(())
+}
+
+fn show_to_bob(rt: &impl Abort, alloc: Global, world: &mut World) -> Result<(), Fail> {
+    place(alloc, world, b"Shared/V")?.map_err(|_| "not placed")?;
+    let site = site(alloc)?;
+    show_all(rt, alloc, world, &site)
+}
+
+#[test]
+fn messages_are_shown_by_rights(rt: HostRuntime) -> Result<(), Fail> {
+    let mut world = World::new(rt.alloc());
+    show_to_bob(&rt, rt.alloc(), &mut world)
+}

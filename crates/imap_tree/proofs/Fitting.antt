@@ -127,12 +127,12 @@ module _ (view : View) (tag : List ℕ) where
 
   create_by : (name : Name) (may : Bool) → may_create view name ≡ may → (taken : Bool) → map.contains_key view.taken name ≡ taken
       → (left : Bool) → validities_left view (missing_in view name) ≡ left
-      → IsFit view (cond (not may) (refusal tag NoPerm) (cond taken (refusal tag AlreadyExists) (cond left (done_with tag (Create (owner_of view.administrator name) name)) (refusal tag Limit))))
+      → IsFit view (cond (not may) (refusal tag NoPerm) (cond taken (refusal tag AlreadyExists) (cond left (done_with tag (Create (owner_of view.site name) name)) (refusal tag Limit))))
   create_by name false e taken d left f = fits_alone view _ _ refl
   create_by name true e true d left f = fits_alone view _ _ refl
   create_by name true e false d false f = fits_alone view _ _ refl
   create_by name true e false d true f =
-      fits_asking view tag (Create (owner_of view.administrator name) name)
+      fits_asking view tag (Create (owner_of view.site name) name)
       (refl, ap (λ b. b && (not (map.contains_key view.taken name) && validities_left view (missing_in view name))) e ∙ ap (λ b. not b && validities_left view (missing_in view name)) d ∙ f)
 
   abbrev IsRefusalFit : Result Name Refusal → Type 0
@@ -160,14 +160,14 @@ module _ (view : View) (tag : List ℕ) where
   rename_by : (old new : Name) (held : Bool) → has_any (rights_in view old) delete_mailbox ≡ held → (can : Bool) → can_move old new ≡ can → (may : Bool) → may_create view new ≡ may
       → (used : Bool) → has_within new view.taken ≡ used → (all : Bool) → can_all_arrive view old new ≡ all
       → IsFit view (cond (not held) (refusal tag (missing_right_refusal (rights_in view old))) (cond (not can) (refusal tag Cannot) (cond (not may) (refusal tag NoPerm)
-      (cond used (refusal tag AlreadyExists) (cond all (done_with tag (Rename (owner_of view.administrator new) old new)) (refusal tag Limit))))))
+      (cond used (refusal tag AlreadyExists) (cond all (done_with tag (Rename (owner_of view.site new) old new)) (refusal tag Limit))))))
   rename_by old new false h can c may m used u all a = missing_right_fits (rights_in view old)
   rename_by old new true h false c may m used u all a = fits_alone view _ _ refl
   rename_by old new true h true c false m used u all a = fits_alone view _ _ refl
   rename_by old new true h true c true m true u all a = fits_alone view _ _ refl
   rename_by old new true h true c true m false u false a = fits_alone view _ _ refl
   rename_by old new true h true c true m false u true a =
-      fits_asking view tag (Rename (owner_of view.administrator new) old new)
+      fits_asking view tag (Rename (owner_of view.site new) old new)
       (refl, λ k. h k && (c k && (m k && (not (u k) && a k))))
 
   rename_read : (old : Name) (new : Result Name Refusal) → IsRefusalFit new → IsFit view (rename_to view tag old new)

@@ -22,7 +22,7 @@ create_of_name view tag name =
     if not (may_create view name) then refusal tag NoPerm
     else if map.contains_key view.taken name then refusal tag AlreadyExists
     else if validities_left view (missing_in view name)
-    then done_with tag (Create (owner_of view.administrator name) name)
+    then done_with tag (Create (owner_of view.site name) name)
     else refusal tag Limit
 
 abbrev pub create_of : View → (tag : List ℕ) → Result Name Refusal → Answer

@@ -16,7 +16,7 @@ use Rattle.imap_tree.specs.Access.{missing_right_refusal}
 -- an owner always has `l` and `a`; any other identifier may be given each right or none
 abbrev pub list_rights_line : View → Name → (identifier : List ℕ) → Response
 list_rights_line view name identifier =
-    let is_owner = bytes_eq identifier (owner_of view.administrator name) in
+    let is_owner = bytes_eq identifier (owner_of view.site name) in
     response.ListRights (shown view.user name) identifier is_owner
 
 abbrev pub list_rights_by : View → (tag : List ℕ) → Name → Option (List ℕ) → Answer

@@ -24,7 +24,7 @@ rename_of_names view tag old new =
     else if not (may_create view new) then refusal tag NoPerm
     else if has_within new view.taken then refusal tag AlreadyExists
     else if can_all_arrive view old new
-    then done_with tag (Rename (owner_of view.administrator new) old new)
+    then done_with tag (Rename (owner_of view.site new) old new)
     else refusal tag Limit
 
 abbrev pub rename_to : View → (tag : List ℕ) → (old : Name) → Result Name Refusal → Answer

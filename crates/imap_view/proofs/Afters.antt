@@ -6,6 +6,7 @@ use Rattle.imap_names.specs.Name.{Name}
 use Rattle.imap_names.specs.Order.{Names, name_cmp}
 use Rattle.imap_names.proofs.NameLaws.{same_names}
 use Rattle.imap_names.proofs.OrderLaws.{name_antisymmetric}
+use Rattle.imap_world.specs.declared.site.Site.{Site}
 use Rattle.imap_world.specs.Mailbox.{Mailbox}
 use Rattle.imap_world.specs.Effects.{if_filled, with_subscribed}
 use Rattle.imap_user_map.specs.Finite.{keep}
@@ -34,40 +35,40 @@ subscribed_still world user other names differ =
     ∙ ap (λ b. set_of (cond b (if_filled names) (map.get world.subscriptions user))) (apart user other differ (is_user user other) refl)
 
 -- but for the subscriptions the view stays
-view_with : (administrator user : List ℕ) (world : World) (other : List ℕ) (names : NameSet)
-    → view_of administrator user (with_subscribed world other names) ≡ record (view_of administrator user world) { subscribed = subscribed_by (with_subscribed world other names) user }
+view_with : (site : Site) (user : List ℕ) (world : World) (other : List ℕ) (names : NameSet)
+    → view_of site user (with_subscribed world other names) ≡ record (view_of site user world) { subscribed = subscribed_by (with_subscribed world other names) user }
 unfolding view_of
-view_with administrator user world other names = refl
+view_with site user world other names = refl
 
-same_subscribed : (administrator user : List ℕ) (world : World) → record (view_of administrator user world) { subscribed = subscribed_by world user } ≡ view_of administrator user world
+same_subscribed : (site : Site) (user : List ℕ) (world : World) → record (view_of site user world) { subscribed = subscribed_by world user } ≡ view_of site user world
 unfolding view_of
-same_subscribed administrator user world = refl
+same_subscribed site user world = refl
 
-user_is : (administrator user : List ℕ) (world : World) → (view_of administrator user world).user ≡ user
+user_is : (site : Site) (user : List ℕ) (world : World) → (view_of site user world).user ≡ user
 unfolding view_of
-user_is administrator user world = refl
+user_is site user world = refl
 
-subscribed_is : (administrator user : List ℕ) (world : World) → (view_of administrator user world).subscribed ≡ subscribed_by world user
+subscribed_is : (site : Site) (user : List ℕ) (world : World) → (view_of site user world).subscribed ≡ subscribed_by world user
 unfolding view_of
-subscribed_is administrator user world = refl
+subscribed_is site user world = refl
 
-module _ (administrator user : List ℕ) (world : World) (f : NameSet → NameSet) where
-  pub changed : (asker : List ℕ) → asker ≡ (view_of administrator user world).user
-      → view_of administrator user (with_subscribed world asker (f (subscribed_by world asker))) ≡ record (view_of administrator user world) { subscribed = f (view_of administrator user world).subscribed }
+module _ (site : Site) (user : List ℕ) (world : World) (f : NameSet → NameSet) where
+  pub changed : (asker : List ℕ) → asker ≡ (view_of site user world).user
+      → view_of site user (with_subscribed world asker (f (subscribed_by world asker))) ≡ record (view_of site user world) { subscribed = f (view_of site user world).subscribed }
   changed asker is =
-      ap (λ u. view_of administrator user (with_subscribed world u (f (subscribed_by world u)))) (is ∙ user_is administrator user world)
-      ∙ view_with administrator user world user (f (subscribed_by world user))
-      ∙ ap (λ names. record (view_of administrator user world) { subscribed = names }) (subscribed_anew world user (f (subscribed_by world user)) ∙ ap f (sym (subscribed_is administrator user world)))
+      ap (λ u. view_of site user (with_subscribed world u (f (subscribed_by world u)))) (is ∙ user_is site user world)
+      ∙ view_with site user world user (f (subscribed_by world user))
+      ∙ ap (λ names. record (view_of site user world) { subscribed = names }) (subscribed_anew world user (f (subscribed_by world user)) ∙ ap f (sym (subscribed_is site user world)))
 
-  unchanged : (other : List ℕ) → other ≢ user → view_of administrator user (with_subscribed world other (f (subscribed_by world other))) ≡ view_of administrator user world
+  unchanged : (other : List ℕ) → other ≢ user → view_of site user (with_subscribed world other (f (subscribed_by world other))) ≡ view_of site user world
   unchanged other differ =
-      view_with administrator user world other (f (subscribed_by world other))
-      ∙ ap (λ names. record (view_of administrator user world) { subscribed = names }) (subscribed_still world user other (f (subscribed_by world other)) differ)
-      ∙ same_subscribed administrator user world
+      view_with site user world other (f (subscribed_by world other))
+      ∙ ap (λ names. record (view_of site user world) { subscribed = names }) (subscribed_still world user other (f (subscribed_by world other)) differ)
+      ∙ same_subscribed site user world
 
 pub others_subscriptions : OthersSubscriptionsAreHidden
-others_subscriptions administrator user other world name differ =
-    (unchanged administrator user world (λ names. map.insert names name tt) other differ, unchanged administrator user world (λ names. map.remove names name) other differ)
+others_subscriptions site user other world name differ =
+    (unchanged site user world (λ names. map.insert names name tt) other differ, unchanged site user world (λ names. map.remove names name) other differ)
 
 -- ---- hidden mailboxes
 
@@ -77,57 +78,57 @@ nothing true f o e = absurd (true≢false e)
 nothing false f None e = refl
 nothing false f (Some x) e = refl
 
-module _ (administrator user : List ℕ) (one other : World) (differ : DifferInHidden administrator user one other) where
+module _ (site : Site) (user : List ℕ) (one other : World) (differ : DifferInHidden site user one other) where
   abbrev seen : Names Seen
-  seen = seen_in administrator user one
+  seen = seen_in site user one
 
   -- what is seen at each name
-  seen_at_each : (q : Name) → map.get (view_of administrator user one).seen q ≡ map.get (view_of administrator user other).seen q
+  seen_at_each : (q : Name) → map.get (view_of site user one).seen q ≡ map.get (view_of site user other).seen q
   seen_at_each q = by (differ.mailboxes q)
     where
-      by : (map.get one.mailboxes q ≡ map.get other.mailboxes q) ⊎ IsHidden administrator user one other q
-          → map.get (view_of administrator user one).seen q ≡ map.get (view_of administrator user other).seen q
-      by (inl same) = get_seen administrator user one q ∙ ap (option_and_then (seen_at administrator user q)) same ∙ sym (get_seen administrator user other q)
+      by : (map.get one.mailboxes q ≡ map.get other.mailboxes q) ⊎ IsHidden site user one other q
+          → map.get (view_of site user one).seen q ≡ map.get (view_of site user other).seen q
+      by (inl same) = get_seen site user one q ∙ ap (option_and_then (seen_at site user q)) same ∙ sym (get_seen site user other q)
       by (inr hidden) = hidden.unseen ∙ sym hidden.unseen_other
 
-  seen_same : seen ≡ seen_in administrator user other
+  seen_same : seen ≡ seen_in site user other
   unfolding view_of
-  seen_same = same_names seen (seen_in administrator user other) seen_at_each
+  seen_same = same_names seen (seen_in site user other) seen_at_each
 
   -- what is kept of maps that differ at names of which the user may not know
-  kept_known : {X Y : Type 0} (f : X → Y) (m n : Names X) → ((q : Name) → (map.get m q ≡ map.get n q) ⊎ (may_know_name administrator user seen q ≡ false))
-      → keep (λ name x. if_true (may_know_name administrator user seen name) (f x)) m ≡ keep (λ name x. if_true (may_know_name administrator user seen name) (f x)) n
+  kept_known : {X Y : Type 0} (f : X → Y) (m n : Names X) → ((q : Name) → (map.get m q ≡ map.get n q) ⊎ (may_know_name site user seen q ≡ false))
+      → keep (λ name x. if_true (may_know_name site user seen name) (f x)) m ≡ keep (λ name x. if_true (may_know_name site user seen name) (f x)) n
   kept_known {X} {Y} f m n each =
       same_names _ _ (λ q. get-keep name_cmp kept name_antisymmetric m q ∙ by q (each q) ∙ sym (get-keep name_cmp kept name_antisymmetric n q))
     where
       kept : Name → X → Option Y
-      kept name x = if_true (may_know_name administrator user seen name) (f x)
+      kept name x = if_true (may_know_name site user seen name) (f x)
 
-      by : (q : Name) → (map.get m q ≡ map.get n q) ⊎ (may_know_name administrator user seen q ≡ false) → option_and_then (kept q) (map.get m q) ≡ option_and_then (kept q) (map.get n q)
+      by : (q : Name) → (map.get m q ≡ map.get n q) ⊎ (may_know_name site user seen q ≡ false) → option_and_then (kept q) (map.get m q) ≡ option_and_then (kept q) (map.get n q)
       by q (inl same) = ap (option_and_then (kept q)) same
-      by q (inr unknown) = nothing (may_know_name administrator user seen q) f (map.get m q) unknown ∙ sym (nothing (may_know_name administrator user seen q) f (map.get n q) unknown)
+      by q (inr unknown) = nothing (may_know_name site user seen q) f (map.get m q) unknown ∙ sym (nothing (may_know_name site user seen q) f (map.get n q) unknown)
 
-  known_mailboxes : (q : Name) → (map.get one.mailboxes q ≡ map.get other.mailboxes q) ⊎ (may_know_name administrator user seen q ≡ false)
+  known_mailboxes : (q : Name) → (map.get one.mailboxes q ≡ map.get other.mailboxes q) ⊎ (may_know_name site user seen q ≡ false)
   unfolding view_of
   known_mailboxes q = by (differ.mailboxes q)
     where
-      by : (map.get one.mailboxes q ≡ map.get other.mailboxes q) ⊎ IsHidden administrator user one other q
-          → (map.get one.mailboxes q ≡ map.get other.mailboxes q) ⊎ (may_know_name administrator user seen q ≡ false)
+      by : (map.get one.mailboxes q ≡ map.get other.mailboxes q) ⊎ IsHidden site user one other q
+          → (map.get one.mailboxes q ≡ map.get other.mailboxes q) ⊎ (may_know_name site user seen q ≡ false)
       by (inl same) = inl same
       by (inr hidden) = inr hidden.unknown
 
-  taken_same : (view_by administrator user seen one).taken ≡ (view_by administrator user seen other).taken
+  taken_same : (view_by site user seen one).taken ≡ (view_by site user seen other).taken
   taken_same = kept_known (λ (m : Mailbox). tt) one.mailboxes other.mailboxes known_mailboxes
 
-  epochs_same : (view_by administrator user seen one).epochs ≡ (view_by administrator user seen other).epochs
+  epochs_same : (view_by site user seen one).epochs ≡ (view_by site user seen other).epochs
   unfolding view_of
   epochs_same = kept_known (λ (n : ℕ). n) one.epochs other.epochs differ.epochs
 
-  view_same : view_by administrator user seen one ≡ view_by administrator user (seen_in administrator user other) other
+  view_same : view_by site user seen one ≡ view_by site user (seen_in site user other) other
   view_same =
-      (λ i. record (view_by administrator user seen one) { taken = taken_same i; epochs = epochs_same i; subscribed = differ.subscribed i })
-      ∙ ap (λ s. view_by administrator user s other) seen_same
+      (λ i. record (view_by site user seen one) { taken = taken_same i; epochs = epochs_same i; subscribed = differ.subscribed i })
+      ∙ ap (λ s. view_by site user s other) seen_same
 
 pub hidden_absent : HiddenIsAbsent
 unfolding view_of
-hidden_absent administrator user one other differ = view_same administrator user one other differ
+hidden_absent site user one other differ = view_same site user one other differ

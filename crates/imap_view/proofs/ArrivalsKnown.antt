@@ -12,6 +12,7 @@ use Rattle.imap_names.specs.Name.{Name}
 use Rattle.imap_names.specs.Order.{Names, is_below, is_within, moved}
 use Rattle.imap_names.specs.Valid.{fits}
 use Rattle.imap_names.proofs.MovedLaws.{moved_within}
+use Rattle.imap_world.specs.declared.site.Site.{Site}
 use Rattle.imap_world.specs.declared.error.WorldError.{WorldError}
 use Rattle.imap_world.specs.declared.error.WorldError.TheVariants.{Limit}
 use Rattle.imap_world.specs.Mailbox.{Mailbox}
@@ -26,13 +27,13 @@ use Rattle.imap_view.proofs.Moving.{IsMove, place, there, known, known_within, e
 
 -- ---- the names
 
-module _ (administrator user : List ℕ) (world : World) (old new : Name) (move : IsMove administrator user world old new) where
+module _ (site : Site) (user : List ℕ) (world : World) (old new : Name) (move : IsMove site user world old new) where
   abbrev view : View
-  view = view_of administrator user world
+  view = view_of site user world
 
   all_known : (q : Name) → is_below old q ≡ true → may_know_name_in view q ≡ true
   unfolding view_of
-  all_known q below = known_below administrator user world old (place administrator user world old new move) q below
+  all_known q below = known_below site user world old (place site user world old new move) q below
 
   known_names : (es : List (Name × Mailbox)) → known_among view (entries_below old es) ≡ map_list (λ e. e.0) (entries_below old es)
   known_names [] = refl
@@ -50,8 +51,8 @@ module _ (administrator user : List ℕ) (world : World) (old new : Name) (move 
   names_known =
       sym (map-map (moved old new) (λ e. e.0) (run_of old world.mailboxes))
       ∙ ap (map_list (moved old new))
-      (run_names old world.mailboxes (there administrator user world old new move)
-      ∙ ap (λ names. old ∷ names) (sym (known_names (map.entries world.mailboxes)) ∙ taken_names_are administrator user world view refl old))
+      (run_names old world.mailboxes (there site user world old new move)
+      ∙ ap (λ names. old ∷ names) (sym (known_names (map.entries world.mailboxes)) ∙ taken_names_are site user world view refl old))
 
 -- ---- their validities
 
@@ -76,18 +77,18 @@ module _ {X : Type 0} (a b : Names ℕ) (old new : Name) (same : (q : Name) → 
       let rest : arrivals_at a (names es) ≡ arrivals_at b (names es) = arrivals_alike es parts.1 in
       λ i. (moved old new e.0, same e.0 parts.0 i + 1) ∷ rest i
 
-module _ (administrator user : List ℕ) (world : World) (old new : Name) (move : IsMove administrator user world old new) where
-  counted : (q : Name) → is_within old q ≡ true → epoch world.epochs (moved old new q) ≡ epoch (view_of administrator user world).epochs (moved old new q)
+module _ (site : Site) (user : List ℕ) (world : World) (old new : Name) (move : IsMove site user world old new) where
+  counted : (q : Name) → is_within old q ≡ true → epoch world.epochs (moved old new q) ≡ epoch (view_of site user world).epochs (moved old new q)
   counted q e =
       ap (λ o. unwrap_or o 0)
-      (epochs_there administrator user world (moved old new q)
-      (known_within administrator user world new (known administrator user world old new move) (moved old new q) (moved_within old new q e)))
+      (epochs_there site user world (moved old new q)
+      (known_within site user world new (known site user world old new move) (moved old new q) (moved_within old new q e)))
 
   -- and the validities that these get
-  pub arrivals_known : list_all (can_arrive (view_of administrator user world).epochs) (names_after (view_of administrator user world) old new) ≡ true
-      → arrivals world old new ≡ Ok (arrivals_at (view_of administrator user world).epochs (names_after (view_of administrator user world) old new))
+  pub arrivals_known : list_all (can_arrive (view_of site user world).epochs) (names_after (view_of site user world) old new) ≡ true
+      → arrivals world old new ≡ Ok (arrivals_at (view_of site user world).epochs (names_after (view_of site user world) old new))
   arrivals_known can =
-      (λ i. cond (arrive_alike world.epochs (view_of administrator user world).epochs old new counted (run_of old world.mailboxes) (run_within old world.mailboxes) i)
-      (Ok (arrivals_alike world.epochs (view_of administrator user world).epochs old new counted (run_of old world.mailboxes) (run_within old world.mailboxes) i)) (Err Limit))
-      ∙ ap (arrivals_of (view_of administrator user world).epochs) (names_known administrator user world old new move)
-      ∙ ap (λ b. cond b (Ok (arrivals_at (view_of administrator user world).epochs (names_after (view_of administrator user world) old new))) (Err Limit)) can
+      (λ i. cond (arrive_alike world.epochs (view_of site user world).epochs old new counted (run_of old world.mailboxes) (run_within old world.mailboxes) i)
+      (Ok (arrivals_alike world.epochs (view_of site user world).epochs old new counted (run_of old world.mailboxes) (run_within old world.mailboxes) i)) (Err Limit))
+      ∙ ap (arrivals_of (view_of site user world).epochs) (names_known site user world old new move)
+      ∙ ap (λ b. cond b (Ok (arrivals_at (view_of site user world).epochs (names_after (view_of site user world) old new))) (Err Limit)) can

@@ -5,6 +5,7 @@ use Rattle.std.proofs.lemmas.List.{append-nil}
 use Rattle.imap_names.specs.Name.{Name}
 use Rattle.imap_name_map.specs.Rows.{has_below, has_within}
 use Rattle.imap_rights.specs.declared.change.RightsChange.{RightsChange}
+use Rattle.imap_world.specs.declared.site.Site.{Site}
 use Rattle.imap_world.specs.declared.change.Write.{Write}
 use Rattle.imap_world.specs.declared.change.Write.TheVariants as write
 use Rattle.imap_world.specs.declared.effect.Effect.{Effect}
@@ -25,7 +26,7 @@ use Rattle.imap_view.proofs.Creating.{creating}
 use Rattle.imap_view.proofs.Deleting.{deleting}
 use Rattle.imap_view.proofs.Renaming.{renaming}
 use Rattle.imap_view.proofs.SettingRights.{setting_rights}
-use Rattle.imap_view.proofs.Views.{administrator_of}
+use Rattle.imap_view.proofs.Views.{site_of}
 
 rows_put : (rows : List NewMailbox) (world : World) → after_writes (puts rows) world ≡ with_rows world rows
 rows_put [] world = refl
@@ -37,33 +38,33 @@ rows_then [] last world = refl
 rows_then (row ∷ rows) last world = rows_then rows last _
 
 -- what is written for one effect, and the view after it
-record IsAnswered (administrator user : List ℕ) (world : World) (asked : Effect) : Type 0 where
+record IsAnswered (site : Site) (user : List ℕ) (world : World) (asked : Effect) : Type 0 where
   writes : List Write
   found : writes_for asked world ≡ Ok writes
-  after : view_of administrator user (after_writes writes world) ≡ view_after asked (view_of administrator user world)
+  after : view_of site user (after_writes writes world) ≡ view_after asked (view_of site user world)
 
 made_alone : (asked : Effect) (world : World) (writes : List Write) → writes_for asked world ≡ Ok writes → after_all (asked ∷ []) world ≡ after_writes writes world
 made_alone asked world writes found =
     ap (λ r. after_result (writes_then r (Ok [])) world) found ∙ ap (λ all. after_writes all world) (append-nil writes)
 
-module _ (administrator user : List ℕ) (world : World) where
+module _ (site : Site) (user : List ℕ) (world : World) where
   abbrev view : View
-  view = view_of administrator user world
+  view = view_of site user world
 
-  created : (owner : List ℕ) (name : Name) → owner ≡ owner_of view.administrator name → may_make view name ≡ true → IsAnswered administrator user world (effect.Create owner name)
+  created : (owner : List ℕ) (name : Name) → owner ≡ owner_of view.site name → may_make view name ≡ true → IsAnswered site user world (effect.Create owner name)
   created owner name is may =
-      let creation = creating administrator user world name may in
-      let same : owner ≡ owner_of administrator name = is ∙ ap (λ a. owner_of a name) (administrator_of administrator user world) in
+      let creation = creating site user world name may in
+      let same : owner ≡ owner_of site name = is ∙ ap (λ a. owner_of a name) (site_of site user world) in
       record {
         writes = puts creation.rows;
         found = ap (λ b. cond b (Err Taken) (puts_of (created_rows world owner name))) creation.absent
             ∙ ap (λ o. puts_of (created_rows world o name)) same ∙ ap puts_of creation.made;
-        after = ap (view_of administrator user) (rows_put creation.rows world) ∙ creation.seen;
+        after = ap (view_of site user) (rows_put creation.rows world) ∙ creation.seen;
       }
 
-  deleted : (name : Name) → may_delete view name ≡ true → IsAnswered administrator user world (effect.Delete name)
+  deleted : (name : Name) → may_delete view name ≡ true → IsAnswered site user world (effect.Delete name)
   deleted name may =
-      let deletion = deleting administrator user world name may in
+      let deletion = deleting site user world name may in
       record {
         writes = write.Remove name ∷ [];
         found = ap (λ b. cond b (removal world name) (Err NoSuch)) deletion.there
@@ -72,10 +73,10 @@ module _ (administrator user : List ℕ) (world : World) where
         after = deletion.seen;
       }
 
-  renamed : (owner : List ℕ) (old new : Name) → owner ≡ owner_of view.administrator new → may_rename view old new ≡ true → IsAnswered administrator user world (effect.Rename owner old new)
+  renamed : (owner : List ℕ) (old new : Name) → owner ≡ owner_of view.site new → may_rename view old new ≡ true → IsAnswered site user world (effect.Rename owner old new)
   renamed owner old new is may =
-      let result = renaming administrator user world old new may in
-      let same : owner ≡ owner_of administrator new = is ∙ ap (λ a. owner_of a new) (administrator_of administrator user world) in
+      let result = renaming site user world old new may in
+      let same : owner ≡ owner_of site new = is ∙ ap (λ a. owner_of a new) (site_of site user world) in
       let gets : List (Name × ℕ) = arrivals_at view.epochs (names_after view old new) in
       record {
         writes = puts result.rows ++ write.Move old new gets ∷ [];
@@ -84,19 +85,19 @@ module _ (administrator user : List ℕ) (world : World) where
             ∙ ap (λ b. cond b (Err Taken) (move_after old new (puts_of (superior_rows world owner new)) (arrivals world old new))) result.free
             ∙ ap (λ o. move_after old new (puts_of (superior_rows world o new)) (arrivals world old new)) same
             ∙ λ i. move_after old new (puts_of (result.made i)) (result.arrive i);
-        after = ap (view_of administrator user) (rows_then result.rows (write.Move old new gets) world) ∙ result.seen;
+        after = ap (view_of site user) (rows_then result.rows (write.Move old new gets) world) ∙ result.seen;
       }
 
-  rights_set : (name : Name) (identifier : List ℕ) (change : RightsChange) → may_set_rights view name identifier change ≡ true → IsAnswered administrator user world (effect.SetRights name identifier change)
+  rights_set : (name : Name) (identifier : List ℕ) (change : RightsChange) → may_set_rights view name identifier change ≡ true → IsAnswered site user world (effect.SetRights name identifier change)
   rights_set name identifier change may =
-      let setting = setting_rights administrator user world name identifier change may in
+      let setting = setting_rights site user world name identifier change may in
       record {
         writes = write.SetAcl name setting.acl ∷ [];
         found = ap (list_changed name identifier change) setting.there ∙ ap (list_set name) setting.changed;
         after = setting.seen;
       }
 
-  answered : (asked : Effect) → MayAsk view asked → IsAnswered administrator user world asked
+  answered : (asked : Effect) → MayAsk view asked → IsAnswered site user world asked
   answered (effect.CreateInbox owner) may = absurd may
   answered (effect.Create owner name) may = created owner name may.0 may.1
   answered (effect.Delete name) may = deleted name may
@@ -105,20 +106,20 @@ module _ (administrator user : List ℕ) (world : World) where
   answered (effect.Subscribe asker name) may = record {
     writes = write.Subscribe asker name ∷ [];
     found = refl;
-    after = changed administrator user world (λ names. map.insert names name tt) asker may;
+    after = changed site user world (λ names. map.insert names name tt) asker may;
   }
   answered (effect.Unsubscribe asker name) may = record {
     writes = write.Unsubscribe asker name ∷ [];
     found = refl;
-    after = changed administrator user world (λ names. map.remove names name) asker may;
+    after = changed site user world (λ names. map.remove names name) asker may;
   }
 
 pub own_effects_made : OwnEffectsAreMade
-own_effects_made administrator user world asked may =
-    let given = answered administrator user world asked may in
+own_effects_made site user world asked may =
+    let given = answered site user world asked may in
     record { writes = given.writes; made = given.found }
 
 pub own_effects : OwnEffectsAreSeen
-own_effects administrator user world asked may =
-    let given = answered administrator user world asked may in
-    ap (view_of administrator user) (made_alone asked world given.writes given.found) ∙ given.after
+own_effects site user world asked may =
+    let given = answered site user world asked may in
+    ap (view_of site user) (made_alone asked world given.writes given.found) ∙ given.after

@@ -1,7 +1,7 @@
 -- The view after CREATE.
 use Rattle.std.proofs.Common.{◌≡◌, ◌⊎◌, inl, inr, ℕ, ◌<◌, ◌≤◌, Bool, true, false, cond, not, ◌&&◌, List, [], ◌∷◌, ◌++◌, length, map as map_list, Option, Some, None, Ok, Err, refl, sym, ap, subst, ◌∙◌, true≢false, arith}
 use Rattle.std.specs.List.{AllByRecursion}
-use Rattle.std.specs.Prelude.{nat_lt, is_some, option_and_then, unwrap_or, bytes_eq}
+use Rattle.std.specs.Prelude.{nat_lt, is_some, option_and_then, option_map, unwrap_or, bytes_eq}
 use Rattle.std.specs.FinMap as map
 use Rattle.std.proofs.lemmas.Bool.{and_parts, or_parts, or_cases, not-true, ltb-true, ne_eqb}
 use Rattle.std.proofs.lemmas.List.{map-append}
@@ -10,19 +10,20 @@ use Rattle.std.proofs.lemmas.Slice.Eq.{bytes_eq-Decides}
 use Rattle.imap_names.specs.Name.{Name, root_of}
 use Rattle.imap_rights.specs.Acl.{AclMap, owner_acl}
 use Rattle.imap_rights.specs.Effective.{effective}
-use Rattle.imap_rights.specs.Rights.{create, has_any}
+use Rattle.imap_rights.specs.Rights.{create, has_any, visible_rights}
+use Rattle.imap_world.specs.declared.site.Site.{Site}
 use Rattle.imap_world.specs.declared.error.WorldError.TheVariants.{Limit}
 use Rattle.imap_world.specs.Mailbox.{Mailbox, new_mailbox}
 use Rattle.imap_world.specs.Effects.{new_row}
 use Rattle.imap_world.specs.NewMailbox.{NewMailbox}
 use Rattle.imap_world.specs.Tree.{acl_or, inherited, with_last, rows_for}
 use Rattle.imap_world.specs.World.{World, epoch, max_validity}
-use Rattle.imap_view.specs.Seen.{Seen, is_root, owner_by_root, owner_of, seen_at, seen_with}
-use Rattle.imap_view.specs.TreeAfter.{is_known, missing_in, new_seen, seen_or, validities_left, may_make, IsCreation, CreatingIsSeen}
+use Rattle.imap_view.specs.Seen.{Seen, is_root, owner_by_root, owner_of, seen_at, seen_by_rights, seen_with}
+use Rattle.imap_view.specs.TreeAfter.{is_known, missing_in, new_seen, seen_anew, seen_or, validities_left, may_make, IsCreation, CreatingIsSeen}
 use Rattle.imap_view.specs.View.{View, view_of, seen_in, may_know_name, may_know_name_in, creatable_below, may_create, rights_of}
 use Rattle.imap_view.proofs.Narrowing.{shows_names, place_below, deeper_below, get_epochs}
 use Rattle.imap_view.proofs.Placed.{each_weaker, each_push, each_mapped, row_of, IsNew, rows_seen}
-use Rattle.imap_view.proofs.Views.{administrator_of, user_of, get_seen, contains_taken}
+use Rattle.imap_view.proofs.Views.{site_of, user_of, get_seen, contains_taken}
 
 -- ---- who may create under a name knows the names there
 
@@ -37,18 +38,18 @@ unknown (Some s) taken rest none e = absurd (true≢false none)
 pub creatable_is_below : (view : View) (name : Name) → may_create view name ≡ true → may_know_name_in view name ≡ true
 creatable_is_below view [] e = e
 creatable_is_below view (root ∷ []) e = absurd (true≢false (sym e))
-creatable_is_below view (deepest ∷ root ∷ []) e = place_below view.administrator view.user view.seen deepest (root ∷ []) e
+creatable_is_below view (deepest ∷ root ∷ []) e = place_below view.site view.user view.seen deepest (root ∷ []) e
 creatable_is_below view (deepest ∷ above ∷ next ∷ more) e =
     by (map.get view.seen (above ∷ next ∷ more)) refl (creatable_is_below view (above ∷ next ∷ more))
   where
     by : (o : Option Seen) → map.get view.seen (above ∷ next ∷ more) ≡ o → (may_create view (above ∷ next ∷ more) ≡ true → may_know_name_in view (above ∷ next ∷ more) ≡ true)
         → may_know_name_in view (deepest ∷ above ∷ next ∷ more) ≡ true
     by None is rest =
-        deeper_below view.administrator view.user view.seen deepest (above ∷ next ∷ more)
+        deeper_below view.site view.user view.seen deepest (above ∷ next ∷ more)
         (rest (deeper None (map.contains_key view.taken (above ∷ next ∷ more)) (may_create view (above ∷ next ∷ more)) refl
         (ap (λ o. creatable_below o (map.contains_key view.taken (above ∷ next ∷ more)) (may_create view (above ∷ next ∷ more))) (sym is) ∙ e)))
     by (Some s) is rest =
-        place_below view.administrator view.user view.seen deepest (above ∷ next ∷ more)
+        place_below view.site view.user view.seen deepest (above ∷ next ∷ more)
         (shows_names (map.get view.seen (above ∷ next ∷ more)) create refl
         (ap (λ o. has_any (rights_of o) create) is ∙ ap (λ o. creatable_below o (map.contains_key view.taken (above ∷ next ∷ more)) (may_create view (above ∷ next ∷ more))) (sym is) ∙ e))
 
@@ -71,31 +72,31 @@ without_other false b e = refl
 pub equal_octets : (a b : List ℕ) → bytes_eq a b ≡ true → a ≡ b
 equal_octets a b e = (bytes_eq-Decides a b).0 e
 
-module _ (administrator user : List ℕ) (world : World) where
+module _ (site : Site) (user : List ℕ) (world : World) where
   abbrev view : View
-  view = view_of administrator user world
+  view = view_of site user world
 
   pub known_is_there : (name : Name) → is_known view name ≡ true → map.contains_key world.mailboxes name ≡ true
   known_is_there name e = by (or_cases (map.contains_key view.seen name) (map.contains_key view.taken name) e)
     where
       by : (map.contains_key view.seen name ≡ true) ⊎ (map.contains_key view.taken name ≡ true) → map.contains_key world.mailboxes name ≡ true
-      by (inl h) = was_some (seen_at administrator user name) (map.get world.mailboxes name) (ap is_some (sym (get_seen administrator user world name)) ∙ h)
-      by (inr h) = (and_parts (map.contains_key world.mailboxes name) _ (sym (contains_taken administrator user world name) ∙ h)).0
+      by (inl h) = was_some (seen_at site user name) (map.get world.mailboxes name) (ap is_some (sym (get_seen site user world name)) ∙ h)
+      by (inr h) = (and_parts (map.contains_key world.mailboxes name) _ (sym (contains_taken site user world name) ∙ h)).0
 
-  pub creatable_there : (name : Name) → may_create view name ≡ true → may_know_name administrator user (seen_in administrator user world) name ≡ true
+  pub creatable_there : (name : Name) → may_create view name ≡ true → may_know_name site user (seen_in site user world) name ≡ true
   unfolding view_of
-  creatable_there name may = creatable_is_below (view_of administrator user world) name may
+  creatable_there name may = creatable_is_below (view_of site user world) name may
 
   taken_is_there : (name : Name) → may_create view name ≡ true → map.contains_key view.taken name ≡ map.contains_key world.mailboxes name
   unfolding view_of
   taken_is_there name may =
-      contains_taken administrator user world name
-      ∙ without_other (map.contains_key world.mailboxes name) (may_know_name administrator user (seen_in administrator user world) name) (creatable_there name may)
+      contains_taken site user world name
+      ∙ without_other (map.contains_key world.mailboxes name) (may_know_name site user (seen_in site user world) name) (creatable_there name may)
 
   counted_there : (name : Name) → may_create view name ≡ true → epoch world.epochs name ≡ epoch view.epochs name
   unfolding view_of
   counted_there name may =
-      sym (ap (λ o. unwrap_or o 0) (get_epochs administrator user (seen_in administrator user world) world name ∙ ap (λ b. cond b (map.get world.epochs name) None) (creatable_there name may)))
+      sym (ap (λ o. unwrap_or o 0) (get_epochs site user (seen_in site user world) world name ∙ ap (λ b. cond b (map.get world.epochs name) None) (creatable_there name may)))
 
   -- ---- the rows
 
@@ -150,20 +151,31 @@ module _ (administrator user : List ℕ) (world : World) where
 
   -- ---- how the new mailboxes are seen
 
-  abbrev seen_by : List ℕ → AclMap → Option Seen
-  seen_by owner acl = seen_with (effective user owner acl) acl
+  abbrev seen_by : ℕ → List ℕ → AclMap → Option Seen
+  seen_by validity owner acl = seen_with site user (effective user owner acl) (new_mailbox validity acl)
 
-  inherits : (name : Name) → may_create view name ≡ true → seen_by (owner_of administrator name) (inherited world.mailboxes (owner_of administrator name) name) ≡ new_seen view name
-  inherits [] may = absurd (true≢false (sym may))
-  inherits (root ∷ []) may = absurd (true≢false (sym may))
-  inherits (deepest ∷ root ∷ []) may =
-      let own : owner_by_root administrator root ≡ view.user =
-      ap (λ a. owner_by_root a root) (sym (administrator_of administrator user world)) ∙ equal_octets (owner_by_root view.administrator root) view.user may in
-      λ i. seen_with (effective (sym (user_of administrator user world) i) (own i) (owner_acl (own i))) (owner_acl (own i))
-  inherits (deepest ∷ above ∷ next ∷ more) may = by (map.get world.mailboxes (above ∷ next ∷ more)) refl (inherits (above ∷ next ∷ more))
+  -- by the list of another mailbox, without its messages
+  anew : (validity rights : ℕ) (m : Mailbox) → seen_with site user rights (new_mailbox validity m.acl) ≡ option_map (seen_anew view.site view.user validity) (seen_with site user rights m)
+  anew validity rights m =
+      by (has_any rights visible_rights)
+      ∙ (λ i. option_map (seen_anew (sym (site_of site user world) i) (sym (user_of site user world) i) validity) (seen_with site user rights m))
+    where
+      by : (b : Bool) → cond b (Some (seen_by_rights site user rights (new_mailbox validity m.acl))) None
+          ≡ option_map (seen_anew site user validity) (cond b (Some (seen_by_rights site user rights m)) None)
+      by true = refl
+      by false = refl
+
+  inherits : (validity : ℕ) (name : Name) → may_create view name ≡ true → seen_by validity (owner_of site name) (inherited world.mailboxes (owner_of site name) name) ≡ new_seen view name validity
+  inherits validity [] may = absurd (true≢false (sym may))
+  inherits validity (root ∷ []) may = absurd (true≢false (sym may))
+  inherits validity (deepest ∷ root ∷ []) may =
+      let own : owner_by_root site root ≡ view.user =
+      ap (λ a. owner_by_root a root) (sym (site_of site user world)) ∙ equal_octets (owner_by_root view.site root) view.user may in
+      λ i. seen_with (sym (site_of site user world) i) (sym (user_of site user world) i) (effective (sym (user_of site user world) i) (own i) (owner_acl (own i))) (new_mailbox validity (owner_acl (own i)))
+  inherits validity (deepest ∷ above ∷ next ∷ more) may = by (map.get world.mailboxes (above ∷ next ∷ more)) refl (inherits validity (above ∷ next ∷ more))
     where
       owner : List ℕ
-      owner = owner_of administrator (above ∷ next ∷ more)
+      owner = owner_of site (above ∷ next ∷ more)
 
       rest_may : is_some (map.get view.seen (above ∷ next ∷ more)) ≡ false → may_create view (above ∷ next ∷ more) ≡ true
       rest_may none = deeper (map.get view.seen (above ∷ next ∷ more)) (map.contains_key view.taken (above ∷ next ∷ more)) (may_create view (above ∷ next ∷ more)) none may
@@ -171,65 +183,70 @@ module _ (administrator user : List ℕ) (world : World) where
       rest_free : is_some (map.get view.seen (above ∷ next ∷ more)) ≡ false → map.contains_key view.taken (above ∷ next ∷ more) ≡ false
       rest_free none = unknown (map.get view.seen (above ∷ next ∷ more)) (map.contains_key view.taken (above ∷ next ∷ more)) (may_create view (above ∷ next ∷ more)) none may
 
-      there : (o : Option Mailbox) → map.get world.mailboxes (above ∷ next ∷ more) ≡ o → map.get view.seen (above ∷ next ∷ more) ≡ option_and_then (seen_at administrator user (above ∷ next ∷ more)) o
-      there o is = get_seen administrator user world (above ∷ next ∷ more) ∙ ap (option_and_then (seen_at administrator user (above ∷ next ∷ more))) is
+      there : (o : Option Mailbox) → map.get world.mailboxes (above ∷ next ∷ more) ≡ o → map.get view.seen (above ∷ next ∷ more) ≡ option_and_then (seen_at site user (above ∷ next ∷ more)) o
+      there o is = get_seen site user world (above ∷ next ∷ more) ∙ ap (option_and_then (seen_at site user (above ∷ next ∷ more))) is
 
       shown : (m : Mailbox) → map.get world.mailboxes (above ∷ next ∷ more) ≡ Some m → (o : Option Seen) → map.get view.seen (above ∷ next ∷ more) ≡ o
-          → seen_by owner m.acl ≡ seen_or o (new_seen view (above ∷ next ∷ more))
-      shown m is (Some s) at = sym (there (Some m) is) ∙ at
+          → seen_by validity owner m.acl ≡ seen_or (option_map (seen_anew view.site view.user validity) o) (new_seen view (above ∷ next ∷ more) validity)
+      shown m is (Some s) at =
+          anew validity (effective user owner m.acl) m
+          ∙ ap (option_map (seen_anew view.site view.user validity)) (sym (there (Some m) is) ∙ at)
       shown m is None at =
           absurd (true≢false (sym (sym (rest_free (ap is_some at)) ∙ taken_is_there (above ∷ next ∷ more) (rest_may (ap is_some at)) ∙ ap is_some is)))
 
-      by : (o : Option Mailbox) → map.get world.mailboxes (above ∷ next ∷ more) ≡ o → (may_create view (above ∷ next ∷ more) ≡ true → seen_by owner (inherited world.mailboxes owner (above ∷ next ∷ more)) ≡ new_seen view (above ∷ next ∷ more))
-          → seen_by owner (acl_or o (inherited world.mailboxes owner (above ∷ next ∷ more))) ≡ seen_or (map.get view.seen (above ∷ next ∷ more)) (new_seen view (above ∷ next ∷ more))
-      by None is rest = rest (rest_may (ap is_some (there None is))) ∙ ap (λ o. seen_or o (new_seen view (above ∷ next ∷ more))) (sym (there None is))
+      by : (o : Option Mailbox) → map.get world.mailboxes (above ∷ next ∷ more) ≡ o → (may_create view (above ∷ next ∷ more) ≡ true → seen_by validity owner (inherited world.mailboxes owner (above ∷ next ∷ more)) ≡ new_seen view (above ∷ next ∷ more) validity)
+          → seen_by validity owner (acl_or o (inherited world.mailboxes owner (above ∷ next ∷ more)))
+          ≡ seen_or (option_map (seen_anew view.site view.user validity) (map.get view.seen (above ∷ next ∷ more))) (new_seen view (above ∷ next ∷ more) validity)
+      by None is rest =
+          rest (rest_may (ap is_some (there None is)))
+          ∙ ap (λ o. seen_or (option_map (seen_anew view.site view.user validity) o) (new_seen view (above ∷ next ∷ more) validity)) (sym (there None is))
       by (Some m) is rest = shown m is (map.get view.seen (above ∷ next ∷ more)) refl
 
   seen_alike : (name : Name) → may_create view name ≡ true → (q : Name) → is_root q ≡ false → root_of q ≡ root_of name → (validity : ℕ)
-      → seen_at administrator user q (new_mailbox validity (inherited world.mailboxes (owner_of administrator name) name)) ≡ new_seen view name
+      → seen_at site user q (new_mailbox validity (inherited world.mailboxes (owner_of site name) name)) ≡ new_seen view name validity
   seen_alike name may q named tree validity =
-      (λ i. cond (named i) None (seen_by (owner_by_root administrator (tree i)) (inherited world.mailboxes (owner_of administrator name) name)))
-      ∙ inherits name may
+      (λ i. cond (named i) None (seen_by validity (owner_by_root site (tree i)) (inherited world.mailboxes (owner_of site name) name)))
+      ∙ inherits validity name may
 
 -- the row is of a name below a place that isn't there, and no longer than this
-pub record IsFresh (administrator user : List ℕ) (world : World) (longest : ℕ) (row : NewMailbox) : Type 0 where
-  pub below : may_know_name administrator user (seen_in administrator user world) row.name ≡ true
+pub record IsFresh (site : Site) (user : List ℕ) (world : World) (longest : ℕ) (row : NewMailbox) : Type 0 where
+  pub below : may_know_name site user (seen_in site user world) row.name ≡ true
   pub absent : map.contains_key world.mailboxes row.name ≡ false
   pub short : length row.name ≤ longest
 
 -- a creation, with what holds of its rows
-pub record Creates (administrator user : List ℕ) (world : World) (name : Name) : Type 0 where
-  pub creation : IsCreation administrator user world name
-  pub fresh : AllByRecursion (IsFresh administrator user world (length name)) creation.rows
+pub record Creates (site : Site) (user : List ℕ) (world : World) (name : Name) : Type 0 where
+  pub creation : IsCreation site user world name
+  pub fresh : AllByRecursion (IsFresh site user world (length name)) creation.rows
 
-pub creates : (administrator user : List ℕ) (world : World) (name : Name) → may_make (view_of administrator user world) name ≡ true → Creates administrator user world name
-creates administrator user world name may =
-    let parts = and_parts (may_create (view_of administrator user world) name) _ may in
-    let more = and_parts (not (map.contains_key (view_of administrator user world).taken name)) _ parts.1 in
-    let acl = inherited world.mailboxes (owner_of administrator name) name in
-    let missings = missing administrator user world acl name (λ unseen named. parts.0) more.1 in
+pub creates : (site : Site) (user : List ℕ) (world : World) (name : Name) → may_make (view_of site user world) name ≡ true → Creates site user world name
+creates site user world name may =
+    let parts = and_parts (may_create (view_of site user world) name) _ may in
+    let more = and_parts (not (map.contains_key (view_of site user world).taken name)) _ parts.1 in
+    let acl = inherited world.mailboxes (owner_of site name) name in
+    let missings = missing site user world acl name (λ unseen named. parts.0) more.1 in
     record {
       creation = record {
-        rows = map_list (row_of world.epochs acl) (missing_in (view_of administrator user world) name);
-        absent = sym (taken_is_there administrator user world name parts.0) ∙ not-true _ more.0;
+        rows = map_list (row_of world.epochs acl) (missing_in (view_of site user world) name);
+        absent = sym (taken_is_there site user world name parts.0) ∙ not-true _ more.0;
         made = missings.rows;
-        seen = rows_seen administrator user world.epochs (view_of administrator user world).epochs acl (new_seen (view_of administrator user world) name)
-            (missing_in (view_of administrator user world) name) world
-            (each_weaker (IsMissing administrator user world name) (IsNew administrator user world.epochs (view_of administrator user world).epochs acl (new_seen (view_of administrator user world) name) world)
-            (missing_in (view_of administrator user world) name)
+        seen = rows_seen site user world.epochs (view_of site user world).epochs acl (new_seen (view_of site user world) name)
+            (missing_in (view_of site user world) name) world
+            (each_weaker (IsMissing site user world name) (IsNew site user world.epochs (view_of site user world).epochs acl (new_seen (view_of site user world) name) world)
+            (missing_in (view_of site user world) name)
             (λ q h. record {
-              below = creatable_there administrator user world q h.may;
-              shown = seen_alike administrator user world name parts.0 q h.named h.tree;
-              counted = counted_there administrator user world q h.may;
+              below = creatable_there site user world q h.may;
+              shown = seen_alike site user world name parts.0 q h.named h.tree;
+              counted = counted_there site user world q h.may;
             })
             missings.each);
       };
-      fresh = each_mapped (IsFresh administrator user world (length name)) (row_of world.epochs acl) (missing_in (view_of administrator user world) name)
-          (each_weaker (IsMissing administrator user world name) (λ q. IsFresh administrator user world (length name) (row_of world.epochs acl q))
-          (missing_in (view_of administrator user world) name)
-          (λ q h. record { below = creatable_there administrator user world q h.may; absent = h.absent; short = h.short })
+      fresh = each_mapped (IsFresh site user world (length name)) (row_of world.epochs acl) (missing_in (view_of site user world) name)
+          (each_weaker (IsMissing site user world name) (λ q. IsFresh site user world (length name) (row_of world.epochs acl q))
+          (missing_in (view_of site user world) name)
+          (λ q h. record { below = creatable_there site user world q h.may; absent = h.absent; short = h.short })
           missings.each);
     }
 
 pub creating : CreatingIsSeen
-creating administrator user world name may = (creates administrator user world name may).creation
+creating site user world name may = (creates site user world name may).creation

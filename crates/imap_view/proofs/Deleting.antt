@@ -11,6 +11,7 @@ use Rattle.imap_names.proofs.NameLaws.{is_name_at, get_without}
 use Rattle.imap_names.proofs.OrderLaws.{IsAbove_from_below}
 use Rattle.imap_name_map.specs.Rows.{has_below}
 use Rattle.imap_rights.specs.Rights.{has_any, delete_mailbox}
+use Rattle.imap_world.specs.declared.site.Site.{Site}
 use Rattle.imap_world.specs.Mailbox.{Mailbox}
 use Rattle.imap_user_map.specs.Finite.{kept_entry}
 use Rattle.imap_world.specs.Tree.{without}
@@ -28,40 +29,40 @@ none_held : (some : ℕ) → has_any (rights_of None) some ≡ true → ⊥
 none_held some has = true≢false (sym has ∙ ap (λ m. not (m == 0)) (and_zero_l some))
 
 -- a mailbox on which the user holds a right is there
-pub held_is_there : (administrator user : List ℕ) (world : World) (name : Name) (some : ℕ) → has_any (rights_in (view_of administrator user world) name) some ≡ true → fin.contains_key world.mailboxes name ≡ true
-held_is_there administrator user world name some has = by (fin.get world.mailboxes name) refl
+pub held_is_there : (site : Site) (user : List ℕ) (world : World) (name : Name) (some : ℕ) → has_any (rights_in (view_of site user world) name) some ≡ true → fin.contains_key world.mailboxes name ≡ true
+held_is_there site user world name some has = by (fin.get world.mailboxes name) refl
   where
     by : (o : Option Mailbox) → fin.get world.mailboxes name ≡ o → is_some o ≡ true
-    by None is = absurd (none_held some (ap (λ o. has_any (rights_of o) some) (sym (get_seen administrator user world name ∙ ap (option_and_then (seen_at administrator user name)) is)) ∙ has))
+    by None is = absurd (none_held some (ap (λ o. has_any (rights_of o) some) (sym (get_seen site user world name ∙ ap (option_and_then (seen_at site user name)) is)) ∙ has))
     by (Some m) is = refl
 
 -- what is seen makes a place by its rights alone, as a root is no mailbox
-pub place_seen : (administrator user : List ℕ) (world : World) (name : Name) → shows_names_with (fin.get (view_of administrator user world).seen name) ≡ true → shows_names_below administrator user (view_of administrator user world).seen name ≡ true
-place_seen administrator user world [] e = absurd (true≢false (sym e ∙ ap shows_names_with (get_seen administrator user world [] ∙ none (fin.get world.mailboxes []))))
+pub place_seen : (site : Site) (user : List ℕ) (world : World) (name : Name) → shows_names_with (fin.get (view_of site user world).seen name) ≡ true → shows_names_below site user (view_of site user world).seen name ≡ true
+place_seen site user world [] e = absurd (true≢false (sym e ∙ ap shows_names_with (get_seen site user world [] ∙ none (fin.get world.mailboxes []))))
   where
-    none : (o : Option Mailbox) → option_and_then (seen_at administrator user []) o ≡ None
+    none : (o : Option Mailbox) → option_and_then (seen_at site user []) o ≡ None
     none None = refl
     none (Some m) = refl
-place_seen administrator user world (root ∷ []) e = absurd (true≢false (sym e ∙ ap shows_names_with (get_seen administrator user world (root ∷ []) ∙ none (fin.get world.mailboxes (root ∷ [])))))
+place_seen site user world (root ∷ []) e = absurd (true≢false (sym e ∙ ap shows_names_with (get_seen site user world (root ∷ []) ∙ none (fin.get world.mailboxes (root ∷ [])))))
   where
-    none : (o : Option Mailbox) → option_and_then (seen_at administrator user (root ∷ [])) o ≡ None
+    none : (o : Option Mailbox) → option_and_then (seen_at site user (root ∷ [])) o ≡ None
     none None = refl
     none (Some m) = refl
-place_seen administrator user world (deepest ∷ above ∷ more) e = e
+place_seen site user world (deepest ∷ above ∷ more) e = e
 
 -- ---- no name is below
 
-module _ (administrator user : List ℕ) (world : World) (name : Name) where
+module _ (site : Site) (user : List ℕ) (world : World) (name : Name) where
   abbrev is_known_below : Name → Bool
-  is_known_below = may_know_name administrator user (seen_in administrator user world)
+  is_known_below = may_know_name site user (seen_in site user world)
 
   abbrev known_entry : Name → Mailbox → Option (Unit {0})
   known_entry q mailbox = if_true (is_known_below q) tt
 
-  module _ (place : shows_names_below administrator user (seen_in administrator user world) name ≡ true) where
+  module _ (place : shows_names_below site user (seen_in site user world) name ≡ true) where
     pub below_between : (deepest : List ℕ) (between : List (List ℕ)) → is_known_below (deepest ∷ between ++ name) ≡ true
-    below_between deepest [] = place_below administrator user (seen_in administrator user world) deepest name place
-    below_between deepest (part ∷ between) = deeper_below administrator user (seen_in administrator user world) deepest (part ∷ between ++ name) (below_between part between)
+    below_between deepest [] = place_below site user (seen_in site user world) deepest name place
+    below_between deepest (part ∷ between) = deeper_below site user (seen_in site user world) deepest (part ∷ between ++ name) (below_between part between)
 
     -- a holder of x knows all names below
     pub known_below : (q : Name) → is_below name q ≡ true → is_known_below q ≡ true
@@ -80,39 +81,39 @@ module _ (administrator user : List ℕ) (world : World) (name : Name) where
         by false is true at rest = absurd (true≢false (sym (known_below e.0 at) ∙ is))
         by false is false at rest = rest
 
-    pub none_below : has_below name (view_of administrator user world).taken ≡ has_below name world.mailboxes
+    pub none_below : has_below name (view_of site user world).taken ≡ has_below name world.mailboxes
     unfolding view_of
     none_below = ap (list_any (λ e. is_below name e.0)) (entries-keep name_cmp known_entry world.mailboxes) ∙ any_known (fin.entries world.mailboxes)
 
 -- ---- the view after it
 
-module _ (administrator user : List ℕ) (world : World) (name : Name) where
-  module _ (place : shows_names_below administrator user (seen_in administrator user world) name ≡ true) where
-    pub without_seen : view_of administrator user (without world name) ≡ view_without (view_of administrator user world) name
+module _ (site : Site) (user : List ℕ) (world : World) (name : Name) where
+  module _ (place : shows_names_below site user (seen_in site user world) name ≡ true) where
+    pub without_seen : view_of site user (without world name) ≡ view_without (view_of site user world) name
     unfolding view_of
     without_seen =
-        view_is_narrowed administrator user (without world name) (fin.remove (seen_in administrator user world) name)
-        (fin.remove (view_of administrator user world).taken name) (view_of administrator user world).epochs
-        (seen_changed administrator user world (without world name) name None (get_without world.mailboxes name))
-        (λ q h. ap in_use (get_without world.mailboxes name q) ∙ by q (within q h) (is_name_at q name) ∙ sym (get_without (view_of administrator user world).taken name q))
-        (λ q h. sym (get_epochs administrator user (seen_in administrator user world) world q ∙ ap (λ b. cond b (fin.get world.epochs q) None) (within q h)))
+        view_is_narrowed site user (without world name) (fin.remove (seen_in site user world) name)
+        (fin.remove (view_of site user world).taken name) (view_of site user world).epochs
+        (seen_changed site user world (without world name) name None (get_without world.mailboxes name))
+        (λ q h. ap in_use (get_without world.mailboxes name q) ∙ by q (within q h) (is_name_at q name) ∙ sym (get_without (view_of site user world).taken name q))
+        (λ q h. sym (get_epochs site user (seen_in site user world) world q ∙ ap (λ b. cond b (fin.get world.epochs q) None) (within q h)))
       where
-        within : (q : Name) → may_know_name administrator user (fin.remove (seen_in administrator user world) name) q ≡ true → may_know_name administrator user (seen_in administrator user world) q ≡ true
-        within = below_within administrator user (fin.remove (seen_in administrator user world) name) (seen_in administrator user world) (put_within administrator user (seen_in administrator user world) name None (inl place))
+        within : (q : Name) → may_know_name site user (fin.remove (seen_in site user world) name) q ≡ true → may_know_name site user (seen_in site user world) q ≡ true
+        within = below_within site user (fin.remove (seen_in site user world) name) (seen_in site user world) (put_within site user (seen_in site user world) name None (inl place))
 
-        by : (q : Name) → may_know_name administrator user (seen_in administrator user world) q ≡ true → (b : Bool) → in_use (cond b None (fin.get world.mailboxes q)) ≡ cond b None (fin.get (view_of administrator user world).taken q)
+        by : (q : Name) → may_know_name site user (seen_in site user world) q ≡ true → (b : Bool) → in_use (cond b None (fin.get world.mailboxes q)) ≡ cond b None (fin.get (view_of site user world).taken q)
         by q h true = refl
-        by q h false = sym (get_taken administrator user (seen_in administrator user world) world q ∙ ap (λ b. cond b (in_use (fin.get world.mailboxes q)) None) h)
+        by q h false = sym (get_taken site user (seen_in site user world) world q ∙ ap (λ b. cond b (in_use (fin.get world.mailboxes q)) None) h)
 
 pub deleting : DeletingIsSeen
-deleting administrator user world name may =
+deleting site user world name may =
     let parts = and_parts _ _ may in
     let more = and_parts _ _ parts.1 in
-    let place = ap (λ s. shows_names_below administrator user s name) (sym (seen_is administrator user world))
-    ∙ place_seen administrator user world name (shows_names (fin.get (view_of administrator user world).seen name) delete_mailbox refl parts.0) in
+    let place = ap (λ s. shows_names_below site user s name) (sym (seen_is site user world))
+    ∙ place_seen site user world name (shows_names (fin.get (view_of site user world).seen name) delete_mailbox refl parts.0) in
     record {
-      there = held_is_there administrator user world name delete_mailbox parts.0;
+      there = held_is_there site user world name delete_mailbox parts.0;
       common = not-true _ more.0;
-      lone = sym (none_below administrator user world name place) ∙ not-true _ more.1;
-      seen = without_seen administrator user world name place;
+      lone = sym (none_below site user world name place) ∙ not-true _ more.1;
+      seen = without_seen site user world name place;
     }

@@ -15,9 +15,10 @@ use Rattle.imap_names.specs.UserName.{is_user_name}
 use Rattle.imap_names.proofs.NameLaws.{is_name_at, equal_names, same_names, get_put}
 use Rattle.imap_names.proofs.OrderLaws.{name_antisymmetric}
 use Rattle.imap_names.proofs.UserLaws.{user_name_facts}
-use Rattle.imap_rights.specs.Acl.{AclMap, owner_acl}
+use Rattle.imap_rights.specs.Acl.{owner_acl}
 use Rattle.imap_rights.specs.Effective.{anyone, negative, entry, granted, effective, owner_rights}
-use Rattle.imap_rights.specs.Rights.{no_rights, all_rights, union, less, visible_rights, administer, has_any}
+use Rattle.imap_rights.specs.Rights.{no_rights, all_rights, union, less, visible_rights}
+use Rattle.imap_world.specs.declared.site.Site.{Site}
 use Rattle.imap_world.specs.Mailbox.{Mailbox, new_mailbox}
 use Rattle.imap_world.specs.declared.error.WorldError.TheVariants.{Limit, Taken}
 use Rattle.imap_world.specs.Effects.{with_row, put_of, writes_then, after_result}
@@ -27,7 +28,7 @@ use Rattle.imap_world.specs.World.{World, epoch, inbox, max_validity}
 use Rattle.imap_user_map.proofs.KeptValues.{get-keep}
 use Rattle.imap_world.proofs.Sets.{is_user, equal_users}
 use Rattle.imap_view.specs.After.{OthersInboxesAreHidden}
-use Rattle.imap_view.specs.Seen.{seen_at, seen_with, owner_by_root}
+use Rattle.imap_view.specs.Seen.{seen_at, seen_by_rights, seen_with, owner_by_root}
 use Rattle.imap_view.specs.View.{view_of, view_by, seen_in, if_true, may_know_name}
 
 -- ---- a mailbox of which nothing is seen
@@ -41,13 +42,13 @@ kept_same f m k x new old = same_names _ _ (λ q. get-keep name_cmp f name_antis
     by q true at = ap (λ n. f n x) (equal_names q k at) ∙ new ∙ sym (ap (λ n. option_and_then (f n) (map.get m n)) (equal_names q k at) ∙ old)
     by q false at = refl
 
-module _ (administrator user : List ℕ) (world : World) (row : NewMailbox) where
-  module _ (absent : map.get world.mailboxes row.name ≡ None) (unseen : seen_at administrator user row.name (mailbox_in row) ≡ None) (unknown : may_know_name administrator user (seen_in administrator user world) row.name ≡ false) where
-    seen_same : seen_in administrator user (with_row world row) ≡ seen_in administrator user world
-    seen_same = kept_same (seen_at administrator user) world.mailboxes row.name (mailbox_in row) unseen (ap (option_and_then (seen_at administrator user row.name)) absent)
+module _ (site : Site) (user : List ℕ) (world : World) (row : NewMailbox) where
+  module _ (absent : map.get world.mailboxes row.name ≡ None) (unseen : seen_at site user row.name (mailbox_in row) ≡ None) (unknown : may_know_name site user (seen_in site user world) row.name ≡ false) where
+    seen_same : seen_in site user (with_row world row) ≡ seen_in site user world
+    seen_same = kept_same (seen_at site user) world.mailboxes row.name (mailbox_in row) unseen (ap (option_and_then (seen_at site user row.name)) absent)
 
     abbrev if_known : {X Y : Type 0} → (X → Y) → Name → X → Option Y
-    if_known f name x = if_true (may_know_name administrator user (seen_in administrator user world) name) (f x)
+    if_known f name x = if_true (may_know_name site user (seen_in site user world) name) (f x)
 
     nothing_known : {X Y : Type 0} (f : X → Y) (o : Option X) → option_and_then (if_known f row.name) o ≡ None
     nothing_known f None = refl
@@ -60,11 +61,11 @@ module _ (administrator user : List ℕ) (world : World) (row : NewMailbox) wher
     epochs_same = kept_same (if_known (λ validity. validity)) world.epochs row.name row.validity (ap (λ b. if_true b row.validity) unknown) (nothing_known (λ validity. validity) (map.get world.epochs row.name))
 
     -- the view stays
-    pub put_is_hidden : view_of administrator user (with_row world row) ≡ view_of administrator user world
+    pub put_is_hidden : view_of site user (with_row world row) ≡ view_of site user world
     unfolding view_of
     put_is_hidden =
-        ap (λ seen. view_by administrator user seen (with_row world row)) seen_same
-        ∙ (λ i. record (view_by administrator user (seen_in administrator user world) world) { taken = taken_same i; epochs = epochs_same i })
+        ap (λ seen. view_by site user seen (with_row world row)) seen_same
+        ∙ (λ i. record (view_by site user (seen_in site user world) world) { taken = taken_same i; epochs = epochs_same i })
 
 -- ---- the INBOX of another user
 
@@ -75,9 +76,9 @@ none_of (Some x) e = cc
 not_bytes : (a b : List ℕ) → (a ≡ b → ⊥) → bytes_eq a b ≡ false
 not_bytes a b differ = false_from_ne_true _ (λ e. differ ((bytes_eq-Decides a b).0 e))
 
-own_root : (administrator other : List ℕ) → 0 < length other → owner_by_root administrator other ≡ other
-own_root administrator [] some = absurd (omega (arith, some))
-own_root administrator (octet ∷ octets) some = refl
+own_root : (site : Site) (other : List ℕ) → 0 < length other → owner_by_root site other ≡ other
+own_root site [] some = absurd (omega (arith, some))
+own_root site (octet ∷ octets) some = refl
 
 module _ (other : List ℕ) where
   entry_of_another : (q : List ℕ) → other ≢ q → entry (owner_acl other) q ≡ no_rights
@@ -93,27 +94,28 @@ module _ (other : List ℕ) where
       (λ i. less (union (entry_of_another user differ i) (entry_of_another anyone someone i)) taken)
       ∙ ap (λ n. less n taken) (or_zero_r no_rights) ∙ ap (bit_xor no_rights) (and_zero_l taken) ∙ xor_zero_r no_rights
 
-  seen_without : (acl : AclMap) → seen_with no_rights acl ≡ None
-  seen_without acl = ap (λ n. cond (not (n == 0)) (Some (record { rights = no_rights; acl = cond (has_any no_rights administer) (Some acl) None })) None) (and_zero_l visible_rights)
+  seen_without : (site : Site) (user : List ℕ) (m : Mailbox) → seen_with site user no_rights m ≡ None
+  seen_without site user m = ap (λ n. cond (not (n == 0)) (Some (seen_by_rights site user no_rights m)) None) (and_zero_l visible_rights)
 
-  module _ (administrator user : List ℕ) (some : 0 < length other) (someone : other ≢ anyone) (differ : other ≢ user) where
-    inbox_unseen : (validity : ℕ) → seen_at administrator user (inbox other) (new_mailbox validity (owner_acl other)) ≡ None
+  module _ (site : Site) (user : List ℕ) (some : 0 < length other) (someone : other ≢ anyone) (differ : other ≢ user) where
+    inbox_unseen : (validity : ℕ) → seen_at site user (inbox other) (new_mailbox validity (owner_acl other)) ≡ None
     inbox_unseen validity =
-        ap (λ o. seen_with (effective user o (owner_acl other)) (owner_acl other)) (own_root administrator other some)
-        ∙ ap (λ b. seen_with (cond b (union (granted user (owner_acl other)) owner_rights) (granted user (owner_acl other))) (owner_acl other)) (not_bytes user other (λ e. differ (sym e)))
-        ∙ ap (λ r. seen_with r (owner_acl other)) (nothing_granted user differ someone) ∙ seen_without (owner_acl other)
+        let new = new_mailbox validity (owner_acl other) in
+        ap (λ o. seen_with site user (effective user o (owner_acl other)) new) (own_root site other some)
+        ∙ ap (λ b. seen_with site user (cond b (union (granted user (owner_acl other)) owner_rights) (granted user (owner_acl other))) new) (not_bytes user other (λ e. differ (sym e)))
+        ∙ ap (λ r. seen_with site user r new) (nothing_granted user differ someone) ∙ seen_without site user new
 
-    inbox_unknown : (world : World) → may_know_name administrator user (seen_in administrator user world) (inbox other) ≡ false
+    inbox_unknown : (world : World) → may_know_name site user (seen_in site user world) (inbox other) ≡ false
     inbox_unknown world =
-        ap (λ o. bytes_eq o user || (false || false)) (own_root administrator other some)
+        ap (λ o. bytes_eq o user || (false || false)) (own_root site other some)
         ∙ ap (λ b. b || (false || false)) (not_bytes other user differ)
 
     inbox_hidden : (world : World) (there : Bool) → map.contains_key world.mailboxes (inbox other) ≡ there → (b : Bool)
-        → view_of administrator user (after_result (writes_then (cond there (Err Taken) (put_of (cond b (Err Limit) (Ok (record { name = inbox other; validity = epoch world.epochs (inbox other) + 1; acl = owner_acl other }))))) (Ok [])) world) ≡ view_of administrator user world
+        → view_of site user (after_result (writes_then (cond there (Err Taken) (put_of (cond b (Err Limit) (Ok (record { name = inbox other; validity = epoch world.epochs (inbox other) + 1; acl = owner_acl other }))))) (Ok [])) world) ≡ view_of site user world
     inbox_hidden world true is b = refl
     inbox_hidden world false is true = refl
     inbox_hidden world false is false =
-        put_is_hidden administrator user world (record { name = inbox other; validity = epoch world.epochs (inbox other) + 1; acl = owner_acl other }) (none_of (map.get world.mailboxes (inbox other)) is) (inbox_unseen (epoch world.epochs (inbox other) + 1)) (inbox_unknown world)
+        put_is_hidden site user world (record { name = inbox other; validity = epoch world.epochs (inbox other) + 1; acl = owner_acl other }) (none_of (map.get world.mailboxes (inbox other)) is) (inbox_unseen (epoch world.epochs (inbox other) + 1)) (inbox_unknown world)
 
 not_anyone : (other : List ℕ) → is_user_name other ≡ true → other ≢ anyone
 not_anyone other valid e =
@@ -122,5 +124,5 @@ not_anyone other valid e =
     absurd (cc (sym word.0 ∙ (bytes_eq-Decides other anyone).1 e))
 
 pub others_inboxes : OthersInboxesAreHidden
-others_inboxes administrator user other world valid differ =
-    inbox_hidden other administrator user (user_name_facts other valid).some (not_anyone other valid) differ world (map.contains_key world.mailboxes (inbox other)) refl (epoch world.epochs (inbox other) == max_validity)
+others_inboxes site user other world valid differ =
+    inbox_hidden other site user (user_name_facts other valid).some (not_anyone other valid) differ world (map.contains_key world.mailboxes (inbox other)) refl (epoch world.epochs (inbox other) == max_validity)

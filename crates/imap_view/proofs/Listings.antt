@@ -8,6 +8,7 @@ use Rattle.std.specs.FinMap as fin
 use Rattle.imap_names.specs.Name.{Name}
 use Rattle.imap_names.specs.Order.{Names, name_cmp, is_below}
 use Rattle.imap_name_map.specs.Rows.{entries_below, below_of, has_below}
+use Rattle.imap_world.specs.declared.site.Site.{Site}
 use Rattle.imap_world.specs.declared.mailbox_entry.MailboxEntry.{MailboxEntry}
 use Rattle.imap_world.specs.Mailbox.{Mailbox, plain, plain_all}
 use Rattle.imap_world.proofs.Contents.{entries_plain, plain_entry}
@@ -21,14 +22,14 @@ use Rattle.imap_view.specs.View.{View, view_of, may_know_name_in, if_true}
 abbrev known_entry : View → Name → Mailbox → Option (Unit {0})
 known_entry view name mailbox = if_true (may_know_name_in view name) tt
 
-module _ (administrator user : List ℕ) (world : World) where
-  entries_taken : fin.entries (view_of administrator user world).taken ≡ filter_map (kept_entry (known_entry (view_of administrator user world))) (fin.entries world.mailboxes)
+module _ (site : Site) (user : List ℕ) (world : World) where
+  entries_taken : fin.entries (view_of site user world).taken ≡ filter_map (kept_entry (known_entry (view_of site user world))) (fin.entries world.mailboxes)
   unfolding view_of
-  entries_taken = entries-keep name_cmp (known_entry (view_of administrator user world)) world.mailboxes
+  entries_taken = entries-keep name_cmp (known_entry (view_of site user world)) world.mailboxes
 
-  entries_seen : filter_map (kept_entry (seen_at (view_of administrator user world).administrator (view_of administrator user world).user)) (fin.entries world.mailboxes) ≡ fin.entries (view_of administrator user world).seen
+  entries_seen : filter_map (kept_entry (seen_at (view_of site user world).site (view_of site user world).user)) (fin.entries world.mailboxes) ≡ fin.entries (view_of site user world).seen
   unfolding view_of
-  entries_seen = sym (entries-keep name_cmp (seen_at administrator user) world.mailboxes)
+  entries_seen = sym (entries-keep name_cmp (seen_at site user) world.mailboxes)
 
 module _ (view : View) (top : Name) where
   known_below : (es : List (Name × Mailbox)) → known_among view (entries_below top es) ≡ map (λ e. e.0) (entries_below top (filter_map (kept_entry (known_entry view)) es))
@@ -60,9 +61,9 @@ module _ (view : View) (top : Name) where
       both false false rest = rest
 
 -- without their room
-seen_plain : (view : View) (es : List (Name × MailboxEntry)) → seen_among view es ≡ filter_map (kept_entry (seen_at view.administrator view.user)) (map plain_entry es)
+seen_plain : (view : View) (es : List (Name × MailboxEntry)) → seen_among view es ≡ filter_map (kept_entry (seen_at view.site view.user)) (map plain_entry es)
 seen_plain view [] = refl
-seen_plain view (e ∷ es) = ap (cons_option (option_map (λ y. (e.0, y)) (seen_at view.administrator view.user e.0 (plain e.1)))) (seen_plain view es)
+seen_plain view (e ∷ es) = ap (cons_option (option_map (λ y. (e.0, y)) (seen_at view.site view.user e.0 (plain e.1)))) (seen_plain view es)
 
 known_plain : (view : View) (top : Name) (es : List (Name × MailboxEntry)) → known_among view (entries_below top es) ≡ known_among view (entries_below top (map plain_entry es))
 known_plain view top [] = refl
@@ -73,11 +74,11 @@ known_plain view top (e ∷ es) = by (is_below top e.0) (known_plain view top es
     by true rest = ap (λ names. cond (may_know_name_in view e.0) (e.0 ∷ names) names) rest
     by false rest = rest
 
-module _ (administrator user : List ℕ) (world : World) (view : View) (is : view_of administrator user world ≡ view) where
+module _ (site : Site) (user : List ℕ) (world : World) (view : View) (is : view_of site user world ≡ view) where
   pub taken_names_are : (top : Name) → known_among view (below_of top world.mailboxes) ≡ names_below top view.taken
   taken_names_are top =
       known_below view top (fin.entries world.mailboxes)
-      ∙ ap (λ es. map (λ e. e.0) (entries_below top es)) (sym (subst (λ v. fin.entries v.taken ≡ filter_map (kept_entry (known_entry v)) (fin.entries world.mailboxes)) is (entries_taken administrator user world)))
+      ∙ ap (λ es. map (λ e. e.0) (entries_below top es)) (sym (subst (λ v. fin.entries v.taken ≡ filter_map (kept_entry (known_entry v)) (fin.entries world.mailboxes)) is (entries_taken site user world)))
 
   pub names_taken : (top : Name) (m : Names MailboxEntry) → plain_all m ≡ world.mailboxes → known_among view (below_of top m) ≡ names_below top view.taken
   names_taken top m are =
@@ -86,8 +87,8 @@ module _ (administrator user : List ℕ) (world : World) (view : View) (is : vie
 
   pub names_seen : (m : Names MailboxEntry) → plain_all m ≡ world.mailboxes → seen_among view (fin.entries m) ≡ fin.entries view.seen
   names_seen m are =
-      seen_plain view (fin.entries m) ∙ ap (filter_map (kept_entry (seen_at view.administrator view.user))) (sym (entries_plain m) ∙ ap fin.entries are)
-      ∙ subst (λ v. filter_map (kept_entry (seen_at v.administrator v.user)) (fin.entries world.mailboxes) ≡ fin.entries v.seen) is (entries_seen administrator user world)
+      seen_plain view (fin.entries m) ∙ ap (filter_map (kept_entry (seen_at view.site view.user))) (sym (entries_plain m) ∙ ap fin.entries are)
+      ∙ subst (λ v. filter_map (kept_entry (seen_at v.site v.user)) (fin.entries world.mailboxes) ≡ fin.entries v.seen) is (entries_seen site user world)
 
 -- ---- whether there is one
 

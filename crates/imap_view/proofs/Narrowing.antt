@@ -11,6 +11,7 @@ use Rattle.imap_names.specs.Order.{Names, name_cmp}
 use Rattle.imap_names.proofs.NameLaws.{is_name_at, equal_names, same_names, get_put, get_without, get_where}
 use Rattle.imap_names.proofs.OrderLaws.{name_antisymmetric}
 use Rattle.imap_rights.specs.Rights.{has_any, names_below_rights}
+use Rattle.imap_world.specs.declared.site.Site.{Site}
 use Rattle.imap_world.specs.Mailbox.{Mailbox}
 use Rattle.imap_user_map.specs.Finite.{keep}
 use Rattle.imap_world.specs.World.{World, NameSet, subscribed_by}
@@ -59,45 +60,45 @@ get_kept {X = X} {Y = Y} p f m q = get-keep name_cmp (λ name x. if_true (p name
 abbrev pub in_use : Option Mailbox → Option (Unit {0})
 in_use mailbox = option_map (λ m. tt) mailbox
 
-pub seen_is : (administrator user : List ℕ) (world : World) → (view_of administrator user world).seen ≡ seen_in administrator user world
+pub seen_is : (site : Site) (user : List ℕ) (world : World) → (view_of site user world).seen ≡ seen_in site user world
 unfolding view_of
-seen_is administrator user world = refl
+seen_is site user world = refl
 
 -- ---- places
 
-module _ (administrator user : List ℕ) where
+module _ (site : Site) (user : List ℕ) where
   module _ (seen : Names Seen) where
-    pub place_below : (part : List ℕ) (above : Name) → shows_names_below administrator user seen above ≡ true → may_know_name administrator user seen (part ∷ above) ≡ true
+    pub place_below : (part : List ℕ) (above : Name) → shows_names_below site user seen above ≡ true → may_know_name site user seen (part ∷ above) ≡ true
     place_below part above e = or_left _ _ e
 
-    pub deeper_below : (part : List ℕ) (above : Name) → may_know_name administrator user seen above ≡ true → may_know_name administrator user seen (part ∷ above) ≡ true
+    pub deeper_below : (part : List ℕ) (above : Name) → may_know_name site user seen above ≡ true → may_know_name site user seen (part ∷ above) ≡ true
     deeper_below part above e = or_right _ _ e
 
     -- a name that is a place, or lies below one
     abbrev pub IsCovered : Name → Type 0
-    IsCovered name = (shows_names_below administrator user seen name ≡ true) ⊎ (may_know_name administrator user seen name ≡ true)
+    IsCovered name = (shows_names_below site user seen name ≡ true) ⊎ (may_know_name site user seen name ≡ true)
 
-    pub covered_below : (part : List ℕ) (above : Name) → IsCovered above → may_know_name administrator user seen (part ∷ above) ≡ true
+    pub covered_below : (part : List ℕ) (above : Name) → IsCovered above → may_know_name site user seen (part ∷ above) ≡ true
     covered_below part above (inl e) = place_below part above e
     covered_below part above (inr e) = deeper_below part above e
 
   -- each place of `new` is one of `old`, or lies below one
   abbrev pub IsWithin : Names Seen → Names Seen → Type 0
-  IsWithin new old = (name : Name) → shows_names_below administrator user new name ≡ true → IsCovered old name
+  IsWithin new old = (name : Name) → shows_names_below site user new name ≡ true → IsCovered old name
 
-  pub below_within : (new old : Names Seen) → IsWithin new old → (name : Name) → may_know_name administrator user new name ≡ true → may_know_name administrator user old name ≡ true
+  pub below_within : (new old : Names Seen) → IsWithin new old → (name : Name) → may_know_name site user new name ≡ true → may_know_name site user old name ≡ true
   below_within new old within [] e = e
   below_within new old within (part ∷ above) e =
-      by (or_cases (shows_names_below administrator user new above) (may_know_name administrator user new above) e) (below_within new old within above)
+      by (or_cases (shows_names_below site user new above) (may_know_name site user new above) e) (below_within new old within above)
     where
-      by : IsCovered new above → (may_know_name administrator user new above ≡ true → may_know_name administrator user old above ≡ true) → may_know_name administrator user old (part ∷ above) ≡ true
+      by : IsCovered new above → (may_know_name site user new above ≡ true → may_know_name site user old above ≡ true) → may_know_name site user old (part ∷ above) ≡ true
       by (inl h) rest = covered_below old part above (within above h)
       by (inr h) rest = deeper_below old part above (rest h)
 
   -- ---- one mailbox is seen otherwise
 
   module _ (seen : Names Seen) (k : Name) (o : Option Seen) where
-    place_elsewhere : (q : Name) → is_name_at q k ≡ false → shows_names_below administrator user (put_option seen k o) q ≡ shows_names_below administrator user seen q
+    place_elsewhere : (q : Name) → is_name_at q k ≡ false → shows_names_below site user (put_option seen k o) q ≡ shows_names_below site user seen q
     place_elsewhere [] apart = refl
     place_elsewhere (root ∷ []) apart = refl
     place_elsewhere (deepest ∷ above ∷ more) apart =
@@ -116,7 +117,7 @@ module _ (administrator user : List ℕ) where
     shorter_apart q shorter false at = refl
 
     -- what lies above the name is as before
-    below_above : (q : Name) → length q ≤ length k → may_know_name administrator user (put_option seen k o) q ≡ may_know_name administrator user seen q
+    below_above : (q : Name) → length q ≤ length k → may_know_name site user (put_option seen k o) q ≡ may_know_name site user seen q
     below_above [] short = refl
     below_above (part ∷ above) short =
         λ i. place_elsewhere above (shorter_apart above (omega (arith, short)) (is_name_at above k) refl) i || below_above above (omega (arith, short)) i
@@ -124,18 +125,18 @@ module _ (administrator user : List ℕ) where
     at_itself : (n : ℕ) → n ≤ n
     at_itself n = omega arith
 
-    pub below_itself : may_know_name administrator user (put_option seen k o) k ≡ may_know_name administrator user seen k
+    pub below_itself : may_know_name site user (put_option seen k o) k ≡ may_know_name site user seen k
     below_itself = below_above k (at_itself (length k))
 
-    kept_within : may_know_name administrator user seen k ≡ true → IsWithin seen (put_option seen k o)
+    kept_within : may_know_name site user seen k ≡ true → IsWithin seen (put_option seen k o)
     kept_within below q e = by (is_name_at q k) refl
       where
         by : (b : Bool) → is_name_at q k ≡ b → IsCovered (put_option seen k o) q
-        by true at = inr (ap (may_know_name administrator user (put_option seen k o)) (equal_names q k at) ∙ below_itself ∙ below)
+        by true at = inr (ap (may_know_name site user (put_option seen k o)) (equal_names q k at) ∙ below_itself ∙ below)
         by false apart = inl (place_elsewhere q apart ∙ e)
 
     -- Below a place a mailbox can be seen otherwise, and the same names lie below places.
-    pub below_same : may_know_name administrator user seen k ≡ true → (q : Name) → may_know_name administrator user (put_option seen k o) q ≡ may_know_name administrator user seen q
+    pub below_same : may_know_name site user seen k ≡ true → (q : Name) → may_know_name site user (put_option seen k o) q ≡ may_know_name site user seen q
     below_same below q =
         alike _ _ (below_within (put_option seen k o) seen (put_within (inr below)) q) (below_within seen (put_option seen k o) (kept_within below) q)
       where
@@ -150,46 +151,46 @@ module _ (administrator user : List ℕ) where
   same_value None = refl
   same_value (Some x) = refl
 
-  pub get_taken : (seen : Names Seen) (world : World) (q : Name) → map.get (view_by administrator user seen world).taken q ≡ cond (may_know_name administrator user seen q) (in_use (map.get world.mailboxes q)) None
-  get_taken seen world q = get_kept (may_know_name administrator user seen) (λ (m : Mailbox). tt) world.mailboxes q
+  pub get_taken : (seen : Names Seen) (world : World) (q : Name) → map.get (view_by site user seen world).taken q ≡ cond (may_know_name site user seen q) (in_use (map.get world.mailboxes q)) None
+  get_taken seen world q = get_kept (may_know_name site user seen) (λ (m : Mailbox). tt) world.mailboxes q
 
-  pub get_epochs : (seen : Names Seen) (world : World) (q : Name) → map.get (view_by administrator user seen world).epochs q ≡ cond (may_know_name administrator user seen q) (map.get world.epochs q) None
-  get_epochs seen world q = get_kept (may_know_name administrator user seen) (λ n. n) world.epochs q ∙ ap (λ o. cond (may_know_name administrator user seen q) o None) (same_value (map.get world.epochs q))
+  pub get_epochs : (seen : Names Seen) (world : World) (q : Name) → map.get (view_by site user seen world).epochs q ≡ cond (may_know_name site user seen q) (map.get world.epochs q) None
+  get_epochs seen world q = get_kept (may_know_name site user seen) (λ n. n) world.epochs q ∙ ap (λ o. cond (may_know_name site user seen q) o None) (same_value (map.get world.epochs q))
 
   only : {X : Type 0} (b : Bool) (x y : Option X) → (b ≡ true → x ≡ y) → cond b x None ≡ cond b y None
   only true x y h = h refl
   only false x y h = refl
 
   -- The view of a world is that with these mailboxes, names and validities, if they are right below places.
-  pub view_is_narrowed : (world : World) (seen : Names Seen) (taken : NameSet) (epochs : Names ℕ) → seen_in administrator user world ≡ seen
-      → ((q : Name) → may_know_name administrator user seen q ≡ true → in_use (map.get world.mailboxes q) ≡ map.get taken q)
-      → ((q : Name) → may_know_name administrator user seen q ≡ true → map.get world.epochs q ≡ map.get epochs q)
-      → view_of administrator user world ≡ narrowed (record { administrator = administrator; user = user; seen = seen; taken = taken; epochs = epochs; subscribed = subscribed_by world user })
+  pub view_is_narrowed : (world : World) (seen : Names Seen) (taken : NameSet) (epochs : Names ℕ) → seen_in site user world ≡ seen
+      → ((q : Name) → may_know_name site user seen q ≡ true → in_use (map.get world.mailboxes q) ≡ map.get taken q)
+      → ((q : Name) → may_know_name site user seen q ≡ true → map.get world.epochs q ≡ map.get epochs q)
+      → view_of site user world ≡ narrowed (record { site = site; user = user; seen = seen; taken = taken; epochs = epochs; subscribed = subscribed_by world user })
   unfolding view_of
   view_is_narrowed world seen taken epochs is t e =
-      ap (λ s. view_by administrator user s world) is
-      ∙ λ i. record { administrator = administrator; user = user; seen = seen; taken = takens i; epochs = all_epochs i; subscribed = subscribed_by world user }
+      ap (λ s. view_by site user s world) is
+      ∙ λ i. record { site = site; user = user; seen = seen; taken = takens i; epochs = all_epochs i; subscribed = subscribed_by world user }
     where
-      takens : (view_by administrator user seen world).taken ≡ map.retain_keys taken (may_know_name administrator user seen)
-      takens = same_names _ _ (λ q. get_taken seen world q ∙ only _ _ _ (t q) ∙ sym (get_where taken (may_know_name administrator user seen) q))
+      takens : (view_by site user seen world).taken ≡ map.retain_keys taken (may_know_name site user seen)
+      takens = same_names _ _ (λ q. get_taken seen world q ∙ only _ _ _ (t q) ∙ sym (get_where taken (may_know_name site user seen) q))
 
-      all_epochs : (view_by administrator user seen world).epochs ≡ map.retain_keys epochs (may_know_name administrator user seen)
-      all_epochs = same_names _ _ (λ q. get_epochs seen world q ∙ only _ _ _ (e q) ∙ sym (get_where epochs (may_know_name administrator user seen) q))
+      all_epochs : (view_by site user seen world).epochs ≡ map.retain_keys epochs (may_know_name site user seen)
+      all_epochs = same_names _ _ (λ q. get_epochs seen world q ∙ only _ _ _ (e q) ∙ sym (get_where epochs (may_know_name site user seen) q))
 
   -- ---- what is seen of a world in which one mailbox is another, or gone
 
   pub seen_changed : (world new : World) (k : Name) (o : Option Mailbox)
       → ((q : Name) → map.get new.mailboxes q ≡ cond (is_name_at q k) o (map.get world.mailboxes q))
-      → seen_in administrator user new ≡ put_option (seen_in administrator user world) k (option_and_then (seen_at administrator user k) o)
+      → seen_in site user new ≡ put_option (seen_in site user world) k (option_and_then (seen_at site user k) o)
   seen_changed world new k o is =
-      same_names _ _ (λ q. get_at new q ∙ ap (option_and_then (seen_at administrator user q)) (is q) ∙ by q (is_name_at q k) refl
-      ∙ sym (get_option (seen_in administrator user world) k (option_and_then (seen_at administrator user k) o) q
-      ∙ ap (cond (is_name_at q k) (option_and_then (seen_at administrator user k) o)) (get_at world q)))
+      same_names _ _ (λ q. get_at new q ∙ ap (option_and_then (seen_at site user q)) (is q) ∙ by q (is_name_at q k) refl
+      ∙ sym (get_option (seen_in site user world) k (option_and_then (seen_at site user k) o) q
+      ∙ ap (cond (is_name_at q k) (option_and_then (seen_at site user k) o)) (get_at world q)))
     where
-      get_at : (w : World) (q : Name) → map.get (seen_in administrator user w) q ≡ option_and_then (seen_at administrator user q) (map.get w.mailboxes q)
-      get_at w q = get-keep name_cmp (seen_at administrator user) name_antisymmetric w.mailboxes q
+      get_at : (w : World) (q : Name) → map.get (seen_in site user w) q ≡ option_and_then (seen_at site user q) (map.get w.mailboxes q)
+      get_at w q = get-keep name_cmp (seen_at site user) name_antisymmetric w.mailboxes q
 
       by : (q : Name) (b : Bool) → is_name_at q k ≡ b
-          → option_and_then (seen_at administrator user q) (cond b o (map.get world.mailboxes q)) ≡ cond b (option_and_then (seen_at administrator user k) o) (option_and_then (seen_at administrator user q) (map.get world.mailboxes q))
-      by q true at = ap (λ n. option_and_then (seen_at administrator user n) o) (equal_names q k at)
+          → option_and_then (seen_at site user q) (cond b o (map.get world.mailboxes q)) ≡ cond b (option_and_then (seen_at site user k) o) (option_and_then (seen_at site user q) (map.get world.mailboxes q))
+      by q true at = ap (λ n. option_and_then (seen_at site user n) o) (equal_names q k at)
       by q false apart = refl

@@ -3,6 +3,7 @@ use Rattle.std.specs.Prelude.{◌≡◌, ◌≢◌, ◌⊎◌, ℕ, true, false,
 use Rattle.std.specs.FinMap as map
 use Rattle.imap_names.specs.Name.{Name}
 use Rattle.imap_names.specs.UserName.{is_user_name}
+use Rattle.imap_world.specs.declared.site.Site.{Site}
 use Rattle.imap_world.specs.declared.change.Write.{Write}
 use Rattle.imap_world.specs.declared.effect.Effect.{Effect}
 use Rattle.imap_world.specs.declared.effect.Effect.TheVariants as effect
@@ -18,10 +19,10 @@ use Rattle.imap_view.specs.View.{View, view_of, may_know_name_in}
 abbrev pub MayAsk : View → Effect → Type 0
 MayAsk view (effect.CreateInbox owner) = ⊥
 MayAsk view (effect.Create owner name) =
-    (owner ≡ owner_of view.administrator name) × (may_make view name ≡ true)
+    (owner ≡ owner_of view.site name) × (may_make view name ≡ true)
 MayAsk view (effect.Delete name) = may_delete view name ≡ true
 MayAsk view (effect.Rename owner old new) =
-    (owner ≡ owner_of view.administrator new) × (may_rename view old new ≡ true)
+    (owner ≡ owner_of view.site new) × (may_rename view old new ≡ true)
 MayAsk view (effect.SetRights name identifier change) = may_set_rights view name identifier change ≡ true
 MayAsk view (effect.Subscribe user name) = user ≡ view.user
 MayAsk view (effect.Unsubscribe user name) = user ≡ view.user
@@ -38,9 +39,9 @@ view_after (effect.Unsubscribe user name) view = record view { subscribed = map.
 
 -- The view after an effect that the user may ask for is found from the view before alone.
 abbrev pub OwnEffectsAreSeen : Type 0
-OwnEffectsAreSeen = (administrator user : List ℕ) (world : World) (asked : Effect) →
-    let view = view_of administrator user world in
-    MayAsk view asked → view_of administrator user (after_all (asked ∷ []) world) ≡ view_after asked view
+OwnEffectsAreSeen = (site : Site) (user : List ℕ) (world : World) (asked : Effect) →
+    let view = view_of site user world in
+    MayAsk view asked → view_of site user (after_all (asked ∷ []) world) ≡ view_after asked view
 
 -- Values are found that it writes.
 pub record IsMade (asked : Effect) (world : World) : Type 0 where
@@ -49,43 +50,43 @@ pub record IsMade (asked : Effect) (world : World) : Type 0 where
 
 -- An effect that the user may ask for can be made.
 abbrev pub OwnEffectsAreMade : Type 0
-OwnEffectsAreMade = (administrator user : List ℕ) (world : World) (asked : Effect)
-    → MayAsk (view_of administrator user world) asked → IsMade asked world
+OwnEffectsAreMade = (site : Site) (user : List ℕ) (world : World) (asked : Effect)
+    → MayAsk (view_of site user world) asked → IsMade asked world
 
 -- another user's subscriptions are not in the view
 abbrev pub OthersSubscriptionsAreHidden : Type 0
 OthersSubscriptionsAreHidden =
-    (administrator user other : List ℕ) (world : World) (name : Name) → other ≢ user →
-    let view = view_of administrator user world in
-    (view_of administrator user (after_all (effect.Subscribe other name ∷ []) world) ≡ view)
-    × (view_of administrator user (after_all (effect.Unsubscribe other name ∷ []) world) ≡ view)
+    (site : Site) (user other : List ℕ) (world : World) (name : Name) → other ≢ user →
+    let view = view_of site user world in
+    (view_of site user (after_all (effect.Subscribe other name ∷ []) world) ≡ view)
+    × (view_of site user (after_all (effect.Unsubscribe other name ∷ []) world) ≡ view)
 
 -- the INBOX that is made for another user is not in the view, nor whether that user had one
 abbrev pub OthersInboxesAreHidden : Type 0
-OthersInboxesAreHidden = (administrator user other : List ℕ) (world : World) →
+OthersInboxesAreHidden = (site : Site) (user other : List ℕ) (world : World) →
     is_user_name other ≡ true → other ≢ user →
-    view_of administrator user (after_all (effect.CreateInbox other ∷ []) world)
-    ≡ view_of administrator user world
+    view_of site user (after_all (effect.CreateInbox other ∷ []) world)
+    ≡ view_of site user world
 
 -- In neither world the user sees a mailbox of this name, or may know if the name is in use.
-pub record IsHidden (administrator user : List ℕ) (one other : World) (name : Name) : Type 0 where
-  pub unseen : map.get (view_of administrator user one).seen name ≡ None
-  pub unseen_other : map.get (view_of administrator user other).seen name ≡ None
-  pub unknown : may_know_name_in (view_of administrator user one) name ≡ false
+pub record IsHidden (site : Site) (user : List ℕ) (one other : World) (name : Name) : Type 0 where
+  pub unseen : map.get (view_of site user one).seen name ≡ None
+  pub unseen_other : map.get (view_of site user other).seen name ≡ None
+  pub unknown : may_know_name_in (view_of site user one) name ≡ false
 
 -- The worlds differ for the user in hidden mailboxes alone, and in validities that were used under names of
 -- which the user may not know.
-pub record DifferInHidden (administrator user : List ℕ) (one other : World) : Type 0 where
+pub record DifferInHidden (site : Site) (user : List ℕ) (one other : World) : Type 0 where
   pub mailboxes : (name : Name)
       → (map.get one.mailboxes name ≡ map.get other.mailboxes name)
-      ⊎ IsHidden administrator user one other name
+      ⊎ IsHidden site user one other name
   pub epochs : (name : Name)
       → (map.get one.epochs name ≡ map.get other.epochs name)
-      ⊎ (may_know_name_in (view_of administrator user one) name ≡ false)
+      ⊎ (may_know_name_in (view_of site user one) name ≡ false)
   pub subscribed : subscribed_by one user ≡ subscribed_by other user
 
 -- Hidden mailboxes can come and go, and leave their used validities, and the view stays.
 abbrev pub HiddenIsAbsent : Type 0
-HiddenIsAbsent = (administrator user : List ℕ) (one other : World)
-    → DifferInHidden administrator user one other
-    → view_of administrator user one ≡ view_of administrator user other
+HiddenIsAbsent = (site : Site) (user : List ℕ) (one other : World)
+    → DifferInHidden site user one other
+    → view_of site user one ≡ view_of site user other

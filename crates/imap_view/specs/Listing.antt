@@ -24,7 +24,7 @@ known_among view (e ∷ mailboxes) =
 -- of a list of mailboxes those that the user sees
 abbrev pub seen_among : View → List (Name × MailboxEntry) → List (Name × Seen)
 seen_among view mailboxes =
-    filter_map (kept_entry (λ name entry. seen_at view.administrator view.user name (plain entry))) mailboxes
+    filter_map (kept_entry (λ name entry. seen_at view.site view.user name (plain entry))) mailboxes
 
 abbrev pub seen_names_code : Coded (List (Name × Seen))
 seen_names_code = coded_list (coded× name_code seen_code)

@@ -1,9 +1,10 @@
 -- What the view of a user becomes when the user's commands change the tree of mailboxes: SETACL and DELETEACL
 -- (RFC 4314, sections 3.1 and 3.2), DELETE and CREATE (RFC 9051, sections 6.3.5 and 6.3.4).
 use Rattle.std.specs.Prelude.{◌≡◌, ℕ, ◌+◌, Bool, true, false, not, ◌&&◌, ◌||◌, nat_lt, List, [], ◌∷◌, ◌++◌}
-use Rattle.std.specs.Prelude.{Option, Some, None, Ok, if◌then◌else◌}
+use Rattle.std.specs.Prelude.{Option, Some, None, Ok, option_map, if◌then◌else◌}
 use Rattle.std.specs.FinMap as map
 use Rattle.std.specs.List.{list_all}
+use Rattle.imap_mailbox.specs.Shown.{Shown, shown_to}
 use Rattle.imap_names.specs.Name.{Name, is_inbox}
 use Rattle.imap_names.specs.Order.{Names}
 use Rattle.imap_name_map.specs.Rows.{has_below}
@@ -11,13 +12,14 @@ use Rattle.imap_rights.specs.declared.change.RightsChange.{RightsChange}
 use Rattle.imap_rights.specs.Acl.{AclMap, is_full_for, with_entry, owner_acl}
 use Rattle.imap_rights.specs.Change.{applied}
 use Rattle.imap_rights.specs.Effective.{entry, effective}
-use Rattle.imap_rights.specs.Rights.{delete_mailbox, has_any}
-use Rattle.imap_world.specs.Mailbox.{Mailbox}
+use Rattle.imap_rights.specs.Rights.{administer, delete_mailbox, has_any, visible_rights}
+use Rattle.imap_world.specs.declared.site.Site.{Site}
+use Rattle.imap_world.specs.Mailbox.{Mailbox, new_mailbox, no_messages}
 use Rattle.imap_world.specs.Changing.{acl_with_rights}
 use Rattle.imap_world.specs.NewMailbox.{NewMailbox}
 use Rattle.imap_world.specs.Tree.{with_acl, without, created_rows, with_rows}
 use Rattle.imap_world.specs.World.{World, epoch, max_validity}
-use Rattle.imap_view.specs.Seen.{Seen, owner_of, seen_with}
+use Rattle.imap_view.specs.Seen.{Seen, owner_of, rights_shown, seen_with, shows_messages, shows_room}
 use Rattle.imap_view.specs.View.{View, view_of, acl_in, may_know_name_in, may_create, rights_in}
 
 -- with this value under the name, or with none
@@ -47,38 +49,64 @@ has_room_for identifier change (Some acl) =
 abbrev pub may_set_rights : View → Name → (identifier : List ℕ) → RightsChange → Bool
 may_set_rights view name identifier change = has_room_for identifier change (acl_in view name)
 
--- what the user sees of a mailbox with this list
-abbrev pub seen_by_acl : View → Name → AclMap → Option Seen
-seen_by_acl view name acl = seen_with (effective view.user (owner_of view.administrator name) acl) acl
+-- what other rights show of messages of which all was shown
+abbrev pub shown_still : (rights : ℕ) → Shown → Shown
+shown_still rights messages = record {
+  content = if shows_messages rights then messages.content else None;
+  room = if shows_room rights then messages.room else None;
+}
 
-abbrev pub seen_with_rights : View → Name → (identifier : List ℕ) → RightsChange → Option AclMap → Option Seen
+-- a mailbox of which all was seen, by other rights and another list
+abbrev pub seen_still : (rights : ℕ) → AclMap → Seen → Option Seen
+seen_still rights acl before =
+    if has_any rights visible_rights
+    then Some (record {
+      rights = rights;
+      acl = if has_any rights administer then Some acl else None;
+      validity = if shows_messages rights then before.validity else None;
+      messages = shown_still rights before.messages;
+    })
+    else None
+
+-- what a holder of `a` sees of the mailbox with another list
+abbrev pub seen_by_acl : View → Name → Seen → AclMap → Option Seen
+seen_by_acl view name before acl =
+    seen_still (effective view.user (owner_of view.site name) acl) acl before
+
+abbrev pub seen_with_entry :
+    View → Name → (identifier : List ℕ) → RightsChange → Seen → Option AclMap → Option Seen
+seen_with_entry view name identifier change before None = None
+seen_with_entry view name identifier change before (Some acl) =
+    seen_by_acl view name before (with_entry acl identifier (entry_after acl identifier change))
+
+abbrev pub seen_with_rights : View → Name → (identifier : List ℕ) → RightsChange → Option Seen → Option Seen
 seen_with_rights view name identifier change None = None
-seen_with_rights view name identifier change (Some acl) =
-    seen_by_acl view name (with_entry acl identifier (entry_after acl identifier change))
+seen_with_rights view name identifier change (Some before) =
+    seen_with_entry view name identifier change before before.acl
 
 -- the mailbox is seen by its new list, if it is seen at all
 abbrev pub view_with_rights : View → Name → (identifier : List ℕ) → RightsChange → View
 view_with_rights view name identifier change = narrowed (record view {
-  seen = put_option view.seen name (seen_with_rights view name identifier change (acl_in view name));
+  seen = put_option view.seen name (seen_with_rights view name identifier change (map.get view.seen name));
 })
 
 -- The mailbox is there, and its list has room for the entry. The view after it is as said.
 pub record IsRightsChange
-    (administrator user : List ℕ) (world : World) (name : Name) (identifier : List ℕ) (change : RightsChange)
+    (site : Site) (user : List ℕ) (world : World) (name : Name) (identifier : List ℕ) (change : RightsChange)
     : Type 0 where
   pub mailbox : Mailbox
   pub acl : AclMap
   pub there : map.get world.mailboxes name ≡ Some mailbox
   pub changed : acl_with_rights mailbox.acl identifier change ≡ Ok acl
-  pub seen : view_of administrator user (with_acl world name acl)
-      ≡ view_with_rights (view_of administrator user world) name identifier change
+  pub seen : view_of site user (with_acl world name acl)
+      ≡ view_with_rights (view_of site user world) name identifier change
 
 -- Whether the rights may be set, and the view after it, are found from the view before alone.
 abbrev pub SettingRightsIsSeen : Type 0
 SettingRightsIsSeen =
-    (administrator user : List ℕ) (world : World) (name : Name) (identifier : List ℕ) (change : RightsChange)
-    → may_set_rights (view_of administrator user world) name identifier change ≡ true
-    → IsRightsChange administrator user world name identifier change
+    (site : Site) (user : List ℕ) (world : World) (name : Name) (identifier : List ℕ) (change : RightsChange)
+    → may_set_rights (view_of site user world) name identifier change ≡ true
+    → IsRightsChange site user world name identifier change
 
 -- ---- DELETE
 
@@ -93,18 +121,18 @@ view_without view name =
     narrowed (record view { seen = map.remove view.seen name; taken = map.remove view.taken name })
 
 -- The mailbox is there, is no INBOX, and no mailbox of the world is below it. The view after it is as said.
-pub record IsDeletion (administrator user : List ℕ) (world : World) (name : Name) : Type 0 where
+pub record IsDeletion (site : Site) (user : List ℕ) (world : World) (name : Name) : Type 0 where
   pub there : map.contains_key world.mailboxes name ≡ true
   pub common : is_inbox name ≡ false
   pub lone : has_below name world.mailboxes ≡ false
   pub seen :
-      view_of administrator user (without world name) ≡ view_without (view_of administrator user world) name
+      view_of site user (without world name) ≡ view_without (view_of site user world) name
 
 -- Whether the mailbox may be deleted, and the view after it, are found from the view before alone.
 abbrev pub DeletingIsSeen : Type 0
 DeletingIsSeen =
-    (administrator user : List ℕ) (world : World) (name : Name)
-    → may_delete (view_of administrator user world) name ≡ true → IsDeletion administrator user world name
+    (site : Site) (user : List ℕ) (world : World) (name : Name)
+    → may_delete (view_of site user world) name ≡ true → IsDeletion site user world name
 
 -- ---- CREATE
 
@@ -120,21 +148,30 @@ missing_in view (deepest ∷ above ∷ more) =
     if is_known view (deepest ∷ above ∷ more) then []
     else missing_in view (above ∷ more) ++ (deepest ∷ above ∷ more) ∷ []
 
--- what an owner sees of a mailbox that is the owner's alone
-abbrev pub seen_by_owner : List ℕ → Option Seen
-seen_by_owner owner = seen_with (effective owner owner (owner_acl owner)) (owner_acl owner)
+-- what an owner sees of a new mailbox that is the owner's alone
+abbrev pub seen_by_owner : Site → (owner : List ℕ) → (validity : ℕ) → Option Seen
+seen_by_owner site owner validity =
+    seen_with site owner (effective owner owner (owner_acl owner)) (new_mailbox validity (owner_acl owner))
+
+-- a new mailbox with the list of one that the user sees so: it has no messages
+abbrev pub seen_anew : Site → (user : List ℕ) → (validity : ℕ) → Seen → Seen
+seen_anew site user validity above = record above {
+  validity = if shows_messages above.rights then Some validity else None;
+  messages = shown_to site.limits.max_messages user (rights_shown above.rights) no_messages;
+}
 
 abbrev pub seen_or : Option Seen → Option Seen → Option Seen
 seen_or None deeper = deeper
 seen_or (Some seen) deeper = Some seen
 
--- A new mailbox is seen as the nearest superior that is seen, or as the user's own.
-abbrev pub new_seen : View → Name → Option Seen
-new_seen view [] = None
-new_seen view (root ∷ []) = None
-new_seen view (deepest ∷ root ∷ []) = seen_by_owner view.user
-new_seen view (deepest ∷ above ∷ next ∷ more) =
-    seen_or (map.get view.seen (above ∷ next ∷ more)) (new_seen view (above ∷ next ∷ more))
+-- A new mailbox is seen by the list of the nearest superior that is seen, or as the user's own.
+abbrev pub new_seen : View → Name → (validity : ℕ) → Option Seen
+new_seen view [] validity = None
+new_seen view (root ∷ []) validity = None
+new_seen view (deepest ∷ root ∷ []) validity = seen_by_owner view.site view.user validity
+new_seen view (deepest ∷ above ∷ next ∷ more) validity =
+    seen_or (option_map (seen_anew view.site view.user validity) (map.get view.seen (above ∷ next ∷ more)))
+    (new_seen view (above ∷ next ∷ more) validity)
 
 -- under each of the names a UIDVALIDITY is left
 abbrev pub validities_left : View → List Name → Bool
@@ -155,25 +192,27 @@ view_with_mailbox view seen name validity = record view {
 }
 
 -- with a mailbox under each name, whose UIDVALIDITY is one above the greatest that was used there
-abbrev pub view_with_mailboxes : View → Option Seen → (epochs : Names ℕ) → List Name → View
+abbrev pub view_with_mailboxes :
+    View → (seen : (validity : ℕ) → Option Seen) → (epochs : Names ℕ) → List Name → View
 view_with_mailboxes view seen epochs [] = view
 view_with_mailboxes view seen epochs (name ∷ names) =
-    view_with_mailboxes (view_with_mailbox view seen name (epoch epochs name + 1)) seen epochs names
+    let validity = epoch epochs name + 1 in
+    view_with_mailboxes (view_with_mailbox view (seen validity) name validity) seen epochs names
 
 -- No name gets unknown by it, so nothing has to be narrowed.
 abbrev pub view_with : View → Name → View
 view_with view name = view_with_mailboxes view (new_seen view name) view.epochs (missing_in view name)
 
 -- The mailbox isn't there, and rows are made for it. The view after them is as said.
-pub record IsCreation (administrator user : List ℕ) (world : World) (name : Name) : Type 0 where
+pub record IsCreation (site : Site) (user : List ℕ) (world : World) (name : Name) : Type 0 where
   pub rows : List NewMailbox
   pub absent : map.contains_key world.mailboxes name ≡ false
-  pub made : created_rows world (owner_of administrator name) name ≡ Ok rows
+  pub made : created_rows world (owner_of site name) name ≡ Ok rows
   pub seen :
-      view_of administrator user (with_rows world rows) ≡ view_with (view_of administrator user world) name
+      view_of site user (with_rows world rows) ≡ view_with (view_of site user world) name
 
 -- Whether the name may be made, and the view after it, are found from the view before alone.
 abbrev pub CreatingIsSeen : Type 0
 CreatingIsSeen =
-    (administrator user : List ℕ) (world : World) (name : Name)
-    → may_make (view_of administrator user world) name ≡ true → IsCreation administrator user world name
+    (site : Site) (user : List ℕ) (world : World) (name : Name)
+    → may_make (view_of site user world) name ≡ true → IsCreation site user world name

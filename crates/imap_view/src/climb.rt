@@ -49,7 +49,7 @@ impl<'a> View<'a> {
     fn may_know_below(&self, above: &NameRef<'_>, may_know: bool) -> bool
         requires { is_root above.now ≡ false }
         ensures { let view = self.now in
-            result ≡ (shows_names_below view.administrator view.user view.seen above.now || may_know) }
+            result ≡ (shows_names_below view.site view.user view.seen above.now || may_know) }
     {
         self.shows_names_below(above) || may_know
     }

@@ -1,17 +1,23 @@
 //! A mailbox, as one user sees it.
 
-ghost use Rattle.std.specs.Prelude.{◌≡◌, option_copied};
+ghost use Rattle.std.specs.Prelude.{◌≡◌, option_copied, option_map};
+ghost use Rattle.imap_mailbox.specs.Brought.{highest_in};
 ghost use Rattle.imap_rights.specs.Rights.{bits};
+ghost use Rattle.imap_view.specs.Seen as specs;
 ghost use Rattle.imap_view.specs.Seen.{shown};
 
+use imap_mailbox::{GoneUids, Mailbox, Rows};
+use imap_names::UserName;
 use imap_rights::{Acl, Rights};
-use imap_world::MailboxEntry;
+use imap_world::{MailboxEntry, Site};
 
 /// A mailbox that a user sees. It has nothing to do with the flag `\Seen`.
 #[derive(Drop)]
 pub struct Seen<'a> {
     pub(crate) rights: Rights,
     pub(crate) mailbox: &'a MailboxEntry,
+    pub(crate) site: &'a Site,
+    pub(crate) user: &'a UserName,
 }
 
 impl<'a> Seen<'a> {
@@ -31,5 +37,92 @@ impl<'a> Seen<'a> {
         } else {
             None
         }
+    }
+
+    /// UIDVALIDITY (RFC 9051, section 2.3.1.1), if the user holds `r` or `a`.
+    pub fn validity(&self) -> Option<u32>
+        ensures { result ≡ (shown self.now).validity }
+    {
+        if self.shows_messages() {
+            Some(self.mailbox.validity)
+        } else {
+            None
+        }
+    }
+
+    /// UIDNEXT (RFC 9051, section 2.3.1.1), if the user holds `r` or `a`.
+    pub fn next_uid(&self) -> Option<u32>
+        ensures { result ≡ option_map (λ c. c.next) (shown self.now).messages.content }
+    {
+        if self.shows_messages() {
+            Some(self.messages().next_uid())
+        } else {
+            None
+        }
+    }
+
+    /// HIGHESTMODSEQ for the user (RFC 7162, section 3.1.2.1), if the user holds `r` or `a`.
+    pub fn highest(&self) -> Option<u64>
+        ensures { result ≡ option_map highest_in (shown self.now).messages.content }
+    {
+        if self.shows_messages() {
+            Some(self.messages().highest(self.user.as_str()))
+        } else {
+            None
+        }
+    }
+
+    /// The messages as the user has them, if the user holds `r` or `a`.
+    pub fn rows(&self) -> Option<Rows<'a>>
+        ensures { result ≡ option_map (λ c. c.rows) (shown self.now).messages.content }
+    {
+        if self.shows_messages() {
+            Some(self.messages().rows(self.user.as_str()))
+        } else {
+            None
+        }
+    }
+
+    /// The messages that were expunged, with their mod-sequences for the user, if the user holds `r` or `a`.
+    pub fn gone(&self) -> Option<GoneUids<'a>>
+        ensures { result ≡ option_map (λ c. c.gone) (shown self.now).messages.content }
+    {
+        if self.shows_messages() {
+            Some(self.messages().gone(self.user.as_str()))
+        } else {
+            None
+        }
+    }
+
+    /// How many messages may be added, if the user holds `r`, `i` or `a`.
+    pub fn room(&self) -> Option<u64>
+        ensures { result ≡ (shown self.now).messages.room }
+    {
+        if self.shows_room() {
+            Some(self.messages().room(self.site.limits.max_messages))
+        } else {
+            None
+        }
+    }
+
+    /// Whether the user holds `r` or `a`.
+    fn shows_messages(&self) -> bool
+        ensures { result ≡ specs.shows_messages (bits self.now.rights) }
+    {
+        self.rights.has_any(Rights::READ) || self.rights.has_any(Rights::ADMINISTER)
+    }
+
+    /// Whether the user holds `r`, `i` or `a`.
+    fn shows_room(&self) -> bool
+        ensures { result ≡ specs.shows_room (bits self.now.rights) }
+    {
+        self.rights.has_any(Rights::READ)
+            || (self.rights.has_any(Rights::INSERT) || self.rights.has_any(Rights::ADMINISTER))
+    }
+
+    fn messages(&self) -> &'a Mailbox
+        ensures { result.now ≡ self.now.mailbox.now.messages.value }
+    {
+        self.mailbox.messages.as_ref()
     }
 }

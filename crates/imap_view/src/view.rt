@@ -41,13 +41,13 @@ impl<'a> Model for View<'a> {
 
     ghost coded = { specs.view_code };
 
-    ghost view = { λ v. specs.view_of v.site.now.administrator v.user.now (world_of v.world.now) };
+    ghost view = { λ v. specs.view_of v.site.now v.user.now (world_of v.world.now) };
 }
 
 impl<'a> View<'a> {
     /// What the user may see of the world of this site.
     pub fn new(world: &'a World, site: &'a Site, user: &'a UserName) -> View<'a>
-        ensures { result ≡ view_of site.now.administrator user.now (world_of world.now) }
+        ensures { result ≡ view_of site.now user.now (world_of world.now) }
     {
         View { world, site, user }
     }
@@ -61,7 +61,7 @@ impl<'a> View<'a> {
 
     /// The owner of the tree that the name lies in.
     pub fn owner<'b>(&'b self, name: &'b Name) -> &'b UserName
-        ensures { result.now ≡ owner_of self.now.administrator name.now }
+        ensures { result.now ≡ owner_of self.now.site name.now }
     {
         match name.owner() {
             Some(owner) if !owner.as_str().is_empty() => owner,
@@ -80,12 +80,17 @@ impl<'a> View<'a> {
     /// A mailbox of this name as the user sees it, if the user does.
     pub(crate) fn seen_of(&self, name: &NameRef<'_>, mailbox: &'a MailboxEntry) -> Option<Seen<'a>>
         ensures { option_map shown result
-            ≡ seen_at self.now.administrator self.now.user name.now (plain mailbox.now) }
+            ≡ seen_at self.now.site self.now.user name.now (plain mailbox.now) }
     {
         let owner = owner_by_root(self.site, name.root());
         let rights = mailbox.acl.effective(self.user.as_str(), owner);
         if rights.show_mailbox() {
-            Some(Seen { rights, mailbox })
+            Some(Seen {
+                rights,
+                mailbox,
+                site: self.site,
+                user: self.user,
+            })
         } else {
             None
         }
@@ -124,7 +129,7 @@ impl<'a> View<'a> {
     /// Whether the user may know which names are in use below `name`.
     pub(crate) fn shows_names_below(&self, name: &NameRef<'_>) -> bool
         requires { is_root name.now ≡ false }
-        ensures { result ≡ shows_names_below self.now.administrator self.now.user self.now.seen name.now }
+        ensures { result ≡ shows_names_below self.now.site self.now.user self.now.seen name.now }
     {
         match self.seen(name) {
             Some(seen) => seen.rights().show_names_below(),
@@ -134,7 +139,7 @@ impl<'a> View<'a> {
 
     /// Whether the tree that the name lies in is the user's own.
     pub(crate) fn owns_tree(&self, name: &NameRef<'_>) -> bool
-        ensures own { result ≡ is_own_root self.now.administrator self.now.user (root_of name.now) }
+        ensures own { result ≡ is_own_root self.now.site self.now.user (root_of name.now) }
         ensures valid { IsName name.now }
     {
         owner_by_root(self.site, name.root()) == self.user.as_str()
@@ -259,7 +264,7 @@ impl<'a> View<'a> {
 
 /// The user whose tree has this root. The tree that all share is the administrator's.
 fn owner_by_root<'a>(site: &'a Site, root: &'a str) -> &'a str
-    ensures { result.now ≡ owner_by_root site.now.administrator root.now }
+    ensures { result.now ≡ owner_by_root site.now root.now }
 {
     if root.is_empty() {
         site.administrator.as_str()

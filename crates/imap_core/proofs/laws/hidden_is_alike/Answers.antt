@@ -6,7 +6,7 @@ use Rattle.imap_core.proofs.laws.hidden_is_alike.Goals as goal
 
 pub returns : goal.returns
 returns c = λ user s t sites sessions differ. record {
-  views = hidden_absent s.site.administrator user s.world t.world differ ∙ ap (λ (site : Site). view_of site.administrator user t.world) sites;
+  views = hidden_absent s.site user s.world t.world differ ∙ ap (λ (site : Site). view_of site user t.world) sites;
   sessions = sessions;
   sites = sites;
 }

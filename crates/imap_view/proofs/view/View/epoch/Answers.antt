@@ -9,5 +9,5 @@ pub returns-then-may_know_name : goal.returns-then-may_know_name
 returns-then-may_know_name c =
     let world = world_of c.self.inside.world.now in
     ap Some c.epoch.ensures
-    ∙ sym (epoch_at c.self.inside.site.now.administrator c.self.inside.user.now world c.args.self.now c.self.view_is c.args.name.now
+    ∙ sym (epoch_at c.self.inside.site.now c.self.inside.user.now world c.args.self.now c.self.view_is c.args.name.now
     ∙ ap (λ b. if_true b (epoch world.epochs c.args.name.now)) (sym c.may_know_name.ensures ∙ c.if-may_know_name.true))

@@ -12,7 +12,7 @@ returns-then-may_know c =
     let there : c.is_some.result ≡ map.contains_key world.mailboxes name = search rules in
     there ∙ sym (and_true (map.contains_key world.mailboxes name))
     ∙ ap (λ b. map.contains_key world.mailboxes name && b) (sym c.if-may_know.true ∙ c.requires)
-    ∙ sym (taken_at c.self.inside.site.now.administrator c.self.inside.user.now world c.args.self.now c.self.view_is name)
+    ∙ sym (taken_at c.self.inside.site.now c.self.inside.user.now world c.args.self.now c.self.view_is name)
 
 pub returns-else-may_know : goal.returns-else-may_know
 returns-else-may_know c =
@@ -20,4 +20,4 @@ returns-else-may_know c =
     let name = c.args.name.now in
     c.if-may_know.false ∙ sym (and_false (map.contains_key world.mailboxes name))
     ∙ ap (λ b. map.contains_key world.mailboxes name && b) (sym c.if-may_know.false ∙ c.requires)
-    ∙ sym (taken_at c.self.inside.site.now.administrator c.self.inside.user.now world c.args.self.now c.self.view_is name)
+    ∙ sym (taken_at c.self.inside.site.now c.self.inside.user.now world c.args.self.now c.self.view_is name)

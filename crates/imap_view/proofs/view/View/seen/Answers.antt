@@ -12,7 +12,7 @@ pub returns-in_err-mailbox : goal.returns-in_err-mailbox
 returns-in_err-mailbox c =
     let world = world_of c.self.inside.world.now in
     let absent : map.get world.mailboxes c.args.name.now ≡ None = sym c.mailbox.ensures.there ∙ ap plain_lent c.in_err-mailbox.was in
-    ap (option_map shown) c.from_residual.ensures ∙ sym (absent_is_unseen c.self.inside.site.now.administrator c.self.inside.user.now world c.args.name.now absent)
+    ap (option_map shown) c.from_residual.ensures ∙ sym (absent_is_unseen c.self.inside.site.now c.self.inside.user.now world c.args.name.now absent)
     ∙ ap (λ (v : View). map.get v.seen c.args.name.now) c.self.view_is
 
 pub returns : goal.returns
@@ -20,4 +20,4 @@ returns c =
     let world = world_of c.self.inside.world.now in
     let there : map.get world.mailboxes c.args.name.now ≡ Some (plain c.in_ok-mailbox.field-0.now) = sym c.mailbox.ensures.there ∙ ap plain_lent c.in_ok-mailbox.was in
     c.seen_of.ensures
-    ∙ seen_there c.self.inside.site.now.administrator c.self.inside.user.now world c.args.self.now c.self.view_is c.args.name.now (plain c.in_ok-mailbox.field-0.now) there
+    ∙ seen_there c.self.inside.site.now c.self.inside.user.now world c.args.self.now c.self.view_is c.args.name.now (plain c.in_ok-mailbox.field-0.now) there

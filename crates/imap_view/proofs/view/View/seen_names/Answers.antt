@@ -7,4 +7,4 @@ use Rattle.imap_view.proofs.view.View.seen_names.Goals as goal
 pub returns : goal.returns
 returns c =
     (λ i. seen_among ((c.new.ensures ∙ c.self.view_is) i) (c.entries.ensures i))
-    ∙ names_seen c.self.inside.site.now.administrator c.self.inside.user.now (world_of c.self.inside.world.now) c.args.self.now c.self.view_is c.mailboxes.result.now.map c.mailboxes.ensures
+    ∙ names_seen c.self.inside.site.now c.self.inside.user.now (world_of c.self.inside.world.now) c.args.self.now c.self.view_is c.mailboxes.result.now.map c.mailboxes.ensures

@@ -9,4 +9,4 @@ pub returns : goal.returns
 returns c =
     let world = world_of c.self.inside.world.now in
     c.subscriptions.ensures ∙ ap (subscribed_by world) c.as_str.ensures.text
-    ∙ sym (subscribed_of c.self.inside.site.now.administrator c.self.inside.user.now world) ∙ ap (λ (v : View). v.subscribed) c.self.view_is
+    ∙ sym (subscribed_of c.self.inside.site.now c.self.inside.user.now world) ∙ ap (λ (v : View). v.subscribed) c.self.view_is

@@ -6,5 +6,5 @@ use Rattle.imap_view.proofs.view.View.user.Goals as goal
 
 pub returns : goal.returns
 returns c =
-    sym (user_of c.self.inside.site.now.administrator c.self.inside.user.now (world_of c.self.inside.world.now))
+    sym (user_of c.self.inside.site.now c.self.inside.user.now (world_of c.self.inside.world.now))
     ∙ ap (λ (v : View). v.user) c.self.view_is
