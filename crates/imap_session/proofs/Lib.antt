@@ -1,0 +1,12 @@
+pub mod Matching
+pub mod Applying
+pub mod Kept
+pub mod Quieting
+pub mod Retelling
+pub mod Following
+pub mod Differing
+pub mod Alike
+pub mod Listing
+pub mod Finding
+pub mod Walking
+pub mod Telling

@@ -1,0 +1,55 @@
+use Rattle.std.proofs.Common.{◌≡◌, ◌-◌, ◌+◌, ◌++◌, length, map, ap, ◌∙◌, arith}
+use Rattle.std.proofs.lemmas.List.{length-map}
+use Rattle.imap_mailbox.specs.Brought.{told_of}
+use Rattle.imap_session.specs.declared.entry.Entry.{Entry}
+use Rattle.imap_session.specs.Held.{list_in}
+use Rattle.imap_session.specs.Notices.{exists_line}
+use Rattle.imap_session.specs.Walked.{Findings}
+use Rattle.imap_session.proofs.Telling.{it_is_told, length_fits, exists_is, delta_brings, lines_joined}
+use Rattle.imap_session.proofs.notices.find_notices.Goals as goal
+
+pub compare-requires-clause-few : goal.compare-requires-clause-few
+compare-requires-clause-few g c =
+    let can = c.requires.step.1.1 in
+    let fits = length_fits (list_in c.args.known.now) c.requires.step.1.0.next can.brought.uids in
+    let len = length-map c.args.known.now (λ (e : Entry). e.message) in
+    omega (arith, fits, len, can.few)
+
+pub expunge_lines-requires : goal.expunge_lines-requires
+expunge_lines-requires g c =
+    (it_is_told c.args.told.now c.args.options.now c.args.up_to c.requires.step.0 (list_in c.args.known.now) (g.C.RowCursor.rest c.args.rows.now) c.requires.step.1.0 c.in_ok-walk.walk
+    (g.C.RowCursor.rest c.compare.new.rows) c.requires.step.1.1 c.in_ok-walk.ensures).rising
+
+pub with_exists-requires : goal.with_exists-requires
+with_exists-requires g c =
+    let new = g.C.RowCursor.rest c.compare.new.rows in
+    let told = it_is_told c.args.told.now c.args.options.now c.args.up_to c.requires.step.0 (list_in c.args.known.now) (g.C.RowCursor.rest c.args.rows.now) c.requires.step.1.0 c.in_ok-walk.walk
+    new c.requires.step.1.1 c.in_ok-walk.ensures in
+    let news = ap length c.in_ok-added.ensures in
+    let len = length-map new told_of in
+    omega (arith, told.count, news, len, c.len.ensures, c.in_ok-added.added.ok)
+
+pub returns-clause-lines : goal.returns-clause-lines
+returns-clause-lines g c =
+    let new = g.C.RowCursor.rest c.compare.new.rows in
+    let w = c.in_ok-walk.walk in
+    let told = it_is_told c.args.told.now c.args.options.now c.args.up_to c.requires.step.0 (list_in c.args.known.now) (g.C.RowCursor.rest c.args.rows.now) c.requires.step.1.0 w
+    new c.requires.step.1.1 c.in_ok-walk.ensures in
+    let news = ap length c.in_ok-added.ensures in
+    let len = length-map new told_of in
+    let same : c.len.result ≡ length new = omega (arith, news, len, c.len.ensures, c.in_ok-added.added.ok) in
+    c.in_ok-lines-3.ensures
+    ∙ ap (λ l. l ++ w.fetches.items) c.in_ok-lines-2.ensures
+    ∙ lines_joined w.fetches.items c.in_ok-lines.ensures
+    (exists_is ((w.number - 1) + c.len.result) c.len.result new same ∙ ap (λ n. exists_line ((w.number - 1) + n) new) same)
+    ∙ told.lines
+
+pub returns-clause-brings : goal.returns-clause-brings
+returns-clause-brings g c =
+    delta_brings c.args.options.now c.args.up_to c.requires.step.0 (list_in c.args.known.now) (g.C.RowCursor.rest c.args.rows.now) c.requires.step.1.0
+    (record { changed = c.in_ok-walk.walk.changed; gone = c.in_ok-walk.walk.gone; added = c.in_ok-added.added }) c.requires.step.1.1
+    (record {
+      changed = ap (λ (f : Findings). f.changed) c.in_ok-walk.ensures;
+      gone = ap (λ (f : Findings). f.gone) c.in_ok-walk.ensures;
+      added = c.in_ok-added.ensures ∙ ap (λ (f : Findings). map told_of f.new) c.in_ok-walk.ensures;
+    })

@@ -1,0 +1,10 @@
+pub mod Compared
+pub mod Notices
+pub mod Retold
+pub mod Delta
+pub mod Held
+pub mod Cursors
+pub mod InStep
+pub mod Following
+pub mod Walked
+pub mod Laws

@@ -1,0 +1,50 @@
+//! The entries of a known list.
+
+ghost use Rattle.std.specs.Prelude.{◌≡◌, ◌≤◌, true, length, nat_lt};
+ghost use Rattle.std.specs.List.{prefix_len};
+ghost use Rattle.imap_mailbox.specs.Lent.{place_in};
+ghost use Rattle.imap_mailbox.specs.Brought.{known_uids};
+ghost use Rattle.imap_session.specs.Held.{list_in, UidsRise};
+
+use imap_mailbox::KnownMessage;
+
+/// A message of a known list.
+#[derive(Drop)]
+pub(crate) struct Entry {
+    pub(crate) message: KnownMessage,
+    /// It is about to be removed.
+    pub(crate) leaving: bool,
+}
+
+/// Notes that the message is about to be removed.
+pub(crate) fn mark(entry: &mut Entry)
+    ensures { entry.new ≡ record { message = entry.old.message; leaving = true } }
+{
+    entry.leaving = true;
+}
+
+/// Returns the number of messages with a lower UID, by a search that halves.
+pub(crate) fn count_lower(entries: &[Entry], uid: u32) -> usize
+    requires { UidsRise (list_in entries.now) }
+    ensures count { result ≡ prefix_len (λ k. nat_lt k.uid uid) (list_in entries.now) }
+    ensures within { result ≤ length entries.now }
+{
+    entries.partition_point(
+        |entry: &Entry| -> bool
+            ensures { result ≡ nat_lt entry.now.message.uid uid }
+        { entry.message.uid < uid },
+    )
+}
+
+/// Returns the place of the message with the UID, by a search that halves.
+pub(crate) fn find_entry(entries: &[Entry], uid: u32) -> Option<usize>
+    requires { UidsRise (list_in entries.now) }
+    ensures { result ≡ place_in uid (known_uids (list_in entries.now)) }
+{
+    let place = count_lower(entries, uid);
+    if place < entries.len() && entries[place].message.uid == uid {
+        Some(place)
+    } else {
+        None
+    }
+}

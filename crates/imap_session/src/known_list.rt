@@ -1,0 +1,120 @@
+//! The messages that a session knows.
+
+ghost use Rattle.std.specs.Prelude.{◌≡◌, ◌+◌, ◌<◌, ◌≤◌, [], length, map, nat_lt, slice_index_or, IfOk, OnOk};
+ghost use Rattle.std.specs.List.{prefix_len};
+ghost use Rattle.imap_mailbox.specs.Lent.{place_in};
+ghost use Rattle.imap_mailbox.specs.Brought.{told_of, known_uids};
+ghost use Rattle.imap_session.specs.Delta.{list_after, IsChangeOf};
+ghost use Rattle.imap_session.specs.Held.{UidsRise};
+
+use crate::delta::{Delta, push_all, put_all, remove_all};
+use crate::entry::{Entry, count_lower, find_entry};
+use crate::row_cursor::RowCursor;
+use crate::walk::messages_left;
+use imap_mailbox::KnownMessage;
+use std::alloc::{AllocError, Global};
+use std::marker::Model;
+
+/// The messages of the selected mailbox as a session was told of them last, by their message sequence
+/// numbers. Their UIDs rise.
+#[derive(Drop)]
+pub struct KnownList {
+    pub(crate) entries: Vec<Entry>,
+}
+
+impl Model for KnownList {
+    ghost use Rattle.std.specs.Prelude.{◌-◌, vec_len};
+    ghost use Rattle.std.specs.Vec.{vec_capacity};
+    ghost use Rattle.imap_session.specs.Held.{HeldList, held_code, list_in, AreKept};
+
+    ghost Value = { HeldList };
+
+    ghost coded = { held_code };
+
+    ghost view = { λ k. record {
+      list = list_in k.entries.items;
+      room = vec_capacity k.entries - vec_len k.entries;
+    } };
+
+    ghost invariant = { λ k. AreKept k.entries.items };
+}
+
+impl KnownList {
+    /// Returns a list without messages.
+    pub fn new(alloc: Global) -> KnownList
+        ensures { result.list ≡ [] }
+    {
+        KnownList {
+            entries: Vec::new(alloc),
+        }
+    }
+
+    /// Returns the list of a session that was told of all messages, as by SELECT (RFC 9051, section 6.3.2).
+    pub fn of_rows<C: RowCursor>(alloc: Global, rows: &mut C) -> Result<KnownList, AllocError>
+        requires { UidsRise (map told_of (C.rest rows.old)) }
+        ensures { IfOk result (λ known. known.list ≡ map told_of (C.rest rows.old)) }
+    {
+        let messages = messages_left(alloc, rows)?;
+        let mut entries = Vec::with_capacity(alloc, messages.len())?;
+        push_all(&mut entries, messages);
+        Ok(KnownList { entries })
+    }
+
+    /// The number of messages.
+    pub fn len(&self) -> usize
+        ensures count { result ≡ length self.now.list }
+        ensures valid { UidsRise self.now.list }
+    {
+        self.entries.len()
+    }
+
+    /// The message at `place`, from 0: one less than its message sequence number.
+    pub fn get(&self, place: usize) -> &KnownMessage
+        requires { place < length self.now.list }
+        ensures { result.now ≡ slice_index_or self.now.list place result.now }
+    {
+        &self.entries[place].message
+    }
+
+    /// The number of messages with a lower UID, by a search that halves. It is the place of the first message
+    /// with this UID or a greater one.
+    pub fn place_from(&self, uid: u32) -> usize
+        ensures place { result ≡ prefix_len (λ k. nat_lt k.uid uid) self.now.list }
+        ensures within { result ≤ length self.now.list }
+    {
+        count_lower(self.entries.as_slice(), uid)
+    }
+
+    /// The place of the message with the UID, by a search that halves.
+    pub fn place_of(&self, uid: u32) -> Option<usize>
+        ensures { result ≡ place_in uid (known_uids self.now.list) }
+    {
+        find_entry(self.entries.as_slice(), uid)
+    }
+
+    /// Makes room for `more` messages.
+    pub fn reserve(&mut self, more: usize) -> Result<(), AllocError>
+        ensures list { self.new.list ≡ self.old.list }
+        ensures ok { OnOk result (more ≤ self.new.room) }
+        ensures room { self.old.room ≤ self.new.room }
+    {
+        self.entries.reserve(more)
+    }
+
+    /// Makes a change, in room that is there.
+    pub fn apply(&mut self, delta: Delta)
+        requires change { IsChangeOf self.old.list delta }
+        requires room { length delta.added.items ≤ self.old.room }
+        ensures list { self.new.list ≡ list_after delta self.old.list }
+        ensures room { self.old.room ≤ self.new.room + length delta.added.items }
+    {
+        let Delta {
+            changed,
+            gone,
+            added,
+        } = delta;
+        put_all(&mut self.entries, changed);
+        remove_all(&mut self.entries, gone.as_slice());
+        push_all(&mut self.entries, added);
+    }
+}

@@ -1,0 +1,26 @@
+//! What a session knows of its mailbox, and what it is told of it.
+//!
+//! A [`KnownList`] holds the messages of the selected mailbox as the session was told of them last.
+//! [`KnownList::notices`] finds the difference to the messages that are there: untagged lines, and a
+//! [`Delta`] of the known list, which [`KnownList::apply`] makes without memory. The messages come from a
+//! [`RowCursor`]: those that are there ([`MailboxRows`]), or those that will be there after a change.
+//! [`laws`] say what a client makes of the lines.
+#![tactic(auto)]
+
+mod delta;
+mod entry;
+mod known_list;
+pub mod laws;
+mod lines;
+mod mailbox_rows;
+mod notices;
+mod options;
+mod row_cursor;
+mod walk;
+
+pub use delta::{ChangedMessage, Delta};
+pub use known_list::KnownList;
+pub use mailbox_rows::MailboxRows;
+pub use notices::Notices;
+pub use options::NoticeOptions;
+pub use row_cursor::RowCursor;

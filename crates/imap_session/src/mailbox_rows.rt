@@ -1,0 +1,64 @@
+//! The messages that are there.
+
+ghost use Rattle.std.specs.Prelude.{◌≡◌};
+
+use crate::row_cursor::RowCursor;
+use imap_mailbox::{KnownMessage, Rows};
+use std::alloc::{AllocError, Global};
+use std::marker::Model;
+
+/// A cursor over the messages that are there. Contracts see those from the next one on.
+#[derive(Drop)]
+pub struct MailboxRows<'a> {
+    rows: &'a Rows<'a>,
+    place: usize,
+}
+
+impl<'a> Model for MailboxRows<'a> {
+    ghost use Rattle.std.specs.Prelude.{List, drop};
+    ghost use Rattle.std.specs.Coded.{coded_list};
+    ghost use Rattle.imap_mailbox.specs.Rows.{Row};
+    ghost use Rattle.imap_mailbox.specs.Lent.{row_code};
+
+    ghost Value = { List Row };
+
+    ghost coded = { coded_list row_code };
+
+    ghost view = { λ c. drop c.place c.rows.now };
+}
+
+impl<'a> MailboxRows<'a> {
+    /// Returns a cursor at the first message.
+    pub fn new(rows: &'a Rows<'a>) -> MailboxRows<'a>
+        ensures { result ≡ rows.now }
+    {
+        MailboxRows { rows, place: 0 }
+    }
+}
+
+impl<'a> RowCursor for MailboxRows<'a> {
+    ghost rest = { λ rows. rows };
+
+    fn len(&self) -> usize {
+        self.rows.len().saturating_sub(self.place)
+    }
+
+    fn is_next(&self, uid: u32) -> bool {
+        self.place < self.rows.len() && self.rows.get(self.place).uid == uid
+    }
+
+    fn is_above(&self, number: u64) -> bool {
+        self.rows.is_above(self.place, number)
+    }
+
+    fn message(&self, alloc: Global) -> Result<KnownMessage, AllocError> {
+        let row = self.rows.get(self.place);
+        KnownMessage::of_row(alloc, &row)
+    }
+
+    fn skip(&mut self) {
+        if self.place < self.rows.len() {
+            self.place += 1;
+        }
+    }
+}

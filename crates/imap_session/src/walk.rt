@@ -1,0 +1,239 @@
+//! A walk along known messages and the messages that are there.
+
+ghost use Rattle.std.specs.Prelude.{◌≡◌, ◌+◌, ◌-◌, ◌^◌, ◌<◌, ◌≤◌, true, not, length, map, OnOk, IfOk};
+ghost use Rattle.std.specs.Prelude.{List, [], ◌∷◌, ◌++◌};
+ghost use Rattle.imap_print.specs.declared.response.Response.TheVariants as response;
+ghost use Rattle.imap_mailbox.specs.declared.known.KnownMessage as known_message;
+ghost use Rattle.imap_mailbox.specs.Summary.{AreRising};
+ghost use Rattle.imap_mailbox.specs.Rows.{Row, is_among};
+ghost use Rattle.imap_mailbox.specs.Brought.{Agree, AreToldBy, told_of};
+ghost use Rattle.imap_session.specs.Held.{list_in};
+ghost use Rattle.imap_session.specs.Notices as specs;
+ghost use Rattle.imap_session.specs.Cursors.{is_next};
+ghost use Rattle.imap_session.specs.Walked.{Passes, PassesExpunged, FindsPresent, collected, findings, found};
+
+use crate::delta::ChangedMessage;
+use crate::entry::Entry;
+use crate::lines::fetch_line;
+use crate::options::NoticeOptions;
+use crate::row_cursor::RowCursor;
+use imap_mailbox::KnownMessage;
+use imap_print::Response;
+use std::alloc::{AllocError, Global};
+
+/// What a walk has found.
+#[derive(Drop)]
+pub(crate) struct Walk {
+    /// The message sequence number of the next known message, after the expunges that are told before.
+    pub(crate) number: u32,
+    /// The places of expunged messages, if these may be told.
+    pub(crate) gone: Vec<usize>,
+    /// Their lines, if they are told by numbers.
+    pub(crate) expunges: Vec<Response>,
+    /// Their UIDs, if they are told by UIDs.
+    pub(crate) vanished: Vec<u32>,
+    /// Messages that changed.
+    pub(crate) changed: Vec<ChangedMessage>,
+    /// Their lines, but for those that were told before.
+    pub(crate) fetches: Vec<Response>,
+}
+
+/// Whether the UID is one of these, by a search that halves.
+fn is_told(told: &[u32], uid: u32) -> bool
+    requires { AreRising told.now }
+    ensures { result ≡ is_among uid told.now }
+{
+    told.binary_search(&uid).is_ok()
+}
+
+impl Walk {
+    /// Adds a message that changed.
+    fn add_changed(
+        &mut self,
+        alloc: Global,
+        change: ChangedMessage,
+        options: &NoticeOptions,
+        told: bool,
+    ) -> Result<(), AllocError>
+        ensures changed { OnOk result (self.new.changed.items ≡ self.old.changed.items ++ change ∷ []) }
+        ensures fetches { OnOk result (self.new.fetches.items ≡ self.old.fetches.items
+            ++ collected (not told) (specs.fetch_line options.now self.old.number change.message ∷ [])) }
+        ensures gone { OnOk result (self.new.gone.items ≡ self.old.gone.items) }
+        ensures expunges { OnOk result (self.new.expunges.items ≡ self.old.expunges.items) }
+        ensures vanished { OnOk result (self.new.vanished.items ≡ self.old.vanished.items) }
+        ensures number { OnOk result (self.new.number ≡ self.old.number) }
+    {
+        if !told {
+            let line = fetch_line(alloc, self.number, &change.message, options.condstore)?;
+            self.fetches.push(line)?;
+        }
+        self.changed.push(change)?;
+        Ok(())
+    }
+
+    /// Adds a message that is expunged, which may be told.
+    fn add_expunged(&mut self, place: usize, uid: u32, qresync: bool) -> Result<(), AllocError>
+        ensures gone { OnOk result (self.new.gone.items ≡ self.old.gone.items ++ place ∷ []) }
+        ensures expunges { OnOk result (self.new.expunges.items ≡ self.old.expunges.items
+            ++ collected (not qresync) (response.Expunge self.old.number ∷ [])) }
+        ensures vanished { OnOk result (self.new.vanished.items ≡ self.old.vanished.items
+            ++ collected qresync (uid ∷ [])) }
+        ensures changed { OnOk result (self.new.changed.items ≡ self.old.changed.items) }
+        ensures fetches { OnOk result (self.new.fetches.items ≡ self.old.fetches.items) }
+        ensures number { OnOk result (self.new.number ≡ self.old.number) }
+    {
+        if qresync {
+            self.vanished.push(uid)?;
+        } else {
+            self.expunges.push(Response::Expunge(self.number))?;
+        }
+        self.gone.push(place)?;
+        Ok(())
+    }
+
+    /// Passes the known message at `place`, which is expunged.
+    fn pass_expunged(
+        &mut self,
+        place: usize,
+        known: &KnownMessage,
+        options: &NoticeOptions,
+    ) -> Result<(), AllocError>
+        requires { self.old.number < 2 ^ 32 - 1 }
+        ensures { OnOk result (PassesExpunged options.now place known.now self.old self.new) }
+    {
+        if options.expunges {
+            return self.add_expunged(place, known.uid, options.qresync);
+        }
+        self.number += 1;
+        Ok(())
+    }
+
+    /// Adds the next message of `rows`, which is the known one at `place`, if it changed. All up to the
+    /// mod-sequence `up_to` is known.
+    fn compare_present<C: RowCursor>(
+        &mut self,
+        alloc: Global,
+        place: usize,
+        known: &KnownMessage,
+        rows: &C,
+        up_to: u64,
+        options: &NoticeOptions,
+        told: &[u32],
+    ) -> Result<(), AllocError>
+        requires next { is_next known.now.uid (C.rest rows.now) ≡ true }
+        requires agree { (others : List known_message.KnownMessage)
+            × Agree up_to (known.now ∷ others) (C.rest rows.now) }
+        requires known { known.now.number ≤ up_to }
+        requires told { AreRising told.now }
+        ensures { OnOk result ((r : Row) (later : List Row) → C.rest rows.now ≡ r ∷ later
+            → FindsPresent told.now options.now place known.now r self.old self.new) }
+    {
+        if !rows.is_above(up_to) {
+            return Ok(());
+        }
+        let message = rows.message(alloc)?;
+        let is_told = is_told(told, message.uid);
+        self.add_changed(alloc, ChangedMessage { place, message }, options, is_told)
+    }
+
+    /// Passes the known message at `place`, which is the next of `rows`.
+    fn pass_present<C: RowCursor>(
+        &mut self,
+        alloc: Global,
+        place: usize,
+        known: &KnownMessage,
+        rows: &mut C,
+        up_to: u64,
+        options: &NoticeOptions,
+        told: &[u32],
+    ) -> Result<(), AllocError>
+        requires next { is_next known.now.uid (C.rest rows.old) ≡ true }
+        requires agree { (others : List known_message.KnownMessage)
+            × Agree up_to (known.now ∷ others) (C.rest rows.old) }
+        requires known { known.now.number ≤ up_to }
+        requires told { AreRising told.now }
+        requires number { self.old.number < 2 ^ 32 - 1 }
+        ensures { OnOk result (Passes told.now options.now up_to place known.now
+            (C.rest rows.old) (C.rest rows.new) self.old self.new) }
+    {
+        self.compare_present(alloc, place, known, &*rows, up_to, options, told)?;
+        rows.skip();
+        self.number += 1;
+        Ok(())
+    }
+
+    /// Passes the known message at `place`.
+    fn pass<C: RowCursor>(
+        &mut self,
+        alloc: Global,
+        place: usize,
+        known: &KnownMessage,
+        rows: &mut C,
+        up_to: u64,
+        options: &NoticeOptions,
+        told: &[u32],
+    ) -> Result<(), AllocError>
+        requires agree { (others : List known_message.KnownMessage)
+            × Agree up_to (known.now ∷ others) (C.rest rows.old) }
+        requires known { known.now.number ≤ up_to }
+        requires told { AreRising told.now }
+        requires number { self.old.number < 2 ^ 32 - 1 }
+        ensures { OnOk result (Passes told.now options.now up_to place known.now
+            (C.rest rows.old) (C.rest rows.new) self.old self.new) }
+    {
+        if rows.is_next(known.uid) {
+            self.pass_present(alloc, place, known, rows, up_to, options, told)
+        } else {
+            self.pass_expunged(place, known, options)
+        }
+    }
+}
+
+/// Finds what became of the known messages. The session was told all up to the mod-sequence `up_to`, and the
+/// command's own lines told of the messages with the UIDs `told`. Leaves the new messages to `rows`.
+pub(crate) fn compare<C: RowCursor>(
+    alloc: Global,
+    known: &[Entry],
+    rows: &mut C,
+    up_to: u64,
+    options: &NoticeOptions,
+    told: &[u32],
+) -> Result<Walk, AllocError>
+    requires agree { Agree up_to (list_in known.now) (C.rest rows.old) }
+    requires known { AreToldBy up_to (list_in known.now) }
+    requires told { AreRising told.now }
+    requires few { length known.now + 1 < 2 ^ 32 }
+    ensures { IfOk result (λ w. found w (C.rest rows.new)
+        ≡ findings told.now options.now (list_in known.now) (C.rest rows.old)) }
+{
+    let mut walk = Walk {
+        number: 1,
+        gone: Vec::new(alloc),
+        expunges: Vec::new(alloc),
+        vanished: Vec::new(alloc),
+        changed: Vec::new(alloc),
+        fetches: Vec::new(alloc),
+    };
+    for (place, entry) in known.iter().enumerate() {
+        if let Err(error) = walk.pass(alloc, place, &entry.message, rows, up_to, options, told) {
+            return Err(error);
+        }
+    }
+    Ok(walk)
+}
+
+/// Returns what a session is told of the messages from the next one on.
+pub(crate) fn messages_left<C: RowCursor>(
+    alloc: Global,
+    rows: &mut C,
+) -> Result<Vec<KnownMessage>, AllocError>
+    ensures { IfOk result (λ messages. messages.items ≡ map told_of (C.rest rows.old)) }
+{
+    let mut messages = Vec::new(alloc);
+    while rows.len() > 0 {
+        let message = rows.message(alloc)?;
+        messages.push(message)?;
+        rows.skip();
+    }
+    Ok(messages)
+}
