@@ -1,5 +1,8 @@
 //! Random batches, beside a plain list of all that happened.
 
+ghost use Rattle.imap_batch.specs.Written.{MayWrite};
+ghost use Rattle.imap_mailbox.specs.Held.{summary_in};
+
 use crate::batches::plain::{Event, Folded, PlainRow, fold};
 use crate::batches::refusal;
 use imap_batch::{Batch, BatchWrite, Mark, NewMessage, Planned, make_room, resolve, write_batch};
@@ -243,7 +246,9 @@ fn planned_rows(
     alloc: Global,
     mailbox: &Mailbox,
     write: &BatchWrite,
-) -> Result<Vec<PlainRow>, AllocError> {
+) -> Result<Vec<PlainRow>, AllocError>
+    requires { MayWrite write.now (summary_in mailbox.now) }
+{
     let mut rows = Vec::new(alloc);
     for row in Planned::new(mailbox, write) {
         rows.push(plain_row(&row))?;
@@ -265,6 +270,12 @@ fn make(
     Ok(is_as_planned(mailbox, user, planned.as_slice()))
 }
 
+/// The batch of a step, by what its user sees before.
+fn next_batch(alloc: Global, step: u32, events: &[Event]) -> Result<Batch, MailboxError> {
+    let before = fold(alloc, events, user_of(step))?;
+    chosen_batch(alloc, step, before.rows.as_slice())
+}
+
 /// One random batch. Returns whether each user sees afterwards what the events give.
 fn step_is_right(
     alloc: Global,
@@ -273,12 +284,11 @@ fn step_is_right(
     events: &mut Vec<Event>,
     next: &mut u32,
 ) -> Result<bool, MailboxError> {
-    let user = user_of(step);
-    let before = fold(alloc, events.as_slice(), user)?;
-    let batch = chosen_batch(alloc, step, before.rows.as_slice())?;
-    push_events(events, next, user, &batch)?;
-    let is_planned = make(alloc, mailbox, user, batch)?;
-    Ok(is_planned && is_seen_by_all(alloc, mailbox, events.as_slice(), *next)?)
+    let batch = next_batch(alloc, step, events.as_slice())?;
+    push_events(events, next, user_of(step), &batch)?;
+    let is_planned = make(alloc, mailbox, user_of(step), batch)?;
+    let is_seen = is_seen_by_all(alloc, mailbox, events.as_slice(), *next)?;
+    Ok(is_planned && is_seen)
 }
 
 /// The number of random batches that are right.
