@@ -8,46 +8,9 @@ the crates that it stands on; what these have in `out/` is used again. Each time
 its value included: the difference of a run that makes it many times and one that makes it never, the best of five.
 """
 
-import os
-import shutil
-import subprocess
-import sys
-import tempfile
-import time
+from messages import CRATES, microseconds, run
 
-USES = "imap_batch imap_lex imap_mailbox imap_modseq imap_names imap_syntax imap_user_map imap_values"
-RUNS = 5
-
-
-def build(folder):
-    """Builds the program in the folder, and returns its path."""
-    with open("crates.txt", encoding="utf-8") as file:
-        lines = file.read()
-    with open(f"{folder}/crates.txt", "w", encoding="utf-8") as file:
-        file.write("".join(line + "\n" for line in lines.splitlines() if line.split(":")[0] in USES.split()))
-        file.write("imap_bench: imap_batch imap_lex imap_mailbox imap_names imap_syntax\n")
-    for crate in USES.split():
-        shutil.copytree(f"crates/{crate}", f"{folder}/crates/{crate}", dirs_exist_ok=True)
-    os.makedirs(f"{folder}/crates/imap_bench/src", exist_ok=True)
-    shutil.copy("bench/batches.txt", f"{folder}/crates/imap_bench/src/main.rt")
-    subprocess.run(["git", "init", "-q", folder], check=True)
-    with open(os.devnull) as nothing:
-        subprocess.run(["rt", "run"], cwd=f"{folder}/crates/imap_bench", stdin=nothing, check=True)
-    return f"{folder}/crates/imap_bench/out/imap_bench"
-
-
-def seconds(program, line):
-    best = float("inf")
-    for _ in range(RUNS):
-        start = time.perf_counter()
-        subprocess.run([program], input=line, text=True, stdout=subprocess.DEVNULL, check=True)
-        best = min(best, time.perf_counter() - start)
-    return best
-
-
-def microseconds(program, kind, size, many, times):
-    took = seconds(program, f"{kind} {size} {many} {times}") - seconds(program, f"{kind} {size} {many} 0")
-    return max(0.0, took) / times * 1e6
+USES = "imap_batch imap_lex imap_mailbox imap_names imap_syntax"
 
 
 def tell(program):
@@ -55,17 +18,8 @@ def tell(program):
     print("| Messages | Of which | added | flags set | own Seen set | added, and as many expunged |\n|---|---|---|---|---|---|")
     for size in (200, 2_000, 20_000):
         for many, times in ((1, 20_000), (size // 10, 200_000 // size)):
-            row = " | ".join(f"{microseconds(program, kind, size, many, times):.2f}" for kind in kinds)
-            print(f"| {size:,} | {many:,} | {row} |", flush=True)
+            took = [microseconds(program, f"{kind} {size} {many}", times) for kind in kinds]
+            print(f"| {size:,} | {many:,} | " + " | ".join(f"{one:.2f}" for one in took) + " |", flush=True)
 
 
-def main():
-    if len(sys.argv) > 1:
-        os.makedirs(sys.argv[1], exist_ok=True)
-        tell(build(sys.argv[1]))
-    else:
-        with tempfile.TemporaryDirectory() as folder:
-            tell(build(folder))
-
-
-main()
+run(tell, "bench/batches.txt", f"{CRATES} imap_batch imap_names", USES)

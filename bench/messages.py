@@ -15,57 +15,63 @@ import sys
 import tempfile
 import time
 
-USES = "imap_lex imap_mailbox imap_modseq imap_syntax imap_text imap_user_map imap_values"
+CRATES = "imap_lex imap_mailbox imap_modseq imap_syntax imap_text imap_user_map imap_values"
+USES = "imap_lex imap_mailbox imap_syntax imap_text"
 RUNS = 5
 
 
-def build(folder):
-    """Builds the program in the folder, and returns its path."""
+def build(folder, text, crates, uses):
+    """Builds the program in the file `text` in the folder, beside copies of the crates, and returns its path."""
     with open("crates.txt", encoding="utf-8") as file:
         lines = file.read()
     with open(f"{folder}/crates.txt", "w", encoding="utf-8") as file:
-        file.write("".join(line + "\n" for line in lines.splitlines() if line.split(":")[0] in USES.split()))
-        file.write("imap_bench: imap_lex imap_mailbox imap_syntax imap_text\n")
-    for crate in USES.split():
+        file.write("".join(line + "\n" for line in lines.splitlines() if line.split(":")[0] in crates.split()))
+        file.write(f"imap_bench: {uses}\n")
+    for crate in crates.split():
         shutil.copytree(f"crates/{crate}", f"{folder}/crates/{crate}", dirs_exist_ok=True)
     os.makedirs(f"{folder}/crates/imap_bench/src", exist_ok=True)
-    shutil.copy("bench/messages.txt", f"{folder}/crates/imap_bench/src/main.rt")
+    shutil.copy(text, f"{folder}/crates/imap_bench/src/main.rt")
     subprocess.run(["git", "init", "-q", folder], check=True)
     with open(os.devnull) as nothing:
         subprocess.run(["rt", "run"], cwd=f"{folder}/crates/imap_bench", stdin=nothing, check=True)
     return f"{folder}/crates/imap_bench/out/imap_bench"
 
 
-def seconds(program, kind, size, times):
+def seconds(program, line):
+    """The least time of the program over some runs, each with this line as its input."""
     best = float("inf")
     for _ in range(RUNS):
         start = time.perf_counter()
-        subprocess.run([program], input=f"{kind} {size} {times}", text=True, stdout=subprocess.DEVNULL, check=True)
+        subprocess.run([program], input=line, text=True, stdout=subprocess.DEVNULL, check=True)
         best = min(best, time.perf_counter() - start)
     return best
 
 
-def microseconds(program, kind, size, times):
-    return max(0.0, seconds(program, kind, size, times) - seconds(program, kind, size, 0)) / times * 1e6
+def microseconds(program, words, times):
+    """What the call or batch of these words takes: many of them, less none."""
+    return max(0.0, seconds(program, f"{words} {times}") - seconds(program, f"{words} 0")) / times * 1e6
 
 
 def tell(program):
     print("| Messages | add | set_flags | mark_seen | row by place | place by UID | all rows |\n|---|---|---|---|---|---|---|")
     for size in (200, 2_000, 20_000):
         kinds = (("add", 20_000), ("flag", 20_000), ("mark", 20_000), ("row", 200_000), ("uid", 200_000), ("walk", 2_000_000 // size))
-        print(f"| {size:,} | " + " | ".join(f"{microseconds(program, kind, size, times):.3f}" for kind, times in kinds) + " |", flush=True)
+        took = [microseconds(program, f"{kind} {size}", times) for kind, times in kinds]
+        print(f"| {size:,} | " + " | ".join(f"{one:.3f}" for one in took) + " |", flush=True)
     print("\n| Octets of text | search |\n|---|---|")
     for size in (10_000, 100_000, 1_000_000):
-        print(f"| {size:,} | {microseconds(program, 'search', size, 10_000_000 // size):.0f} |", flush=True)
+        print(f"| {size:,} | {microseconds(program, f'search {size}', 10_000_000 // size):.0f} |", flush=True)
 
 
-def main():
+def run(tell, text, crates, uses):
+    """Builds the program in the folder that is named, or in one that is removed afterwards, and tells its times."""
     if len(sys.argv) > 1:
         os.makedirs(sys.argv[1], exist_ok=True)
-        tell(build(sys.argv[1]))
+        tell(build(sys.argv[1], text, crates, uses))
     else:
         with tempfile.TemporaryDirectory() as folder:
-            tell(build(folder))
+            tell(build(folder, text, crates, uses))
 
 
-main()
+if __name__ == "__main__":
+    run(tell, "bench/messages.txt", CRATES, USES)
