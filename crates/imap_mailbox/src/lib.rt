@@ -24,6 +24,7 @@ mod message;
 mod own;
 mod row;
 mod rows;
+mod same;
 mod status;
 
 pub use calls::MAX_KEYWORDS;

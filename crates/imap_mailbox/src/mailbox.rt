@@ -1,6 +1,6 @@
 //! One mailbox.
 
-ghost use Rattle.std.specs.Prelude.{◌≡◌, ℕ, ◌+◌, ◌<◌, ◌≤◌, List, [], true, length, option_copied, IsTrue};
+ghost use Rattle.std.specs.Prelude.{◌≡◌, ◌↔◌, ℕ, ◌+◌, ◌<◌, ◌≤◌, List, [], true, length, option_copied, IsTrue};
 ghost use Rattle.std.specs.Prelude.{OnSome, OnOk, IfOk};
 ghost use Rattle.std.specs.FinMap as map;
 ghost use Rattle.imap_modseq.specs.Numbers.{max_events, max_number};
@@ -10,7 +10,7 @@ ghost use Rattle.imap_mailbox.specs.History.{own_at, end_uid};
 ghost use Rattle.imap_mailbox.specs.Summary.{new_summary, with_arrival, with_flags, with_expunge, with_seen};
 ghost use Rattle.imap_mailbox.specs.Summary.{rows_of, gone_of, highest_of, room_of, is_there, latest};
 ghost use Rattle.imap_mailbox.specs.Summary.{latest_seen, AreRising};
-ghost use Rattle.imap_mailbox.specs.Held.{summary_in, own_room, IsKept};
+ghost use Rattle.imap_mailbox.specs.Held.{summary_in, lists, own_room, IsKept};
 ghost use Rattle.imap_mailbox.specs.Calls.{message_at, arrival, if_there};
 ghost use Rattle.imap_mailbox.specs.Expunging.{with_expunges};
 ghost use Rattle.imap_mailbox.specs.Lent.{gone_after_number};
@@ -26,8 +26,9 @@ use crate::own::{OwnSeen, SeenChange};
 use crate::rows::Rows;
 use imap_lex::Octets;
 use imap_modseq::{MAX_EVENTS, highest_after};
-use imap_syntax::DateTime;
+use imap_syntax::{DateTime, are_same};
 use imap_user_map::UserMap;
+use imap_values::same_two;
 use std::alloc::{AllocError, Global};
 use std::marker::Model;
 
@@ -94,6 +95,26 @@ impl Mailbox {
             shared: self.shared,
             own,
         })
+    }
+
+    /// Whether both hold the same, whatever their room.
+    pub fn is_same(&self, other: &Mailbox) -> bool
+        ensures { IsTrue result ↔ (summary_in self.now ≡ summary_in other.now) }
+    {
+        same_two(&self.next, &other.next, &self.shared, &other.shared) && self.has_same_lists(other)
+    }
+
+    /// Whether both have the same messages, the same that are gone, and the same own changes.
+    fn has_same_lists(&self, other: &Mailbox) -> bool
+        ensures messages { IsTrue result → self.now.messages ≡ other.now.messages }
+        ensures gone { IsTrue result → self.now.gone ≡ other.now.gone }
+        ensures own { IsTrue result → lists self.now.own ≡ lists other.now.own }
+        ensures all { self.now.messages ≡ other.now.messages → self.now.gone ≡ other.now.gone
+            → lists self.now.own ≡ lists other.now.own → IsTrue result }
+    {
+        are_same(&self.messages, &other.messages)
+            && are_same(&self.gone, &other.gone)
+            && self.own.is_same(&other.own)
     }
 
     /// Makes room for `added` messages to be added and for `expunged` to be expunged.

@@ -4,6 +4,7 @@ pub mod Runs
 pub mod Blocks
 pub mod Turns
 pub mod RenameLaws
+pub mod Kept
 pub mod LookUp
 pub mod ClosedLaws
 pub mod RunInserts

@@ -9,5 +9,6 @@ mod moves;
 pub mod name_map;
 mod places;
 mod run_edits;
+mod sameness;
 
 pub use name_map::NameMap;

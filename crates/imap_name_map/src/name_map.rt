@@ -9,13 +9,16 @@ ghost use Rattle.imap_names.specs.Order.{is_within};
 ghost use Rattle.imap_name_map.specs.Renaming.{moved_names, renamed, IsRenamed};
 ghost use Rattle.imap_name_map.specs.Rows.{inserted_all, with_value, run_of, below_of, has_below, has_within};
 ghost use Rattle.imap_name_map.specs.contracts.name_map.NameMap.{the_row};
+ghost use Rattle.imap_user_map.specs.Finite.{keep};
 
 use crate::copies::copy_entries;
 use crate::edits::{put_entry, remove_entry};
 use crate::moves::rename_in;
 use crate::places::{end_of, ends_below, find_in, part_of, place_near, start_of, without_top};
 use crate::run_edits::put_run;
+use crate::sameness::are_within;
 use imap_names::{Name, NameRef};
+use imap_user_map::Part;
 use imap_values::TryCopy;
 use std::alloc::{AllocError, Global};
 use std::marker::Model;
@@ -169,6 +172,18 @@ impl<V> NameMap<V> {
         ensures { result ≡ not (has_within top.now self.now.map) }
     {
         self.run_entries(top).is_empty()
+    }
+}
+
+impl<V: Part> NameMap<V> {
+    /// Whether the same is kept of both maps, for every name. It takes one comparison a name and map if the
+    /// names are the same.
+    pub fn is_same(&self, other: &NameMap<V>) -> bool
+        ensures { IsTrue result ↔ (keep (λ name. V.kept) self.now.map ≡ keep (λ name. V.kept) other.now.map) }
+    {
+        let entries = self.entries();
+        let others = other.entries();
+        are_within(entries, others) && are_within(others, entries)
     }
 }
 

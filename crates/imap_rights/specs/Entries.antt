@@ -11,6 +11,9 @@ use Rattle.imap_rights.specs.Identifier.{minus}
 use Rattle.imap_rights.specs.Acl.{is_entry, max_entries}
 use Rattle.imap_rights.specs.declared.acl.Entry.{Entry}
 
+abbrev pub pair_of : Entry → List ℕ × ℕ
+pair_of e = (e.identifier, bits e.rights)
+
 -- the identifiers and rights of entries
 abbrev pub pairs_of : List Entry → List (List ℕ × ℕ)
 pairs_of entries = map (λ e. (e.identifier, bits e.rights)) entries

@@ -7,6 +7,7 @@ mod change;
 mod identifier;
 pub mod laws;
 mod rights;
+mod sameness;
 
 pub use acl::{Acl, AclError, Entry, MAX_ENTRIES};
 pub use change::{RightsChange, read_rights};

@@ -65,7 +65,8 @@ fn copy_each<T: TryCopy + Drop>(items: &[T], alloc: Global) -> Result<Vec<T>, Al
     Ok(copies)
 }
 
-fn are_same<T: Same>(items: &[T], others: &[T]) -> bool
+/// Whether both have the same items, in the same order.
+pub fn are_same<T: Same>(items: &[T], others: &[T]) -> bool
     ensures { IsTrue result ↔ (items.now ≡ others.now) }
 {
     let mut rest = others;

@@ -3,6 +3,8 @@
 //! A look-up takes the same time however many users there are.
 #![tactic(auto)]
 
+mod part;
 mod user_map;
 
+pub use part::Part;
 pub use user_map::UserMap;

@@ -1,13 +1,16 @@
 //! Maps from user names, in a hash table.
 
-ghost use Rattle.std.specs.Prelude.{◌≡◌, ◌+◌, ◌<◌, ◌≤◌, is_some, IfOk, OnOk, OnSome, option_copied};
+ghost use Rattle.std.specs.Prelude.{◌≡◌, ◌↔◌, ◌+◌, ◌<◌, ◌≤◌, is_some, IsTrue, IfOk, OnOk, OnSome, option_copied};
 ghost use Rattle.std.specs.Option.{option_copied_mut};
 ghost use Rattle.std.specs.Borrow.{sem, LendsSo};
 ghost use Rattle.std.specs.FinMap as map;
 ghost use Rattle.std.specs.String.{string_bytes};
 ghost use Rattle.imap_user_map.specs.contracts.user_map.UserMap.{the_row};
+ghost use Rattle.imap_user_map.specs.Finite.{keep};
+ghost use Rattle.imap_user_map.specs.Parts.{IsWithin};
 ghost use Rattle.imap_user_map.specs.Rows.{by_octets, with_value};
 
+use crate::part::Part;
 use imap_values::TryCopy;
 use std::alloc::{AllocError, Global};
 use std::collections::HashMap;
@@ -91,6 +94,27 @@ impl<V: TryCopy + Drop> UserMap<V> {
         let entries = copy_entries(alloc, &self.entries)?;
         Ok(UserMap { entries })
     }
+}
+
+impl<V: Part> UserMap<V> {
+    /// Whether the same is kept of both maps, for every user.
+    pub fn is_same(&self, other: &UserMap<V>) -> bool
+        ensures { IsTrue result ↔ (keep (λ user. V.kept) self.now.map ≡ keep (λ user. V.kept) other.now.map) }
+    {
+        is_within(&self.entries, other) && is_within(&other.entries, self)
+    }
+}
+
+/// Whether of each value the same is kept as of the user's value in `other`.
+fn is_within<V: Part>(entries: &HashMap<String, V>, other: &UserMap<V>) -> bool
+    ensures { IsTrue result ↔ IsWithin V.kept (by_octets entries.now.entries) other.now.map }
+{
+    for (user, value) in entries.iter() {
+        if !value.is_same_part(other.get(user.as_str())) {
+            return false;
+        }
+    }
+    true
 }
 
 /// An equal copy of the entries.
