@@ -6,6 +6,7 @@ use Rattle.imap_view.specs.View.{View, view_of}
 use Rattle.imap_world.specs.declared.site.Site.{Site}
 use Rattle.imap_world.specs.declared.effect.Effect.{Effect}
 use Rattle.imap_world.specs.Effects.{after_all}
+use Rattle.imap_world.specs.Kept.{AreKept}
 use Rattle.imap_world.specs.World.{World}
 use Rattle.imap_answer.specs.Alike.{AnswersAlike, effects_of}
 use Rattle.imap_answer.specs.Answer.{Answer}
@@ -16,18 +17,18 @@ abbrev pub view_after_asking : Option Effect → View → View
 view_after_asking None view = view
 view_after_asking (Some effect) view = view_after effect view
 
-pub after_asking : (site : Site) (user : List ℕ) (world : World) (asked : Option Effect) → MayBeAsked (view_of site user world) asked
+pub after_asking : (site : Site) (user : List ℕ) (world : World) (asked : Option Effect) → AreKept world.mailboxes → MayBeAsked (view_of site user world) asked
     → view_of site user (after_all (effects_of asked) world) ≡ view_after_asking asked (view_of site user world)
-after_asking site user world None may = refl
-after_asking site user world (Some effect) may = own_effects site user world effect may
+after_asking site user world None kept may = refl
+after_asking site user world (Some effect) kept may = own_effects site user world effect kept may
 
 -- answers that are fit
 pub answers_alike : (answer : View → Answer) → ((view : View) → IsFit view (answer view)) → AnswersAlike answer
-answers_alike answer fit site user world other same =
+answers_alike answer fit site user world other kept kept_other same =
     let here = view_of site user world in
     let there = view_of site user other in (
       ap answer same,
-      after_asking site user world (answer here).effect (fit here).asks
+      after_asking site user world (answer here).effect kept (fit here).asks
           ∙ ap (λ view. view_after_asking (answer view).effect view) same
-          ∙ sym (after_asking site user other (answer there).effect (fit there).asks),
+          ∙ sym (after_asking site user other (answer there).effect kept_other (fit there).asks),
     )

@@ -4,6 +4,7 @@ use Rattle.imap_view.specs.View.{View, view_of}
 use Rattle.imap_world.specs.declared.site.Site.{Site}
 use Rattle.imap_world.specs.declared.effect.Effect.{Effect}
 use Rattle.imap_world.specs.Effects.{after_all}
+use Rattle.imap_world.specs.Kept.{AreKept}
 use Rattle.imap_world.specs.World.{World}
 use Rattle.imap_answer.specs.Answer.{Answer}
 
@@ -12,9 +13,10 @@ effects_of None = []
 effects_of (Some effect) = effect ∷ []
 
 -- A command with this answer is answered alike in two worlds that are alike to its user, and leaves them
--- alike to that user.
+-- alike to that user. What the type of a mailbox keeps holds of the messages of each in both worlds.
 abbrev pub AnswersAlike : (View → Answer) → Type 0
 AnswersAlike answer = (site : Site) (user : List ℕ) (world other : World)
+    → AreKept world.mailboxes → AreKept other.mailboxes
     → view_of site user world ≡ view_of site user other →
     let here = answer (view_of site user world) in
     let there = answer (view_of site user other) in

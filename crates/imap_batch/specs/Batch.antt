@@ -1,5 +1,5 @@
 -- What is asked of the messages of one mailbox, and the numbers that are found for it.
-use Rattle.std.specs.Prelude.{ℕ, ◌+◌, nat_le, ◌==◌, not, Bool, true, ◌&&◌, ◌||◌, if◌then◌else◌}
+use Rattle.std.specs.Prelude.{◌≡◌, ℕ, ◌+◌, nat_le, ◌==◌, not, Bool, true, ◌&&◌, ◌||◌, if◌then◌else◌}
 use Rattle.std.specs.Prelude.{List, [], ◌∷◌, length, map, Option, Some, None, is_some, Result, Ok, Err}
 use Rattle.std.specs.List.{list_all}
 use Rattle.imap_modseq.specs.Numbers.{max_events}
@@ -13,7 +13,7 @@ use Rattle.imap_batch.specs.declared.batch.Mark.{Mark}
 use Rattle.imap_batch.specs.declared.batch.Batch.{Batch}
 use Rattle.imap_batch.specs.declared.write.BatchWrite.{BatchWrite}
 use Rattle.imap_batch.specs.declared.error.BatchError.{BatchError}
-use Rattle.imap_batch.specs.declared.error.BatchError.TheVariants.{Limit, NoSuchUid}
+use Rattle.imap_batch.specs.declared.error.BatchError.TheVariants.{Limit, NoSuchUid, Memory}
 
 -- ---- what is counted
 
@@ -89,3 +89,11 @@ write_for b s =
     if has_few_keywords b && has_numbers b s
     then (if has_messages b s then Ok (write_of b s) else Err NoSuchUid)
     else Err Limit
+
+-- The call returned the write that is meant, or failed with the error that is meant. Memory may run out only
+-- if no error is meant.
+abbrev pub Finds : Result BatchWrite BatchError → Result BatchWrite BatchError → Type 0
+Finds (Ok write) (Ok wanted) = write ≡ wanted
+Finds (Ok write) (Err refusal) = ⊥
+Finds (Err error) (Ok wanted) = error ≡ Memory
+Finds (Err error) (Err refusal) = error ≡ refusal

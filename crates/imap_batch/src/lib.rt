@@ -2,8 +2,9 @@
 //!
 //! A [`Batch`] says which messages are added, which flags change, and which messages are expunged: so
 //! APPEND, STORE, EXPUNGE, CLOSE, COPY, MOVE and the `\Seen` of FETCH are each one batch of a mailbox (RFC
-//! 9051, section 6). [`resolve`] finds for it the numbers by which it is written. [`make_room`] makes room,
-//! and [`write_batch`] writes and takes no memory. [`laws`] say what each user sees of it.
+//! 9051, section 6). [`resolve`] finds the numbers by which it is written, and [`refusal`] says without
+//! memory why it is refused. [`make_room`] makes room, and [`write_batch`] writes and takes no memory.
+//! [`laws`] say what each user sees of it.
 #![tactic(auto)]
 
 mod added_left;
@@ -19,6 +20,6 @@ mod writing;
 pub use batch::{Batch, Mark, NewMessage};
 pub use error::BatchError;
 pub use planned::Planned;
-pub use resolving::resolve;
+pub use resolving::{refusal, resolve};
 pub use write::BatchWrite;
 pub use writing::{make_room, write_batch};

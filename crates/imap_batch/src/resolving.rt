@@ -1,12 +1,13 @@
 //! What is written for a batch, by the mailbox as it is.
 
-ghost use Rattle.std.specs.Prelude.{◌≡◌, ◌≤◌, not, length, IfOk};
+ghost use Rattle.std.specs.Prelude.{◌≡◌, ◌≤◌, not, length, IfOk, None, Ok};
 ghost use Rattle.std.specs.List.{list_all};
+ghost use Rattle.std.specs.Result.{result_err};
 ghost use Rattle.imap_mailbox.specs.Flags.{has_too_many};
 ghost use Rattle.imap_mailbox.specs.Held.{summary_in};
 ghost use Rattle.imap_mailbox.specs.Summary.{uids_in};
 ghost use Rattle.imap_batch.specs.Batch.{are_few, has_few_keywords, has_numbers, has_uids, has_messages};
-ghost use Rattle.imap_batch.specs.Batch.{are_known, flag_count, mark_uids, write_for};
+ghost use Rattle.imap_batch.specs.Batch.{are_known, flag_count, mark_uids, write_for, Finds};
 ghost use Rattle.imap_batch.specs.Written.{MayWrite};
 
 use crate::batch::{Batch, Mark, NewMessage};
@@ -14,23 +15,45 @@ use crate::error::BatchError;
 use crate::write::BatchWrite;
 use imap_mailbox::{MAX_KEYWORDS, Mailbox, SharedFlags};
 use imap_modseq::MAX_EVENTS;
+use std::alloc::{AllocError, Global};
 
-/// Finds the numbers by which a batch is written. Fails with `Limit` if a message would have over
-/// [`MAX_KEYWORDS`] keywords, or too few UIDs or shared events are left, and else with `NoSuchUid` if the
-/// UIDs of marks or those that are expunged don't rise, or one of them is of no message. It takes no memory.
-pub fn resolve(mailbox: &Mailbox, batch: Batch) -> Result<BatchWrite, BatchError>
-    ensures result { result ≡ write_for batch (summary_in mailbox.now) }
+/// Returns why [`resolve`] refuses a batch, or `None` if only memory can run out: `Limit` if a message would
+/// have over [`MAX_KEYWORDS`] keywords, or too few UIDs or shared events are left, and else `NoSuchUid` if
+/// the UIDs of marks or those that are expunged don't rise, or one of them is of no message. Takes no memory.
+pub fn refusal(mailbox: &Mailbox, batch: &Batch) -> Option<BatchError>
+    ensures { result ≡ result_err (write_for batch.now (summary_in mailbox.now)) }
+{
+    if !has_few_keywords(batch) || !has_numbers(mailbox, batch) {
+        return Some(BatchError::Limit);
+    }
+    if !has_messages(mailbox, batch) {
+        return Some(BatchError::NoSuchUid);
+    }
+    None
+}
+
+/// Finds the numbers by which a batch is written. Fails with what [`refusal`] returns, and else only for
+/// want of memory.
+pub fn resolve(alloc: Global, mailbox: &Mailbox, batch: &Batch) -> Result<BatchWrite, BatchError>
+    ensures result { Finds result (write_for batch.now (summary_in mailbox.now)) }
     ensures may { IfOk result (λ write. MayWrite write (summary_in mailbox.now)) }
 {
-    if !has_few_keywords(&batch) || !has_numbers(mailbox, &batch) {
-        return Err(BatchError::Limit);
+    match refusal(mailbox, batch) {
+        Some(error) => Err(error),
+        None => Ok(write_of(alloc, mailbox, batch)?),
     }
-    if !has_messages(mailbox, &batch) {
-        return Err(BatchError::NoSuchUid);
-    }
-    let own_before = mailbox.own_len(batch.user.as_str());
+}
+
+/// Copies a batch that is not refused, with the numbers by which it is written.
+fn write_of(alloc: Global, mailbox: &Mailbox, batch: &Batch) -> Result<BatchWrite, AllocError>
+    requires { result_err (write_for batch.now (summary_in mailbox.now)) ≡ None }
+    ensures write { IfOk result (λ write. write_for batch.now (summary_in mailbox.now) ≡ Ok write) }
+    ensures may { IfOk result (λ write. MayWrite write (summary_in mailbox.now)) }
+{
+    let copy = batch.try_copy(alloc)?;
+    let own_before = mailbox.own_len(copy.user.as_str());
     Ok(BatchWrite {
-        batch,
+        batch: copy,
         first_uid: mailbox.next_uid(),
         first_place: mailbox.shared_len(),
         own_before,

@@ -13,10 +13,11 @@ use Rattle.imap_core.specs.Outcome.{silence}
 use Rattle.imap_core.specs.Sessions.{Own}
 use Rattle.imap_core.specs.Trace.{Event, Acts, Sees, is_quiet, with_replies, trace, transcript, same_view, EqualViewsAreSame, Isolation}
 use Rattle.imap_view.specs.View.{View, view_code}
+use Rattle.imap_world.specs.Kept.{AreKept}
 use Rattle.imap_core.proofs.Fitting.{IsIdle}
 use Rattle.imap_core.proofs.Sameness.{equal_from_same, same_from_itself}
 use Rattle.imap_answer.proofs.Alike.{view_after_asking}
-use Rattle.imap_core.proofs.Steps.{own_after, own_after_change, own_in-next, own_in-other, view_in-next, view_next}
+use Rattle.imap_core.proofs.Steps.{kept_next, own_after, own_after_change, own_in-next, own_in-other, view_in-next, view_next}
 
 abbrev replay : View → Option Own → List Event → List (ℕ × List ℕ)
 replay view own [] = []
@@ -70,7 +71,7 @@ module _ (view : View) (own : Option Own) (step : Step) (quiet : step.act ≡ ac
 abbrev Replays : List ℕ → State → List Step → Type 0
 Replays user state steps = transcript user state steps ≡ replay (view_in state user) (own_in state user) (trace user state steps)
 
-module _ (state : State) (step : Step) (steps : List Step) where
+module _ (state : State) (step : Step) (steps : List Step) (kept : AreKept state.world.mailboxes) where
   abbrev after : State
   after = next state step
 
@@ -83,10 +84,10 @@ module _ (state : State) (step : Step) (steps : List Step) where
       let quiet = quiet_act step.act (answer state step) e in
       ap (λ replies. with_replies step.who.number replies (transcript user after steps)) quiet.1 ∙ rest
       ∙ λ i. replay
-      ((view_in-next state step ∙ quiet_view (view_in state user) (own_in state user) step quiet.0) i)
+      ((view_in-next state step kept ∙ quiet_view (view_in state user) (own_in state user) step quiet.0) i)
       ((own_in-next state step ∙ quiet_own (view_in state user) (own_in state user) step quiet.0) i) (trace user after steps)
   own_step rest false e =
-      ap (with_replies step.who.number (answer state step)) (rest ∙ λ i. replay (view_in-next state step i) (own_in-next state step i) (trace step.who.user after steps))
+      ap (with_replies step.who.number (answer state step)) (rest ∙ λ i. replay (view_in-next state step kept i) (own_in-next state step i) (trace step.who.user after steps))
 
   -- a step of another
   others_step : (user : List ℕ) → bytes_eq step.who.user user ≡ false → Replays user after steps → (b : Bool) → same_view (view_in state user) (view_in after user) ≡ b
@@ -106,10 +107,10 @@ module _ (state : State) (step : Step) (steps : List Step) where
   one_step user rest true e = subst OwnStep ((bytes_eq-Decides step.who.user user).0 e) (λ rest. own_step rest _ refl) rest
   one_step user rest false e = others_step user e rest _ refl
 
-pub replays : (user : List ℕ) (state : State) (steps : List Step) → Replays user state steps
-replays user state [] = refl
-replays user state (step ∷ steps) = one_step state step steps user (replays user (next state step) steps) _ refl
+pub replays : (user : List ℕ) (state : State) (steps : List Step) → AreKept state.world.mailboxes → Replays user state steps
+replays user state [] kept = refl
+replays user state (step ∷ steps) kept = one_step state step steps kept user (replays user (next state step) steps (kept_next state step kept)) _ refl
 
 pub isolated : Isolation
 isolated user s t steps others alike same_trace =
-    replays user s steps ∙ (λ i. replay (alike.views i) (alike.sessions i) (same_trace i)) ∙ sym (replays user t others)
+    replays user s steps alike.kept ∙ (λ i. replay (alike.views i) (alike.sessions i) (same_trace i)) ∙ sym (replays user t others alike.kept_other)

@@ -13,6 +13,7 @@ use Rattle.imap_view.specs.View.{view_of}
 use Rattle.imap_world.specs.declared.site.Site.{Site}
 use Rattle.imap_world.specs.declared.effect.Effect.{Effect}
 use Rattle.imap_world.specs.Effects.{after_all}
+use Rattle.imap_world.specs.Kept.{AreKept}
 use Rattle.imap_world.specs.World.{World}
 use Rattle.imap_core.specs.declared.sessions.Session.{Session}
 use Rattle.imap_core.specs.declared.sessions.SessionChange.{SessionChange}
@@ -24,15 +25,17 @@ use Rattle.imap_core.specs.Machine.{accounts_after, next, outcome, outcome_for, 
 use Rattle.imap_core.specs.Sessions.{Own}
 use Rattle.imap_core.proofs.Fitting.{outcome_fits}
 use Rattle.imap_core.proofs.Numbered.{at_number}
-use Rattle.imap_core.proofs.Steps.{own_after, own_after_change, own_in-next, own_in-other, view_in-next, view_next}
+use Rattle.imap_core.proofs.Steps.{kept_next, own_after, own_after_change, own_in-next, own_in-other, view_in-next, view_next}
 
 pub alike_on : StepsAreAlike
 alike_on s t step alike = (
   λ i. (outcome_for (alike.views i) (alike.sessions i) step).replies,
   record {
-    views = view_in-next s step ∙ (λ i. view_next (alike.views i) (alike.sessions i) step) ∙ sym (view_in-next t step);
+    views = view_in-next s step alike.kept ∙ (λ i. view_next (alike.views i) (alike.sessions i) step) ∙ sym (view_in-next t step alike.kept_other);
     sessions = own_in-next s step ∙ (λ i. own_after (alike.views i) (alike.sessions i) step) ∙ sym (own_in-next t step);
     sites = alike.sites;
+    kept = kept_next s step alike.kept;
+    kept_other = kept_next t step alike.kept_other;
   },
 )
 
@@ -78,13 +81,13 @@ other_users_stay state step user apart = own_in-other state step user apart
 
 -- ---- effects
 
-made_if_asked : (site : Site) (user : List ℕ) (world : World) (asked : Option Effect) → MayBeAsked (view_of site user world) asked → IsMadeIfAsked asked world
-made_if_asked site user world None may = tt
-made_if_asked site user world (Some effect) may = own_effects_made site user world effect may
+made_if_asked : (site : Site) (user : List ℕ) (world : World) (asked : Option Effect) → AreKept world.mailboxes → MayBeAsked (view_of site user world) asked → IsMadeIfAsked asked world
+made_if_asked site user world None kept may = tt
+made_if_asked site user world (Some effect) kept may = own_effects_made site user world effect kept may
 
 pub effects_made : EffectsAreMade
-effects_made state step =
-    made_if_asked state.site step.who.user state.world (outcome state step).effect
+effects_made state step kept =
+    made_if_asked state.site step.who.user state.world (outcome state step).effect kept
     (outcome_fits (view_in state step.who.user) (own_in state step.who.user) step).asks
 
 -- ---- refusals

@@ -1,5 +1,5 @@
 -- What one step leaves of the mailboxes and of each user's sessions.
-use Rattle.std.proofs.Common.{◌≡◌, ℕ, true, false, cond, List, Option, Some, None, refl, ap, ◌∙◌}
+use Rattle.std.proofs.Common.{◌≡◌, inl, ℕ, true, false, cond, List, [], ◌∷◌, Option, Some, None, refl, ap, ◌∙◌, arith}
 use Rattle.std.specs.Str.{bytes_eq}
 use Rattle.std.specs.Cmp.Lexicographic.{nat_list_cmp_total, nat_list_eq_equiv}
 use Rattle.std.proofs.lemmas.Map.Text.{is_eq-slice_cmp}
@@ -7,7 +7,12 @@ use Rattle.std.proofs.lemmas.Slice.Eq.{bytes_eq-Decides}
 use Rattle.std.specs.FinMap as map
 use Rattle.std.specs.FinMap.{get-insert}
 use Rattle.imap_answer.proofs.Alike.{after_asking, view_after_asking}
+use Rattle.imap_answer.specs.Alike.{effects_of}
 use Rattle.imap_view.specs.View.{View}
+use Rattle.imap_world.specs.declared.effect.Effect.{Effect}
+use Rattle.imap_world.specs.Kept.{AreKept}
+use Rattle.imap_world.specs.Ready.{AreApart}
+use Rattle.imap_world.proofs.Histories.{all_stay_kept}
 use Rattle.imap_core.specs.declared.sessions.SessionChange.{SessionChange}
 use Rattle.imap_core.specs.declared.sessions.SessionChange.TheVariants as session
 use Rattle.imap_core.specs.declared.session_id.SessionId.{SessionId}
@@ -23,10 +28,20 @@ use Rattle.imap_core.proofs.Fitting.{outcome_fits}
 abbrev pub view_next : View → Option Own → Step → View
 view_next view own step = view_after_asking (outcome_for view own step).effect view
 
-pub view_in-next : (state : State) (step : Step) → view_in (next state step) step.who.user ≡ view_next (view_in state step.who.user) (own_in state step.who.user) step
-view_in-next state step =
-    after_asking state.site step.who.user state.world (outcome state step).effect
+pub view_in-next : (state : State) (step : Step) → AreKept state.world.mailboxes → view_in (next state step) step.who.user ≡ view_next (view_in state step.who.user) (own_in state step.who.user) step
+view_in-next state step kept =
+    after_asking state.site step.who.user state.world (outcome state step).effect kept
     (outcome_fits (view_in state step.who.user) (own_in state step.who.user) step).asks
+
+one_is_apart : (asked : Option Effect) → AreApart (effects_of asked)
+one_is_apart None = inl (omega arith)
+one_is_apart (Some effect) = inl (omega arith)
+
+-- what the type of a mailbox keeps holds after it, too
+pub kept_next : (state : State) (step : Step) → AreKept state.world.mailboxes → AreKept (next state step).world.mailboxes
+kept_next state step kept =
+    let asked = (outcome state step).effect in
+    all_stay_kept state.world (effects_of asked ∷ []) (one_is_apart asked, tt) kept
 
 -- ---- sessions
 

@@ -8,6 +8,7 @@ use Rattle.imap_core.specs.declared.sessions.Session.{Session}
 use Rattle.imap_core.specs.declared.step.Step.{Step}
 use Rattle.imap_view.specs.After.{DifferInHidden, IsMade}
 use Rattle.imap_world.specs.declared.effect.Effect.{Effect}
+use Rattle.imap_world.specs.Kept.{AreKept}
 use Rattle.imap_world.specs.World.{World}
 use Rattle.imap_core.specs.Machine.{State, answer, next, outcome, own_in}
 use Rattle.imap_core.specs.Trace.{Alike}
@@ -37,10 +38,11 @@ abbrev pub IsMadeIfAsked : Option Effect → World → Type 0
 IsMadeIfAsked None world = Unit {0}
 IsMadeIfAsked (Some effect) world = IsMade effect world
 
--- What a step asks of the mailboxes can be made in every state: no reply says OK to an effect that is
--- dropped.
+-- What a step asks of the mailboxes can be made in every state in which the messages of each mailbox are as
+-- its type keeps them: no reply says OK to an effect that is dropped.
 abbrev pub EffectsAreMade : Type 0
-EffectsAreMade = (state : State) (step : Step) → IsMadeIfAsked (outcome state step).effect state.world
+EffectsAreMade = (state : State) (step : Step)
+    → AreKept state.world.mailboxes → IsMadeIfAsked (outcome state step).effect state.world
 
 -- A step that is answered by a refusal changes nothing.
 abbrev pub RefusalsChangeNothing : Type 0
@@ -54,4 +56,5 @@ NeverUnavailable = (state : State) (step : Step) → list_any is_unavailable (an
 -- To a user, states are alike that differ in hidden mailboxes alone, and in their used validities.
 abbrev pub HiddenIsAlike : Type 0
 HiddenIsAlike = (user : List ℕ) (s t : State) → s.site ≡ t.site → own_in s user ≡ own_in t user
+    → AreKept s.world.mailboxes → AreKept t.world.mailboxes
     → DifferInHidden s.site user s.world t.world → Alike user s t

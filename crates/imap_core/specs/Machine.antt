@@ -1,6 +1,6 @@
 -- The machine: the mailboxes and all open sessions, and what one step makes of them.
 use Rattle.std.specs.Prelude.{◌≡◌, ℕ, ◌<◌, List, [], ◌∷◌, length, take, Option, Some, None, refl}
-use Rattle.std.specs.Coded.{Coded, coded_ℕ, coded_list, coded×, code_by}
+use Rattle.std.specs.Coded.{Coded, coded×, code_by}
 use Rattle.std.specs.FinMap as map
 use Rattle.imap_print.specs.declared.response.Response.{Response}
 use Rattle.imap_view.specs.View.{View, site_code, view_of}

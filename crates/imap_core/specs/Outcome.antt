@@ -1,5 +1,5 @@
 -- What comes of a step.
-use Rattle.std.specs.Prelude.{List, [], ◌∷◌, Option, None, refl}
+use Rattle.std.specs.Prelude.{List, [], Option, None}
 use Rattle.imap_answer.specs.Answer.{Answer, lines_of}
 use Rattle.imap_print.specs.declared.response.Response.{Response}
 use Rattle.imap_world.specs.declared.effect.Effect.{Effect}

@@ -3,6 +3,7 @@ use Rattle.std.specs.Prelude.{◌≡◌, ◌↔◌, IsTrue, ℕ, Bool, true, fal
 use Rattle.imap_print.specs.declared.response.Response.{Response}
 use Rattle.imap_print.specs.Printed.{printed}
 use Rattle.imap_view.specs.View.{View, view_code}
+use Rattle.imap_world.specs.Kept.{AreKept}
 use Rattle.imap_core.specs.declared.step.Act.{Act}
 use Rattle.imap_core.specs.declared.step.Act.TheVariants as act
 use Rattle.imap_core.specs.declared.step.Step.{Step}
@@ -67,11 +68,14 @@ transcript user state steps = sent_to user steps (answers state steps)
 
 -- ---- isolation
 
--- the user sees the same in both states, and has the same sessions
+-- The user sees the same in both states, and has the same sessions. What the type of a mailbox keeps holds of
+-- the messages of each in both, as it does in every state of the machine.
 pub record Alike (user : List ℕ) (s t : State) : Type 0 where
   pub views : view_in s user ≡ view_in t user
   pub sessions : own_in s user ≡ own_in t user
   pub sites : s.site ≡ t.site
+  pub kept : AreKept s.world.mailboxes
+  pub kept_other : AreKept t.world.mailboxes
 
 -- To each user, two runs that begin alike and have one trace send the same octets, whatever their
 -- lengths and whatever else happens in them.

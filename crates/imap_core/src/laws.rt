@@ -4,6 +4,9 @@ ghost use Rattle.imap_core.specs.Laws.{EffectsAreMade, HiddenIsAlike, NeverUnava
 ghost use Rattle.imap_core.specs.Laws.{OtherUsersStay, RefusalsChangeNothing, StepsAreAlike};
 ghost use Rattle.imap_core.specs.Starting.{StartsWithInboxes};
 ghost use Rattle.imap_core.specs.Trace.{EqualViewsAreSame, Isolation};
+ghost use Rattle.imap_world.specs.Kept.{AreKept};
+
+use crate::machine::Core;
 
 /// To each user, any two runs that begin alike and have one trace for that user send the same octets.
 pub fn isolation()
@@ -35,11 +38,19 @@ pub fn other_sessions_stay()
     ensures own { OtherSessionsStay }
 {}
 
-/// What a step asks of the mailboxes can be made in every state: no reply says OK to an effect that is
-/// dropped.
+/// What a step asks of the mailboxes can be made in every state in which the messages of each mailbox are as
+/// its type keeps them: no reply says OK to an effect that is dropped.
 pub fn effects_are_made()
     ensures { EffectsAreMade }
 {}
+
+/// In every state of the machine, what the type of a mailbox keeps holds of the messages of each. So the
+/// machine's states meet what [`isolation`], [`steps_are_alike`] and [`effects_are_made`] ask of messages.
+pub fn messages_are_kept(core: &Core)
+    ensures { AreKept core.now.state.world.mailboxes }
+{
+    core.keep_messages();
+}
 
 /// A step that is answered by a refusal leaves all mailboxes, subscriptions and sessions as they were.
 pub fn refusals_change_nothing()

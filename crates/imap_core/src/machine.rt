@@ -4,6 +4,7 @@ ghost use Rattle.std.specs.Prelude.{◌≡◌, ℕ, Ok, IfOk, OnOk, OnErr, List}
 ghost use Rattle.std.specs.FinMap as map;
 ghost use Rattle.std.specs.List.{AllByRecursion};
 ghost use Rattle.imap_world.specs.Effects.{writes_of};
+ghost use Rattle.imap_world.specs.Kept.{AreKept};
 ghost use Rattle.imap_world.specs.Ready as world;
 ghost use Rattle.imap_world.specs.Stored.{world_of};
 ghost use Rattle.imap_core.specs.Machine as specs;
@@ -22,7 +23,7 @@ use crate::reply::step_outcome;
 use crate::session_id::SessionId;
 use crate::sessions::{OwnSessions, SessionChange};
 use crate::step::Step;
-use imap_names::UserName;
+use imap_names::{UserName, inbox_ref};
 use imap_print::Response;
 use imap_user_map::UserMap;
 use imap_view::View;
@@ -138,6 +139,13 @@ impl Core {
             world: self.world.try_copy(alloc)?,
             accounts: self.accounts.try_copy(alloc)?,
         })
+    }
+
+    /// Does nothing: its contract hands on what the type of the world keeps.
+    pub(crate) fn keep_messages(&self)
+        ensures { AreKept self.now.state.world.mailboxes }
+    {
+        let _ = self.world.mailbox(&inbox_ref(&self.site.administrator));
     }
 
     /// Finds what the step is answered and what it changes, and changes nothing yet.

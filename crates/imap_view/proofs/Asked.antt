@@ -1,5 +1,5 @@
 -- The view after an effect that the user may ask for.
-use Rattle.std.proofs.Common.{◌≡◌, ℕ, true, cond, not, List, [], ◌∷◌, ◌++◌, Ok, Err, refl, ap, ◌∙◌}
+use Rattle.std.proofs.Common.{◌≡◌, ℕ, true, cond, not, List, [], ◌∷◌, ◌++◌, Option, Ok, Err, refl, ap, ◌∙◌}
 use Rattle.std.specs.FinMap as map
 use Rattle.std.proofs.lemmas.List.{append-nil}
 use Rattle.imap_names.specs.Name.{Name}
@@ -12,16 +12,20 @@ use Rattle.imap_world.specs.declared.effect.Effect.{Effect}
 use Rattle.imap_world.specs.declared.effect.Effect.TheVariants as effect
 use Rattle.imap_world.specs.declared.error.WorldError.TheVariants.{Below, Cannot, NoSuch, Taken}
 use Rattle.imap_world.specs.Effects.{after_all, after_result, after_write, after_writes, list_changed, list_set, move_after, puts, puts_of, removal, renaming as move_to, writes_for, writes_then}
+use Rattle.imap_world.specs.Kept.{AreKept}
+use Rattle.imap_world.specs.declared.named_batch.NamedBatch.{NamedBatch}
 use Rattle.imap_world.specs.Moving.{arrivals, arrivals_at, superior_rows}
 use Rattle.imap_world.specs.NewMailbox.{NewMailbox}
 use Rattle.imap_world.specs.Tree.{created_rows, with_rows}
 use Rattle.imap_world.specs.World.{World}
 use Rattle.imap_view.specs.After.{MayAsk, OwnEffectsAreMade, OwnEffectsAreSeen, view_after}
+use Rattle.imap_view.specs.MessagesAfter.{MayAskOfBoth}
 use Rattle.imap_view.specs.RenameAfter.{may_rename, names_after}
 use Rattle.imap_view.specs.Seen.{owner_of}
 use Rattle.imap_view.specs.TreeAfter.{may_delete, may_make, may_set_rights}
 use Rattle.imap_view.specs.View.{View, view_of}
 use Rattle.imap_view.proofs.Afters.{changed}
+use Rattle.imap_view.proofs.Changing.{changing_messages}
 use Rattle.imap_view.proofs.Creating.{creating}
 use Rattle.imap_view.proofs.Deleting.{deleting}
 use Rattle.imap_view.proofs.Renaming.{renaming}
@@ -97,29 +101,39 @@ module _ (site : Site) (user : List ℕ) (world : World) where
         after = setting.seen;
       }
 
-  answered : (asked : Effect) → MayAsk view asked → IsAnswered site user world asked
-  answered (effect.CreateInbox owner) may = absurd may
-  answered (effect.Create owner name) may = created owner name may.0 may.1
-  answered (effect.Delete name) may = deleted name may
-  answered (effect.Rename owner old new) may = renamed owner old new may.0 may.1
-  answered (effect.SetRights name identifier change) may = rights_set name identifier change may
-  answered (effect.Subscribe asker name) may = record {
+  messages_changed : AreKept world.mailboxes → (part : NamedBatch) (other : Option NamedBatch) → MayAskOfBoth view part other → IsAnswered site user world (effect.Messages part other)
+  messages_changed kept part other may =
+      let change = changing_messages site user world part other kept may in
+      record {
+        writes = write.Messages change.first change.second ∷ [];
+        found = change.found;
+        after = change.seen;
+      }
+
+  answered : (asked : Effect) → AreKept world.mailboxes → MayAsk view asked → IsAnswered site user world asked
+  answered (effect.CreateInbox owner) kept may = absurd may
+  answered (effect.Create owner name) kept may = created owner name may.0 may.1
+  answered (effect.Delete name) kept may = deleted name may
+  answered (effect.Rename owner old new) kept may = renamed owner old new may.0 may.1
+  answered (effect.SetRights name identifier change) kept may = rights_set name identifier change may
+  answered (effect.Messages part other) kept may = messages_changed kept part other may
+  answered (effect.Subscribe asker name) kept may = record {
     writes = write.Subscribe asker name ∷ [];
     found = refl;
     after = changed site user world (λ names. map.insert names name tt) asker may;
   }
-  answered (effect.Unsubscribe asker name) may = record {
+  answered (effect.Unsubscribe asker name) kept may = record {
     writes = write.Unsubscribe asker name ∷ [];
     found = refl;
     after = changed site user world (λ names. map.remove names name) asker may;
   }
 
 pub own_effects_made : OwnEffectsAreMade
-own_effects_made site user world asked may =
-    let given = answered site user world asked may in
+own_effects_made site user world asked kept may =
+    let given = answered site user world asked kept may in
     record { writes = given.writes; made = given.found }
 
 pub own_effects : OwnEffectsAreSeen
-own_effects site user world asked may =
-    let given = answered site user world asked may in
+own_effects site user world asked kept may =
+    let given = answered site user world asked kept may in
     ap (view_of site user) (made_alone asked world given.writes given.found) ∙ given.after

@@ -1,7 +1,9 @@
 pub mod Afters
+pub mod AnothersSeen
 pub mod ArrivalsKnown
 pub mod Arriving
 pub mod Asked
+pub mod Changing
 pub mod Climbing
 pub mod Creating
 pub mod Deleting
@@ -9,6 +11,7 @@ pub mod Inboxes
 pub mod Listings
 pub mod Moving
 pub mod Narrowing
+pub mod Ordered
 pub mod Placed
 pub mod Renaming
 pub mod SettingRights

@@ -8,7 +8,9 @@ use Rattle.imap_world.specs.declared.change.Write.{Write}
 use Rattle.imap_world.specs.declared.effect.Effect.{Effect}
 use Rattle.imap_world.specs.declared.effect.Effect.TheVariants as effect
 use Rattle.imap_world.specs.Effects.{after_all, writes_for}
+use Rattle.imap_world.specs.Kept.{AreKept}
 use Rattle.imap_world.specs.World.{World, subscribed_by}
+use Rattle.imap_view.specs.MessagesAfter.{MayAskOfBoth, view_with_batches}
 use Rattle.imap_view.specs.RenameAfter.{may_rename, view_renamed}
 use Rattle.imap_view.specs.Seen.{owner_of}
 use Rattle.imap_view.specs.TreeAfter.{may_delete, may_make, may_set_rights, view_with, view_with_rights}
@@ -24,6 +26,7 @@ MayAsk view (effect.Delete name) = may_delete view name ≡ true
 MayAsk view (effect.Rename owner old new) =
     (owner ≡ owner_of view.site new) × (may_rename view old new ≡ true)
 MayAsk view (effect.SetRights name identifier change) = may_set_rights view name identifier change ≡ true
+MayAsk view (effect.Messages part other) = MayAskOfBoth view part other
 MayAsk view (effect.Subscribe user name) = user ≡ view.user
 MayAsk view (effect.Unsubscribe user name) = user ≡ view.user
 
@@ -34,6 +37,7 @@ view_after (effect.Create owner name) view = view_with view name
 view_after (effect.Delete name) view = view_without view name
 view_after (effect.Rename owner old new) view = view_renamed view old new
 view_after (effect.SetRights name identifier change) view = view_with_rights view name identifier change
+view_after (effect.Messages part other) view = view_with_batches view part other
 view_after (effect.Subscribe user name) view = record view { subscribed = map.insert view.subscribed name tt }
 view_after (effect.Unsubscribe user name) view = record view { subscribed = map.remove view.subscribed name }
 
@@ -41,7 +45,8 @@ view_after (effect.Unsubscribe user name) view = record view { subscribed = map.
 abbrev pub OwnEffectsAreSeen : Type 0
 OwnEffectsAreSeen = (site : Site) (user : List ℕ) (world : World) (asked : Effect) →
     let view = view_of site user world in
-    MayAsk view asked → view_of site user (after_all (asked ∷ []) world) ≡ view_after asked view
+    AreKept world.mailboxes → MayAsk view asked
+    → view_of site user (after_all (asked ∷ []) world) ≡ view_after asked view
 
 -- Values are found that it writes.
 pub record IsMade (asked : Effect) (world : World) : Type 0 where
@@ -51,7 +56,7 @@ pub record IsMade (asked : Effect) (world : World) : Type 0 where
 -- An effect that the user may ask for can be made.
 abbrev pub OwnEffectsAreMade : Type 0
 OwnEffectsAreMade = (site : Site) (user : List ℕ) (world : World) (asked : Effect)
-    → MayAsk (view_of site user world) asked → IsMade asked world
+    → AreKept world.mailboxes → MayAsk (view_of site user world) asked → IsMade asked world
 
 -- another user's subscriptions are not in the view
 abbrev pub OthersSubscriptionsAreHidden : Type 0

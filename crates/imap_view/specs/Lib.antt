@@ -1,6 +1,7 @@
 -- What a user may see of the mailboxes, before and after each effect.
 pub mod After
 pub mod Listing
+pub mod MessagesAfter
 pub mod RenameAfter
 pub mod Seen
 pub mod TreeAfter

@@ -2,15 +2,18 @@
 
 ghost use Rattle.imap_view.specs.After.{HiddenIsAbsent, OthersInboxesAreHidden};
 ghost use Rattle.imap_view.specs.After.{OthersSubscriptionsAreHidden, OwnEffectsAreMade, OwnEffectsAreSeen};
+ghost use Rattle.imap_view.specs.MessagesAfter.{AnothersSeenIsHidden, ChangingMessagesIsSeen};
 ghost use Rattle.imap_view.specs.RenameAfter.{RenamingIsSeen};
 ghost use Rattle.imap_view.specs.TreeAfter.{CreatingIsSeen, DeletingIsSeen, SettingRightsIsSeen};
 
-/// The view after an effect that the user may ask for is found from the view before alone.
+/// The view after an effect that the user may ask for is found from the view before alone, if what the type
+/// of a mailbox keeps holds of the messages of each, as it does in every [`World`](imap_world::World).
 pub fn own_effects_are_seen()
     ensures { OwnEffectsAreSeen }
 {}
 
-/// An effect that the user may ask for can be made.
+/// An effect that the user may ask for can be made, if what the type of a mailbox keeps holds of the messages
+/// of each.
 pub fn own_effects_are_made()
     ensures { OwnEffectsAreMade }
 {}
@@ -49,4 +52,16 @@ pub fn creating_is_seen()
 /// Whether the user may rename a mailbox, and the view after it, are found from the view before alone.
 pub fn renaming_is_seen()
     ensures { RenamingIsSeen }
+{}
+
+/// Whether the user may change messages of one mailbox, or of two, and the view after it, are found from the
+/// view before alone. To one who may not read, messages that are added are that much less of room and nothing
+/// else.
+pub fn changing_messages_is_seen()
+    ensures { ChangingMessagesIsSeen }
+{}
+
+/// A user's own `\Seen` shows to nobody else.
+pub fn anothers_seen_is_hidden()
+    ensures { AnothersSeenIsHidden }
 {}

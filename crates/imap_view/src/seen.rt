@@ -1,7 +1,9 @@
 //! A mailbox, as one user sees it.
 
-ghost use Rattle.std.specs.Prelude.{◌≡◌, option_copied, option_map};
+ghost use Rattle.std.specs.Prelude.{◌≡◌, Some, option_copied, option_map};
 ghost use Rattle.imap_mailbox.specs.Brought.{highest_in};
+ghost use Rattle.imap_mailbox.specs.Order.{AreGoneInOrder, AreRowsInOrder};
+ghost use Rattle.imap_mailbox.specs.Shown.{Content};
 ghost use Rattle.imap_rights.specs.Rights.{bits};
 ghost use Rattle.imap_view.specs.Seen as specs;
 ghost use Rattle.imap_view.specs.Seen.{shown};
@@ -73,8 +75,11 @@ impl<'a> Seen<'a> {
     }
 
     /// The messages as the user has them, if the user holds `r` or `a`.
+    #[tactic(auto, using(crate::proofs::Ordered::rows_if_shown))]
     pub fn rows(&self) -> Option<Rows<'a>>
-        ensures { result ≡ option_map (λ c. c.rows) (shown self.now).messages.content }
+        ensures rows { result ≡ option_map (λ c. c.rows) (shown self.now).messages.content }
+        ensures valid { (c : Content) → (shown self.now).messages.content ≡ Some c
+            → AreRowsInOrder c.next (highest_in c) c.rows }
     {
         if self.shows_messages() {
             Some(self.messages().rows(self.user.as_str()))
@@ -84,8 +89,11 @@ impl<'a> Seen<'a> {
     }
 
     /// The messages that were expunged, with their mod-sequences for the user, if the user holds `r` or `a`.
+    #[tactic(auto, using(crate::proofs::Ordered::gone_if_shown))]
     pub fn gone(&self) -> Option<GoneUids<'a>>
-        ensures { result ≡ option_map (λ c. c.gone) (shown self.now).messages.content }
+        ensures gone { result ≡ option_map (λ c. c.gone) (shown self.now).messages.content }
+        ensures valid { (c : Content) → (shown self.now).messages.content ≡ Some c
+            → AreGoneInOrder c.next (highest_in c) c.gone }
     {
         if self.shows_messages() {
             Some(self.messages().gone(self.user.as_str()))

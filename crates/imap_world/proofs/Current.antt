@@ -6,12 +6,14 @@ use Rattle.imap_world.specs.Ready.{AreReady, IsCurrent, IsMadeByEffects, IsReady
 use Rattle.imap_world.specs.Stored.{Stored, world_of}
 use Rattle.imap_world.specs.World.{World}
 use Rattle.imap_world.proofs.Fitting.{apart_may}
+use Rattle.imap_world.proofs.Lone.{apart_lone}
 
 pub current_is_ready : (change : List Write) (stored : Stored) → IsReady change stored → AreReady change stored
 current_is_ready change stored ready =
     let (effects, apart, writes) = ready.current in
     record {
       room = ready.room;
+      lone = apart_lone (world_of stored) effects change apart writes;
       may = apart_may (world_of stored) effects change apart writes;
     }
 

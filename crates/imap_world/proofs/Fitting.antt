@@ -30,6 +30,7 @@ use Rattle.imap_world.specs.Tree.{acl_with_rights, created_rows, inherited, new_
 use Rattle.imap_world.specs.World.{World, epoch, inbox, max_validity}
 use Rattle.imap_world.proofs.Made.{AreTails, StaysAt, below_is_apart, free_alike, moved_arrivals_alike, other_is_apart, rows_are_tails, rows_keep, stays_at}
 use Rattle.imap_world.proofs.Moves.{can_move-new_long, moved_is_sound, moves_apart}
+use Rattle.imap_world.proofs.Parts.{IsOneWrite, messages_are_written, parts_are_sound}
 use Rattle.imap_world.proofs.Sound.{list_is_sound, or_first, or_second, put_is_sound, removed_is_sound, same_is_sound}
 use Rattle.imap_world.proofs.Superiors.{puts-last}
 
@@ -43,6 +44,7 @@ write_is_sound (write.Put row) world may sound = put_is_sound world (with_row wo
 write_is_sound (write.SetAcl name acl) world may sound = list_is_sound world (with_acl world name acl) name acl refl refl sound
 write_is_sound (write.Remove name) world may sound = removed_is_sound world (without world name) name refl refl may sound
 write_is_sound (write.Move old new arrivals) world may sound = moved_is_sound world old new arrivals may sound
+write_is_sound (write.Messages part other) world may sound = parts_are_sound world part other sound
 write_is_sound (write.Subscribe user name) world may sound = same_is_sound world (after_write (write.Subscribe user name) world) refl refl sound
 write_is_sound (write.Unsubscribe user name) world may sound = same_is_sound world (after_write (write.Unsubscribe user name) world) refl refl sound
 
@@ -252,12 +254,16 @@ module _ (world : World) where
   rights_fit name identifier change None ws e = absurd (cc e)
   rights_fit name identifier change (Some mailbox) ws e = list_fits name (acl_with_rights mailbox.acl identifier change) ws e
 
+  messages_fit : (ws : List Write) → IsOneWrite world.mailboxes ws → MayBeWritten ws world
+  messages_fit ws w = subst (λ vs. MayBeWritten vs world) w.are (w.may, tt)
+
   pub effect_fits : (e : Effect) (ws : List Write) → writes_for e world ≡ Ok ws → MayBeWritten ws world
   effect_fits (effect.CreateInbox user) ws is = inbox_fits user ws (inbox_is_written user ws is)
   effect_fits (effect.Create owner name) ws is = create_fits owner name (map.contains_key world.mailboxes name) (created_rows world owner name) ws refl is
   effect_fits (effect.Delete name) ws is = delete_fits name (map.contains_key world.mailboxes name) (is_inbox name) (has_below name world.mailboxes) ws refl is
   effect_fits (effect.Rename owner old new) ws is = rename_fits owner old new (map.contains_key world.mailboxes old) refl (can_move old new) refl (has_within new world.mailboxes) refl ws is
   effect_fits (effect.SetRights name identifier change) ws is = rights_fit name identifier change (map.get world.mailboxes name) ws is
+  effect_fits (effect.Messages part other) ws is = messages_fit ws (messages_are_written world.mailboxes part other ws is)
   effect_fits (effect.Subscribe user name) ws is = subst (λ vs. MayBeWritten vs world) (ok_same (write.Subscribe user name ∷ []) ws is) (tt, tt)
   effect_fits (effect.Unsubscribe user name) ws is = subst (λ vs. MayBeWritten vs world) (ok_same (write.Unsubscribe user name ∷ []) ws is) (tt, tt)
 
@@ -333,6 +339,7 @@ module _ (world : World) where
   plain_step (effect.Delete name) effects ws later plain is distinct untouched = absurd (cc plain)
   plain_step (effect.Rename owner old new) effects ws later plain is distinct untouched = absurd (cc plain)
   plain_step (effect.SetRights name identifier change) effects ws later plain is distinct untouched = absurd (cc plain)
+  plain_step (effect.Messages part other) effects ws later plain is distinct untouched = absurd (cc plain)
   plain_step (effect.Subscribe user name) effects ws later plain is distinct untouched =
       subst (λ vs. IsPlainStep vs effects later) (ok_same (write.Subscribe user name ∷ []) ws is) (record { may = (tt, tt); untouched = λ other among. record { mailbox = (untouched other among).mailbox; epoch = (untouched other among).epoch } })
   plain_step (effect.Unsubscribe user name) effects ws later plain is distinct untouched =
@@ -345,6 +352,7 @@ module _ (world : World) where
   distinct_rest (effect.Delete name) effects distinct = distinct
   distinct_rest (effect.Rename owner old new) effects distinct = distinct
   distinct_rest (effect.SetRights name identifier change) effects distinct = distinct
+  distinct_rest (effect.Messages part other) effects distinct = distinct
   distinct_rest (effect.Subscribe user name) effects distinct = distinct
   distinct_rest (effect.Unsubscribe user name) effects distinct = distinct
 

@@ -23,6 +23,7 @@ use Rattle.imap_world.specs.Ready.{IsCurrent}
 use Rattle.imap_world.specs.Tree.{created_rows, new_row}
 use Rattle.imap_world.specs.World.{World, inbox}
 use Rattle.imap_world.proofs.Fitting.{ok_same}
+use Rattle.imap_world.proofs.Parts.{IsOneWrite, messages_are_written}
 
 abbrev Writes : Type 0
 Writes = Result (List Write) WorldError
@@ -78,6 +79,9 @@ module _ (world : World) where
       let rights : ℕ = applied change (entry mailbox.acl identifier) in
       list_is name identifier rights mailbox there (is_full_for mailbox.acl identifier rights) ws e
 
+  messages_are : (ws : List Write) → IsOneWrite world.mailboxes ws → AreFresh ws
+  messages_are ws w = subst AreFresh w.are (w.may, tt)
+
   effect_is : (e : Effect) (ws : List Write) → writes_for e world ≡ Ok ws → AreFresh ws
   effect_is (effect.CreateInbox user) ws is = inbox_is (map.contains_key world.mailboxes (inbox user)) (new_row world.epochs (inbox user) (owner_acl user)) ws is
   effect_is (effect.Create owner name) ws is = created_are (map.contains_key world.mailboxes name) (created_rows world owner name) ws is
@@ -85,6 +89,7 @@ module _ (world : World) where
   effect_is (effect.Rename owner old new) ws is =
       moved_are old new (map.contains_key world.mailboxes old) refl (can_move old new) (has_within new world.mailboxes) (superior_rows world owner new) (arrivals world old new) ws is
   effect_is (effect.SetRights name identifier change) ws is = lists_are name identifier change (map.get world.mailboxes name) refl ws is
+  effect_is (effect.Messages part other) ws is = messages_are ws (messages_are_written world.mailboxes part other ws is)
   effect_is (effect.Subscribe user name) ws is = subst AreFresh (ok_same (write.Subscribe user name ∷ []) ws is) (tt, tt)
   effect_is (effect.Unsubscribe user name) ws is = subst AreFresh (ok_same (write.Unsubscribe user name ∷ []) ws is) (tt, tt)
 

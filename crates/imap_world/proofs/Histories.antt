@@ -10,7 +10,10 @@ use Rattle.imap_world.specs.declared.change.Write.{Write}
 use Rattle.imap_world.specs.declared.change.Write.TheVariants as write
 use Rattle.imap_world.specs.declared.effect.Effect.{Effect}
 use Rattle.imap_world.specs.declared.error.WorldError.{WorldError}
+use Rattle.imap_batch.specs.Written.{with_batch}
 use Rattle.imap_world.specs.Mailbox.{Mailbox}
+use Rattle.imap_world.specs.Messages.{messages_changed, with_messages, with_part}
+use Rattle.imap_world.specs.declared.named_batch.NamedWrite.{NamedWrite}
 use Rattle.imap_world.specs.Effects.{writes_of, after_write, after_writes, after_result, after_all, after_steps}
 use Rattle.imap_world.specs.Kept.{AreKept, IsSound}
 use Rattle.imap_world.specs.Laws.{IsKeptOrNew, KeepsValidities, MessagesStayKept, WorldsStaySound, ValiditiesAreUsedOnce}
@@ -83,13 +86,38 @@ module _ (old world : World) (keeps : KeepsValidities old world) where
     mailboxes = λ name mailbox e. keeps.mailboxes name mailbox (found_before world.mailboxes k name mailbox e);
   }
 
+  -- messages of a mailbox change
+  module _ (w : NamedWrite) where
+    abbrev after_part : Mailbox → Mailbox
+    after_part before = record before { messages = with_batch w.write.batch before.messages }
+
+    part_at : (before : Mailbox) → map.get world.mailboxes w.name ≡ Some before → (name : Name) (other : Mailbox) (b : Bool) → is_name_at name w.name ≡ b
+        → cond b (Some (after_part before)) (map.get world.mailboxes name) ≡ Some other → IsKeptOrNew old name other.validity
+    part_at before is name other true at e =
+        let same : before.validity ≡ other.validity = ap (λ (o : Option Mailbox). (unwrap_or o before).validity) e in
+        subst (IsKeptOrNew old name) same (keeps.mailboxes name before (ap (map.get world.mailboxes) (equal_names name w.name at) ∙ is))
+    part_at before is name other false at e = keeps.mailboxes name other e
+
+    part_kept_at : (o : Option Mailbox) → map.get world.mailboxes w.name ≡ o → (name : Name) (other : Mailbox) → map.get (messages_changed w.write.batch world.mailboxes w.name o) name ≡ Some other → IsKeptOrNew old name other.validity
+    part_kept_at None is name other e = keeps.mailboxes name other e
+    part_kept_at (Some before) is name other e = part_at before is name other (is_name_at name w.name) refl (sym (get_put world.mailboxes w.name (after_part before) name) ∙ e)
+
+    part_kept : KeepsValidities old (record world { mailboxes = with_part world.mailboxes w })
+    part_kept = record { epochs = keeps.epochs; mailboxes = part_kept_at (map.get world.mailboxes w.name) refl }
+
+parts_kept : (old world : World) → KeepsValidities old world → (w : NamedWrite) (other : Option NamedWrite) → KeepsValidities old (with_messages world w other)
+parts_kept old world keeps w None = part_kept old world keeps w
+parts_kept old world keeps w (Some other) = part_kept old (record world { mailboxes = with_part world.mailboxes w }) (part_kept old world keeps w) other
+
+module _ (old world : World) (keeps : KeepsValidities old world) where
   pub write_kept : (w : Write) → MayWrite w world → KeepsValidities old (after_write w world)
-  write_kept (write.Put row) may = row_kept row may.next
-  write_kept (write.SetAcl name acl) may = list_kept name acl
-  write_kept (write.Remove name) may = removed_kept name
+  write_kept (write.Put row) may = row_kept old world keeps row may.next
+  write_kept (write.SetAcl name acl) may = list_kept old world keeps name acl
+  write_kept (write.Remove name) may = removed_kept old world keeps name
   write_kept (write.Move from to arrivals) may = moved_is_kept world from to arrivals may old keeps
-  write_kept (write.Subscribe user name) may = same_kept (after_write (write.Subscribe user name) world) refl refl
-  write_kept (write.Unsubscribe user name) may = same_kept (after_write (write.Unsubscribe user name) world) refl refl
+  write_kept (write.Messages part other) may = parts_kept old world keeps part other
+  write_kept (write.Subscribe user name) may = same_kept old world keeps (after_write (write.Subscribe user name) world) refl refl
+  write_kept (write.Unsubscribe user name) may = same_kept old world keeps (after_write (write.Unsubscribe user name) world) refl refl
 
 -- ---- several, and one list after another
 
@@ -137,7 +165,7 @@ pub used_once : ValiditiesAreUsedOnce
 used_once world [] apart = keeps_itself world
 used_once world (effects ∷ steps) apart = keeps_on world (after_all effects world) (after_steps steps (after_all effects world)) (effects_kept effects world apart.0) (used_once (after_all effects world) steps apart.1)
 
-effects_keep : (effects : List Effect) (old : World) → AreApart effects → AreKept old.mailboxes → AreKept (after_all effects old).mailboxes
+pub effects_keep : (effects : List Effect) (old : World) → AreApart effects → AreKept old.mailboxes → AreKept (after_all effects old).mailboxes
 effects_keep effects old apart kept = by (writes_of effects old) refl
   where
     by : (r : Result (List Write) WorldError) → writes_of effects old ≡ r → AreKept (after_result r old).mailboxes

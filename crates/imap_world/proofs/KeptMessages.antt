@@ -24,6 +24,7 @@ use Rattle.imap_world.specs.Kept.{AreKept}
 use Rattle.imap_world.specs.Mailbox.{Mailbox, new_mailbox}
 use Rattle.imap_world.specs.Moving.{with_validities, with_validity}
 use Rattle.imap_world.specs.Tree.{mailboxes_with_list}
+use Rattle.imap_world.proofs.Parts.{kept_parts}
 use Rattle.imap_world.proofs.Sound.{found_before}
 
 pub kept_none : AreKept map.empty
@@ -78,12 +79,13 @@ kept_with_validities (a ∷ arrivals) m kept = kept_with_validities arrivals (wi
 
 -- ---- every write keeps it
 
-write_keeps : (w : Write) (world : World) → MayWrite w world → AreKept world.mailboxes → AreKept (after_write w world).mailboxes
+pub write_keeps : (w : Write) (world : World) → MayWrite w world → AreKept world.mailboxes → AreKept (after_write w world).mailboxes
 write_keeps (write.Put row) world may kept = kept_new_row world.mailboxes kept row.name row.validity row.acl
 write_keeps (write.SetAcl name acl) world may kept = kept_with_list world.mailboxes kept name acl (map.get world.mailboxes name) refl
 write_keeps (write.Remove name) world may kept = kept_without world.mailboxes kept name
 write_keeps (write.Move old new arrivals) world may kept =
     kept_with_validities arrivals (renamed old new world.mailboxes) (kept_renamed world.mailboxes kept old new (run_is_empty new world.mailboxes may.free))
+write_keeps (write.Messages part other) world may kept = kept_parts world.mailboxes kept part other may
 write_keeps (write.Subscribe user name) world may kept = kept
 write_keeps (write.Unsubscribe user name) world may kept = kept
 

@@ -6,12 +6,16 @@ pub mod Copied
 pub mod Current
 pub mod Fitting
 pub mod Fresh
+pub mod Growing
 pub mod Histories
 pub mod KeptMessages
 pub mod Limited
+pub mod Lone
 pub mod Made
 pub mod Moves
+pub mod OneWorld
 pub mod Owners
+pub mod Parts
 pub mod Resolved
 pub mod Room
 pub mod Sets

@@ -47,14 +47,14 @@ validities_keep : (arrivals : List (Name × ℕ)) (m : Names Mailbox) (q : Name)
 validities_keep [] m q = refl
 validities_keep (a ∷ arrivals) m q = validities_keep arrivals (with_validity m a.0 a.1 (map.get m a.0)) q ∙ validity_keeps m a.0 a.1 q
 
--- What holds of the next validity of each name that a mailbox gets, and of the validities of all other mailboxes, holds of
--- all mailboxes.
-module _ (P : Name → ℕ → Type 0) (epochs : Names ℕ) where
+-- What holds of a mailbox with the next validity of each name that one gets, and of all other mailboxes, holds of all
+-- mailboxes.
+module _ (P : Name → Mailbox → Type 0) (epochs : Names ℕ) where
   abbrev HoldsOrComes : Names Mailbox → List Name → Type 0
-  HoldsOrComes m names = (q : Name) (mailbox : Mailbox) → map.get m q ≡ Some mailbox → P q mailbox.validity ⊎ (is_among q names ≡ true)
+  HoldsOrComes m names = (q : Name) (mailbox : Mailbox) → map.get m q ≡ Some mailbox → P q mailbox ⊎ (is_among q names ≡ true)
 
   abbrev IsNextOf : List Name → Type 0
-  IsNextOf names = (q : Name) → is_among q names ≡ true → P q (epoch epochs q + 1)
+  IsNextOf names = (q : Name) (mailbox : Mailbox) → is_among q names ≡ true → mailbox.validity ≡ epoch epochs q + 1 → P q mailbox
 
   not_here : (q name : Name) (names : List Name) → is_name_at q name ≡ false → {X : Type 0} → X ⊎ (is_among q (name ∷ names) ≡ true) → X ⊎ (is_among q names ≡ true)
   not_here q name names apart (inl here) = inl here
@@ -63,29 +63,29 @@ module _ (P : Name → ℕ → Type 0) (epochs : Names ℕ) where
   one_more : (name : Name) (names : List Name) (m : Names Mailbox) → IsNextOf (name ∷ names) → HoldsOrComes m (name ∷ names) → HoldsOrComes (with_validity m name (epoch epochs name + 1) (map.get m name)) names
   one_more name names m next holds q mailbox = by (map.get m name) refl
     where
-      none : map.get m name ≡ None → (b : Bool) → is_name_at q name ≡ b → map.get m q ≡ Some mailbox → P q mailbox.validity ⊎ (is_among q names ≡ true)
+      none : map.get m name ≡ None → (b : Bool) → is_name_at q name ≡ b → map.get m q ≡ Some mailbox → P q mailbox ⊎ (is_among q names ≡ true)
       none is true e there = absurd (cc (sym there ∙ ap (map.get m) (equal_names q name e) ∙ is))
       none is false e there = not_here q name names e (holds q mailbox there)
 
       at : (before : Mailbox) → (b : Bool) → is_name_at q name ≡ b → cond b (Some (record before { validity = epoch epochs name + 1 })) (map.get m q) ≡ Some mailbox
-          → P q mailbox.validity ⊎ (is_among q names ≡ true)
+          → P q mailbox ⊎ (is_among q names ≡ true)
       at before true e there =
           let same : epoch epochs q + 1 ≡ mailbox.validity = ap (λ n. epoch epochs n + 1) (equal_names q name e) ∙ ap (λ (o : Option Mailbox). (unwrap_or o mailbox).validity) there in
-          inl (subst (P q) same (next q (or_first (is_name_at q name) (is_among q names) e)))
+          inl (next q mailbox (or_first (is_name_at q name) (is_among q names) e) (sym same))
       at before false e there = not_here q name names e (holds q mailbox there)
 
-      by : (o : Option Mailbox) → map.get m name ≡ o → map.get (with_validity m name (epoch epochs name + 1) o) q ≡ Some mailbox → P q mailbox.validity ⊎ (is_among q names ≡ true)
+      by : (o : Option Mailbox) → map.get m name ≡ o → map.get (with_validity m name (epoch epochs name + 1) o) q ≡ Some mailbox → P q mailbox ⊎ (is_among q names ≡ true)
       by None is there = none is (is_name_at q name) refl there
       by (Some before) is there = at before (is_name_at q name) refl (sym (get_put m name (record before { validity = epoch epochs name + 1 }) q) ∙ there)
 
-  arrived : (names : List Name) (m : Names Mailbox) → IsNextOf names → HoldsOrComes m names → (q : Name) (mailbox : Mailbox) → map.get (with_validities m (arrivals_at epochs names)) q ≡ Some mailbox → P q mailbox.validity
+  arrived : (names : List Name) (m : Names Mailbox) → IsNextOf names → HoldsOrComes m names → (q : Name) (mailbox : Mailbox) → map.get (with_validities m (arrivals_at epochs names)) q ≡ Some mailbox → P q mailbox
   arrived [] m next holds q mailbox there = by (holds q mailbox there)
     where
-      by : P q mailbox.validity ⊎ (false ≡ true) → P q mailbox.validity
+      by : P q mailbox ⊎ (false ≡ true) → P q mailbox
       by (inl here) = here
       by (inr e) = absurd (true≢false (sym e))
   arrived (name ∷ names) m next holds q mailbox there =
-      arrived names (with_validity m name (epoch epochs name + 1) (map.get m name)) (λ p e. next p (or_second (is_name_at p name) (is_among p names) e)) (one_more name names m next holds) q mailbox there
+      arrived names (with_validity m name (epoch epochs name + 1) (map.get m name)) (λ p found e. next p found (or_second (is_name_at p name) (is_among p names) e)) (one_more name names m next holds) q mailbox there
 
 -- the validities that are counted then
 pub counted : (epochs : Names ℕ) (names : List Name) (m : Names ℕ) (q : Name) → epoch (inserted_all m (arrivals_at epochs names)) q ≡ cond (is_among q names) (epoch epochs q + 1) (epoch m q)
@@ -246,14 +246,14 @@ module _ (world : World) (old new : Name) (arrivals : List (Name × ℕ)) (may :
       by true = omega arith
       by false = omega arith
 
-  used_or_comes : IsSound world → HoldsOrComes IsCounted world.epochs (renamed old new world.mailboxes) names
+  used_or_comes : IsSound world → HoldsOrComes (λ q mailbox. IsCounted q mailbox.validity) world.epochs (renamed old new world.mailboxes) names
   used_or_comes sound q mailbox there = by (came_or_stayed world old new free q mailbox there)
     where
       by : (map.get world.mailboxes q ≡ Some mailbox) ⊎ (is_among q names ≡ true) → IsCounted q mailbox.validity ⊎ (is_among q names ≡ true)
       by (inl stayed) = inl (omega (arith, sound.used q mailbox stayed, epochs_rise q))
       by (inr came) = inr came
 
-  some_or_comes : IsSound world → HoldsOrComes (λ q validity. 0 < validity) world.epochs (renamed old new world.mailboxes) names
+  some_or_comes : IsSound world → HoldsOrComes (λ q mailbox. 0 < mailbox.validity) world.epochs (renamed old new world.mailboxes) names
   some_or_comes sound q mailbox there = by (came_or_stayed world old new free q mailbox there)
     where
       by : (map.get world.mailboxes q ≡ Some mailbox) ⊎ (is_among q names ≡ true) → (0 < mailbox.validity) ⊎ (is_among q names ≡ true)
@@ -263,13 +263,28 @@ module _ (world : World) (old new : Name) (arrivals : List (Name × ℕ)) (may :
   sound_after : IsSound world → IsSound after
   sound_after sound = record {
     closed = closed_after sound;
-    used = arrived IsCounted world.epochs names (renamed old new world.mailboxes) next_is_counted (used_or_comes sound);
-    positive = arrived (λ q validity. 0 < validity) world.epochs names (renamed old new world.mailboxes) (λ q e. omega arith) (some_or_comes sound);
+    used = arrived (λ q mailbox. IsCounted q mailbox.validity) world.epochs names (renamed old new world.mailboxes) (λ q mailbox e is. subst (IsCounted q) (sym is) (next_is_counted q e)) (used_or_comes sound);
+    positive = arrived (λ q mailbox. 0 < mailbox.validity) world.epochs names (renamed old new world.mailboxes) (λ q mailbox e is. omega (arith, is)) (some_or_comes sound);
     counted = counted_some world.epochs names world.epochs sound.counted;
   }
 
   pub moved_is_sound : IsSound world → IsSound (with_moved world old new arrivals)
   moved_is_sound sound = subst (λ came. IsSound (with_moved world old new came)) (sym may.next) (sound_after sound)
+
+  -- what holds of a mailbox with the next validity, and of those that were there, holds of each
+  pub moved_each : (P : Name → Mailbox → Type 0) → ((q : Name) (mailbox : Mailbox) → mailbox.validity ≡ epoch world.epochs q + 1 → P q mailbox)
+      → ((q : Name) (mailbox : Mailbox) → map.get world.mailboxes q ≡ Some mailbox → P q mailbox)
+      → (q : Name) (mailbox : Mailbox) → map.get (with_moved world old new arrivals).mailboxes q ≡ Some mailbox → P q mailbox
+  moved_each P next stayed =
+      subst (λ came. (q : Name) (mailbox : Mailbox) → map.get (with_moved world old new came).mailboxes q ≡ Some mailbox → P q mailbox) (sym may.next)
+      (arrived P world.epochs names (renamed old new world.mailboxes) (λ q mailbox e is. next q mailbox is) holds)
+    where
+      holds : HoldsOrComes P world.epochs (renamed old new world.mailboxes) names
+      holds q mailbox there = by (came_or_stayed world old new free q mailbox there)
+        where
+          by : (map.get world.mailboxes q ≡ Some mailbox) ⊎ (is_among q names ≡ true) → P q mailbox ⊎ (is_among q names ≡ true)
+          by (inl is) = inl (stayed q mailbox is)
+          by (inr came) = inr came
 
   -- ---- against an earlier world
 
@@ -277,7 +292,7 @@ module _ (world : World) (old new : Name) (arrivals : List (Name × ℕ)) (may :
     next_is_new : (q : Name) → is_among q names ≡ true → IsKeptOrNew base q (epoch world.epochs q + 1)
     next_is_new q e = inr (omega (arith, keeps.epochs q))
 
-    kept_or_comes : HoldsOrComes (IsKeptOrNew base) world.epochs (renamed old new world.mailboxes) names
+    kept_or_comes : HoldsOrComes (λ q mailbox. IsKeptOrNew base q mailbox.validity) world.epochs (renamed old new world.mailboxes) names
     kept_or_comes q mailbox there = by (came_or_stayed world old new free q mailbox there)
       where
         by : (map.get world.mailboxes q ≡ Some mailbox) ⊎ (is_among q names ≡ true) → IsKeptOrNew base q mailbox.validity ⊎ (is_among q names ≡ true)
@@ -287,7 +302,7 @@ module _ (world : World) (old new : Name) (arrivals : List (Name × ℕ)) (may :
     kept_after : KeepsValidities base after
     kept_after = record {
       epochs = λ q. omega (arith, keeps.epochs q, epochs_rise q);
-      mailboxes = arrived (IsKeptOrNew base) world.epochs names (renamed old new world.mailboxes) next_is_new kept_or_comes;
+      mailboxes = arrived (λ q mailbox. IsKeptOrNew base q mailbox.validity) world.epochs names (renamed old new world.mailboxes) (λ q mailbox e is. subst (IsKeptOrNew base q) (sym is) (next_is_new q e)) kept_or_comes;
     }
 
     pub moved_is_kept : KeepsValidities base (with_moved world old new arrivals)

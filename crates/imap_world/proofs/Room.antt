@@ -1,10 +1,11 @@
 -- The room that is left after a name was written.
 use Rattle.std.proofs.Common.{◌≡◌, ℕ, ◌+◌, ◌-◌, ◌<◌, ◌≤◌, get_or, take, Bool, true, false, cond, List, [], ◌∷◌, ◌++◌, length, Option, Some, None, Result, Ok, Err, refl, sym, ap, subst, ◌∙◌, arith}
+use Rattle.std.proofs.lemmas.Bool.{and_parts}
 use Rattle.std.proofs.lemmas.List.{take_more}
 use Rattle.std.specs.Cmp.Lexicographic.{nat_list_cmp_total}
 use Rattle.std.specs.FinMap as map
 use Rattle.std.specs.FinMap.{get-insert, len-remove}
-use Rattle.std.specs.List.{AllByRecursion}
+use Rattle.std.specs.List.{AllByRecursion, list_all}
 use Rattle.std.specs.Option.{OnSome}
 use Rattle.std.specs.Prelude.{is_some, OnOk}
 use Rattle.std.specs.declared.alloc.AllocError.{AllocError}
@@ -16,7 +17,8 @@ use Rattle.imap_user_map.specs.Rows.{Users}
 use Rattle.imap_world.specs.declared.change.Write.{Write}
 use Rattle.imap_world.specs.declared.change.Write.TheVariants as write
 use Rattle.imap_world.specs.Effects.{after_write}
-use Rattle.imap_world.specs.Ready.{HasNameRoom, HasRoom, AreReady, IsOneReady, Leaves, KeepsRoom, LeavesRoom, MayBeWritten, count_of, counts_of}
+use Rattle.imap_world.specs.declared.mailbox_entry.MailboxEntry.{MailboxEntry}
+use Rattle.imap_world.specs.Ready.{HasFirstRoom, HasMessageRoom, IsLone, is_tree_write, HasNameRoom, HasRoom, AreReady, IsOneReady, Leaves, KeepsRoom, LeavesRoom, MayBeWritten, count_of, counts_of}
 use Rattle.imap_world.specs.Stored.{Stored, Subscriptions, world_of}
 use Rattle.imap_world.proofs.Sets.{is_user, equal_users, user_itself}
 
@@ -51,12 +53,30 @@ no_room o more is h = subst (HasRoom more) is h
 
 -- ---- after one write of several
 
+no_messages : (m : Names MailboxEntry) (w : Write) → is_tree_write w ≡ true → HasMessageRoom m w
+no_messages m (write.Put row) e = tt
+no_messages m (write.SetAcl name acl) e = tt
+no_messages m (write.Remove name) e = tt
+no_messages m (write.Move from to arrivals) e = tt
+no_messages m (write.Messages part other) e = absurd (cc e)
+no_messages m (write.Subscribe user name) e = tt
+no_messages m (write.Unsubscribe user name) e = tt
+
+no_messages_first : (m : Names MailboxEntry) (ws : List Write) → list_all is_tree_write ws ≡ true → HasFirstRoom m ws
+no_messages_first m [] e = tt
+no_messages_first m (w ∷ ws) e = no_messages m w (and_parts (is_tree_write w) (list_all is_tree_write ws) e).0
+
+still_lone : (ws : List Write) → list_all is_tree_write ws ≡ true → IsLone ws
+still_lone [] e = tt
+still_lone (w ∷ ws) e = (and_parts (is_tree_write w) (list_all is_tree_write ws) e).1
+
 module _ (counted : ℕ) (old new : Stored) (leaves : Leaves counted old new) where
   one_less : (more : ℕ) (w : Write) → HasNameRoom old.subscriptions (more + 1) w → HasNameRoom new.subscriptions more w
   one_less more (write.Put row) h = tt
   one_less more (write.SetAcl name acl) h = tt
   one_less more (write.Remove name) h = tt
   one_less more (write.Move from to arrivals) h = tt
+  one_less more (write.Messages part other) h = tt
   one_less more (write.Subscribe user name) h = leaves.users user more h
   one_less more (write.Unsubscribe user name) h = tt
 
@@ -69,8 +89,10 @@ module _ (counted : ℕ) (old new : Stored) (leaves : Leaves counted old new) wh
     room = record {
       mailboxes = omega (arith, leaves.mailboxes, ready.room.mailboxes);
       epochs = omega (arith, counts, leaves.epochs, ready.room.epochs);
+      first = no_messages_first new.mailboxes.map ws ready.lone;
       sets = all_less (length ws) ws (subst (λ n. AllByRecursion (HasNameRoom old.subscriptions n) ws) (omega (arith)) ready.room.sets.1);
     };
+    lone = still_lone ws ready.lone;
     may = subst (MayBeWritten ws) (sym is) ready.may.1;
   }
 
@@ -79,6 +101,7 @@ at_least_one s n (write.Put row) le h = tt
 at_least_one s n (write.SetAcl name acl) le h = tt
 at_least_one s n (write.Remove name) le h = tt
 at_least_one s n (write.Move from to arrivals) le h = tt
+at_least_one s n (write.Messages part other) le h = tt
 at_least_one s n (write.Subscribe user name) le h = fewer (map.get s.map user) 1 n le h
 at_least_one s n (write.Unsubscribe user name) le h = tt
 
@@ -86,6 +109,7 @@ pub first_ready : (s : Stored) (w : Write) (ws : List Write) → AreReady (w ∷
 first_ready s w ws ready = record {
   mailboxes = omega (arith, ready.room.mailboxes);
   epochs = omega (arith, ready.room.epochs);
+  messages = ready.room.first;
   set = at_least_one s.subscriptions (length (w ∷ ws)) w (omega (arith)) ready.room.sets.0;
   may = ready.may.0;
 }
@@ -98,6 +122,7 @@ module _ (old new : Subscriptions) (keeps : KeepsRoom old new) (more : ℕ) wher
   one_kept (write.SetAcl name acl) h = tt
   one_kept (write.Remove name) h = tt
   one_kept (write.Move from to arrivals) h = tt
+  one_kept (write.Messages part other) h = tt
   one_kept (write.Subscribe user name) h = keeps user more h
   one_kept (write.Unsubscribe user name) h = tt
 

@@ -2,6 +2,7 @@
 use Rattle.std.specs.Prelude.{ℕ, ◌==◌, List, [], ◌∷◌, ◌++◌, not, Option, Some, None, Result, Ok, Err}
 use Rattle.std.specs.Prelude.{if◌then◌else◌}
 use Rattle.std.specs.FinMap as map
+use Rattle.imap_name_map.specs.Kept as kept
 use Rattle.imap_name_map.specs.Rows.{has_below, has_within}
 use Rattle.imap_names.specs.Name.{Name, is_inbox}
 use Rattle.imap_rights.specs.Acl.{AclMap, owner_acl}
@@ -14,6 +15,7 @@ use Rattle.imap_world.specs.declared.effect.Effect.TheVariants as effect
 use Rattle.imap_world.specs.declared.error.WorldError.{WorldError}
 use Rattle.imap_world.specs.declared.error.WorldError.TheVariants.{NoSuch, Taken, Below, Cannot}
 use Rattle.imap_world.specs.Mailbox.{Mailbox}
+use Rattle.imap_world.specs.Messages.{messages_written, with_messages}
 use Rattle.imap_world.specs.Moving.{arrivals, can_move, superior_rows, with_moved}
 use Rattle.imap_world.specs.NewMailbox.{NewMailbox}
 use Rattle.imap_world.specs.Tree.{acl_with_rights, with_acl, without, created_rows}
@@ -24,7 +26,7 @@ pub use Rattle.imap_world.specs.Tree.{with_row, new_row}
 
 -- the set, if it has a name
 abbrev pub if_filled : NameSet → Option NameSet
-if_filled names = if map.len names == 0 then None else Some names
+if_filled names = kept.if_filled names
 
 abbrev pub with_option : {X : Type 0} → Users X → List ℕ → Option X → Users X
 with_option m user None = map.remove m user
@@ -40,6 +42,7 @@ after_write (write.Put row) world = with_row world row
 after_write (write.SetAcl name acl) world = with_acl world name acl
 after_write (write.Remove name) world = without world name
 after_write (write.Move old new arrivals) world = with_moved world old new arrivals
+after_write (write.Messages part other) world = with_messages world part other
 after_write (write.Subscribe user name) world =
     with_subscribed world user (map.insert (subscribed_by world user) name tt)
 after_write (write.Unsubscribe user name) world =
@@ -106,6 +109,7 @@ writes_for (effect.Rename owner old new) world =
     if map.contains_key world.mailboxes old then renaming world owner old new else Err NoSuch
 writes_for (effect.SetRights name identifier change) world =
     list_changed name identifier change (map.get world.mailboxes name)
+writes_for (effect.Messages part other) world = messages_written world.mailboxes part other
 writes_for (effect.Subscribe user name) world = Ok (write.Subscribe user name ∷ [])
 writes_for (effect.Unsubscribe user name) world = Ok (write.Unsubscribe user name ∷ [])
 

@@ -1,8 +1,9 @@
 -- What holds of worlds, whatever effects are made.
 use Rattle.std.specs.Prelude.{◌≡◌, ◌⊎◌, ◌+◌, ◌<◌, ◌≤◌, ℕ, Bool, true, false, not, ◌&&◌, nat_lt, List, length}
-use Rattle.std.specs.Prelude.{Some, None, Ok, option_map}
+use Rattle.std.specs.Prelude.{Option, Some, None, Ok, option_map}
 use Rattle.std.specs.FinMap as map
 use Rattle.std.specs.List.{AllByRecursion}
+use Rattle.imap_batch.specs.Laws.{IsGrown}
 use Rattle.imap_names.specs.Name.{Name}
 use Rattle.imap_names.specs.Order.{Names, is_within, moved}
 use Rattle.imap_rights.specs.Acl.{with_entry}
@@ -13,7 +14,7 @@ use Rattle.imap_world.specs.declared.effect.Effect.{Effect}
 use Rattle.imap_world.specs.Mailbox.{Mailbox, new_mailbox}
 use Rattle.imap_world.specs.Effects.{after_steps, after_writes, writes_for}
 use Rattle.imap_world.specs.Kept.{AreKept, IsSound}
-use Rattle.imap_world.specs.Ready.{AreApart, IsCurrent}
+use Rattle.imap_world.specs.Ready.{AreApart, IsCurrent, MayChangeParts}
 use Rattle.imap_world.specs.Tree.{inherited}
 use Rattle.imap_world.specs.World.{World, epoch, inbox}
 
@@ -43,9 +44,37 @@ abbrev pub ValiditiesAreUsedOnce : Type 0
 ValiditiesAreUsedOnce = (world : World) (steps : List (List Effect))
     → AllByRecursion AreApart steps → KeepsValidities world (after_steps steps world)
 
+-- ---- messages
+
+-- UIDVALIDITY is as before. UIDNEXT and the number of shared events didn't fall, and a session that was
+-- brought up stays so (RFC 9051, section 2.3.1.1)
+pub record IsGrownFrom (before after : Mailbox) : Type 0 where
+  pub validity : before.validity ≡ after.validity
+  pub messages : IsGrown before.messages after.messages
+
+abbrev pub IsGrownFromSome : Mailbox → Option Mailbox → Type 0
+IsGrownFromSome after None = ⊥
+IsGrownFromSome after (Some before) = IsGrownFrom before after
+
+-- it is what the mailbox of the name has become, or its UIDVALIDITY is above all that were used there
+abbrev pub IsGrownOrNew : World → Name → Mailbox → Type 0
+IsGrownOrNew old name mailbox =
+    IsGrownFromSome mailbox (map.get old.mailboxes name) ⊎ (epoch old.epochs name < mailbox.validity)
+
+pub record MessagesGrown (old new : World) : Type 0 where
+  pub epochs : (name : Name) → epoch old.epochs name ≤ epoch new.epochs name
+  pub mailboxes : (name : Name) (mailbox : Mailbox)
+      → map.get new.mailboxes name ≡ Some mailbox → IsGrownOrNew old name mailbox
+
+-- Under a name and a UIDVALIDITY messages only grow.
+abbrev pub MessagesGrow : Type 0
+MessagesGrow = (world : World) (steps : List (List Effect))
+    → AllByRecursion AreApart steps → AreKept world.mailboxes → MessagesGrown world (after_steps steps world)
+
 -- ---- changes that are current
 
--- A list that is set is the mailbox's as it is, with one entry changed. What goes or moves is there.
+-- A list that is set is the mailbox's as it is, with one entry changed. What goes or moves is there. What is
+-- written to messages is what is found for them as they are.
 abbrev pub IsFresh : World → Write → Type 0
 IsFresh world (write.Put row) = Unit {0}
 IsFresh world (write.SetAcl name acl) =
@@ -53,6 +82,7 @@ IsFresh world (write.SetAcl name acl) =
     × (map.get world.mailboxes name ≡ Some mailbox) × (acl ≡ with_entry mailbox.acl identifier rights)
 IsFresh world (write.Remove name) = map.contains_key world.mailboxes name ≡ true
 IsFresh world (write.Move old new arrivals) = map.contains_key world.mailboxes old ≡ true
+IsFresh world (write.Messages part other) = MayChangeParts world.mailboxes part other
 IsFresh world (write.Subscribe user name) = Unit {0}
 IsFresh world (write.Unsubscribe user name) = Unit {0}
 

@@ -4,6 +4,7 @@ pub mod Effects
 pub mod Kept
 pub mod Laws
 pub mod Mailbox
+pub mod Messages
 pub mod Moving
 pub mod Ready
 pub mod NewMailbox

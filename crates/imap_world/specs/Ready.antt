@@ -3,15 +3,22 @@ use Rattle.std.specs.Prelude.{◌≡◌, ◌⊎◌, ℕ, ◌+◌, ◌<◌, ◌�
 use Rattle.std.specs.Prelude.{Option, Some, None, Ok}
 use Rattle.std.specs.FinMap as map
 use Rattle.std.specs.List.{AllByRecursion, IsDistinct, filter_map, list_all}
+use Rattle.imap_batch.specs.Written.{MayWrite as MayWriteBatch, HasRoomFor as HasBatchRoom}
+use Rattle.imap_batch.specs.declared.write.BatchWrite.{BatchWrite}
 use Rattle.imap_name_map.specs.Renaming.{moved_names}
 use Rattle.imap_name_map.specs.Rows.{Rows, has_below, has_within}
 use Rattle.imap_names.specs.Name.{Name}
+use Rattle.imap_names.specs.Order.{Names}
 use Rattle.imap_world.specs.declared.change.Write.{Write}
 use Rattle.imap_world.specs.declared.change.Write.TheVariants as write
 use Rattle.imap_world.specs.declared.effect.Effect.{Effect}
 use Rattle.imap_world.specs.declared.effect.Effect.TheVariants as effect
 use Rattle.imap_world.specs.Effects.{after_all, after_write, writes_of}
+use Rattle.imap_world.specs.declared.mailbox_entry.MailboxEntry.{MailboxEntry}
+use Rattle.imap_world.specs.declared.named_batch.NamedWrite.{NamedWrite}
 use Rattle.imap_world.specs.Kept.{superior_is_there}
+use Rattle.imap_world.specs.Mailbox.{Mailbox}
+use Rattle.imap_world.specs.Messages.{is_same_name}
 use Rattle.imap_world.specs.Moving.{arrivals_at, can_move}
 use Rattle.imap_world.specs.NewMailbox.{NewMailbox}
 use Rattle.imap_world.specs.Stored.{Stored, Subscriptions, world_of}
@@ -26,6 +33,7 @@ is_plain (effect.Create owner name) = false
 is_plain (effect.Delete name) = false
 is_plain (effect.Rename owner old new) = false
 is_plain (effect.SetRights name identifier change) = false
+is_plain (effect.Messages part other) = false
 is_plain (effect.Subscribe user name) = true
 is_plain (effect.Unsubscribe user name) = true
 
@@ -36,6 +44,7 @@ inbox_owner (effect.Create owner name) = None
 inbox_owner (effect.Delete name) = None
 inbox_owner (effect.Rename owner old new) = None
 inbox_owner (effect.SetRights name identifier change) = None
+inbox_owner (effect.Messages part other) = None
 inbox_owner (effect.Subscribe user name) = None
 inbox_owner (effect.Unsubscribe user name) = None
 
@@ -66,12 +75,29 @@ pub record MayMove (old new : Name) (arrivals : List (Name × ℕ)) (world : Wor
   pub superior : superior_is_there world.mailboxes new ≡ true
   pub next : arrivals ≡ arrivals_at world.epochs (moved_names old new world.mailboxes)
 
+abbrev pub MayChangeAt : BatchWrite → Option Mailbox → Type 0
+MayChangeAt w None = ⊥
+MayChangeAt w (Some m) = MayWriteBatch w m.messages
+
+-- the mailbox is there, and it is what is found for its messages as they are
+abbrev pub MayChange : Names Mailbox → NamedWrite → Type 0
+MayChange mailboxes w = MayChangeAt w.write (map.get mailboxes w.name)
+
+abbrev pub MayChangeOther : Names Mailbox → Name → Option NamedWrite → Type 0
+MayChangeOther mailboxes name None = Unit {0}
+MayChangeOther mailboxes name (Some other) =
+    (is_same_name other.name name ≡ false) × MayChange mailboxes other
+
+abbrev pub MayChangeParts : Names Mailbox → NamedWrite → Option NamedWrite → Type 0
+MayChangeParts mailboxes w other = MayChange mailboxes w × MayChangeOther mailboxes w.name other
+
 -- a mailbox goes only if none is below it
 abbrev pub MayWrite : Write → World → Type 0
 MayWrite (write.Put row) world = MayPut row world
 MayWrite (write.SetAcl name acl) world = Unit {0}
 MayWrite (write.Remove name) world = has_below name world.mailboxes ≡ false
 MayWrite (write.Move old new arrivals) world = MayMove old new arrivals world
+MayWrite (write.Messages part other) world = MayChangeParts world.mailboxes part other
 MayWrite (write.Subscribe user name) world = Unit {0}
 MayWrite (write.Unsubscribe user name) world = Unit {0}
 
@@ -93,6 +119,7 @@ HasNameRoom subscriptions more (write.Put row) = Unit {0}
 HasNameRoom subscriptions more (write.SetAcl name acl) = Unit {0}
 HasNameRoom subscriptions more (write.Remove name) = Unit {0}
 HasNameRoom subscriptions more (write.Move old new arrivals) = Unit {0}
+HasNameRoom subscriptions more (write.Messages part other) = Unit {0}
 HasNameRoom subscriptions more (write.Subscribe user name) = HasRoom more (map.get subscriptions.map user)
 HasNameRoom subscriptions more (write.Unsubscribe user name) = Unit {0}
 
@@ -102,6 +129,7 @@ count_of (write.Put row) = 1
 count_of (write.Move old new arrivals) = length arrivals
 count_of (write.SetAcl name acl) = 0
 count_of (write.Remove name) = 0
+count_of (write.Messages part other) = 0
 count_of (write.Subscribe user name) = 0
 count_of (write.Unsubscribe user name) = 0
 
@@ -109,10 +137,54 @@ abbrev pub counts_of : List Write → ℕ
 counts_of [] = 0
 counts_of (write ∷ writes) = count_of write + counts_of writes
 
+-- room in the mailbox, if it is there, for what is written to its messages
+abbrev pub HasEntryRoom : BatchWrite → Option MailboxEntry → Type 0
+HasEntryRoom w None = Unit {0}
+HasEntryRoom w (Some entry) = HasBatchRoom w.batch entry.messages.value
+
+abbrev pub HasPartRoom : Names MailboxEntry → NamedWrite → Type 0
+HasPartRoom entries w = HasEntryRoom w.write (map.get entries w.name)
+
+-- in both mailboxes, if these are different ones
+abbrev pub HasPartsRoom : Names MailboxEntry → NamedWrite → Option NamedWrite → Type 0
+HasPartsRoom entries w None = HasPartRoom entries w
+HasPartsRoom entries w (Some other) =
+    is_same_name other.name w.name ≡ false → HasPartRoom entries w × HasPartRoom entries other
+
+abbrev pub HasMessageRoom : Names MailboxEntry → Write → Type 0
+HasMessageRoom entries (write.Put row) = Unit {0}
+HasMessageRoom entries (write.SetAcl name acl) = Unit {0}
+HasMessageRoom entries (write.Remove name) = Unit {0}
+HasMessageRoom entries (write.Move old new arrivals) = Unit {0}
+HasMessageRoom entries (write.Messages part other) = HasPartsRoom entries part other
+HasMessageRoom entries (write.Subscribe user name) = Unit {0}
+HasMessageRoom entries (write.Unsubscribe user name) = Unit {0}
+
+-- only the first of the writes needs room inside of mailboxes: no other one writes to messages
+abbrev pub HasFirstRoom : Names MailboxEntry → List Write → Type 0
+HasFirstRoom entries [] = Unit {0}
+HasFirstRoom entries (write ∷ writes) = HasMessageRoom entries write
+
+-- it writes to no messages
+abbrev pub is_tree_write : Write → Bool
+is_tree_write (write.Put row) = true
+is_tree_write (write.SetAcl name acl) = true
+is_tree_write (write.Remove name) = true
+is_tree_write (write.Move old new arrivals) = true
+is_tree_write (write.Messages part other) = false
+is_tree_write (write.Subscribe user name) = true
+is_tree_write (write.Unsubscribe user name) = true
+
+-- only the first writes to messages, if any does
+abbrev pub IsLone : List Write → Type 0
+IsLone [] = Unit {0}
+IsLone (write ∷ writes) = list_all is_tree_write writes ≡ true
+
 -- with room wherever one of the writes may need some
 pub record HasRoomFor (change : List Write) (stored : Stored) : Type 0 where
   pub mailboxes : length change ≤ stored.mailboxes.spare
   pub epochs : counts_of change ≤ stored.epochs.spare
+  pub first : HasFirstRoom stored.mailboxes.map change
   pub sets : AllByRecursion (HasNameRoom stored.subscriptions (length change)) change
 
 -- ---- what is ready
@@ -121,12 +193,14 @@ pub record HasRoomFor (change : List Write) (stored : Stored) : Type 0 where
 pub record IsOneReady (stored : Stored) (write : Write) : Type 0 where
   pub mailboxes : 0 < stored.mailboxes.spare
   pub epochs : count_of write ≤ stored.epochs.spare
+  pub messages : HasMessageRoom stored.mailboxes.map write
   pub set : HasNameRoom stored.subscriptions 1 write
   pub may : MayWrite write (world_of stored)
 
 -- The writes can be made one after another, in the room that there is.
 pub record AreReady (writes : List Write) (stored : Stored) : Type 0 where
   pub room : HasRoomFor writes stored
+  pub lone : IsLone writes
   pub may : MayBeWritten writes (world_of stored)
 
 -- The change is what is written for some effects by the world as it is. A change that was found before

@@ -4,9 +4,11 @@ ghost use Rattle.std.specs.Prelude.{◌≡◌, ◌↔◌, ◌++◌, ◌∷◌, [
 ghost use Rattle.imap_world.specs.Ready.{count_of, counts_of};
 
 use crate::arrivals::Arrivals;
+use crate::named_batch::NamedWrite;
 use crate::new_mailbox::NewMailbox;
 use imap_names::{Name, UserName};
 use imap_rights::Acl;
+use imap_values::TryCopy;
 use std::alloc::{AllocError, Global};
 use std::marker::Model;
 
@@ -22,6 +24,8 @@ pub enum Write {
     /// The mailbox of the first name and all below it are called by the second name. These are the names
     /// that they get. They keep their lists and their messages.
     Move(Name, Name, Arrivals),
+    /// The messages of a mailbox change, and those of another one.
+    Messages(NamedWrite, Option<NamedWrite>),
     Subscribe(UserName, Name),
     Unsubscribe(UserName, Name),
 }
@@ -36,6 +40,7 @@ impl Write {
             Write::Move(_, _, arrivals) => arrivals.entries().len(),
             Write::SetAcl(_, _)
             | Write::Remove(_)
+            | Write::Messages(_, _)
             | Write::Subscribe(_, _)
             | Write::Unsubscribe(_, _) => 0,
         }
@@ -52,6 +57,10 @@ impl Write {
             Write::Move(old, new, arrivals) => {
                 let arrivals = arrivals.try_copy(alloc)?;
                 Ok(Write::Move(old.try_copy()?, new.try_copy()?, arrivals))
+            }
+            Write::Messages(part, other) => {
+                let part = part.try_copy(alloc)?;
+                Ok(Write::Messages(part, other.try_copy(alloc)?))
             }
             Write::Subscribe(user, name) => {
                 Ok(Write::Subscribe(user.try_copy()?, name.try_copy()?))

@@ -1,11 +1,12 @@
 //! What a step asks of the mailboxes.
 
+use crate::named_batch::NamedBatch;
 use imap_names::{Name, UserName};
 use imap_rights::{Identifier, RightsChange};
 
 /// One change that is asked for. What the user may not know of it is left to
 /// [`World::prepare`](crate::World::prepare).
-#[derive(Debug, Drop)]
+#[derive(Drop)]
 pub enum Effect {
     /// The INBOX of a user is made, with all rights for the user alone.
     CreateInbox(UserName),
@@ -22,6 +23,8 @@ pub enum Effect {
     /// The rights of one identifier on the mailbox change (RFC 4314, section 3.1). To replace them by none
     /// is to remove its entry (RFC 4314, section 3.2).
     SetRights(Name, Identifier, RightsChange),
+    /// The messages of a mailbox change, and those of another one. Both are one change.
+    Messages(NamedBatch, Option<NamedBatch>),
     /// A name becomes one of those that the user subscribed to (RFC 9051, section 6.3.7).
     Subscribe(UserName, Name),
     /// It is no longer one of them (RFC 9051, section 6.3.8).

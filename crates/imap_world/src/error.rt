@@ -9,7 +9,7 @@ use thiserror::Error;
 /// Why a change of the mailboxes was refused.
 #[derive(Clone, Copy, Debug, Error, PartialEq, Eq)]
 pub enum WorldError {
-    /// There is no such mailbox, or no superior of it.
+    /// There is no such mailbox, no superior of it, or no message with a UID.
     #[error("there is no such mailbox")]
     NoSuch,
     /// The name is in use.
@@ -18,10 +18,12 @@ pub enum WorldError {
     /// There are mailboxes below the name.
     #[error("there are mailboxes below the name")]
     Below,
-    /// An INBOX can't go, and a mailbox can't move to another tree or below itself.
+    /// An INBOX can't go, a mailbox can't move to another tree or below itself, and no two batches of one
+    /// mailbox are one change.
     #[error("that is not possible")]
     Cannot,
-    /// The access control list is full, the name is too long or too deep, or no UIDVALIDITY is left under it.
+    /// The access control list is full, the name is too long or too deep, no UIDVALIDITY is left under it, no
+    /// UID or shared event is left in a mailbox, or a message would have too many keywords.
     #[error("a limit is reached")]
     Limit,
     #[error("out of memory")]

@@ -1,7 +1,7 @@
 //! What holds of worlds, whatever effects are made.
 
-ghost use Rattle.imap_world.specs.Laws.{CreatesByName, CurrentIsFresh, MessagesStayKept, RenamesByName};
-ghost use Rattle.imap_world.specs.Laws.{ValiditiesAreUsedOnce, WorldsStaySound};
+ghost use Rattle.imap_world.specs.Laws.{CreatesByName, CurrentIsFresh, MessagesGrow, MessagesStayKept};
+ghost use Rattle.imap_world.specs.Laws.{RenamesByName, ValiditiesAreUsedOnce, WorldsStaySound};
 
 /// The superiors of mailboxes stay there, and the UIDVALIDITYs of mailboxes stay counted.
 pub fn worlds_stay_sound()
@@ -19,8 +19,15 @@ pub fn validities_are_used_once()
     ensures { ValiditiesAreUsedOnce }
 {}
 
-/// A change that is current sets no list that was found before another changed it, and removes or moves no
-/// mailbox that is gone.
+/// Under a name and a UIDVALIDITY, messages only grow: UIDNEXT and the number of shared events don't fall, and
+/// a session that was told of the mailbox up to a mod-sequence stays so. A mailbox that is another has a
+/// UIDVALIDITY above all that were used under its name.
+pub fn messages_grow()
+    ensures { MessagesGrow }
+{}
+
+/// A change that is current sets no list that was found before another changed it, removes or moves no
+/// mailbox that is gone, and writes to messages only what is found for them as they are.
 pub fn current_changes_are_fresh()
     ensures { CurrentIsFresh }
 {}

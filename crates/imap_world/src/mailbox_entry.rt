@@ -1,8 +1,10 @@
 //! What a name stands for.
 
-ghost use Rattle.std.specs.Prelude.{◌≡◌, IfOk};
+ghost use Rattle.std.specs.Prelude.{◌≡◌, IfOk, OnOk};
+ghost use Rattle.imap_batch.specs.Written.{with_batch, HasRoomFor, MayWrite};
 ghost use Rattle.imap_world.specs.Mailbox.{new_mailbox, plain};
 
+use imap_batch::{BatchWrite, make_room, write_batch};
 use imap_mailbox::Mailbox;
 use imap_rights::Acl;
 use std::alloc::{AllocError, Global};
@@ -27,6 +29,24 @@ impl MailboxEntry {
             acl,
             messages: Box::new(alloc, Mailbox::new(alloc))?,
         })
+    }
+
+    /// Makes room for what is written to its messages.
+    pub(crate) fn make_room(&mut self, alloc: Global, write: &BatchWrite) -> Result<(), AllocError>
+        ensures contents { plain self.new ≡ plain self.old }
+        ensures ok { OnOk result (HasRoomFor write.now.batch self.new.messages.value) }
+    {
+        make_room(self.messages.as_mut(), alloc, write)
+    }
+
+    /// Writes to its messages, in room that is there.
+    pub(crate) fn write(&mut self, write: BatchWrite)
+        requires room { HasRoomFor write.batch self.old.messages.value }
+        requires may { MayWrite write (plain self.old).messages }
+        ensures { let before = plain self.old in
+            plain self.new ≡ record before { messages = with_batch write.batch before.messages } }
+    {
+        write_batch(self.messages.as_mut(), write);
     }
 
     /// Returns a copy that shares octets and keywords. Its room may be another.

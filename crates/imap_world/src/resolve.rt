@@ -63,6 +63,7 @@ impl World {
             Effect::SetRights(name, identifier, change) => {
                 self.resolve_rights(alloc, name, identifier, *change)
             }
+            Effect::Messages(part, other) => self.resolve_messages(alloc, part, other),
             Effect::Subscribe(user, name) => {
                 let write = Write::Subscribe(user.try_copy()?, name.try_copy()?);
                 Ok(Change::of(alloc, write)?)

@@ -49,6 +49,7 @@ fn make_room_for_one(
         | Write::SetAcl(_, _)
         | Write::Remove(_)
         | Write::Move(_, _, _)
+        | Write::Messages(_, _)
         | Write::Unsubscribe(_, _) => Ok(()),
     }
 }

@@ -1,7 +1,7 @@
 //! The world.
 
-ghost use Rattle.std.specs.Prelude.{◌≡◌, ◌+◌, ◌<◌, ◌≤◌, ◌∷◌, [], false, true, not, length, IfOk, Ok};
-ghost use Rattle.std.specs.Prelude.{MatchOption, OnErr, OnOk, option_copied};
+ghost use Rattle.std.specs.Prelude.{◌≡◌, ◌↔◌, ◌+◌, ◌<◌, ◌≤◌, ◌∷◌, [], false, true, not, length, IfOk, Ok};
+ghost use Rattle.std.specs.Prelude.{IsTrue, MatchOption, OnErr, OnOk, option_copied};
 ghost use Rattle.std.specs.FinMap as map;
 ghost use Rattle.imap_name_map.specs.Rows.{has_below, has_within};
 ghost use Rattle.imap_world.specs.Changing.{Answers, AnswersOrMemory, Changes};
@@ -10,9 +10,10 @@ ghost use Rattle.imap_world.specs.Effects.{after_write, after_writes, writes_for
 ghost use Rattle.imap_world.specs.Kept.{AreKept, IsSound};
 ghost use Rattle.imap_world.specs.Laws.{KeepsValidities};
 ghost use Rattle.imap_world.specs.Mailbox.{plain_all, plain_lent};
+ghost use Rattle.imap_world.specs.Messages.{with_messages};
 ghost use Rattle.imap_world.specs.Moving.{with_moved};
 ghost use Rattle.imap_world.specs.Ready.{AreApart, HasRoomFor, IsMadeByEffects, IsOneReady, IsReady, Leaves};
-ghost use Rattle.imap_world.specs.Ready.{MayMove, MayPut, count_of};
+ghost use Rattle.imap_world.specs.Ready.{HasPartsRoom, MayChangeParts, MayMove, MayPut, count_of};
 ghost use Rattle.imap_world.specs.Stored.{names_in, world_of};
 ghost use Rattle.imap_world.specs.Tree.{new_row, with_acl, with_row, without};
 ghost use Rattle.imap_world.specs.World.{epoch, max_validity, subscribed_by};
@@ -23,7 +24,9 @@ use crate::copies::copy_mailboxes;
 use crate::effect::Effect;
 use crate::error::WorldError;
 use crate::mailbox_entry::MailboxEntry;
+use crate::messages::{make_message_room, write_parts};
 use crate::moving::set_validities;
+use crate::named_batch::NamedWrite;
 use crate::new_mailbox::NewMailbox;
 use crate::placing::{epoch_of, has_superior, new_row, next_validity};
 use crate::rights::{put_acl, set_rights};
@@ -92,6 +95,15 @@ impl World {
             epochs: self.epochs.try_copy(alloc)?,
             subscriptions: self.subscriptions.try_copy(alloc)?,
         })
+    }
+
+    /// Whether both are one world, whatever their room.
+    pub fn same(&self, other: &World) -> bool
+        ensures { IsTrue result ↔ (world_of self.now ≡ world_of other.now) }
+    {
+        self.mailboxes.is_same(&other.mailboxes)
+            && self.epochs.is_same(&other.epochs)
+            && self.subscriptions.is_same(&other.subscriptions)
     }
 
     /// The mailbox of this name, or `None` if there is none.
@@ -211,10 +223,11 @@ impl World {
     /// Memory may run out before the fault of an effect that isn't the first.
     ///
     /// Fails with the first fault: `Taken` if a mailbox is to be made or to move to a name that is in use,
-    /// `NoSuch` if one isn't there that is to go, to move or to have other rights, `Cannot` if an INBOX is
-    /// to go or a mailbox can't move there, `Below` if one is below a mailbox that is to go, `Limit` if no
-    /// UIDVALIDITY is left, a name would be too long or too deep, or an access control list would be too
-    /// long.
+    /// `NoSuch` if one isn't there that is to go, to move or to have other rights or messages, or if a batch
+    /// names a message that isn't there, `Cannot` if an INBOX is to go, a mailbox can't move there or two
+    /// batches are of one mailbox, `Below` if one is below a mailbox that is to go, `Limit` if no UIDVALIDITY,
+    /// UID or shared event is left, a message would have too many keywords, a name would be too long or too
+    /// deep, or an access control list would be too long.
     pub fn prepare(&mut self, alloc: Global, effects: &[Effect]) -> Result<Change, WorldError>
         requires { AreApart effects.now }
         ensures unchanged { world_of self.new ≡ world_of self.old }
@@ -236,6 +249,7 @@ impl World {
         let more = change.len();
         self.mailboxes.reserve(more)?;
         self.epochs.reserve(change.count()?)?;
+        make_message_room(&mut self.mailboxes, alloc, change.writes())?;
         make_room_for(&mut self.subscriptions, alloc, change.writes(), more)
     }
 
@@ -266,6 +280,7 @@ impl World {
             Write::Move(old, new, arrivals) => {
                 self.move_run(&old.as_ref(), &new.as_ref(), arrivals)
             }
+            Write::Messages(part, other) => self.put_messages(part, other),
             Write::Subscribe(user, name) => {
                 add_name(&mut self.subscriptions, user.as_str(), name)
             }
@@ -294,6 +309,16 @@ impl World {
         ensures room { Leaves 0 self.old self.new }
     {
         put_acl(&mut self.mailboxes, name, acl);
+    }
+
+    /// Writes to the messages of one mailbox, and of another one.
+    fn put_messages(&mut self, part: NamedWrite, other: Option<NamedWrite>)
+        requires room { HasPartsRoom self.old.mailboxes.map part other }
+        requires may { MayChangeParts (world_of self.old).mailboxes part other }
+        ensures world { world_of self.new ≡ with_messages (world_of self.old) part other }
+        ensures room { Leaves 0 self.old self.new }
+    {
+        write_parts(&mut self.mailboxes, part, other);
     }
 
     /// Removes a mailbox with its messages, if it is there.

@@ -5,8 +5,10 @@ use Rattle.imap_view.proofs.Afters.{hidden_absent}
 use Rattle.imap_core.proofs.laws.hidden_is_alike.Goals as goal
 
 pub returns : goal.returns
-returns c = λ user s t sites sessions differ. record {
+returns c = λ user s t sites sessions kept kept_other differ. record {
   views = hidden_absent s.site user s.world t.world differ ∙ ap (λ (site : Site). view_of site user t.world) sites;
   sessions = sessions;
   sites = sites;
+  kept = kept;
+  kept_other = kept_other;
 }
