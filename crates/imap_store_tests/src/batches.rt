@@ -1,8 +1,5 @@
 //! Tests of batches.
 
-mod plain;
-mod random;
-
 use crate::flags::flags_of;
 use crate::mailbox::{add_more, date, many_words, message, shown};
 use imap_batch::{Batch, BatchError, Mark, NewMessage, make_room, resolve, write_batch};
@@ -41,16 +38,17 @@ fn new_message(alloc: Global, seen: bool) -> Result<NewMessage, MailboxError> {
 }
 
 /// Why the batch was refused.
-pub(crate) fn refusal(error: BatchError) -> MailboxError {
+fn refusal(error: BatchError) -> MailboxError {
     match error {
         BatchError::Limit => MailboxError::Limit,
         BatchError::NoSuchUid => MailboxError::NoSuchUid,
+        BatchError::Memory => MailboxError::Memory,
     }
 }
 
 /// Makes the changes of a batch.
 fn apply(alloc: Global, mailbox: &mut Mailbox, batch: Batch) -> Result<(), MailboxError> {
-    let write = resolve(mailbox, batch).map_err(refusal)?;
+    let write = resolve(alloc, mailbox, &batch).map_err(refusal)?;
     make_room(mailbox, alloc, &write)?;
     write_batch(mailbox, write);
     Ok(())

@@ -25,3 +25,5 @@ mod patterns;
 mod rights;
 #[cfg(test)]
 mod text;
+#[cfg(test)]
+mod wanted;

@@ -1,13 +1,51 @@
-//! Tests of mailboxes. A test lends its mailbox to a function and lets it go before a `?`: a `?` within reach
-//! of one takes long to prove.
+//! Tests of mailboxes. A row has what is done to a mailbox, and what the mailbox shows then.
+//!
+//! A mailbox is lent to a function and let go before a `?`: a `?` within reach of one takes long to prove.
 
-use crate::flags::{atom, flags_of, word_text};
+use crate::commits::{add_in_room, expunge_in_room, flag_in_room, mark_in_room, several_in_room};
+use crate::flags::{atom, flags_of};
+use crate::wanted::expect_text;
 use imap_lex::Octets;
 use imap_mailbox::{GoneUids, KnownMessage, Mailbox, MailboxError, Row, Rows, SharedFlags};
 use imap_syntax::DateTime;
-use imap_values::{Same, TryCopy};
-use std::alloc::Global;
-use std::test::Fail;
+use imap_values::TryCopy;
+use std::alloc::{AllocError, Global};
+
+/// What is done to a mailbox, or looked at.
+#[derive(Clone, Copy)]
+enum Act {
+    /// This many messages are added without flags, where 100 messages may be.
+    Add(u32),
+    /// A message with this many keywords is added, where this many messages may be.
+    AddWords(u8, u64),
+    /// The message with this UID has these keywords and no other flags.
+    Words(u32, &'static [&'static [u8]]),
+    /// It has this many keywords.
+    ManyWords(u32, u8),
+    /// It has `\Deleted` alone.
+    Delete(u32),
+    /// bob sets his own `\Seen` of it, or takes it away.
+    Seen(u32, bool),
+    Expunge(u32),
+    // The same in room that was made before.
+    AddInRoom,
+    WordInRoom(u32),
+    SeenInRoom(u32),
+    ExpungeInRoom(u32),
+    SeveralInRoom,
+    /// What a copy shows.
+    Copy,
+    /// What went since this number, for ann and for bob.
+    GoneSince(u64),
+    /// The numbers of messages, deleted ones, unseen ones, and octets, for ann and for bob.
+    Status,
+    /// The place of the message with this UID in bob's rows, and of the first that has no lower one.
+    Place(u32),
+    /// How many more messages may be added, where this many may be.
+    Room(u64),
+    /// What bob is told of the message with this UID.
+    Tell(u32),
+}
 
 /// A date that messages may have.
 pub(crate) fn date() -> Result<DateTime, MailboxError> {
@@ -19,11 +57,15 @@ pub(crate) fn message(alloc: Global) -> Result<Octets, MailboxError> {
     Ok(Octets::from_slice(alloc, b"Subject: x\r\n\r\nHello\r\n")?)
 }
 
-/// Adds a message without flags, where 100 may be.
-fn add(alloc: Global, mailbox: &mut Mailbox) -> Result<u32, MailboxError> {
+fn add_flagged(
+    alloc: Global,
+    mailbox: &mut Mailbox,
+    max_messages: u64,
+    flags: SharedFlags,
+) -> Result<(), MailboxError> {
     let date = date()?;
     let octets = message(alloc)?;
-    mailbox.add(100, date, octets, SharedFlags::new(alloc))
+    mailbox.add(max_messages, date, octets, flags).map(|_| ())
 }
 
 /// Adds messages without flags.
@@ -33,9 +75,36 @@ pub(crate) fn add_more(
     count: u32,
 ) -> Result<(), MailboxError> {
     for _ in 0..count {
-        add(alloc, mailbox)?;
+        add_flagged(alloc, mailbox, 100, SharedFlags::new(alloc))?;
     }
     Ok(())
+}
+
+/// Keywords of two letters, as many as `count`.
+pub(crate) fn many_words(alloc: Global, count: u8) -> Result<SharedFlags, MailboxError> {
+    let mut flags = SharedFlags::new(alloc);
+    match insert_many(alloc, &mut flags, count) {
+        Ok(()) => Ok(flags),
+        Err(error) => Err(error),
+    }
+}
+
+fn insert_many(alloc: Global, flags: &mut SharedFlags, count: u8) -> Result<(), MailboxError> {
+    for i in 0..count {
+        let word = atom(alloc, &[b'a' + i / 26, b'a' + i % 26])?;
+        flags.keywords.insert(alloc, &word)?;
+    }
+    Ok(())
+}
+
+fn add_words(
+    alloc: Global,
+    mailbox: &mut Mailbox,
+    words: u8,
+    max_messages: u64,
+) -> Result<(), MailboxError> {
+    let flags = many_words(alloc, words)?;
+    add_flagged(alloc, mailbox, max_messages, flags)
 }
 
 fn set_words(
@@ -48,13 +117,31 @@ fn set_words(
     mailbox.set_flags(uid, flags)
 }
 
+fn set_many(alloc: Global, mailbox: &mut Mailbox, uid: u32, words: u8) -> Result<(), MailboxError> {
+    let flags = many_words(alloc, words)?;
+    mailbox.set_flags(uid, flags)
+}
+
+fn delete(alloc: Global, mailbox: &mut Mailbox, uid: u32) -> Result<(), MailboxError> {
+    let mut flags = SharedFlags::new(alloc);
+    flags.deleted = true;
+    mailbox.set_flags(uid, flags)
+}
+
+// ---- what a mailbox shows
+
+fn push(text: &mut String, piece: Result<String, AllocError>) -> Result<(), MailboxError> {
+    let piece = piece?;
+    text.push_str(piece.as_str())?;
+    Ok(())
+}
+
 /// For each message its UID and number, and a star if the user has seen it.
 fn push_rows(alloc: Global, text: &mut String, rows: &Rows<'_>) -> Result<(), MailboxError> {
     for place in 0..rows.len() {
         let row = rows.get(place);
         let star = if row.seen { "*" } else { "" };
-        let entry = format!(in alloc; "{}={}{star} ", row.uid, row.number)?;
-        text.push_str(entry.as_str())?;
+        push(text, format!(in alloc; "{}={}{star} ", row.uid, row.number))?;
     }
     text.push_str("| ")?;
     Ok(())
@@ -63,328 +150,305 @@ fn push_rows(alloc: Global, text: &mut String, rows: &Rows<'_>) -> Result<(), Ma
 fn push_gone(alloc: Global, text: &mut String, gone: &GoneUids<'_>) -> Result<(), MailboxError> {
     for place in 0..gone.len() {
         let row = gone.get(place);
-        let entry = format!(in alloc; "{}={} ", row.uid, row.number)?;
-        text.push_str(entry.as_str())?;
+        push(text, format!(in alloc; "{}={} ", row.uid, row.number))?;
     }
     text.push_str("| ")?;
     Ok(())
+}
+
+fn push_shown(alloc: Global, text: &mut String, mailbox: &Mailbox) -> Result<(), MailboxError> {
+    push_rows(alloc, text, &mailbox.rows("ann"))?;
+    push_rows(alloc, text, &mailbox.rows("bob"))?;
+    push_gone(alloc, text, &mailbox.gone("bob"))?;
+    let (ann, bob) = (mailbox.highest("ann"), mailbox.highest("bob"));
+    let (next, events) = (mailbox.next_uid(), mailbox.shared_len());
+    push(text, format!(in alloc; "{ann} {bob} {next} {events}"))
 }
 
 /// All that a mailbox shows to ann and bob: rows, the highest numbers, what is gone for bob, UIDNEXT and the
 /// number of shared events.
 pub(crate) fn shown(alloc: Global, mailbox: &Mailbox) -> Result<String, MailboxError> {
     let mut text = String::new(alloc);
-    push_rows(alloc, &mut text, &mailbox.rows("ann"))?;
-    push_rows(alloc, &mut text, &mailbox.rows("bob"))?;
-    push_gone(alloc, &mut text, &mailbox.gone("bob"))?;
-    let (ann, bob) = (mailbox.highest("ann"), mailbox.highest("bob"));
-    let (next, events) = (mailbox.next_uid(), mailbox.shared_len());
-    let counts = format!(in alloc; "{ann} {bob} {next} {events}")?;
-    text.push_str(counts.as_str())?;
+    push_shown(alloc, &mut text, mailbox)?;
     Ok(text)
 }
 
-/// bob's own changes come after the second and the fourth shared event.
-fn two_users(alloc: Global, mailbox: &mut Mailbox) -> Result<String, MailboxError> {
-    add_more(alloc, mailbox, 2)?;
-    mailbox.mark_seen(alloc, "bob", 1, true)?;
-    add_more(alloc, mailbox, 2)?;
-    mailbox.mark_seen(alloc, "bob", 2, true)?;
-    shown(alloc, mailbox)
-}
-
-#[test]
-fn numbers_of_two_users(rt: HostRuntime) -> Result<(), Fail> {
-    let mut mailbox = Mailbox::new(rt.alloc());
-    let text = two_users(rt.alloc(), &mut mailbox);
-    let own = mailbox.own_len("bob");
-    let place = mailbox.rows("bob").place_of(3);
-    let none = mailbox.rows("bob").place_of(5);
-    let from = (
-        mailbox.rows("bob").place_from(3),
-        mailbox.rows("bob").place_from(9),
-    );
-    drop(mailbox);
-    assert_eq!(rt;
-        text?.as_str(),
-        "1=2 2=3 3=4 4=5 | 1=4* 2=7* 3=5 4=6 | | 5 7 5 4"
-    );
-    assert_eq!(rt; own, 2);
-    assert_eq!(rt; place, Some(2));
-    assert_eq!(rt; none, None);
-    assert_eq!(rt; from, (2, 4));
+fn push_copy(alloc: Global, text: &mut String, mailbox: &Mailbox) -> Result<(), MailboxError> {
+    let copy = mailbox.try_copy(alloc)?;
+    let pushed = push_shown(alloc, text, &copy);
+    drop(copy);
+    pushed?;
+    text.push_str("; ")?;
     Ok(())
 }
 
-/// Three messages of 21 octets, of which one is deleted, and bob has seen another.
-fn three_counted(alloc: Global, mailbox: &mut Mailbox) -> Result<(), MailboxError> {
-    add_more(alloc, mailbox, 3)?;
-    let mut flags = SharedFlags::new(alloc);
-    flags.deleted = true;
-    mailbox.set_flags(2, flags)?;
-    mailbox.mark_seen(alloc, "bob", 1, true)
-}
-
-/// The counts of STATUS: messages, deleted, unseen, octets.
-fn counts(rows: &Rows<'_>) -> (usize, usize, usize, u64) {
-    (
-        rows.len(),
-        rows.deleted_len(),
-        rows.unseen_len(),
-        rows.size(),
+fn push_status(alloc: Global, text: &mut String, rows: &Rows<'_>) -> Result<(), MailboxError> {
+    let (count, deleted) = (rows.len(), rows.deleted_len());
+    let (unseen, size) = (rows.unseen_len(), rows.size());
+    push(
+        text,
+        format!(in alloc; "{count} {deleted} {unseen} {size}; "),
     )
 }
 
-/// Whether the message at the place has a greater number.
-fn is_above(rows: &Rows<'_>, place: usize, number: u64) -> bool {
-    place < rows.len() && rows.is_above(place, number)
+fn push_place(
+    alloc: Global,
+    text: &mut String,
+    rows: &Rows<'_>,
+    uid: u32,
+) -> Result<(), MailboxError> {
+    let (place, from) = (rows.place_of(uid), rows.place_from(uid));
+    push(text, format!(in alloc; "{place:?} {from}; "))
 }
 
-/// bob's mark of the first message has the number 6, and the deletion of the second 5.
-#[test]
-fn status_counts(rt: HostRuntime) -> Result<(), Fail> {
-    let mut mailbox = Mailbox::new(rt.alloc());
-    let made = three_counted(rt.alloc(), &mut mailbox);
-    let bob = counts(&mailbox.rows("bob"));
-    let ann = counts(&mailbox.rows("ann"));
-    let above = is_above(&mailbox.rows("bob"), 0, 5) && is_above(&mailbox.rows("ann"), 1, 4);
-    let over = is_above(&mailbox.rows("bob"), 0, 6) || is_above(&mailbox.rows("ann"), 1, 5);
+/// A copy of what a session is told of the message.
+fn told(alloc: Global, row: &Row<'_>) -> Result<KnownMessage, AllocError> {
+    let known = KnownMessage::of_row(alloc, row)?;
+    let copy = known.try_copy(alloc);
+    drop(known);
+    copy
+}
+
+fn told_text(alloc: Global, told: &KnownMessage) -> Result<String, AllocError> {
+    let (uid, number, seen) = (told.uid, told.number, told.seen);
+    let words = told.flags.keywords.len();
+    format!(in alloc; "{uid}={number} {seen}, keywords: {words}; ")
+}
+
+fn push_told(alloc: Global, text: &mut String, row: &Row<'_>) -> Result<(), MailboxError> {
+    let told = told(alloc, row)?;
+    let piece = told_text(alloc, &told);
+    drop(told);
+    push(text, piece)
+}
+
+fn tell(alloc: Global, text: &mut String, rows: &Rows<'_>, uid: u32) -> Result<(), MailboxError> {
+    let place = rows.place_from(uid);
+    if place < rows.len() {
+        push_told(alloc, text, &rows.get(place))
+    } else {
+        Err(MailboxError::NoSuchUid)
+    }
+}
+
+fn push_gone_since(
+    alloc: Global,
+    text: &mut String,
+    mailbox: &Mailbox,
+    number: u64,
+) -> Result<(), MailboxError> {
+    push_gone(alloc, text, &mailbox.gone_since("ann", number))?;
+    push_gone(alloc, text, &mailbox.gone_since("bob", number))
+}
+
+fn push_both_status(
+    alloc: Global,
+    text: &mut String,
+    mailbox: &Mailbox,
+) -> Result<(), MailboxError> {
+    push_status(alloc, text, &mailbox.rows("ann"))?;
+    push_status(alloc, text, &mailbox.rows("bob"))
+}
+
+fn push_room(
+    alloc: Global,
+    text: &mut String,
+    mailbox: &Mailbox,
+    max_messages: u64,
+) -> Result<(), MailboxError> {
+    let room = mailbox.room(max_messages);
+    push(text, format!(in alloc; "{room}; "))
+}
+
+// ---- rows
+
+fn make(
+    alloc: Global,
+    text: &mut String,
+    mailbox: &mut Mailbox,
+    act: Act,
+) -> Result<(), MailboxError> {
+    match act {
+        Act::Add(count) => add_more(alloc, mailbox, count),
+        Act::AddWords(words, max_messages) => add_words(alloc, mailbox, words, max_messages),
+        Act::Words(uid, words) => set_words(alloc, mailbox, uid, words),
+        Act::ManyWords(uid, words) => set_many(alloc, mailbox, uid, words),
+        Act::Delete(uid) => delete(alloc, mailbox, uid),
+        Act::Seen(uid, seen) => mailbox.mark_seen(alloc, "bob", uid, seen),
+        Act::Expunge(uid) => mailbox.expunge(uid),
+        Act::AddInRoom => add_in_room(alloc, mailbox),
+        Act::WordInRoom(uid) => flag_in_room(alloc, mailbox, uid),
+        Act::SeenInRoom(uid) => mark_in_room(alloc, mailbox, uid),
+        Act::ExpungeInRoom(uid) => expunge_in_room(mailbox, uid),
+        Act::SeveralInRoom => several_in_room(alloc, mailbox),
+        Act::Copy => push_copy(alloc, text, mailbox),
+        Act::GoneSince(number) => push_gone_since(alloc, text, mailbox, number),
+        Act::Status => push_both_status(alloc, text, mailbox),
+        Act::Place(uid) => push_place(alloc, text, &mailbox.rows("bob"), uid),
+        Act::Room(max_messages) => push_room(alloc, text, mailbox, max_messages),
+        Act::Tell(uid) => tell(alloc, text, &mailbox.rows("bob"), uid),
+    }
+}
+
+/// What was looked at and why acts were refused, and what the mailbox shows in the end.
+fn make_all(
+    alloc: Global,
+    text: &mut String,
+    mailbox: &mut Mailbox,
+    acts: &[Act],
+) -> Result<(), MailboxError> {
+    for act in acts {
+        if let Err(error) = make(alloc, text, mailbox, *act) {
+            push(text, format!(in alloc; "{error}; "))?;
+        }
+    }
+    push_shown(alloc, text, mailbox)
+}
+
+fn run(alloc: Global, acts: &[Act]) -> Result<String, MailboxError> {
+    let mut mailbox = Mailbox::new(alloc);
+    let mut text = String::new(alloc);
+    let made = make_all(alloc, &mut text, &mut mailbox, acts);
     drop(mailbox);
     made?;
-    assert_eq!(rt; bob, (3, 1, 2, 63));
-    assert_eq!(rt; ann, (3, 1, 3, 63));
-    assert!(rt; above && !over);
-    Ok(())
-}
-
-/// Whether a session knows the row as the first message, which has the mod-sequence 2.
-fn is_known(alloc: Global, row: &Row<'_>) -> Result<bool, MailboxError> {
-    let known = KnownMessage::of_row(alloc, row)?;
-    let copy = known.try_copy(alloc)?;
-    Ok(copy.uid == 1 && copy.number == 2 && !copy.seen && copy.flags.is_same(row.flags))
-}
-
-/// The octets, the date and the words of the first message.
-fn has_message(alloc: Global, mailbox: &mut Mailbox) -> Result<bool, MailboxError> {
-    let flags = flags_of(alloc, &[b"Work"])?;
-    let octets = Octets::from_slice(alloc, b"a message")?;
-    mailbox.add(100, date()?, octets, flags)?;
-    let rows = mailbox.rows("ann");
-    let row = rows.get(0);
-    let words = word_text(alloc, row.flags)?;
-    let known = is_known(alloc, &row)?;
-    Ok(
-        known
-            && row.date.is_same(&date()?)
-            && row.octets.as_slice() == b"a message".as_slice()
-            && words.as_slice() == b"work ".as_slice(),
-    )
-}
-
-#[test]
-fn rows_have_what_was_added(rt: HostRuntime) -> Result<(), Fail> {
-    let mut mailbox = Mailbox::new(rt.alloc());
-    let has = has_message(rt.alloc(), &mut mailbox);
-    let there = mailbox.contains(1) && mailbox.find(1).is_some();
-    let other = mailbox.contains(2) || mailbox.find(2).is_some();
-    let count = mailbox.len();
-    drop(mailbox);
-    assert!(rt; has?);
-    assert!(rt; there && !other);
-    assert_eq!(rt; count, 1);
-    Ok(())
-}
-
-/// Flags that are the same but for case and order are no event, and neither is a `\Seen` that stays.
-fn no_events(alloc: Global, mailbox: &mut Mailbox) -> Result<String, MailboxError> {
-    add_more(alloc, mailbox, 2)?;
-    set_words(alloc, mailbox, 1, &[b"a", b"b"])?;
-    set_words(alloc, mailbox, 1, &[b"B", b"A"])?;
-    mailbox.mark_seen(alloc, "bob", 1, false)?;
-    mailbox.mark_seen(alloc, "bob", 1, true)?;
-    mailbox.mark_seen(alloc, "bob", 1, true)?;
-    mailbox.mark_seen(alloc, "bob", 1, false)?;
-    shown(alloc, mailbox)
-}
-
-#[test]
-fn what_stays_is_no_event(rt: HostRuntime) -> Result<(), Fail> {
-    let mut mailbox = Mailbox::new(rt.alloc());
-    let text = no_events(rt.alloc(), &mut mailbox);
-    drop(mailbox);
-    assert_eq!(rt; text?.as_str(), "1=4 2=3 | 1=6 2=3 | | 4 6 3 3");
-    Ok(())
-}
-
-/// A UID is given once, and a message that is gone keeps the number of its event.
-fn expunged(alloc: Global, mailbox: &mut Mailbox) -> Result<String, MailboxError> {
-    add_more(alloc, mailbox, 3)?;
-    mailbox.mark_seen(alloc, "bob", 2, true)?;
-    mailbox.expunge(3)?;
-    mailbox.expunge(1)?;
-    add_more(alloc, mailbox, 1)?;
-    shown(alloc, mailbox)
-}
-
-#[test]
-fn expunged_messages_are_gone(rt: HostRuntime) -> Result<(), Fail> {
-    let mut mailbox = Mailbox::new(rt.alloc());
-    let text = expunged(rt.alloc(), &mut mailbox);
-    let again = mailbox.expunge(1);
-    let seen = mailbox.mark_seen(rt.alloc(), "bob", 3, true);
-    let flagged = set_words(rt.alloc(), &mut mailbox, 3, &[b"a"]);
-    drop(mailbox);
-    assert_eq!(rt; text?.as_str(), "2=3 4=7 | 2=5* 4=8 | 3=6 1=7 | 7 8 5 6");
-    assert_eq!(rt; again, Err(MailboxError::NoSuchUid));
-    assert_eq!(rt; seen, Err(MailboxError::NoSuchUid));
-    assert_eq!(rt; flagged, Err(MailboxError::NoSuchUid));
-    Ok(())
-}
-
-fn three_gone(alloc: Global, mailbox: &mut Mailbox) -> Result<(), MailboxError> {
-    add_more(alloc, mailbox, 3)?;
-    mailbox.expunge(2)?;
-    mailbox.mark_seen(alloc, "bob", 3, true)?;
-    mailbox.expunge(3)?;
-    mailbox.expunge(1)?;
-    Ok(())
-}
-
-/// What is gone since each number for ann, and then for bob.
-fn gone_since_each(alloc: Global, mailbox: &mut Mailbox) -> Result<String, MailboxError> {
-    three_gone(alloc, mailbox)?;
-    let mut text = String::new(alloc);
-    for number in [0, 4, 5, 6, 7, 8] {
-        push_gone(alloc, &mut text, &mailbox.gone_since("ann", number))?;
-        push_gone(alloc, &mut text, &mailbox.gone_since("bob", number))?;
-    }
     Ok(text)
 }
 
-#[test]
-fn gone_since_a_number(rt: HostRuntime) -> Result<(), Fail> {
-    const WANTED: &str =
+const MAILBOXES: [(&[Act], &str); 9] = [
+    // bob's own changes come after the second and the fourth shared event.
+    (
+        &[
+            Act::Add(2),
+            Act::Seen(1, true),
+            Act::Add(2),
+            Act::Seen(2, true),
+            Act::Place(3),
+            Act::Place(9),
+        ],
+        "Some(2) 2; None 4; 1=2 2=3 3=4 4=5 | 1=4* 2=7* 3=5 4=6 | | 5 7 5 4",
+    ),
+    (
+        &[Act::Add(3), Act::Delete(2), Act::Seen(1, true), Act::Status],
+        "3 1 3 63; 3 1 2 63; 1=2 2=5 3=4 | 1=6* 2=5 3=4 | | 5 6 4 4",
+    ),
+    (
+        &[
+            Act::Add(1),
+            Act::Words(1, &[b"Work"]),
+            Act::Seen(1, true),
+            Act::Tell(1),
+            Act::Tell(2),
+        ],
+        "1=4 true, keywords: 1; the mailbox has no message with this UID; 1=3 | 1=4* | | 3 4 2 2",
+    ),
+    // Flags that are the same but for case and order are no event, and neither is a `\Seen` that stays.
+    (
+        &[
+            Act::Add(2),
+            Act::Words(1, &[b"a", b"b"]),
+            Act::Words(1, &[b"B", b"A"]),
+            Act::Seen(1, false),
+            Act::Seen(1, true),
+            Act::Seen(1, true),
+            Act::Seen(1, false),
+        ],
+        "1=4 2=3 | 1=6 2=3 | | 4 6 3 3",
+    ),
+    // A UID is given once, and a message that is gone keeps the number of its event.
+    (
+        &[
+            Act::Add(3),
+            Act::Seen(2, true),
+            Act::Expunge(3),
+            Act::Expunge(1),
+            Act::Add(1),
+            Act::Copy,
+            Act::Expunge(1),
+            Act::Seen(3, true),
+            Act::Words(3, &[b"a"]),
+        ],
+        "2=3 4=7 | 2=5* 4=8 | 3=6 1=7 | 7 8 5 6; the mailbox has no message with this UID; \
+            the mailbox has no message with this UID; the mailbox has no message with this UID; \
+            2=3 4=7 | 2=5* 4=8 | 3=6 1=7 | 7 8 5 6",
+    ),
+    (
+        &[
+            Act::Add(3),
+            Act::Expunge(2),
+            Act::Seen(3, true),
+            Act::Expunge(3),
+            Act::Expunge(1),
+            Act::GoneSince(0),
+            Act::GoneSince(4),
+            Act::GoneSince(5),
+            Act::GoneSince(6),
+            Act::GoneSince(7),
+            Act::GoneSince(8),
+        ],
         "2=5 3=6 1=7 | 2=5 3=7 1=8 | 2=5 3=6 1=7 | 2=5 3=7 1=8 | 3=6 1=7 | 3=7 1=8 | \
-        1=7 | 3=7 1=8 | | 1=8 | | | ";
-    let mut mailbox = Mailbox::new(rt.alloc());
-    let text = gone_since_each(rt.alloc(), &mut mailbox);
-    drop(mailbox);
-    assert_eq!(rt; text?.as_str(), WANTED);
-    Ok(())
-}
+            1=7 | 3=7 1=8 | | 1=8 | | | | | 2=5 3=7 1=8 | 7 8 4 6",
+    ),
+    // A mailbox is full exactly if it has no room, and then a 33rd keyword isn't looked at.
+    (
+        &[
+            Act::Add(2),
+            Act::Room(3),
+            Act::Room(2),
+            Act::Room(1),
+            Act::AddWords(33, 2),
+            Act::AddWords(33, 3),
+            Act::AddWords(32, 3),
+        ],
+        "1; 0; 0; the mailbox is full; a limit of the mailbox is reached; \
+            1=2 2=3 3=4 | 1=2 2=3 3=4 | | 4 4 4 3",
+    ),
+    (
+        &[
+            Act::Add(1),
+            Act::ManyWords(2, 33),
+            Act::ManyWords(1, 33),
+            Act::ManyWords(1, 32),
+        ],
+        "the mailbox has no message with this UID; a limit of the mailbox is reached; \
+            1=3 | 1=3 | | 3 3 2 2",
+    ),
+    (&[], "| | | 1 1 1 0"),
+];
 
-/// Keywords of two letters, as many as `count`.
-pub(crate) fn many_words(alloc: Global, count: u8) -> Result<SharedFlags, MailboxError> {
-    let mut flags = SharedFlags::new(alloc);
-    insert_many(alloc, &mut flags, count)?;
-    Ok(flags)
-}
-
-fn insert_many(alloc: Global, flags: &mut SharedFlags, count: u8) -> Result<(), MailboxError> {
-    for i in 0..count {
-        let word = atom(alloc, &[b'a' + i / 26, b'a' + i % 26])?;
-        flags.keywords.insert(alloc, &word)?;
+#[test]
+fn mailboxes(rt: HostRuntime) {
+    for (acts, wanted) in &MAILBOXES {
+        expect_text(&rt, run(rt.alloc(), acts), wanted);
     }
-    Ok(())
+    let memory = MailboxError::Memory.to_string(rt.alloc());
+    expect_text(&rt, memory, "out of memory");
 }
 
-fn add_with(
-    alloc: Global,
-    mailbox: &mut Mailbox,
-    max_messages: u64,
-    words: u8,
-) -> Result<u32, MailboxError> {
-    let date = date()?;
-    let flags = many_words(alloc, words)?;
-    let octets = message(alloc)?;
-    mailbox.add(max_messages, date, octets, flags)
-}
-
-/// A mailbox is full exactly if it has no room, and then a 33rd keyword isn't looked at.
+/// What is decided already is committed without memory. Of a UID that is gone a commit changes nothing.
 #[test]
-fn full_without_room(rt: HostRuntime) -> Result<(), Fail> {
-    let mut mailbox = Mailbox::new(rt.alloc());
-    let added = add_more(rt.alloc(), &mut mailbox, 2);
-    let rooms = (mailbox.room(3), mailbox.room(2), mailbox.room(1));
-    let full = add_with(rt.alloc(), &mut mailbox, 2, 33);
-    let limit = add_with(rt.alloc(), &mut mailbox, 3, 33);
-    let third = add_with(rt.alloc(), &mut mailbox, 3, 32);
-    let events = mailbox.shared_len();
-    drop(mailbox);
-    added?;
-    assert_eq!(rt; rooms, (1, 0, 0));
-    assert_eq!(rt; full, Err(MailboxError::Full));
-    assert_eq!(rt; limit, Err(MailboxError::Limit));
-    assert_eq!(rt; third, Ok(3));
-    assert_eq!(rt; events, 3);
-    Ok(())
-}
-
-fn set_many(alloc: Global, mailbox: &mut Mailbox, uid: u32, words: u8) -> Result<(), MailboxError> {
-    let flags = many_words(alloc, words)?;
-    mailbox.set_flags(uid, flags)
-}
-
-#[test]
-fn the_33rd_keyword_is_refused(rt: HostRuntime) -> Result<(), Fail> {
-    let mut mailbox = Mailbox::new(rt.alloc());
-    let added = add_more(rt.alloc(), &mut mailbox, 1);
-    let absent = set_many(rt.alloc(), &mut mailbox, 2, 33);
-    let limit = set_many(rt.alloc(), &mut mailbox, 1, 33);
-    let before = mailbox.shared_len();
-    let set = set_many(rt.alloc(), &mut mailbox, 1, 32);
-    let after = mailbox.shared_len();
-    drop(mailbox);
-    added?;
-    assert_eq!(rt; absent, Err(MailboxError::NoSuchUid));
-    assert_eq!(rt; limit, Err(MailboxError::Limit));
-    assert_eq!(rt; set, Ok(()));
-    assert_eq!(rt; (before, after), (1, 2));
-    Ok(())
-}
-
-/// Whether a change was made, or left the mailbox as it was.
-fn keeps_to_refusals(alloc: Global, mailbox: &mut Mailbox) -> Result<bool, MailboxError> {
-    let before = shown(alloc, mailbox)?;
-    let added = add(alloc, mailbox).is_ok();
-    let second = shown(alloc, mailbox)?;
-    let marked = mailbox.mark_seen(alloc, "ann", 1, true).is_ok();
-    let third = shown(alloc, mailbox)?;
-    let gone = mailbox.expunge(1).is_ok();
-    let last = shown(alloc, mailbox)?;
-    Ok(
-        (added || second.as_str() == before.as_str())
-            && (marked || third.as_str() == second.as_str())
-            && (gone || last.as_str() == third.as_str()),
-    )
-}
-
-/// A call that wants memory leaves the mailbox as it was.
-#[test]
-fn want_of_memory_changes_nothing(rt: HostRuntime) -> Result<(), Fail> {
-    let mut mailbox = Mailbox::new(rt.alloc());
-    let added = add_more(rt.alloc(), &mut mailbox, 4);
-    let keeps = keeps_to_refusals(rt.alloc(), &mut mailbox);
-    drop(mailbox);
-    added?;
-    assert!(rt; keeps?);
-    Ok(())
-}
-
-#[test]
-fn refusals_are_printed(rt: HostRuntime) -> Result<(), Fail> {
-    const ROWS: [(MailboxError, &str); 4] = [
-        (MailboxError::Full, "the mailbox is full"),
-        (MailboxError::Limit, "a limit of the mailbox is reached"),
+fn commits_in_room_that_is_there(rt: HostRuntime) {
+    const ROWS: [(&[Act], &str); 2] = [
         (
-            MailboxError::NoSuchUid,
-            "the mailbox has no message with this UID",
+            &[
+                Act::AddInRoom,
+                Act::AddInRoom,
+                Act::WordInRoom(1),
+                Act::SeenInRoom(2),
+                Act::ExpungeInRoom(1),
+                Act::Copy,
+                Act::WordInRoom(3),
+                Act::SeenInRoom(1),
+                Act::ExpungeInRoom(1),
+            ],
+            "2=3 | 2=5* | 1=6 | 5 6 3 4; 2=3 | 2=5* | 1=6 | 5 6 3 4",
         ),
-        (MailboxError::Memory, "out of memory"),
+        // One reservation pays for two marks, and another for all that are expunged.
+        (
+            &[Act::Add(4), Act::SeveralInRoom],
+            "2=3 4=5 | 2=7* 4=6* | 1=8 3=9 | 7 9 5 6",
+        ),
     ];
-    for &(error, wanted) in &ROWS {
-        let text = format!(in rt.alloc(); "{error}")?;
-        assert_eq!(rt; text.as_str(), wanted);
+    for (acts, wanted) in &ROWS {
+        expect_text(&rt, run(rt.alloc(), acts), wanted);
     }
-    Ok(())
 }

@@ -1,48 +1,56 @@
 //! Tests of maps from names.
 
+use crate::wanted::expect_text;
 use imap_name_map::NameMap;
-use imap_names::{Name, read_full};
-use std::alloc::Global;
-use std::test::Fail;
+use imap_names::{Name, NameError, read_full};
+use std::alloc::{AllocError, Global};
 
-fn full(alloc: Global, text: &str) -> Result<Name, Fail> {
-    Ok(read_full(alloc, text.as_bytes())?)
+fn full(alloc: Global, text: &str) -> Result<Name, NameError> {
+    read_full(alloc, text.as_bytes())
 }
 
-/// In the order of the map.
-const NAMES: [&str; 7] = [
+/// In the order of the map: by tree, and then component by component.
+const NAMES: [&str; 11] = [
     "Shared/a",
     "Shared/a/b",
     "Shared/a/b/c",
     "Shared/a!",
+    "Shared/a!/b",
     "Shared/ab",
+    "Shared/b",
     "Other Users/ann/a",
-    "Other Users/bob/a/b",
+    "Other Users/ann/a/b",
+    "Other Users/annie/INBOX",
+    "Other Users/bob/a",
 ];
 
 /// Inserts the name, which is new.
-fn insert(map: &mut NameMap<u32>, alloc: Global, name: &str, value: u32) -> Result<(), Fail> {
+fn insert(alloc: Global, map: &mut NameMap<u32>, name: &str, value: u32) -> Result<(), NameError> {
+    let name = full(alloc, name)?;
     map.reserve(1)?;
-    map.insert_reserved(full(alloc, name)?, value);
+    map.insert_reserved(name, value);
+    Ok(())
+}
+
+fn insert_all(alloc: Global, map: &mut NameMap<u32>, order: &[u32]) -> Result<(), NameError> {
+    for &value in order {
+        let name = NAMES.get(value as usize).unwrap_or(&"");
+        insert(alloc, map, name, value)?;
+    }
     Ok(())
 }
 
 /// The map of these names, inserted in this order. The values count from 0 in the order of the map.
-fn map_by(alloc: Global, order: &[usize]) -> Result<NameMap<u32>, Fail> {
+fn map_by(alloc: Global, order: &[u32]) -> Result<NameMap<u32>, NameError> {
     let mut map = NameMap::new(alloc);
-    for &i in order {
-        let name = NAMES.get(i).ok_or("a name")?;
-        insert(&mut map, alloc, name, u32::try_from(i)?)?;
+    match insert_all(alloc, &mut map, order) {
+        Ok(()) => Ok(map),
+        Err(error) => Err(error),
     }
-    Ok(map)
 }
 
-fn whole_map(alloc: Global) -> Result<NameMap<u32>, Fail> {
-    map_by(alloc, &[0, 1, 2, 3, 4, 5, 6])
-}
-
-/// The paths in the map's order, each with its value.
-fn shown(alloc: Global, entries: &[(Name, u32)]) -> Result<String, Fail> {
+/// The paths, each with its value.
+fn shown(alloc: Global, entries: &[(Name, u32)]) -> Result<String, AllocError> {
     let mut text = String::new(alloc);
     for (name, value) in entries {
         let entry = format!(in alloc; "{}={value} ", name.path())?;
@@ -51,100 +59,54 @@ fn shown(alloc: Global, entries: &[(Name, u32)]) -> Result<String, Fail> {
     Ok(text)
 }
 
-const ALL: &str = "a=0 a/b=1 a/b/c=2 a!=3 ab=4 a=5 a/b=6 ";
-
-#[test]
-fn entries_are_in_order(rt: HostRuntime) -> Result<(), Fail> {
-    const ORDERS: [[usize; 7]; 4] = [
-        [0, 1, 2, 3, 4, 5, 6],
-        [6, 5, 4, 3, 2, 1, 0],
-        [3, 0, 6, 2, 5, 1, 4],
-        [4, 5, 3, 6, 1, 2, 0],
-    ];
-    for order in &ORDERS {
-        let map = map_by(rt.alloc(), order)?;
-        assert_eq!(rt; shown(rt.alloc(), map.entries())?.as_str(), ALL);
-        assert_eq!(rt; (map.len(), map.is_empty()), (7, false));
-    }
-    Ok(())
+/// The paths of a copy of the map.
+fn copied_by(alloc: Global, order: &[u32]) -> Result<String, NameError> {
+    let map = map_by(alloc, order)?;
+    let copy = map.try_copy(alloc);
+    drop(map);
+    Ok(shown(alloc, copy?.entries())?)
 }
 
-fn value_of(map: &NameMap<u32>, alloc: Global, name: &str) -> Result<Option<u32>, Fail> {
-    let name = full(alloc, name)?;
-    Ok(map.get(&name.as_ref()).copied())
+#[test]
+fn entries_are_in_order(rt: HostRuntime) {
+    const ORDERS: [[u32; 11]; 4] = [
+        [0, 1, 2, 3, 4, 5, 6, 7, 8, 9, 10],
+        [10, 9, 8, 7, 6, 5, 4, 3, 2, 1, 0],
+        [3, 0, 6, 9, 2, 5, 1, 10, 4, 8, 7],
+        [4, 5, 8, 3, 10, 6, 1, 2, 7, 0, 9],
+    ];
+    const ALL: &str = "a=0 a/b=1 a/b/c=2 a!=3 a!/b=4 ab=5 b=6 a=7 a/b=8 INBOX=9 a=10 ";
+    for order in &ORDERS {
+        expect_text(&rt, copied_by(rt.alloc(), order), ALL);
+    }
 }
 
 /// The entries of the name and of all names below it, and their places.
-fn run_of(map: &NameMap<u32>, alloc: Global, top: &str) -> Result<(String, (usize, usize)), Fail> {
+fn run_text(alloc: Global, map: &NameMap<u32>, top: &Name) -> Result<String, AllocError> {
+    let entries = shown(alloc, map.run_entries(&top.as_ref()))?;
+    let (start, end) = map.run(&top.as_ref());
+    format!(in alloc; "{entries}{start} {end}")
+}
+
+fn run_of(alloc: Global, top: &str) -> Result<String, NameError> {
     let top = full(alloc, top)?;
-    let text = shown(alloc, map.run_entries(&top.as_ref()))?;
-    Ok((text, map.run(&top.as_ref())))
+    let map = map_by(alloc, &[0, 1, 2, 3, 4, 5, 6, 7, 8, 9, 10])?;
+    Ok(run_text(alloc, &map, &top)?)
 }
 
 #[test]
-fn names_stand_with_those_below(rt: HostRuntime) -> Result<(), Fail> {
-    let map = whole_map(rt.alloc())?;
-    const TABLE: [(&str, &str, (usize, usize)); 7] = [
-        ("Shared/a", "a=0 a/b=1 a/b/c=2 ", (0, 3)),
-        ("Shared/a/b", "a/b=1 a/b/c=2 ", (1, 3)),
-        ("Shared/a!", "a!=3 ", (3, 4)),
-        ("Shared/b", "", (5, 5)),
-        ("Other Users/ann/a", "a=5 ", (5, 6)),
-        ("Other Users/bob/a", "a/b=6 ", (6, 7)),
-        ("Other Users/eve/a", "", (7, 7)),
+fn names_stand_with_those_below(rt: HostRuntime) {
+    const TABLE: [(&str, &str); 8] = [
+        ("Shared/a", "a=0 a/b=1 a/b/c=2 0 3"),
+        ("Shared/a/b", "a/b=1 a/b/c=2 1 3"),
+        ("Shared/a!", "a!=3 a!/b=4 3 5"),
+        ("Shared/c", "7 7"),
+        ("Other Users/ann/a", "a=7 a/b=8 7 9"),
+        ("Other Users/annie/INBOX", "INBOX=9 9 10"),
+        ("Other Users/bob/A", "10 10"),
+        ("Other Users/eve/a", "11 11"),
     ];
-    for &(top, wanted, places) in &TABLE {
-        let (text, found) = run_of(&map, rt.alloc(), top)?;
-        assert_eq!(rt; (text.as_str(), found), (wanted, places), "{top}");
+    for &(top, wanted) in &TABLE {
+        expect_text(&rt, run_of(rt.alloc(), top), wanted);
     }
-    Ok(())
-}
-
-fn remove(map: &mut NameMap<u32>, alloc: Global, name: &str) -> Result<(), Fail> {
-    let name = full(alloc, name)?;
-    map.remove(&name.as_ref());
-    Ok(())
-}
-
-/// Adds 10 to the value of the name, which is looked for at `place` first.
-fn add_near(map: &mut NameMap<u32>, alloc: Global, place: usize, name: &str) -> Result<bool, Fail> {
-    let name = full(alloc, name)?;
-    match map.get_mut_near(place, &name.as_ref()) {
-        Some(value) => {
-            *value = value.saturating_add(10);
-            Ok(true)
-        }
-        None => Ok(false),
-    }
-}
-
-#[test]
-fn values_are_changed_near_a_place(rt: HostRuntime) -> Result<(), Fail> {
-    // Where the name is looked for first, and whether it is there.
-    const TABLE: [(usize, &str, bool); 6] = [
-        (3, "Shared/a!", true),
-        (0, "Other Users/bob/a/b", true),
-        (7, "Shared/a", true),
-        (usize::MAX, "Shared/ab", true),
-        (4, "Shared/b", false),
-        (7, "Other Users/eve/a", false),
-    ];
-    let mut map = whole_map(rt.alloc())?;
-    for &(place, name, is_there) in &TABLE {
-        let found = add_near(&mut map, rt.alloc(), place, name)?;
-        assert_eq!(rt; found, is_there, "{name}");
-    }
-    let text = shown(rt.alloc(), map.entries())?;
-    assert_eq!(rt; text.as_str(), "a=10 a/b=1 a/b/c=2 a!=13 ab=14 a=5 a/b=16 ");
-    Ok(())
-}
-
-#[test]
-fn maps_are_copied(rt: HostRuntime) -> Result<(), Fail> {
-    let mut map = whole_map(rt.alloc())?;
-    let copy = map.try_copy(rt.alloc())?;
-    remove(&mut map, rt.alloc(), "Shared/a")?;
-    assert_eq!(rt; shown(rt.alloc(), copy.entries())?.as_str(), ALL);
-    assert_eq!(rt; value_of(&copy, rt.alloc(), "Shared/a")?, Some(0));
-    Ok(())
 }

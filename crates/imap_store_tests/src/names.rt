@@ -1,17 +1,15 @@
 //! Tests of names of users and mailboxes.
 
-use imap_names::{Name, NameError, UserName, read_full};
-use std::alloc::Global;
-use std::cmp::Ordering;
-use std::test::Fail;
+use crate::wanted::expect_text;
+use imap_names::{NameError, NameRef, UserName, read_full};
+use std::alloc::{AllocError, Global};
 
-fn user(alloc: Global, text: &str) -> Result<UserName, Fail> {
-    let read = UserName::read(alloc, text)?;
-    Ok(read.ok_or("a user name")?)
+fn is_user_name(alloc: Global, text: &str) -> Result<bool, AllocError> {
+    Ok(UserName::read(alloc, text)?.is_some())
 }
 
 #[test]
-fn reads_user_names(rt: HostRuntime) -> Result<(), Fail> {
+fn user_names_are_read(rt: HostRuntime) {
     const TABLE: [(&str, bool); 14] = [
         ("ann", true),
         ("\u{e9}", true),
@@ -29,90 +27,57 @@ fn reads_user_names(rt: HostRuntime) -> Result<(), Fail> {
         ("e\u{301}", false),
     ];
     for &(text, is_user) in &TABLE {
-        assert_eq!(rt;
-            UserName::read(rt.alloc(), text)?.is_some(),
-            is_user,
-            "{text:?}"
-        );
+        assert!(rt; is_user_name(rt.alloc(), text) == Ok(is_user), "{text:?}");
     }
-    Ok(())
 }
 
-fn full(alloc: Global, text: &str) -> Result<Name, Fail> {
-    Ok(read_full(alloc, text.as_bytes())?)
+/// The owner, the root of the tree, the path, the number of its components, whether it is an INBOX, and the
+/// path of the superior.
+fn shown(alloc: Global, name: &NameRef<'_>) -> Result<String, AllocError> {
+    let (owner, root, path) = (name.owner(), name.root(), name.path());
+    let (depth, is_inbox) = (name.depth(), name.is_inbox());
+    let superior = superior_path(alloc, name)?;
+    format!(in alloc; "{owner:?} {root} {path} {depth} {is_inbox} {superior}")
 }
 
-/// By tree, and then component by component.
-const ORDER: [&str; 11] = [
-    "Shared/a",
-    "Shared/a/b",
-    "Shared/a/b/c",
-    "Shared/a!",
-    "Shared/a!/b",
-    "Shared/ab",
-    "Shared/b",
-    "Other Users/ann/a",
-    "Other Users/ann/a/b",
-    "Other Users/annie/INBOX",
-    "Other Users/bob/a",
-];
-
-fn order_of(alloc: Global, a: &str, b: &str) -> Result<Ordering, Fail> {
-    let (a, b) = (full(alloc, a)?, full(alloc, b)?);
-    Ok(a.as_ref().compare(&b.as_ref()))
-}
-
-#[test]
-fn orders_names(rt: HostRuntime) -> Result<(), Fail> {
-    for (i, a) in ORDER.iter().enumerate() {
-        for (j, b) in ORDER.iter().enumerate() {
-            assert_eq!(rt; order_of(rt.alloc(), a, b)?, i.cmp(&j), "{a} {b}");
+fn superior_path(alloc: Global, name: &NameRef<'_>) -> Result<String, AllocError> {
+    match name.superior() {
+        Some(superior) => {
+            let superior = superior.to_name(alloc)?;
+            String::from_str(alloc, superior.path())
         }
+        None => String::from_str(alloc, "none"),
     }
-    Ok(())
 }
 
-fn is_superior(alloc: Global, name: &str, superior: &str) -> Result<bool, Fail> {
-    let (name, superior) = (full(alloc, name)?, full(alloc, superior)?);
-    let above = name.as_ref().superior().ok_or("no superior")?;
-    Ok(above.to_name(alloc)?.is_same(&superior))
+/// The parts of a name that is read, or why it isn't.
+fn read_and_shown(alloc: Global, text: &str) -> Result<String, AllocError> {
+    match read_full(alloc, text.as_bytes()) {
+        Ok(name) => shown(alloc, &name.as_ref()),
+        Err(error) => error.to_string(alloc),
+    }
 }
 
 #[test]
-fn borrowed_names_are_kept(rt: HostRuntime) -> Result<(), Fail> {
-    const TABLE: [(&str, &str); 2] = [
-        ("Shared/a/b/c", "Shared/a/b"),
-        ("Other Users/ann/inbox/x", "Other Users/ann/inbox"),
+fn names_are_borrowed(rt: HostRuntime) {
+    const TABLE: [(&str, &str); 6] = [
+        ("Shared/a/b/c", "None  a/b/c 3 false a/b"),
+        ("Other Users/ann/a/b", "Some(\"ann\") ann a/b 2 false a"),
+        (
+            "Other Users/ann/inbox/x",
+            "Some(\"ann\") ann INBOX/x 2 false INBOX",
+        ),
+        (
+            "Other Users/ann/inbox",
+            "Some(\"ann\") ann INBOX 1 true none",
+        ),
+        (
+            "Shared/1/2/3/4/5/6/7/8/9/10/11/12/13/14/15/16/17",
+            "the path has more than 16 components",
+        ),
+        ("Shared", "the name is reserved"),
     ];
-    for &(name, superior) in &TABLE {
-        assert!(rt; is_superior(rt.alloc(), name, superior)?, "{name}");
+    for &(text, wanted) in &TABLE {
+        expect_text(&rt, read_and_shown(rt.alloc(), text), wanted);
     }
-    Ok(())
-}
-
-#[test]
-fn names_are_borrowed(rt: HostRuntime) -> Result<(), Fail> {
-    let name = full(rt.alloc(), "Other Users/ann/a/b")?;
-    let shared = full(rt.alloc(), "Shared/a/b")?;
-    let inbox = full(rt.alloc(), "Other Users/ann/inbox")?;
-    assert_eq!(rt;
-        (name.as_ref().owner(), name.as_ref().path()),
-        (Some("ann"), "a/b")
-    );
-    assert_eq!(rt;
-        (shared.as_ref().owner(), shared.as_ref().root()),
-        (None, "")
-    );
-    assert_eq!(rt; (name.as_ref().depth(), inbox.as_ref().depth()), (2, 1));
-    assert!(rt; name.as_ref().is_same(&name.as_ref()));
-    assert!(rt; !name.as_ref().is_same(&shared.as_ref()));
-    assert!(rt; inbox.as_ref().is_inbox() && !name.as_ref().is_inbox());
-    Ok(())
-}
-
-#[test]
-fn says_errors(rt: HostRuntime) -> Result<(), Fail> {
-    let text = format!(in rt.alloc(); "{}", NameError::TooDeep)?;
-    assert_eq!(rt; text.as_str(), "the path has more than 16 components");
-    Ok(())
 }

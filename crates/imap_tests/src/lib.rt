@@ -6,12 +6,18 @@
 #![tactic(auto)]
 
 #[cfg(test)]
+mod acts;
+#[cfg(test)]
+mod batches;
+#[cfg(test)]
+mod looks;
+#[cfg(test)]
 mod machine;
 #[cfg(test)]
-mod renames;
+mod messages;
 #[cfg(test)]
-mod trees;
-#[cfg(test)]
-mod view;
+mod wanted;
 #[cfg(test)]
 mod world;
+#[cfg(test)]
+mod worlds;

@@ -1,38 +1,233 @@
-//! The calls of the machine, where they succeed and where they are refused. A machine is lent to a function
-//! and let go before a `?`: a `?` within reach of one takes long to prove.
+//! The calls of the machine. A machine is lent to a function and let go before a `?`: a `?` within reach of
+//! one takes long to prove.
 
-use crate::world::{give, place, subscribe, user};
+use crate::wanted::expect;
+use crate::world::{LIMITS, give, place, subscribe, user};
 use imap_core::{Act, Core, Moment, SessionId, SessionNumber, Step};
 use imap_grammar::parse;
 use imap_lex::Octets;
 use imap_print::{Response, print};
-use imap_world::{Limits, World};
-use std::alloc::Global;
-use std::test::Fail;
+use imap_world::{World, WorldError};
+use std::alloc::{AllocError, Global};
 
-const LIMITS: Limits = Limits {
-    max_messages: 10_000,
-    max_octets: 33_554_432,
-};
-
-/// Root's first session.
-fn session(alloc: Global) -> Result<SessionId, Fail> {
-    Ok(SessionId {
-        user: user(alloc, "root")?,
-        number: SessionNumber::new(1).ok_or("no number")?,
-    })
+/// What root's first session does.
+#[derive(Clone, Copy)]
+enum Doing {
+    Opens,
+    Leaves,
+    /// It sends a command.
+    Sends(&'static [u8]),
 }
 
-fn step(who: SessionId, act: Act) -> Step {
-    Step {
-        who,
-        at: Moment::epoch(),
-        act,
+/// Root's first session.
+fn session(alloc: Global) -> Result<SessionId, AllocError> {
+    let number = SessionNumber::new(1).ok_or(AllocError)?;
+    let user = user(alloc, "root")?;
+    Ok(SessionId { user, number })
+}
+
+fn command(alloc: Global, octets: &[u8]) -> Result<Act, AllocError> {
+    let octets = Octets::from_slice(alloc, octets)?;
+    parse(alloc, &octets).map(Act::Do)
+}
+
+fn act(alloc: Global, doing: Doing) -> Result<Act, AllocError> {
+    match doing {
+        Doing::Opens => Ok(Act::Open),
+        Doing::Leaves => Ok(Act::Leave),
+        Doing::Sends(octets) => command(alloc, octets),
     }
 }
 
-fn command(alloc: Global, octets: &[u8]) -> Result<Act, Fail> {
-    Ok(Act::Do(parse(alloc, &Octets::from_slice(alloc, octets)?)?))
+// What is large is handed to functions that are generic, since the proof that it is dropped is long.
+
+fn both<A: Drop, B: Drop>(
+    one: Result<A, AllocError>,
+    other: Result<B, AllocError>,
+) -> Result<(A, B), AllocError> {
+    let one = one?;
+    let other = other?;
+    Ok((one, other))
+}
+
+fn first<A: Drop, B: Drop>(both: Result<(A, B), AllocError>) -> Result<A, AllocError> {
+    let (one, _other) = both?;
+    Ok(one)
+}
+
+fn kept_if<T: Drop>(is_kept: bool, value: T) -> Result<T, AllocError> {
+    if is_kept { Ok(value) } else { Err(AllocError) }
+}
+
+fn push<T: Drop>(items: &mut Vec<T>, item: Result<T, AllocError>) -> Result<(), AllocError> {
+    items.push(item?)?;
+    Ok(())
+}
+
+fn step(alloc: Global, doing: Doing) -> Result<Step, AllocError> {
+    let (who, act) = both(session(alloc), act(alloc, doing))?;
+    Ok(Step {
+        who,
+        at: Moment::epoch(),
+        act,
+    })
+}
+
+/// A copy of the step, which is the same step.
+fn copied(alloc: Global, step: &Step) -> Result<Step, AllocError> {
+    let copy = step.try_copy(alloc)?;
+    kept_if(copy.is_same(step), copy)
+}
+
+fn copied_step(alloc: Global, doing: Doing) -> Result<Step, AllocError> {
+    let step = step(alloc, doing)?;
+    let copy = copied(alloc, &step);
+    drop(step);
+    copy
+}
+
+fn steps(alloc: Global, doings: &[Doing]) -> Result<Vec<Step>, AllocError> {
+    let mut steps = Vec::new(alloc);
+    for doing in doings {
+        push(&mut steps, copied_step(alloc, *doing))?;
+    }
+    Ok(steps)
+}
+
+/// Makes Shared/News, which all may look up, and subscribes root to this many names.
+fn fill(alloc: Global, world: &mut World, count: u32) -> Result<(), WorldError> {
+    place(alloc, world, "Shared/News")?;
+    give(alloc, world, "Shared/News", "anyone", "l")?;
+    for number in 0..count {
+        let text = format!(in alloc; "Shared/{number}")?;
+        subscribe(alloc, world, "root", text.as_str())?;
+    }
+    Ok(())
+}
+
+fn world(alloc: Global, count: u32) -> Result<World, AllocError> {
+    let mut world = World::new(alloc);
+    match fill(alloc, &mut world, count) {
+        Ok(()) => Ok(world),
+        Err(_) => Err(AllocError),
+    }
+}
+
+/// A machine over this world, where root is the administrator.
+fn machine(alloc: Global, count: u32) -> Result<Core, AllocError> {
+    let (world, root) = both(world(alloc, count), user(alloc, "root"))?;
+    first(Core::open(alloc, world, root, &[], LIMITS))
+}
+
+fn machine_copy(alloc: Global, count: u32) -> Result<Core, AllocError> {
+    let core = machine(alloc, count)?;
+    let copy = core.try_copy(alloc);
+    drop(core);
+    copy
+}
+
+fn push_printed(alloc: Global, out: &mut Vec<u8>, replies: &[Response]) -> Result<(), AllocError> {
+    let octets = print(alloc, replies)?;
+    out.extend_from_slice(&octets)?;
+    out.extend_from_slice(b"|")
+}
+
+fn said(alloc: Global, core: &mut Core, steps: &[Step]) -> Result<Vec<u8>, AllocError> {
+    let said = core.run(alloc, steps)?;
+    let mut out = Vec::new(alloc);
+    for replies in &said {
+        push_printed(alloc, &mut out, replies)?;
+    }
+    Ok(out)
+}
+
+/// What a machine answers to these steps, after the greeting.
+fn said_after(
+    alloc: Global,
+    core: &mut Core,
+    opening: &[Step],
+    steps: &[Step],
+) -> Result<Vec<u8>, AllocError> {
+    drop(core.run(alloc, opening)?);
+    said(alloc, core, steps)
+}
+
+/// What a copy of the machine answers to copies of the steps after its session has opened, with `|` after
+/// each step.
+fn answered(alloc: Global, count: u32, doings: &[Doing]) -> Result<Vec<u8>, AllocError> {
+    let opening = steps(alloc, &[Doing::Opens])?;
+    let steps = steps(alloc, doings)?;
+    let mut core = machine_copy(alloc, count)?;
+    let said = said_after(alloc, &mut core, &opening, &steps);
+    drop(core);
+    said
+}
+
+/// How many names root subscribed to before, what root's session does, and what it is answered.
+const RUNS: [(u32, &[Doing], &[u8]); 4] = [
+    (
+        0,
+        &[
+            Doing::Sends(b"a1 NOOP\r\n"),
+            Doing::Leaves,
+            Doing::Sends(b"a2 NOOP\r\n"),
+        ],
+        b"a1 OK done\r\n|||",
+    ),
+    (
+        0,
+        &[Doing::Sends(b"a1 MYRIGHTS INBOX\r\n")],
+        b"* MYRIGHTS INBOX lrswipkxtea\r\na1 OK done\r\n|",
+    ),
+    (
+        998,
+        &SUBSCRIBING,
+        b"a1 OK done\r\n|a2 OK done\r\n|a3 OK done\r\n|a4 OK done\r\n|a5 OK done\r\n|",
+    ),
+    (
+        999,
+        &SUBSCRIBING,
+        b"a1 OK done\r\n|a2 OK done\r\n|a3 NO [LIMIT] limit reached\r\n|a4 OK done\r\n|a5 OK done\r\n|",
+    ),
+];
+
+/// A user subscribes to a thousand names at most.
+const SUBSCRIBING: [Doing; 5] = [
+    Doing::Sends(b"a1 SUBSCRIBE Shared/News\r\n"),
+    Doing::Sends(b"a2 SUBSCRIBE Shared/News\r\n"),
+    Doing::Sends(b"a3 SUBSCRIBE INBOX\r\n"),
+    Doing::Sends(b"a4 UNSUBSCRIBE Shared/News\r\n"),
+    Doing::Sends(b"a5 SUBSCRIBE INBOX\r\n"),
+];
+
+#[test]
+fn a_machine_answers(rt: HostRuntime) {
+    for &(count, doings, wanted) in &RUNS {
+        expect(&rt, answered(rt.alloc(), count, doings), wanted);
+    }
+}
+
+fn second<A: Drop, B: Drop>(both: Result<(A, B), AllocError>) -> Result<B, AllocError> {
+    let (_one, other) = both?;
+    Ok(other)
+}
+
+/// The number of values that are written where a host with these users starts, root among them.
+fn written_at_start(alloc: Global, users: &[&str]) -> Result<usize, AllocError> {
+    let mut others = Vec::new(alloc);
+    for text in users {
+        push(&mut others, user(alloc, text))?;
+    }
+    let root = user(alloc, "root")?;
+    let opened = Core::open(alloc, World::new(alloc), root, &others, LIMITS);
+    let change = second(opened)?;
+    Ok(change.writes().len())
+}
+
+#[test]
+fn a_host_starts_with_an_inbox_for_each_user(rt: HostRuntime) {
+    assert!(rt; written_at_start(rt.alloc(), &[]) == Ok(1));
+    assert!(rt; written_at_start(rt.alloc(), &["ann", "ann", "bob"]) == Ok(3));
 }
 
 #[test]
@@ -43,185 +238,4 @@ fn moments_and_session_numbers_have_ranges(rt: HostRuntime) {
     assert_eq!(rt; SessionNumber::new(0), None);
     let greatest = SessionNumber::new(u32::MAX);
     assert_eq!(rt; greatest.map(SessionNumber::get), Some(4_294_967_295));
-}
-
-#[test]
-fn a_host_starts_with_an_inbox_for_each_user(rt: HostRuntime) -> Result<(), Fail> {
-    let alloc = rt.alloc();
-    let root = user(alloc, "root")?;
-    let users = vec![in alloc; user(alloc, "ann")?, user(alloc, "ann")?]?;
-    let (core, change) = Core::open(alloc, World::new(alloc), root, &users, LIMITS)?;
-    drop(core);
-    let made = (change.writes().len(), change.is_empty());
-    drop(change);
-    assert_eq!(rt; made, (2, false));
-    Ok(())
-}
-
-/// A machine over the world, where root is the administrator.
-fn machine(alloc: Global, world: World) -> Result<Core, Fail> {
-    let root = user(alloc, "root")?;
-    let (core, _change) = Core::open(alloc, world, root, &[], LIMITS)?;
-    Ok(core)
-}
-
-/// Root's first session opens.
-fn opening(alloc: Global) -> Result<Vec<Step>, Fail> {
-    let mut steps = Vec::new(alloc);
-    steps.push(step(session(alloc)?, Act::Open))?;
-    Ok(steps)
-}
-
-fn push_command(alloc: Global, steps: &mut Vec<Step>, octets: &[u8]) -> Result<(), Fail> {
-    let act = command(alloc, octets)?;
-    steps.push(step(session(alloc)?, act))?;
-    Ok(())
-}
-
-/// Root's first session opens, asks and leaves, and then comes a late command.
-fn visit(alloc: Global) -> Result<Vec<Step>, Fail> {
-    let mut steps = opening(alloc)?;
-    push_command(alloc, &mut steps, b"a1 NOOP\r\n")?;
-    steps.push(step(session(alloc)?, Act::Leave))?;
-    push_command(alloc, &mut steps, b"a2 NOOP\r\n")?;
-    Ok(steps)
-}
-
-fn counts(alloc: Global, said: &[Vec<Response>]) -> Result<Vec<usize>, Fail> {
-    let mut counts = Vec::new(alloc);
-    for replies in said.iter() {
-        counts.push(replies.len())?;
-    }
-    Ok(counts)
-}
-
-#[test]
-fn a_run_makes_its_steps_in_order(rt: HostRuntime) -> Result<(), Fail> {
-    let alloc = rt.alloc();
-    let steps = visit(alloc)?;
-    let mut core = machine(alloc, World::new(alloc))?;
-    let said = core.run(alloc, &steps);
-    drop(core);
-    let counted = counts(alloc, &said?)?;
-    assert_eq!(rt; counted.as_slice(), [1, 1, 0, 0].as_slice());
-    Ok(())
-}
-
-/// Makes Shared/News, which all may look up, and subscribes root to this many names.
-fn place_and_subscribe(alloc: Global, world: &mut World, count: u32) -> Result<(), Fail> {
-    place(alloc, world, b"Shared/News")?.map_err(|_| "not placed")?;
-    give(alloc, world, b"Shared/News", b"anyone", b"l")?.map_err(|_| "not given")?;
-    for number in 0..count {
-        let text = format!(in alloc; "Shared/{number}")?;
-        subscribe(alloc, world, "root", text.as_bytes())?;
-    }
-    Ok(())
-}
-
-/// A world with Shared/News and this many names that root subscribed to.
-fn world_with_subscriptions(alloc: Global, count: u32) -> Result<World, Fail> {
-    let mut world = World::new(alloc);
-    match place_and_subscribe(alloc, &mut world, count) {
-        Ok(()) => Ok(world),
-        Err(fail) => Err(fail),
-    }
-}
-
-/// What root's open session is answered. A step that is refused for want of memory is made once more.
-fn answered(alloc: Global, core: &mut Core, octets: &[u8]) -> Result<Vec<u8>, Fail> {
-    let step = step(session(alloc)?, command(alloc, octets)?);
-    let replies = match core.prepare(alloc, &step) {
-        Ok(prepared) => core.commit(prepared),
-        Err(_) => {
-            let prepared = core.prepare(alloc, &step)?;
-            core.commit(prepared)
-        }
-    };
-    drop(step);
-    Ok(print(alloc, &replies)?)
-}
-
-/// What root's first session is answered, which opens before.
-fn all_answered(alloc: Global, core: &mut Core, commands: &[&[u8]]) -> Result<Vec<u8>, Fail> {
-    let steps = opening(alloc)?;
-    drop(core.run(alloc, &steps)?);
-    let mut written = Vec::new(alloc);
-    for octets in commands.iter() {
-        written.extend_from_slice(&answered(alloc, core, *octets)?)?;
-    }
-    Ok(written)
-}
-
-/// What root is answered who subscribed to `count` names.
-fn answers_to_subscriber(alloc: Global, count: u32, commands: &[&[u8]]) -> Result<Vec<u8>, Fail> {
-    let mut core = machine(alloc, world_with_subscriptions(alloc, count)?)?;
-    let written = all_answered(alloc, &mut core, commands);
-    drop(core);
-    written
-}
-
-#[test]
-fn a_user_subscribes_to_a_thousand_names(rt: HostRuntime) -> Result<(), Fail> {
-    const COMMANDS: [&[u8]; 5] = [
-        b"a1 SUBSCRIBE Shared/News\r\n",
-        b"a2 SUBSCRIBE Shared/News\r\n",
-        b"a3 SUBSCRIBE INBOX\r\n",
-        b"a4 UNSUBSCRIBE Shared/News\r\n",
-        b"a5 SUBSCRIBE INBOX\r\n",
-    ];
-    const WANTED: [(u32, &[u8]); 2] = [
-        (
-            998,
-            b"a1 OK done\r\na2 OK done\r\na3 OK done\r\na4 OK done\r\na5 OK done\r\n",
-        ),
-        (
-            999,
-            b"a1 OK done\r\na2 OK done\r\na3 NO [LIMIT] limit reached\r\na4 OK done\r\na5 OK done\r\n",
-        ),
-    ];
-    for &(count, wanted) in &WANTED {
-        let written = answers_to_subscriber(rt.alloc(), count, &COMMANDS)?;
-        assert_eq!(rt; written.as_slice(), wanted, "after {count}");
-    }
-    Ok(())
-}
-
-/// Whether a copy of the step is the same step.
-fn is_copied(alloc: Global, step: &Step) -> Result<bool, Fail> {
-    let copy = step.try_copy(alloc)?;
-    let same = copy.is_same(step);
-    drop(copy);
-    Ok(same)
-}
-
-fn are_copied(alloc: Global, steps: &[Step]) -> Result<bool, Fail> {
-    for step in steps {
-        if !is_copied(alloc, step)? {
-            return Ok(false);
-        }
-    }
-    Ok(true)
-}
-
-#[test]
-fn steps_are_copied(rt: HostRuntime) -> Result<(), Fail> {
-    let steps = visit(rt.alloc())?;
-    let copied = are_copied(rt.alloc(), &steps);
-    drop(steps);
-    assert!(rt; copied?);
-    Ok(())
-}
-
-#[test]
-fn a_copy_of_the_machine_answers_alike(rt: HostRuntime) -> Result<(), Fail> {
-    let alloc = rt.alloc();
-    let core = machine(alloc, World::new(alloc))?;
-    let copy = core.try_copy(alloc);
-    drop(core);
-    let mut copy = copy?;
-    let written = all_answered(alloc, &mut copy, &[b"a1 MYRIGHTS INBOX\r\n"]);
-    drop(copy);
-    let wanted: &[u8] = b"* MYRIGHTS INBOX lrswipkxtea\r\na1 OK done\r\n";
-    assert_eq!(rt; written?.as_slice(), wanted);
-    Ok(())
 }

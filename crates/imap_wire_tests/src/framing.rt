@@ -1,77 +1,81 @@
 //! Streams that are cut into frames, in pieces of each size.
 
+use crate::wanted::expect;
 use imap_lex::*;
 use std::alloc::{AllocError, Global};
 use std::process::Abort;
-use std::test::Fail;
 
-/// The frames as text: each command in brackets, `+` where the client is to go on, the tag of a rejected one
+/// A frame as text: a command in brackets, `+` where the client is to go on, the tag of a rejected command
 /// in parentheses, and `!` for a hangup.
+fn parts_of(frame: &Frame) -> (&[u8], &[u8], &[u8]) {
+    match frame {
+        Frame::Whole(octets) => (b"[", octets.as_slice(), b"]"),
+        Frame::Continue => (b"+", b"", b""),
+        Frame::Reject(Some(tag)) => (b"(", tag.as_slice(), b")"),
+        Frame::Reject(None) => (b"(", b"", b")"),
+        Frame::Hangup => (b"!", b"", b""),
+    }
+}
+
 fn show(frames: &[Frame], out: &mut Vec<u8>) -> Result<(), AllocError> {
     for frame in frames {
-        match frame {
-            Frame::Whole(octets) => between(out, b'[', octets.as_slice(), b']')?,
-            Frame::Continue => out.push(b'+')?,
-            Frame::Reject(Some(tag)) => between(out, b'(', tag.as_slice(), b')')?,
-            Frame::Reject(None) => between(out, b'(', b"", b')')?,
-            Frame::Hangup => out.push(b'!')?,
-        }
+        let (open, text, close) = parts_of(frame);
+        out.extend_from_slice(open)?;
+        out.extend_from_slice(text)?;
+        out.extend_from_slice(close)?;
     }
     Ok(())
 }
 
-fn between(out: &mut Vec<u8>, open: u8, octets: &[u8], close: u8) -> Result<(), AllocError> {
-    out.push(open)?;
-    out.extend_from_slice(octets)?;
-    out.push(close)?;
-    Ok(())
+/// What a piece that is refused is answered, in angle brackets.
+fn show_error(alloc: Global, error: LexError, out: &mut Vec<u8>) -> Result<(), AllocError> {
+    let text = format!(in alloc; "<{error}>")?;
+    out.extend_from_slice(text.as_bytes())
 }
 
-/// Feeds the stream in pieces of `size` octets to a framer with the limit `max_octets`, and shows the frames.
-/// `?` stands for a piece that is refused with `Closed`.
-fn told(alloc: Global, max_octets: u64, stream: &[u8], size: usize) -> Result<Vec<u8>, LexError> {
+/// Feeds one piece, and shows what comes of it.
+fn feed(
+    alloc: Global,
+    framer: &mut Framer,
+    piece: &[u8],
+    out: &mut Vec<u8>,
+) -> Result<(), AllocError> {
+    match framer.feed(alloc, piece) {
+        Ok(frames) => show(&frames, out),
+        Err(error) => show_error(alloc, error, out),
+    }
+}
+
+fn feed_all(
+    alloc: Global,
+    framer: &mut Framer,
+    stream: &[u8],
+    size: usize,
+) -> Result<Vec<u8>, AllocError> {
     let mut out = Vec::new(alloc);
-    let mut framer = Framer::new(alloc, max_octets);
     for piece in stream.chunks(size.max(1)) {
-        match framer.feed(alloc, piece) {
-            Ok(frames) => show(&frames, &mut out)?,
-            Err(LexError::Closed) => out.push(b'?').map_err(AllocError::from)?,
-            Err(error) => return Err(error),
-        }
+        feed(alloc, framer, piece, &mut out)?;
     }
     Ok(out)
 }
 
-/// Asserts that the frames of these streams are these, in pieces of `size` octets.
-fn check_in(
-    rt: &impl Abort,
-    alloc: Global,
-    max_octets: u64,
-    size: usize,
-    cases: &[(&[u8], &[u8])],
-) -> Result<(), LexError> {
-    for (stream, wanted) in cases {
-        let out = told(alloc, max_octets, stream, size)?;
-        assert_eq!(rt; out.as_slice(), *wanted, "in pieces of {size}");
-    }
-    Ok(())
+/// The frames of the stream, which is fed in pieces of `size` octets to a framer with this limit.
+fn told(alloc: Global, max_octets: u64, stream: &[u8], size: usize) -> Result<Vec<u8>, AllocError> {
+    let mut framer = Framer::new(alloc, max_octets);
+    feed_all(alloc, &mut framer, stream, size)
 }
 
-/// Asserts the same in pieces of several sizes.
-fn check_all(
-    rt: &impl Abort,
-    alloc: Global,
-    max_octets: u64,
-    cases: &[(&[u8], &[u8])],
-) -> Result<(), LexError> {
-    for size in [1, 2, 3, 5, 7, 1000] {
-        check_in(rt, alloc, max_octets, size, cases)?;
+/// Asserts that these streams have these frames, in pieces of several sizes.
+fn check(rt: &impl Abort, alloc: Global, max_octets: u64, cases: &[(&[u8], &[u8])]) {
+    for (stream, wanted) in cases {
+        for size in [1, 2, 3, 5, 7, 1000] {
+            expect(rt, told(alloc, max_octets, stream, size), wanted);
+        }
     }
-    Ok(())
 }
 
 #[test]
-fn lines_in_any_pieces(rt: HostRuntime) -> Result<(), Fail> {
+fn lines_in_any_pieces(rt: HostRuntime) {
     const CASES: [(&[u8], &[u8]); 8] = [
         (b"", b""),
         (b"a1 NOOP\r\na2 LOGOUT\r\n", b"[a1 NOOP\r\n][a2 LOGOUT\r\n]"),
@@ -82,12 +86,11 @@ fn lines_in_any_pieces(rt: HostRuntime) -> Result<(), Fail> {
         (b"a\r\r\nb\n\r\n", b"[a\r\r\n][b\n\r\n]"),
         (b"\n\r\n\0\x80\xff\r\n\r", b"[\n\r\n][\0\x80\xff\r\n]"),
     ];
-    check_all(&rt, rt.alloc(), 100, &CASES)?;
-    Ok(())
+    check(&rt, rt.alloc(), 100, &CASES);
 }
 
 #[test]
-fn literals_in_any_pieces(rt: HostRuntime) -> Result<(), Fail> {
+fn literals_in_any_pieces(rt: HostRuntime) {
     const CASES: [(&[u8], &[u8]); 9] = [
         (
             b"a1 MYRIGHTS {5}\r\nINBOX\r\n",
@@ -114,12 +117,11 @@ fn literals_in_any_pieces(rt: HostRuntime) -> Result<(), Fail> {
         ),
         (b"\"{2}\r\n{1\r\n", b"+[\"{2}\r\n{1\r\n]"),
     ];
-    check_all(&rt, rt.alloc(), 100, &CASES)?;
-    Ok(())
+    check(&rt, rt.alloc(), 100, &CASES);
 }
 
 #[test]
-fn literals_over_the_limit(rt: HostRuntime) -> Result<(), Fail> {
+fn literals_over_the_limit(rt: HostRuntime) {
     const CASES: [(&[u8], &[u8]); 9] = [
         (b"a1 X {8}\r\n12345678\r\n", b"+[a1 X {8}\r\n12345678\r\n]"),
         (b"a1 X {9}\r\na2 NOOP\r\n", b"(a1)[a2 NOOP\r\n]"),
@@ -143,140 +145,135 @@ fn literals_over_the_limit(rt: HostRuntime) -> Result<(), Fail> {
             b"+[a1 X {5}\r\n12345\r\n]+[a2 Y {8}\r\n12345678\r\n]",
         ),
     ];
-    check_all(&rt, rt.alloc(), 8, &CASES)?;
-    Ok(())
+    check(&rt, rt.alloc(), 8, &CASES);
 }
 
+/// A stream, the size of its pieces, and its frames. No piece after a hangup is taken, and the room of a
+/// literal is reserved when it is announced.
 #[test]
-fn hangups(rt: HostRuntime) -> Result<(), Fail> {
-    const CASES: [(&[u8], &[u8]); 3] = [
-        (b"a1 X {9+}\r\na2 NOOP\r\n", b"!"),
-        (b"a1 NOOP\r\na2 X {9+}\r\n123456789\r\n", b"[a1 NOOP\r\n]!"),
-        (b"a1 X {5}\r\n12345 {4+}\r\n1234\r\n", b"+!"),
+fn hangups_and_want_of_memory(rt: HostRuntime) {
+    const CASES: [(u64, &[u8], usize, &[u8]); 5] = [
+        (8, b"a1 X {9+}\r\na2 NOOP\r\n", 1000, b"!"),
+        (
+            8,
+            b"a1 NOOP\r\na2 X {9+}\r\n123456789\r\n",
+            1000,
+            b"[a1 NOOP\r\n]!",
+        ),
+        (8, b"a1 X {5}\r\n12345 {4+}\r\n1234\r\n", 1000, b"+!"),
+        (
+            8,
+            b"a1 X {9+}\r\nab",
+            1,
+            b"!<the stream was hung up><the stream was hung up>",
+        ),
+        (
+            u64::MAX,
+            b"a1 X {18446744073709551615}\r\n",
+            1000,
+            b"<out of memory>",
+        ),
     ];
-    check_in(&rt, rt.alloc(), 8, 1000, &CASES)?;
-    check_in(&rt, rt.alloc(), 8, 1, &[(b"a1 X {9+}\r\na\r\n", b"!???")])?;
-    Ok(())
+    for &(max_octets, stream, size, wanted) in &CASES {
+        expect(&rt, told(rt.alloc(), max_octets, stream, size), wanted);
+    }
 }
 
-/// The room of a literal is reserved when it is announced.
-#[test]
-fn a_literal_beyond_memory(rt: HostRuntime) -> Result<(), Fail> {
-    let stream = b"a1 X {18446744073709551615}\r\n";
-    let refused = told(rt.alloc(), u64::MAX, stream, 1000).err();
-    assert_eq!(rt; refused, Some(LexError::Memory));
-    Ok(())
-}
-
-/// `front`, `count` octets without a line end, and `end`.
-fn long(alloc: Global, front: &[u8], count: usize, end: &[u8]) -> Result<Vec<u8>, AllocError> {
-    let mut octets = Vec::from_slice(alloc, front)?;
-    octets.resize(front.len().saturating_add(count), b'x')?;
-    octets.extend_from_slice(end)?;
-    Ok(octets)
-}
-
-/// A stream that `long` makes, and the number of octets after which it has a frame.
+/// A stream of `front`, `count` octets without a line end, and `end`; and the number of octets that show
+/// its frames.
 #[derive(Clone, Copy)]
-struct Row<'a> {
+struct Long<'a> {
+    max_octets: u64,
     front: &'a [u8],
     count: usize,
     end: &'a [u8],
     told: usize,
 }
 
-fn check_long(rt: &impl Abort, alloc: Global, rows: &[Row<'_>]) -> Result<(), LexError> {
-    for row in rows {
-        let stream = long(alloc, row.front, row.count, row.end)?;
-        for size in [1, 4096, 10_000] {
-            let out = told(alloc, 4096, &stream, size)?;
-            assert_eq!(rt; out.len(), row.told, "{} in pieces of {size}", row.count);
-        }
-    }
-    Ok(())
+fn stream_of(alloc: Global, long: &Long<'_>) -> Result<Vec<u8>, AllocError> {
+    let mut octets = Vec::from_slice(alloc, long.front)?;
+    octets.resize(long.front.len().saturating_add(long.count), b'x')?;
+    octets.extend_from_slice(long.end)?;
+    Ok(octets)
+}
+
+fn told_of(alloc: Global, long: &Long<'_>, size: usize) -> Result<usize, AllocError> {
+    let stream = stream_of(alloc, long)?;
+    let told = told(alloc, long.max_octets, &stream, size)?;
+    Ok(told.len())
 }
 
 #[test]
-fn limits_of_octets(rt: HostRuntime) -> Result<(), Fail> {
-    // The longest line, an unended one that is as long, one that is longer, and one
-    // that is longer and has a mark.
-    const LINES: [Row; 4] = [
-        Row {
+fn long_streams(rt: HostRuntime) {
+    const LONG: [Long; 8] = [
+        // The longest line, an unended one that is as long, one that is longer, and one
+        // that is longer and has a mark.
+        Long {
+            max_octets: 4096,
             front: b"",
             count: 8190,
             end: b"\r\n",
             told: 8194,
         },
-        Row {
+        Long {
+            max_octets: 4096,
             front: b"",
             count: 8192,
             end: b"",
             told: 0,
         },
-        Row {
+        Long {
+            max_octets: 4096,
             front: b"",
             count: 8193,
             end: b"",
             told: 1,
         },
-        Row {
+        Long {
+            max_octets: 4096,
             front: b"a ",
             count: 8183,
             end: b"{9999}\r\n",
             told: 1,
         },
-    ];
-    check_long(&rt, rt.alloc(), &LINES)?;
-    // A command whose two lines have 8192 octets, and one more; the longest literal that comes unasked.
-    const COMMANDS: [Row; 3] = [
-        Row {
+        // A command whose two lines have 8192 octets, and one more; the longest literal that comes unasked.
+        Long {
+            max_octets: 4096,
             front: b"a {3+}\r\n\r\n.",
             count: 8182,
             end: b"\r\n",
             told: 8197,
         },
-        Row {
+        Long {
+            max_octets: 4096,
             front: b"a {3+}\r\n\r\n.",
             count: 8183,
             end: b"\r\n",
             told: 1,
         },
-        Row {
+        Long {
+            max_octets: 4096,
             front: b"a {4096+}\r\n",
             count: 4096,
             end: b"\r\n",
             told: 4111,
         },
+        // A long literal, which may come by octets.
+        Long {
+            max_octets: 1_000_000,
+            front: b"a {1000000}\r\n",
+            count: 1_000_000,
+            end: b"\r\n",
+            told: 1_000_018,
+        },
     ];
-    check_long(&rt, rt.alloc(), &COMMANDS)?;
-    Ok(())
-}
-
-#[test]
-fn a_million_octets_one_by_one(rt: HostRuntime) -> Result<(), Fail> {
-    let alloc = rt.alloc();
-    let stream = long(alloc, b"a {1000000}\r\n", 1_000_000, b"\r\n")?;
-    let mut framer = Framer::new(alloc, 1_000_000);
-    let mut count = 0u64;
-    for octet in stream.iter() {
-        let frames = framer.feed(alloc, &[*octet])?;
-        count = count.saturating_add(frames.len() as u64);
+    for long in &LONG {
+        for size in [1, 4096, 10_000] {
+            assert!(rt;
+                told_of(rt.alloc(), long, size) == Ok(long.told),
+                "{} octets",
+                long.count
+            );
+        }
     }
-    assert_eq!(rt; count, 2);
-    Ok(())
-}
-
-#[test]
-fn octets_are_kept(rt: HostRuntime) -> Result<(), Fail> {
-    let octets = Octets::from_slice(rt.alloc(), b"INBOX")?;
-    assert_eq!(rt; octets.try_copy()?.as_slice(), b"INBOX".as_slice());
-    assert_eq!(rt; octets.slice(2, 4)?.as_slice(), b"BO".as_slice());
-    Ok(())
-}
-
-#[test]
-fn errors_are_told(rt: HostRuntime) -> Result<(), Fail> {
-    let shown = format!(in rt.alloc(); "{}, {}", LexError::Memory, LexError::Closed)?;
-    assert_eq!(rt; shown.as_str(), "out of memory, the stream was hung up");
-    Ok(())
 }

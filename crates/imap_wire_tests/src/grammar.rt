@@ -3,110 +3,157 @@
 //! A request that goes out of scope at the end of a function makes the function's proof long. One that is
 //! handed to `drop` doesn't, since `drop` is generic.
 
-mod copies;
-mod unwritten;
 mod written;
 
+use crate::wanted::expect;
 use imap_grammar::*;
-use imap_lex::Octets;
+use imap_lex::{Octets, Tag};
+use imap_values::{Same, TryCopy};
 use std::alloc::{AllocError, Global};
 use std::process::Abort;
-use std::test::Fail;
 
-/// A request as text: the tag and what is asked for, or `BAD` and the tag if there is one.
-fn show(alloc: Global, request: &Request) -> Result<Vec<u8>, AllocError> {
-    let mut out = Vec::new(alloc);
-    match request {
-        Request::Command { tag, body } => {
-            out.extend_from_slice(tag.as_slice())?;
-            match body {
-                Command::Capability => out.extend_from_slice(b" capability")?,
-                Command::Noop => out.extend_from_slice(b" noop")?,
-                Command::Logout => out.extend_from_slice(b" logout")?,
-                Command::MyRights { mailbox } => {
-                    out.extend_from_slice(b" rights on ")?;
-                    out.extend_from_slice(mailbox.as_slice())?;
-                }
-                _ => out.extend_from_slice(b" other")?,
-            }
-        }
-        Request::Malformed { tag: Some(tag) } => {
-            out.extend_from_slice(b"BAD ")?;
-            out.extend_from_slice(tag.as_slice())?;
-        }
-        Request::Malformed { tag: None } => out.extend_from_slice(b"BAD")?,
-        Request::TooBig { tag: _ } => out.extend_from_slice(b"too big")?,
-    }
-    Ok(out)
+/// Reads the frame. The tests need no clause of `parse`, and have none by this.
+fn read(alloc: Global, frame: &[u8]) -> Result<Request, AllocError> {
+    let octets = Octets::from_slice(alloc, frame)?;
+    parse(alloc, &octets)
 }
 
-/// Reads the frame and shows its request as text.
-fn shown(alloc: Global, frame: &[u8]) -> Result<Vec<u8>, AllocError> {
-    let request = parse(alloc, &Octets::from_slice(alloc, frame)?)?;
-    let text = show(alloc, &request);
+/// Writes the request, or nothing if no frame spells it.
+fn text_of(alloc: Global, request: &Request) -> Result<Vec<u8>, AllocError> {
+    Ok(write_command(alloc, request)?.unwrap_or(Vec::new(alloc)))
+}
+
+/// Writes the copy of the request, if it is the same.
+fn text_of_copy(alloc: Global, request: &Request, copy: &Request) -> Result<Vec<u8>, AllocError> {
+    if copy.is_same(request) {
+        text_of(alloc, copy)
+    } else {
+        Vec::from_slice(alloc, b"another request")
+    }
+}
+
+/// Copies the request and writes the copy.
+fn copied(alloc: Global, request: &Request) -> Result<Vec<u8>, AllocError> {
+    let copy = request.try_copy(alloc)?;
+    let text = text_of_copy(alloc, request, &copy);
+    drop(copy);
+    text
+}
+
+/// What is written of a copy of the request that was made.
+fn written_of(alloc: Global, made: Result<Request, AllocError>) -> Result<Vec<u8>, AllocError> {
+    let request = made?;
+    let text = copied(alloc, &request);
     drop(request);
     text
 }
 
-/// Frames, each with its request as text.
-fn check(rt: &impl Abort, alloc: Global, rows: &[(&[u8], &[u8])]) -> Result<(), AllocError> {
+/// Reads the frame, and writes a copy of its request.
+fn rewritten(alloc: Global, frame: &[u8]) -> Result<Vec<u8>, AllocError> {
+    written_of(alloc, read(alloc, frame))
+}
+
+/// Asserts that a copy of each frame's request is written as the text beside it.
+fn check(rt: &impl Abort, alloc: Global, rows: &[(&[u8], &[u8])]) {
     for (frame, wanted) in rows {
-        let shown = shown(alloc, frame)?;
-        assert_eq!(rt; shown.as_slice(), *wanted, "at {frame:?}");
+        expect(rt, rewritten(alloc, frame), wanted);
     }
-    Ok(())
 }
 
-// What a framer gives is a whole command. These are none.
+// What a framer gives is a whole command. These are none. Of a request that is malformed its tag is written.
 #[test]
-fn frames_that_no_framer_gives(rt: HostRuntime) -> Result<(), Fail> {
+fn frames_that_no_framer_gives(rt: HostRuntime) {
     const ROWS: [(&[u8], &[u8]); 14] = [
-        (b"", b"BAD"),
-        (b"a1", b"BAD"),
-        (b"a1\n", b"BAD"),
-        (b"a1\r", b"BAD"),
-        (b"a1 NOOP\n", b"BAD a1"),
-        (b"a1 NOOP\r", b"BAD a1"),
-        (b"a1 NOOP", b"BAD a1"),
-        (b"a1 NOOP\r\n\r\n", b"BAD a1"),
-        (b"a1 NOOP\r\na2 NOOP\r\n", b"BAD a1"),
-        (b"a1 MYRIGHTS {3}\r\n", b"BAD a1"),
-        (b"a DELETE {3}\r\nfo\r\n", b"BAD a"),
-        (b"a DELETE {3+\r\nfoo\r\n", b"BAD a"),
-        (b"a DELETE {}\r\nfoo\r\n", b"BAD a"),
-        (b"a APPEND x {6}\r\nhello\r\n", b"BAD a"),
+        (b"", b"\r\n"),
+        (b"a1", b"\r\n"),
+        (b"a1\n", b"\r\n"),
+        (b"a1\r", b"\r\n"),
+        (b"a1 NOOP\n", b"a1\r\n"),
+        (b"a1 NOOP\r", b"a1\r\n"),
+        (b"a1 NOOP", b"a1\r\n"),
+        (b"a1 NOOP\r\n\r\n", b"a1\r\n"),
+        (b"a1 NOOP\r\na2 NOOP\r\n", b"a1\r\n"),
+        (b"a1 MYRIGHTS {3}\r\n", b"a1\r\n"),
+        (b"a DELETE {3}\r\nfo\r\n", b"a\r\n"),
+        (b"a DELETE {3+\r\nfoo\r\n", b"a\r\n"),
+        (b"a DELETE {}\r\nfoo\r\n", b"a\r\n"),
+        (b"a APPEND x {6}\r\nhello\r\n", b"a\r\n"),
     ];
-    check(&rt, rt.alloc(), &ROWS)?;
-    Ok(())
+    check(&rt, rt.alloc(), &ROWS);
+}
+
+fn too_big(alloc: Global) -> Result<Request, AllocError> {
+    let tag = Tag::read(alloc, b"a")?.ok_or(AllocError)?;
+    Ok(Request::TooBig { tag })
 }
 
 #[test]
-fn a_long_name(rt: HostRuntime) -> Result<(), Fail> {
-    let alloc = rt.alloc();
-    let mut frame = Vec::from_slice(alloc, b"a1 MYRIGHTS \"")?;
-    for _ in 0..500_000u32 {
-        frame.extend_from_slice(b"\\\"")?;
-    }
-    frame.extend_from_slice(b"\"\r\n")?;
-    let shown = shown(alloc, frame.as_slice())?;
-    assert_eq!(rt; shown.len(), 500_013);
-    Ok(())
+fn a_literal_that_is_too_big(rt: HostRuntime) {
+    expect(&rt, written_of(rt.alloc(), too_big(rt.alloc())), b"");
 }
 
-/// A LOGIN line with `count` empty literals.
-fn with_empty_literals(alloc: Global, count: u32) -> Result<Vec<u8>, AllocError> {
-    let mut frame = Vec::from_slice(alloc, b"a LOGIN ")?;
+/// What `Debug` says of the frame's request.
+fn debug_of(alloc: Global, frame: &[u8]) -> Result<Vec<u8>, AllocError> {
+    let request = read(alloc, frame)?;
+    let text = format!(in alloc; "{request:?}");
+    drop(request);
+    Ok(text?.into_bytes())
+}
+
+#[test]
+fn debug_says_which_command_it_is(rt: HostRuntime) {
+    let wanted = b"Command { tag: Tag(Octets(b\"a1\")), body: Command { verb: GetAcl, .. } }";
+    expect(&rt, debug_of(rt.alloc(), b"a1 GETACL INBOX\r\n"), wanted);
+}
+
+/// A front, a middle, how often the middle comes, and a back.
+type Repeated = (&'static [u8], &'static [u8], usize, &'static [u8]);
+
+fn repeated(alloc: Global, parts: &Repeated) -> Result<Vec<u8>, AllocError> {
+    let (front, middle, count, back) = *parts;
+    let mut text = Vec::from_slice(alloc, front)?;
     for _ in 0..count {
-        frame.extend_from_slice(b"{0}\r\n")?;
+        text.extend_from_slice(middle)?;
     }
-    frame.extend_from_slice(b"\r\n")?;
-    Ok(frame)
+    text.extend_from_slice(back)?;
+    Ok(text)
+}
+
+fn is_written_as(alloc: Global, frame: &Repeated, wanted: &Repeated) -> Result<bool, AllocError> {
+    let frame = repeated(alloc, frame)?;
+    let wanted = repeated(alloc, wanted)?;
+    let written = rewritten(alloc, &frame)?;
+    Ok(written.as_slice() == wanted.as_slice())
 }
 
 #[test]
-fn a_million_empty_literals(rt: HostRuntime) -> Result<(), Fail> {
-    let alloc = rt.alloc();
-    let frame = with_empty_literals(alloc, 1_000_000)?;
-    assert_eq!(rt; shown(alloc, &frame)?.as_slice(), b"a other".as_slice());
-    Ok(())
+fn long_frames(rt: HostRuntime) {
+    const ROWS: [(Repeated, Repeated); 5] = [
+        // The longest command that a framer takes.
+        (
+            (b"a1 MYRIGHTS ", b"x", 8178, b"\r\n"),
+            (b"a1 MYRIGHTS ", b"x", 8178, b"\r\n"),
+        ),
+        // 255 octets with the space at the end, and 256.
+        (
+            (b"a1 MYRIGHTS \"", b"x", 254, b" \"\r\n"),
+            (b"a1 MYRIGHTS \"", b"x", 254, b" \"\r\n"),
+        ),
+        (
+            (b"a1 MYRIGHTS \"", b"x", 255, b" \"\r\n"),
+            (b"a1 MYRIGHTS {256}\r\n", b"x", 255, b" \r\n"),
+        ),
+        (
+            (b"a1 MYRIGHTS \"", b"\\\"", 500_000, b"\"\r\n"),
+            (b"a1 MYRIGHTS {500000}\r\n", b"\"", 500_000, b"\r\n"),
+        ),
+        (
+            (b"a LOGIN ", b"{0}\r\n", 1_000_000, b"\r\n"),
+            (b"a LOGIN\r\n", b"", 0, b""),
+        ),
+    ];
+    for (frame, wanted) in &ROWS {
+        let found = is_written_as(rt.alloc(), frame, wanted);
+        assert!(rt; found == Ok(true), "{} of {:?}", frame.2, frame.1);
+    }
 }

@@ -11,3 +11,5 @@ mod framing;
 mod grammar;
 #[cfg(test)]
 mod printing;
+#[cfg(test)]
+mod wanted;

@@ -1,60 +1,10 @@
 //! Requests that are written, compared with the RFCs' examples in the one spelling that is written here:
 //! words in capitals, strings bare where they can be and else in quotes.
 
-use imap_grammar::*;
-use imap_lex::Octets;
-use std::alloc::{AllocError, Global};
-use std::process::Abort;
-use std::test::Fail;
-
-/// Writes the request. The tests need no clause of `write_command`, and have none by this.
-pub(crate) fn text_of(alloc: Global, request: Request) -> Result<Option<Vec<u8>>, AllocError> {
-    let text = write_command(alloc, &request);
-    drop(request);
-    text
-}
-
-/// Reads the frame. The tests need no clause of `parse`, and have none by this.
-pub(crate) fn read(alloc: Global, frame: &[u8]) -> Result<Request, AllocError> {
-    parse(alloc, &Octets::from_slice(alloc, frame)?)
-}
-
-/// Reads the frame and writes its request.
-pub(crate) fn shown(alloc: Global, frame: &[u8]) -> Result<Option<Vec<u8>>, AllocError> {
-    text_of(alloc, read(alloc, frame)?)
-}
-
-/// Frames, each with the text that is to be written for it.
-fn check(rt: &impl Abort, alloc: Global, rows: &[(&[u8], &[u8])]) -> Result<(), AllocError> {
-    for (frame, wanted) in rows {
-        match shown(alloc, frame)? {
-            Some(text) => assert_eq!(rt; text.as_slice(), *wanted, "at {frame:?}"),
-            None => panic!(rt; "nothing is written for {frame:?}"),
-        }
-    }
-    Ok(())
-}
-
-/// What `Debug` says of the frame's request.
-fn debug_of(alloc: Global, frame: &[u8]) -> Result<String, AllocError> {
-    let request = read(alloc, frame)?;
-    let text = format!(in alloc; "{request:?}");
-    drop(request);
-    text
-}
+use super::check;
 
 #[test]
-fn debug_says_which_command_it_is(rt: HostRuntime) -> Result<(), Fail> {
-    let text = debug_of(rt.alloc(), b"a1 GETACL INBOX\r\n")?;
-    assert!(rt;
-        text.as_str()
-            .ends_with("body: Command { verb: GetAcl, .. } }")
-    );
-    Ok(())
-}
-
-#[test]
-fn words_alone(rt: HostRuntime) -> Result<(), Fail> {
+fn words_alone(rt: HostRuntime) {
     const ROWS: [(&[u8], &[u8]); 12] = [
         (b"abcd CAPABILITY\r\n", b"abcd CAPABILITY\r\n"),
         (b"a002 noop\r\n", b"a002 NOOP\r\n"),
@@ -69,12 +19,11 @@ fn words_alone(rt: HostRuntime) -> Result<(), Fail> {
         (b"tag\r\n", b"tag\r\n"),
         (b"\r\n", b"\r\n"),
     ];
-    check(&rt, rt.alloc(), &ROWS)?;
-    Ok(())
+    check(&rt, rt.alloc(), &ROWS);
 }
 
 #[test]
-fn names(rt: HostRuntime) -> Result<(), Fail> {
+fn names(rt: HostRuntime) {
     const ROWS: [(&[u8], &[u8]); 13] = [
         (
             b"A003 CREATE owatagusiam/\r\n",
@@ -123,45 +72,11 @@ fn names(rt: HostRuntime) -> Result<(), Fail> {
             b"t2 ENABLE CONDSTORE X-GOOD-IDEA\r\n",
         ),
     ];
-    check(&rt, rt.alloc(), &ROWS)?;
-    Ok(())
-}
-
-/// A command on a mailbox whose name has `count` octets, in quotes if `quoted`.
-fn on_long_name(alloc: Global, quoted: bool, count: usize) -> Result<Vec<u8>, AllocError> {
-    let mut frame = Vec::from_slice(alloc, b"a1 MYRIGHTS ")?;
-    if quoted {
-        frame.push(b'"')?;
-    }
-    for _ in 0..count {
-        frame.push(b'x')?;
-    }
-    if quoted {
-        frame.extend_from_slice(b" \"")?;
-    }
-    frame.extend_from_slice(b"\r\n")?;
-    Ok(frame)
-}
-
-/// Whether the frame is written as it was read.
-fn is_kept(alloc: Global, frame: &[u8]) -> Result<bool, AllocError> {
-    Ok(shown(alloc, frame)?.is_some_and(|text| text.as_slice() == frame))
+    check(&rt, rt.alloc(), &ROWS);
 }
 
 #[test]
-fn long_names(rt: HostRuntime) -> Result<(), Fail> {
-    let alloc = rt.alloc();
-    // The longest command that a framer takes.
-    assert!(rt; is_kept(alloc, &on_long_name(alloc, false, 8178)?)?);
-    // 255 octets with the space at the end, and 256.
-    assert!(rt; is_kept(alloc, &on_long_name(alloc, true, 254)?)?);
-    let text = shown(alloc, &on_long_name(alloc, true, 255)?)?.ok_or("nothing")?;
-    assert!(rt; text.as_slice().starts_with(b"a1 MYRIGHTS {256}\r\nxxx"));
-    Ok(())
-}
-
-#[test]
-fn selecting(rt: HostRuntime) -> Result<(), Fail> {
+fn selecting(rt: HostRuntime) {
     const ROWS: [(&[u8], &[u8]); 6] = [
         (b"A142 SELECT INBOX\r\n", b"A142 SELECT INBOX\r\n"),
         (
@@ -185,12 +100,11 @@ fn selecting(rt: HostRuntime) -> Result<(), Fail> {
             b"A04 SELECT x (QRESYNC (1 2 3:4))\r\n",
         ),
     ];
-    check(&rt, rt.alloc(), &ROWS)?;
-    Ok(())
+    check(&rt, rt.alloc(), &ROWS);
 }
 
 #[test]
-fn listing(rt: HostRuntime) -> Result<(), Fail> {
+fn listing(rt: HostRuntime) {
     const ROWS: [(&[u8], &[u8]); 6] = [
         (b"A101 LIST \"\" \"\"\r\n", b"A101 LIST \"\" \"\"\r\n"),
         (b"A202 LIST ~/Mail/ %\r\n", b"A202 LIST ~/Mail/ %\r\n"),
@@ -213,12 +127,11 @@ fn listing(rt: HostRuntime) -> Result<(), Fail> {
                 RETURN (SUBSCRIBED STATUS (MESSAGES UNSEEN))\r\n",
         ),
     ];
-    check(&rt, rt.alloc(), &ROWS)?;
-    Ok(())
+    check(&rt, rt.alloc(), &ROWS);
 }
 
 #[test]
-fn appending(rt: HostRuntime) -> Result<(), Fail> {
+fn appending(rt: HostRuntime) {
     const ROWS: [(&[u8], &[u8]); 4] = [
         (
             b"A003 APPEND saved-messages (\\Seen) {5+}\r\nhello\r\n",
@@ -234,12 +147,11 @@ fn appending(rt: HostRuntime) -> Result<(), Fail> {
             b"A003 APPEND x (\\DRAFT \\x y) \" 7-Feb-0994 21:52:25 +0000\" {2}\r\n\r\n\r\n",
         ),
     ];
-    check(&rt, rt.alloc(), &ROWS)?;
-    Ok(())
+    check(&rt, rt.alloc(), &ROWS);
 }
 
 #[test]
-fn searching(rt: HostRuntime) -> Result<(), Fail> {
+fn searching(rt: HostRuntime) {
     const ROWS: [(&[u8], &[u8]); 9] = [
         (
             b"A282 SEARCH RETURN (MIN COUNT) FLAGGED SINCE 1-Feb-1994 NOT FROM \"Smith\"\r\n",
@@ -275,13 +187,12 @@ fn searching(rt: HostRuntime) -> Result<(), Fail> {
             b"a SEARCH SENTON 1-Jan-2000 $ BEFORE 31-Dec-9999\r\n",
         ),
     ];
-    check(&rt, rt.alloc(), &ROWS)?;
-    Ok(())
+    check(&rt, rt.alloc(), &ROWS);
 }
 
 #[test]
-fn fetching(rt: HostRuntime) -> Result<(), Fail> {
-    const ROWS: [(&[u8], &[u8]); 8] = [
+fn fetching(rt: HostRuntime) {
+    const ROWS: [(&[u8], &[u8]); 9] = [
         (
             b"A654 FETCH 2:4 (FLAGS BODY[HEADER.FIELDS (DATE FROM)])\r\n",
             b"A654 FETCH 2:4 (FLAGS BODY[HEADER.FIELDS (DATE FROM)])\r\n",
@@ -308,13 +219,16 @@ fn fetching(rt: HostRuntime) -> Result<(), Fail> {
             b"a FETCH 1 (BODY[HEADER] BODY[] BODY.PEEK[HEADER.FIELDS.NOT (a)])\r\n",
         ),
         (b"a FETCH 1 BODYSTRUCTURE\r\n", b"a FETCH 1 ALL\r\n"),
+        (
+            b"a FETCH $ (RFC822.SIZE INTERNALDATE)\r\n",
+            b"a FETCH $ (RFC822.SIZE INTERNALDATE)\r\n",
+        ),
     ];
-    check(&rt, rt.alloc(), &ROWS)?;
-    Ok(())
+    check(&rt, rt.alloc(), &ROWS);
 }
 
 #[test]
-fn storing(rt: HostRuntime) -> Result<(), Fail> {
+fn storing(rt: HostRuntime) {
     const ROWS: [(&[u8], &[u8]); 8] = [
         (
             b"A003 STORE 2:4 +FLAGS (\\Deleted)\r\n",
@@ -337,6 +251,5 @@ fn storing(rt: HostRuntime) -> Result<(), Fail> {
             b"A003 UID EXPUNGE 3000:3002\r\n",
         ),
     ];
-    check(&rt, rt.alloc(), &ROWS)?;
-    Ok(())
+    check(&rt, rt.alloc(), &ROWS);
 }

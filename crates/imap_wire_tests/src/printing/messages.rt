@@ -1,367 +1,443 @@
 //! Responses about the messages of the selected mailbox.
 
-use super::{check, field_names, numbers, octets, shown, words};
+use super::{both, check, numbers, octets};
 use imap_print::*;
 use imap_query::Section;
-use imap_syntax::{Date, DateTime, Items, Keywords, Month, Zone};
+use imap_syntax::{Atom, Date, DateTime, FieldName, Items, Keywords, Month, Zone};
 use std::alloc::{AllocError, Global};
-use std::process::Abort;
-use std::test::Fail;
 
-fn no_flags(alloc: Global) -> FlagSet {
-    FlagSet {
-        answered: false,
-        deleted: false,
-        draft: false,
-        flagged: false,
-        seen: false,
-        keywords: Keywords::new(alloc),
-    }
-}
-
-fn nothing(alloc: Global) -> FetchedItems {
-    FetchedItems {
-        uid: None,
-        flags: None,
-        internal_date: None,
-        size: None,
-        mod_seq: None,
-        sections: Items::from_vec(Vec::new(alloc)),
-    }
-}
-
-fn body(
-    alloc: Global,
-    section: Section,
-    origin: Option<u64>,
-    text: &str,
-) -> Result<Items<FetchedSection>, AllocError> {
-    let mut section = part(alloc, section, text)?;
-    section.origin = origin;
-    Ok(Items::from_vec(vec![in alloc; section]?))
+fn vanished(alloc: Global, earlier: bool, uids: &[u32]) -> Result<Response, AllocError> {
+    let uids = numbers(alloc, uids)?;
+    Ok(Response::Vanished { earlier, uids })
 }
 
 #[test]
-fn numbers_of_the_selected_mailbox(rt: HostRuntime) -> Result<(), Fail> {
-    let alloc = rt.alloc();
-    check(&rt, alloc, Response::Exists(0), "* 0 EXISTS\r\n")?;
-    let expunged = Response::Expunge(4_294_967_295);
-    check(&rt, alloc, expunged, "* 4294967295 EXPUNGE\r\n")?;
-    let validity = Response::UidValidity(3_857_529_045);
-    check(
-        &rt,
-        alloc,
-        validity,
-        "* OK [UIDVALIDITY 3857529045] validity\r\n",
-    )?;
-    let next = Response::UidNext(4392);
-    check(&rt, alloc, next, "* OK [UIDNEXT 4392] next\r\n")?;
-    let highest = Response::HighestModSeq(715_194_045_007);
-    check(
-        &rt,
-        alloc,
-        highest,
-        "* OK [HIGHESTMODSEQ 715194045007] highest\r\n",
-    )?;
-    Ok(())
+fn messages_that_vanished(rt: HostRuntime) {
+    const ROWS: [(bool, &[u32], &[u8]); 7] = [
+        (false, &[7], b"* VANISHED 7\r\n"),
+        (false, &[1, 3], b"* VANISHED 1,3\r\n"),
+        (false, &[1, 2, 3, 5, 7, 8], b"* VANISHED 1:3,5,7:8\r\n"),
+        (
+            false,
+            &[405, 407, 410, 425],
+            b"* VANISHED 405,407,410,425\r\n",
+        ),
+        (
+            false,
+            &[
+                300, 301, 302, 303, 304, 305, 306, 307, 308, 309, 310, 405, 411,
+            ],
+            b"* VANISHED 300:310,405,411\r\n",
+        ),
+        (
+            false,
+            &[4_294_967_294, 4_294_967_295],
+            b"* VANISHED 4294967294:4294967295\r\n",
+        ),
+        (true, &[2, 3], b"* VANISHED (EARLIER) 2:3\r\n"),
+    ];
+    for &(earlier, uids, line) in &ROWS {
+        check(&rt, rt.alloc(), vanished(rt.alloc(), earlier, uids), line);
+    }
+}
+
+/// No such set can be made, as each number is above 0 and above the one before.
+#[test]
+fn sets_rise_from_1(rt: HostRuntime) {
+    const NONE: [&[u32]; 4] = [&[], &[0], &[2, 2], &[3, 4, 1]];
+    for &uids in &NONE {
+        assert!(rt; numbers(rt.alloc(), uids).is_err(), "{uids:?}");
+    }
 }
 
 fn moved(alloc: Global) -> Result<Response, AllocError> {
+    let source = numbers(alloc, &[1, 2])?;
+    let target = numbers(alloc, &[1, 2])?;
     Ok(Response::Moved(CopiedUids {
         validity: 1,
-        source: numbers(alloc, &[1, 2])?,
-        target: numbers(alloc, &[1, 2])?,
+        source,
+        target,
     }))
 }
 
 #[test]
-fn messages_that_were_moved(rt: HostRuntime) -> Result<(), Fail> {
-    let moved = moved(rt.alloc())?;
-    check(&rt, rt.alloc(), moved, "* OK [COPYUID 1 1:2 1:2] moved\r\n")?;
-    Ok(())
+fn messages_that_were_moved(rt: HostRuntime) {
+    let line = b"* OK [COPYUID 1 1:2 1:2] moved\r\n";
+    check(&rt, rt.alloc(), moved(rt.alloc()), line);
+}
+
+/// The set of these keywords.
+fn words(alloc: Global, texts: &[&[u8]]) -> Result<Keywords, AllocError> {
+    let mut words = Keywords::new(alloc);
+    for text in texts {
+        let word = Atom::read(alloc, text)?.ok_or(AllocError)?;
+        words.insert(alloc, &word)?;
+    }
+    Ok(words)
+}
+
+fn mailbox_flags(alloc: Global, keywords: &[&[u8]]) -> Result<Response, AllocError> {
+    let keywords = words(alloc, keywords)?;
+    Ok(Response::Flags { keywords })
 }
 
 #[test]
-fn flags_of_a_mailbox(rt: HostRuntime) -> Result<(), Fail> {
-    const ROWS: [(&[&str], &str); 2] = [
+fn flags_of_a_mailbox(rt: HostRuntime) {
+    const ROWS: [(&[&[u8]], &[u8]); 2] = [
         (
             &[],
-            "* FLAGS (\\Answered \\Deleted \\Draft \\Flagged \\Seen)\r\n",
+            b"* FLAGS (\\Answered \\Deleted \\Draft \\Flagged \\Seen)\r\n",
         ),
         (
-            &["work", "$Junk", "Work"],
-            "* FLAGS (\\Answered \\Deleted \\Draft \\Flagged \\Seen $junk work)\r\n",
+            &[b"work", b"$Junk", b"Work"],
+            b"* FLAGS (\\Answered \\Deleted \\Draft \\Flagged \\Seen $junk work)\r\n",
         ),
     ];
     for &(keywords, line) in &ROWS {
-        let keywords = words(rt.alloc(), keywords)?;
-        check(&rt, rt.alloc(), Response::Flags { keywords }, line)?;
+        check(&rt, rt.alloc(), mailbox_flags(rt.alloc(), keywords), line);
     }
-    Ok(())
 }
 
-/// Asserts that these flags, which may be changed, are printed as this line.
-fn check_permanent(
-    rt: &impl Abort,
-    alloc: Global,
-    flags: FlagSet,
-    any: bool,
-    printed: &str,
-) -> Result<(), AllocError> {
-    let line = shown(alloc, Response::PermanentFlags { flags, any })?;
-    let wanted = format!(in alloc; "* OK [PERMANENTFLAGS {printed}] flags kept\r\n")?;
-    assert_eq!(rt; line.as_str(), wanted.as_str());
-    Ok(())
-}
+/// Whether there are the flags `\Answered`, `\Deleted`, `\Draft`, `\Flagged` and `\Seen`.
+type SystemFlags = [bool; 5];
 
-fn every_flag(alloc: Global, keywords: &[&str]) -> Result<FlagSet, AllocError> {
+const NO_FLAGS: SystemFlags = [false, false, false, false, false];
+
+fn flag_set(alloc: Global, flags: &SystemFlags, keywords: &[&[u8]]) -> Result<FlagSet, AllocError> {
+    let [answered, deleted, draft, flagged, seen] = *flags;
+    let keywords = words(alloc, keywords)?;
     Ok(FlagSet {
-        answered: true,
-        deleted: true,
-        draft: true,
-        flagged: true,
-        seen: true,
-        keywords: words(alloc, keywords)?,
+        answered,
+        deleted,
+        draft,
+        flagged,
+        seen,
+        keywords,
     })
 }
 
-#[test]
-fn flags_that_may_be_changed(rt: HostRuntime) -> Result<(), Fail> {
-    let alloc = rt.alloc();
-    let mut some = no_flags(alloc);
-    some.deleted = true;
-    some.seen = true;
-    check_permanent(&rt, alloc, some, false, "(\\Deleted \\Seen)")?;
-    check_permanent(&rt, alloc, no_flags(alloc), false, "()")?;
-    check_permanent(&rt, alloc, no_flags(alloc), true, "(\\*)")?;
-    let all = every_flag(alloc, &["work", "$Junk"])?;
-    let printed = "(\\Answered \\Deleted \\Draft \\Flagged \\Seen $junk work \\*)";
-    check_permanent(&rt, alloc, all, true, printed)?;
-    Ok(())
-}
-
-fn fetch(number: u32, items: FetchedItems) -> Response {
-    Response::Fetch { number, items }
-}
-
-fn flagged(alloc: Global, uid: u32, flags: FlagSet, mod_seq: Option<u64>) -> FetchedItems {
-    let mut items = nothing(alloc);
-    items.uid = Some(uid);
-    items.flags = Some(flags);
-    items.mod_seq = mod_seq;
-    items
-}
-
-#[test]
-fn messages(rt: HostRuntime) -> Result<(), Fail> {
-    let alloc = rt.alloc();
-    let mut set = no_flags(alloc);
-    set.answered = true;
-    set.flagged = true;
-    let stored = flagged(alloc, 1, set, Some(7));
-    check(
-        &rt,
-        alloc,
-        fetch(1, stored),
-        "* 1 FETCH (UID 1 FLAGS (\\Answered \\Flagged) MODSEQ (7))\r\n",
-    )?;
-    let unflagged = flagged(alloc, 2, no_flags(alloc), None);
-    check(
-        &rt,
-        alloc,
-        fetch(2, unflagged),
-        "* 2 FETCH (UID 2 FLAGS ())\r\n",
-    )?;
-    check(&rt, alloc, fetch(4, nothing(alloc)), "* 4 FETCH ()\r\n")?;
-    Ok(())
-}
-
-#[test]
-fn a_mod_sequence_alone(rt: HostRuntime) -> Result<(), Fail> {
-    let mut silent = nothing(rt.alloc());
-    silent.mod_seq = Some(12_121_231_000);
-    check(
-        &rt,
-        rt.alloc(),
-        fetch(3, silent),
-        "* 3 FETCH (MODSEQ (12121231000))\r\n",
-    )?;
-    Ok(())
-}
-
-/// Asserts that these octets of the section are printed as this line.
-fn check_section(
-    rt: &impl Abort,
+fn permanent(
     alloc: Global,
-    section: Section,
-    origin: Option<u64>,
-    text: &str,
-    line: &str,
-) -> Result<(), AllocError> {
-    let mut items = nothing(alloc);
-    items.sections = body(alloc, section, origin, text)?;
-    check(rt, alloc, fetch(1, items), line)
+    flags: &SystemFlags,
+    keywords: &[&[u8]],
+    any: bool,
+) -> Result<Response, AllocError> {
+    let flags = flag_set(alloc, flags, keywords)?;
+    Ok(Response::PermanentFlags { flags, any })
 }
 
 #[test]
-fn sections(rt: HostRuntime) -> Result<(), Fail> {
-    check_section(
-        &rt,
-        rt.alloc(),
-        Section::Header,
-        Some(0),
-        "a{3}\r\n",
-        "* 1 FETCH (BODY[HEADER]<0> {6}\r\na{3}\r\n)\r\n",
-    )?;
-    check_section(
-        &rt,
-        rt.alloc(),
-        Section::Whole,
-        None,
-        ")\r\n\0",
-        "* 1 FETCH (BODY[] {4}\r\n)\r\n\0)\r\n",
-    )?;
-    Ok(())
+fn flags_that_may_be_changed(rt: HostRuntime) {
+    const ROWS: [(SystemFlags, &[&[u8]], bool, &[u8]); 4] = [
+        (
+            [false, true, false, false, true],
+            &[],
+            false,
+            b"* OK [PERMANENTFLAGS (\\Deleted \\Seen)] flags kept\r\n",
+        ),
+        (
+            NO_FLAGS,
+            &[],
+            false,
+            b"* OK [PERMANENTFLAGS ()] flags kept\r\n",
+        ),
+        (
+            NO_FLAGS,
+            &[],
+            true,
+            b"* OK [PERMANENTFLAGS (\\*)] flags kept\r\n",
+        ),
+        (
+            [true, true, true, true, true],
+            &[b"work", b"$Junk"],
+            true,
+            b"* OK [PERMANENTFLAGS (\\Answered \\Deleted \\Draft \\Flagged \\Seen $junk work \\*)] \
+                flags kept\r\n",
+        ),
+    ];
+    for (flags, keywords, any, line) in &ROWS {
+        let made = permanent(rt.alloc(), flags, keywords, *any);
+        check(&rt, rt.alloc(), made, line);
+    }
 }
 
-#[test]
-fn fields(rt: HostRuntime) -> Result<(), Fail> {
-    check_section(
-        &rt,
-        rt.alloc(),
-        Section::Fields(field_names(rt.alloc(), &["subject"])?),
-        None,
-        "Subject: x\r\n\r\n",
-        "* 1 FETCH (BODY[HEADER.FIELDS (subject)] {14}\r\nSubject: x\r\n\r\n)\r\n",
-    )?;
-    check_section(
-        &rt,
-        rt.alloc(),
-        Section::FieldsNot(field_names(rt.alloc(), &["subject", "X Odd", "nil"])?),
-        Some(4),
-        "",
-        "* 1 FETCH (BODY[HEADER.FIELDS.NOT (subject \"X Odd\" \"nil\")]<4> {0}\r\n)\r\n",
-    )?;
-    Ok(())
+/// A section of a message, by the names of its fields if it has some of them.
+#[derive(Clone, Copy)]
+enum SectionOf<'a> {
+    Whole,
+    Header,
+    Text,
+    Fields(&'a [&'a [u8]]),
+    FieldsNot(&'a [&'a [u8]]),
 }
 
-#[test]
-fn every_item(rt: HostRuntime) -> Result<(), Fail> {
-    let alloc = rt.alloc();
-    let mut seen = no_flags(alloc);
-    seen.seen = true;
-    let mut items = dated(alloc, Date::new(1996, Month::Jul, 17));
-    items.uid = Some(9);
-    items.flags = Some(seen);
-    items.size = Some(16);
-    items.mod_seq = Some(65402);
-    let two = vec![in alloc;
-        part(alloc, Section::Text, "hi")?,
-        part(alloc, Section::Header, "")?,
-    ]?;
-    items.sections = Items::from_vec(two);
-    check(
-        &rt,
-        alloc,
-        fetch(12, items),
-        "* 12 FETCH (UID 9 FLAGS (\\Seen) INTERNALDATE \"17-Jul-1996 02:44:25 -0700\" \
-            RFC822.SIZE 16 MODSEQ (65402) BODY[TEXT] {2}\r\nhi BODY[HEADER] {0}\r\n)\r\n",
-    )?;
-    Ok(())
+fn field_names(alloc: Global, texts: &[&[u8]]) -> Result<Items<FieldName>, AllocError> {
+    let mut names = Vec::new(alloc);
+    for text in texts {
+        names.push(FieldName::read(alloc, text)?.ok_or(AllocError)?)?;
+    }
+    Ok(Items::from_vec(names))
 }
 
-/// The parts of a section are printed as one literal.
-#[test]
-fn parts_of_a_section(rt: HostRuntime) -> Result<(), Fail> {
-    let alloc = rt.alloc();
-    let mut items = nothing(alloc);
-    items.sections = in_two_parts(alloc)?;
-    assert!(rt; items.sections.as_slice().len() == 1);
-    let line = "* 2 FETCH (BODY[TEXT] {5}\r\nab\r\nc)\r\n";
-    check(&rt, alloc, fetch(2, items), line)?;
-    Ok(())
+fn section(alloc: Global, section: SectionOf<'_>) -> Result<Section, AllocError> {
+    match section {
+        SectionOf::Whole => Ok(Section::Whole),
+        SectionOf::Header => Ok(Section::Header),
+        SectionOf::Text => Ok(Section::Text),
+        SectionOf::Fields(names) => field_names(alloc, names).map(Section::Fields),
+        SectionOf::FieldsNot(names) => field_names(alloc, names).map(Section::FieldsNot),
+    }
 }
 
-fn in_two_parts(alloc: Global) -> Result<Items<FetchedSection>, AllocError> {
-    let parts = vec![in alloc; octets(alloc, "ab\r\n")?, octets(alloc, "c")?]?;
-    let literal = LiteralParts::from_parts(Items::from_vec(parts)).ok_or(AllocError)?;
-    let mut section = part(alloc, Section::Text, "")?;
-    section.octets = literal;
-    Ok(Items::from_vec(vec![in alloc; section]?))
+/// The literal of these parts.
+fn literal(alloc: Global, texts: &[&[u8]]) -> Result<LiteralParts, AllocError> {
+    let mut parts = Vec::new(alloc);
+    for text in texts {
+        parts.push(octets(alloc, text)?)?;
+    }
+    LiteralParts::from_parts(Items::from_vec(parts)).ok_or(AllocError)
 }
 
-fn part(alloc: Global, section: Section, text: &str) -> Result<FetchedSection, AllocError> {
+/// A section, the offset if a part of it was requested, and its octets in parts.
+type Part<'a> = (SectionOf<'a>, Option<u64>, &'a [&'a [u8]]);
+
+fn fetched_section(alloc: Global, part: &Part<'_>) -> Result<FetchedSection, AllocError> {
+    let (of, origin, texts) = *part;
+    let (section, octets) = both(section(alloc, of), literal(alloc, texts))?;
     Ok(FetchedSection {
         section,
-        origin: None,
-        octets: LiteralParts::of_octets(alloc, octets(alloc, text)?)?,
+        origin,
+        octets,
     })
 }
 
-/// 02:44:25 on this day, seven hours west of Greenwich.
-fn morning(date: Option<Date>) -> Option<DateTime> {
-    DateTime::new(date?, 2, 44, 25, Zone::new(true, 7, 0)?)
+fn sections(alloc: Global, parts: &[Part<'_>]) -> Result<Items<FetchedSection>, AllocError> {
+    let mut sections = Vec::new(alloc);
+    for part in parts {
+        sections.push(fetched_section(alloc, part)?)?;
+    }
+    Ok(Items::from_vec(sections))
 }
 
-fn dated(alloc: Global, date: Option<Date>) -> FetchedItems {
-    let mut items = nothing(alloc);
-    items.internal_date = morning(date);
-    items
+/// A day, a time of it, and a zone: whether it is west of Greenwich, hours and minutes.
+type Moment = ((u16, Month, u8), (u8, u8, u8), (bool, u8, u8));
+
+fn date_time(moment: &Moment) -> Option<DateTime> {
+    let ((year, month, day), (hour, minute, second), (west, hours, minutes)) = *moment;
+    let date = Date::new(year, month, day)?;
+    DateTime::new(date, hour, minute, second, Zone::new(west, hours, minutes)?)
+}
+
+/// The items of a message.
+#[derive(Clone, Copy)]
+struct Message<'a> {
+    uid: Option<u32>,
+    flags: Option<SystemFlags>,
+    date: Option<Moment>,
+    size: Option<u64>,
+    mod_seq: Option<u64>,
+    sections: &'a [Part<'a>],
+}
+
+const NOTHING: Message = Message {
+    uid: None,
+    flags: None,
+    date: None,
+    size: None,
+    mod_seq: None,
+    sections: &[],
+};
+
+fn some_flags(alloc: Global, flags: &Option<SystemFlags>) -> Result<Option<FlagSet>, AllocError> {
+    match flags {
+        Some(flags) => flag_set(alloc, flags, &[]).map(Some),
+        None => Ok(None),
+    }
+}
+
+fn fetch(alloc: Global, number: u32, message: &Message<'_>) -> Result<Response, AllocError> {
+    let (flags, sections) = both(
+        some_flags(alloc, &message.flags),
+        sections(alloc, message.sections),
+    )?;
+    Ok(Response::Fetch {
+        number,
+        items: FetchedItems {
+            uid: message.uid,
+            flags,
+            internal_date: message.date.as_ref().and_then(date_time),
+            size: message.size,
+            mod_seq: message.mod_seq,
+            sections,
+        },
+    })
 }
 
 #[test]
-fn dates(rt: HostRuntime) -> Result<(), Fail> {
-    const ROWS: [(u16, Month, u8, &str); 12] = [
-        (1996, Month::Jul, 17, "17-Jul-1996"),
-        (2024, Month::Feb, 9, " 9-Feb-2024"),
-        (1, Month::Jan, 10, "10-Jan-0001"),
-        (9999, Month::Dec, 31, "31-Dec-9999"),
-        (2000, Month::Mar, 1, " 1-Mar-2000"),
-        (2000, Month::Apr, 1, " 1-Apr-2000"),
-        (2000, Month::May, 1, " 1-May-2000"),
-        (2000, Month::Jun, 1, " 1-Jun-2000"),
-        (2000, Month::Aug, 1, " 1-Aug-2000"),
-        (2000, Month::Sep, 1, " 1-Sep-2000"),
-        (2000, Month::Oct, 1, " 1-Oct-2000"),
-        (2000, Month::Nov, 1, " 1-Nov-2000"),
+fn messages(rt: HostRuntime) {
+    const ROWS: [(u32, Message, &[u8]); 10] = [
+        (
+            1,
+            Message {
+                uid: Some(1),
+                flags: Some([true, false, false, true, false]),
+                mod_seq: Some(7),
+                ..NOTHING
+            },
+            b"* 1 FETCH (UID 1 FLAGS (\\Answered \\Flagged) MODSEQ (7))\r\n",
+        ),
+        (
+            2,
+            Message {
+                uid: Some(2),
+                flags: Some(NO_FLAGS),
+                ..NOTHING
+            },
+            b"* 2 FETCH (UID 2 FLAGS ())\r\n",
+        ),
+        (4, NOTHING, b"* 4 FETCH ()\r\n"),
+        (
+            3,
+            Message {
+                mod_seq: Some(12_121_231_000),
+                ..NOTHING
+            },
+            b"* 3 FETCH (MODSEQ (12121231000))\r\n",
+        ),
+        (
+            1,
+            Message {
+                sections: &[(SectionOf::Header, Some(0), &[b"a{3}\r\n"])],
+                ..NOTHING
+            },
+            b"* 1 FETCH (BODY[HEADER]<0> {6}\r\na{3}\r\n)\r\n",
+        ),
+        (
+            1,
+            Message {
+                sections: &[(SectionOf::Whole, None, &[b")\r\n\0"])],
+                ..NOTHING
+            },
+            b"* 1 FETCH (BODY[] {4}\r\n)\r\n\0)\r\n",
+        ),
+        (
+            1,
+            Message {
+                sections: &[(
+                    SectionOf::Fields(&[b"subject"]),
+                    None,
+                    &[b"Subject: x\r\n\r\n"],
+                )],
+                ..NOTHING
+            },
+            b"* 1 FETCH (BODY[HEADER.FIELDS (subject)] {14}\r\nSubject: x\r\n\r\n)\r\n",
+        ),
+        (
+            1,
+            Message {
+                sections: &[(
+                    SectionOf::FieldsNot(&[b"subject", b"X Odd", b"nil"]),
+                    Some(4),
+                    &[b""],
+                )],
+                ..NOTHING
+            },
+            b"* 1 FETCH (BODY[HEADER.FIELDS.NOT (subject \"X Odd\" \"nil\")]<4> {0}\r\n)\r\n",
+        ),
+        // The parts of a section are printed as one literal.
+        (
+            2,
+            Message {
+                sections: &[(SectionOf::Text, None, &[b"ab\r\n", b"c"])],
+                ..NOTHING
+            },
+            b"* 2 FETCH (BODY[TEXT] {5}\r\nab\r\nc)\r\n",
+        ),
+        (
+            12,
+            Message {
+                uid: Some(9),
+                flags: Some([false, false, false, false, true]),
+                date: Some(((1996, Month::Jul, 17), (2, 44, 25), (true, 7, 0))),
+                size: Some(16),
+                mod_seq: Some(65402),
+                sections: &[
+                    (SectionOf::Text, None, &[b"hi"]),
+                    (SectionOf::Header, None, &[b""]),
+                ],
+            },
+            b"* 12 FETCH (UID 9 FLAGS (\\Seen) INTERNALDATE \"17-Jul-1996 02:44:25 -0700\" \
+                RFC822.SIZE 16 MODSEQ (65402) BODY[TEXT] {2}\r\nhi BODY[HEADER] {0}\r\n)\r\n",
+        ),
     ];
-    for &(year, month, day, date) in &ROWS {
-        let moment = Date::new(year, month, day);
-        let line = shown(rt.alloc(), fetch(1, dated(rt.alloc(), moment)))?;
-        let wanted = format!(in rt.alloc();
-            "* 1 FETCH (INTERNALDATE \"{date} 02:44:25 -0700\")\r\n"
-        )?;
-        assert_eq!(rt; line.as_str(), wanted.as_str());
+    for (number, message, line) in &ROWS {
+        check(&rt, rt.alloc(), fetch(rt.alloc(), *number, message), line);
     }
-    Ok(())
 }
 
-/// An evening in this zone.
-fn evening(zone: Option<Zone>) -> Option<DateTime> {
-    DateTime::new(Date::new(1994, Month::Feb, 1)?, 21, 5, 9, zone?)
-}
-
-fn dated_in(alloc: Global, zone: Option<Zone>) -> FetchedItems {
-    let mut items = nothing(alloc);
-    items.internal_date = evening(zone);
-    items
+fn fetch_date(alloc: Global, moment: &Moment) -> Result<Response, AllocError> {
+    let message = Message {
+        date: Some(*moment),
+        ..NOTHING
+    };
+    fetch(alloc, 1, &message)
 }
 
 #[test]
-fn zones(rt: HostRuntime) -> Result<(), Fail> {
-    const ROWS: [(bool, u8, u8, &str); 4] = [
-        (false, 0, 0, "+0000"),
-        (true, 0, 0, "-0000"),
-        (false, 23, 59, "+2359"),
-        (true, 3, 30, "-0330"),
+fn dates(rt: HostRuntime) {
+    const NOON: (u8, u8, u8) = (12, 0, 0);
+    const UTC: (bool, u8, u8) = (false, 0, 0);
+    const ROWS: [(Moment, &[u8]); 12] = [
+        (
+            ((1996, Month::Jul, 17), (2, 44, 25), (true, 7, 0)),
+            b"* 1 FETCH (INTERNALDATE \"17-Jul-1996 02:44:25 -0700\")\r\n",
+        ),
+        (
+            ((2024, Month::Feb, 9), (21, 5, 9), (true, 3, 30)),
+            b"* 1 FETCH (INTERNALDATE \" 9-Feb-2024 21:05:09 -0330\")\r\n",
+        ),
+        (
+            ((1, Month::Jan, 10), (0, 0, 0), (true, 0, 0)),
+            b"* 1 FETCH (INTERNALDATE \"10-Jan-0001 00:00:00 -0000\")\r\n",
+        ),
+        (
+            ((9999, Month::Dec, 31), (23, 59, 59), (false, 23, 59)),
+            b"* 1 FETCH (INTERNALDATE \"31-Dec-9999 23:59:59 +2359\")\r\n",
+        ),
+        (
+            ((2000, Month::Mar, 1), NOON, UTC),
+            b"* 1 FETCH (INTERNALDATE \" 1-Mar-2000 12:00:00 +0000\")\r\n",
+        ),
+        (
+            ((2000, Month::Apr, 1), NOON, UTC),
+            b"* 1 FETCH (INTERNALDATE \" 1-Apr-2000 12:00:00 +0000\")\r\n",
+        ),
+        (
+            ((2000, Month::May, 1), NOON, UTC),
+            b"* 1 FETCH (INTERNALDATE \" 1-May-2000 12:00:00 +0000\")\r\n",
+        ),
+        (
+            ((2000, Month::Jun, 1), NOON, UTC),
+            b"* 1 FETCH (INTERNALDATE \" 1-Jun-2000 12:00:00 +0000\")\r\n",
+        ),
+        (
+            ((2000, Month::Aug, 1), NOON, UTC),
+            b"* 1 FETCH (INTERNALDATE \" 1-Aug-2000 12:00:00 +0000\")\r\n",
+        ),
+        (
+            ((2000, Month::Sep, 1), NOON, UTC),
+            b"* 1 FETCH (INTERNALDATE \" 1-Sep-2000 12:00:00 +0000\")\r\n",
+        ),
+        (
+            ((2000, Month::Oct, 1), NOON, UTC),
+            b"* 1 FETCH (INTERNALDATE \" 1-Oct-2000 12:00:00 +0000\")\r\n",
+        ),
+        (
+            ((2000, Month::Nov, 1), NOON, UTC),
+            b"* 1 FETCH (INTERNALDATE \" 1-Nov-2000 12:00:00 +0000\")\r\n",
+        ),
     ];
-    for &(west, hours, minutes, printed) in &ROWS {
-        let zone = Zone::new(west, hours, minutes);
-        let line = shown(rt.alloc(), fetch(1, dated_in(rt.alloc(), zone)))?;
-        let wanted = format!(in rt.alloc();
-            "* 1 FETCH (INTERNALDATE \" 1-Feb-1994 21:05:09 {printed}\")\r\n"
-        )?;
-        assert_eq!(rt; line.as_str(), wanted.as_str());
+    for (moment, line) in &ROWS {
+        check(&rt, rt.alloc(), fetch_date(rt.alloc(), moment), line);
     }
-    Ok(())
 }

@@ -1,20 +1,20 @@
 //! Inputs and outputs that fail.
 
+use super::{expect, outcome, with_error};
 use imap_script::{ScriptError, read_all, script};
-use std::alloc::Global;
+use std::alloc::{AllocError, Global};
 use std::io::{self, ErrorKind, Read, Write};
-use std::test::Fail;
 
 /// The run that is stored beside `src/`.
-const SCRIPT: &str = "admin root
+const SCRIPT: &[u8] = b"admin root
 user ann
 ann.1 open
 ann.1 < a1 MYRIGHTS INBOX
 ann.1 < a2 LOGOUT
 ";
 
-const TRANSCRIPT: &str =
-    "ann.1 > * PREAUTH [CAPABILITY IMAP4rev2 ACL RIGHTS=texk CONDSTORE ENABLE IDLE QRESYNC] \
+const TRANSCRIPT: &[u8] =
+    b"ann.1 > * PREAUTH [CAPABILITY IMAP4rev2 ACL RIGHTS=texk CONDSTORE ENABLE IDLE QRESYNC] \
     shared mailbox profile ready
 ann.1 > * MYRIGHTS INBOX lrswipkxtea
 ann.1 > a1 OK done
@@ -88,78 +88,83 @@ impl Write for Sink {
 
 fn stored(reads: u32, error: ErrorKind, is_lasting: bool) -> Source<'static> {
     Source {
-        text: SCRIPT.as_bytes(),
+        text: SCRIPT,
         reads,
         error,
         is_lasting,
     }
 }
 
-fn failing_sink(alloc: Global, writes: u32, trouble: Trouble) -> Sink {
-    Sink {
-        taken: Vec::new(alloc),
+/// The stored script has 75 octets, so that six reads come to its end. A read that is interrupted is made
+/// again.
+#[test]
+fn a_read_fails(rt: HostRuntime) {
+    const FAILED: &[u8] = b"input or output failed";
+    for reads in 0..7 {
+        let wanted = if reads < 6 { FAILED } else { TRANSCRIPT };
+        let broken = stored(reads, ErrorKind::BrokenPipe, true);
+        expect(&rt, outcome(&rt, broken), wanted);
+        let interrupted = stored(reads, ErrorKind::Interrupted, false);
+        expect(&rt, outcome(&rt, interrupted), TRANSCRIPT);
+    }
+}
+
+/// What is read in at most `max_reads` reads, or why it isn't.
+fn text_read(alloc: Global, source: Source<'_>, max_reads: u32) -> Result<Vec<u8>, AllocError> {
+    match read_all(alloc, source, max_reads) {
+        Ok(octets) => Ok(octets),
+        Err(error) => with_error(alloc, Vec::new(alloc), Err(error)),
+    }
+}
+
+#[test]
+fn reads_are_counted(rt: HostRuntime) {
+    const ROWS: [(u32, bool, u32, bool); 5] = [
+        // No read fails.
+        (u32::MAX, false, 5, false),
+        (u32::MAX, false, 6, true),
+        // The third is interrupted, and so are all after it in the last row.
+        (2, false, 6, false),
+        (2, false, 7, true),
+        (2, true, 1000, false),
+    ];
+    for &(reads, is_lasting, max_reads, is_read) in &ROWS {
+        let source = stored(reads, ErrorKind::Interrupted, is_lasting);
+        let wanted = if is_read {
+            SCRIPT
+        } else {
+            b"input or output failed"
+        };
+        expect(&rt, text_read(rt.alloc(), source, max_reads), wanted);
+    }
+}
+
+/// Whether the sink took the transcript up to its last good write, and the run ended as it is to.
+fn is_written<R: AllocGlobal>(rt: &R, writes: u32, trouble: Trouble) -> bool {
+    let mut output = Sink {
+        taken: Vec::new(rt.alloc()),
         writes,
         trouble,
-    }
-}
-
-/// The stored script has 75 octets, so that six reads come to its end.
-#[test]
-fn a_read_fails(rt: HostRuntime) -> Result<(), Fail> {
-    for reads in 0..6 {
-        let mut written = Vec::new(rt.alloc());
-        let ran = script(
-            &rt,
-            stored(reads, ErrorKind::BrokenPipe, true),
-            &mut written,
-        );
-        assert!(rt; matches!(&ran, Err(ScriptError::Io)), "read {reads}");
-        assert!(rt; written.is_empty());
-        script(
-            &rt,
-            stored(reads, ErrorKind::Interrupted, false),
-            &mut written,
-        )?;
-        assert_eq!(rt; written.as_slice(), TRANSCRIPT.as_bytes(), "read {reads}");
-    }
-    let mut written = Vec::new(rt.alloc());
-    script(&rt, stored(6, ErrorKind::BrokenPipe, true), &mut written)?;
-    assert_eq!(rt; written.as_slice(), TRANSCRIPT.as_bytes());
-    Ok(())
-}
-
-#[test]
-fn reads_are_counted(rt: HostRuntime) -> Result<(), Fail> {
-    let alloc = rt.alloc();
-    let cases = [
-        (6, ErrorKind::BrokenPipe, true, 5, 6),
-        (2, ErrorKind::Interrupted, false, 6, 7),
-    ];
-    for (reads, error, is_lasting, too_few, enough) in cases {
-        let cut = read_all(alloc, stored(reads, error, is_lasting), too_few);
-        assert!(rt; matches!(&cut, Err(ScriptError::Io)));
-        let whole = read_all(alloc, stored(reads, error, is_lasting), enough)?;
-        assert_eq!(rt; whole.as_slice(), SCRIPT.as_bytes());
-    }
-    let endless = read_all(alloc, stored(2, ErrorKind::Interrupted, true), 1000);
-    assert!(rt; matches!(&endless, Err(ScriptError::Io)));
-    Ok(())
+    };
+    let ran = script(rt, SCRIPT, &mut output);
+    let is_whole = output.taken.len() == TRANSCRIPT.len();
+    let is_right = match ran {
+        Ok(()) => is_whole && trouble != Trouble::FailsToFlush,
+        Err(ScriptError::Io) => !is_whole || trouble == Trouble::FailsToFlush,
+        Err(_) => false,
+    };
+    is_right && is_whole == (writes == 14) && TRANSCRIPT.starts_with(output.taken.as_slice())
 }
 
 /// The stored transcript has 217 octets, which are 14 writes.
 #[test]
-fn a_write_fails(rt: HostRuntime) -> Result<(), Fail> {
-    let told = TRANSCRIPT.as_bytes();
+fn a_write_fails(rt: HostRuntime) {
     for writes in 0..15 {
         for trouble in [Trouble::Fails, Trouble::TakesNothing, Trouble::FailsToFlush] {
-            let mut output = failing_sink(rt.alloc(), writes, trouble);
-            let ran = script(&rt, SCRIPT.as_bytes(), &mut output);
-            let is_taken = writes == 14 && trouble != Trouble::FailsToFlush;
-            assert_eq!(rt; ran.is_ok(), is_taken, "write {writes}, {trouble:?}");
-            assert!(rt; matches!(&ran, Ok(()) | Err(ScriptError::Io)));
-            assert!(rt; told.starts_with(output.taken.as_slice()));
-            assert_eq!(rt; output.taken.len() == told.len(), writes == 14);
+            assert!(rt;
+                is_written(&rt, writes, trouble),
+                "write {writes}, {trouble:?}"
+            );
         }
     }
-    Ok(())
 }

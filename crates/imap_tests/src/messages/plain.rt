@@ -1,4 +1,4 @@
-//! A mailbox as a plain list of all that happened.
+//! The messages of a mailbox as a plain list of all that happened.
 
 use std::alloc::{AllocError, Global};
 
@@ -21,7 +21,7 @@ pub(crate) struct PlainRow {
     pub number: u64,
 }
 
-/// What a user sees after some events.
+/// What a user has after some events.
 #[derive(Drop)]
 pub(crate) struct Folded {
     pub rows: Vec<PlainRow>,
@@ -29,6 +29,8 @@ pub(crate) struct Folded {
     pub gone: Vec<(u32, u64)>,
     /// HIGHESTMODSEQ.
     pub number: u64,
+    /// UIDNEXT.
+    pub next: u32,
 }
 
 impl Folded {
@@ -44,6 +46,7 @@ impl Folded {
     }
 
     fn add(&mut self, uid: u32) -> Result<(), AllocError> {
+        self.next = uid.saturating_add(1);
         self.rows.push(PlainRow {
             uid,
             flagged: false,
@@ -73,6 +76,11 @@ impl Folded {
             }
         }
     }
+
+    /// Whether a message has the UID.
+    pub(crate) fn has(&self, uid: u32) -> bool {
+        self.rows.iter().any(|row| row.uid == uid)
+    }
 }
 
 fn is_hidden(event: Event, user: usize) -> bool {
@@ -82,12 +90,13 @@ fn is_hidden(event: Event, user: usize) -> bool {
     }
 }
 
-/// What the user sees: each event in turn, with the next number, but for others' own ones.
+/// What the user has: each event in turn, with the next number, but for others' own ones.
 pub(crate) fn fold(alloc: Global, events: &[Event], user: usize) -> Result<Folded, AllocError> {
     let mut folded = Folded {
         rows: Vec::new(alloc),
         gone: Vec::new(alloc),
         number: 1,
+        next: 1,
     };
     for event in events {
         if !is_hidden(*event, user) {

@@ -1,0 +1,6 @@
+//! Tests of messages in the world, and of what users see of them.
+
+pub(crate) mod choice;
+mod mailboxes;
+mod plain;
+mod random;
