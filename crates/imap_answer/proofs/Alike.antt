@@ -10,7 +10,7 @@ use Rattle.imap_world.specs.Kept.{AreKept}
 use Rattle.imap_world.specs.World.{World}
 use Rattle.imap_answer.specs.Alike.{AnswersAlike, effects_of}
 use Rattle.imap_answer.specs.Answer.{Answer}
-use Rattle.imap_answer.specs.Fit.{IsFit, MayBeAsked}
+use Rattle.imap_answer.specs.Fit.{IsFit, IsViewed, MayBeAsked}
 
 -- what a command of the user's makes of the view
 abbrev pub view_after_asking : Option Effect → View → View
@@ -22,13 +22,17 @@ pub after_asking : (site : Site) (user : List ℕ) (world : World) (asked : Opti
 after_asking site user world None kept may = refl
 after_asking site user world (Some effect) kept may = own_effects site user world effect kept may
 
+pub viewed : (site : Site) (user : List ℕ) (world : World) → AreKept world.mailboxes → IsViewed (view_of site user world)
+unfolding view_of
+viewed site user world kept = record { world = world; kept = kept; is = refl }
+
 -- answers that are fit
 pub answers_alike : (answer : View → Answer) → ((view : View) → IsFit view (answer view)) → AnswersAlike answer
 answers_alike answer fit site user world other kept kept_other same =
     let here = view_of site user world in
     let there = view_of site user other in (
       ap answer same,
-      after_asking site user world (answer here).effect kept (fit here).asks
+      after_asking site user world (answer here).effect kept ((fit here).asks (viewed site user world kept))
           ∙ ap (λ view. view_after_asking (answer view).effect view) same
-          ∙ sym (after_asking site user other (answer there).effect kept_other (fit there).asks),
+          ∙ sym (after_asking site user other (answer there).effect kept_other ((fit there).asks (viewed site user other kept_other))),
     )

@@ -1,22 +1,37 @@
 -- The forms of an answer that are fit.
-use Rattle.std.proofs.Common.{◌≡◌, ℕ, false, List, [], ◌∷◌, ◌++◌, Option, Some, None, refl, sym, true≢false}
+use Rattle.std.proofs.Common.{◌≡◌, ℕ, Bool, true, false, cond, List, [], ◌∷◌, ◌++◌, Option, Some, None, refl, sym, true≢false}
 use Rattle.std.specs.List.{list_any}
 use Rattle.imap_names.specs.Name.{Name}
+use Rattle.imap_print.specs.declared.response.Code.{Code}
 use Rattle.imap_print.specs.declared.response.Response.{Response}
+use Rattle.imap_print.specs.declared.response.Refusal.TheVariants.{NonExistent, NoPerm}
+use Rattle.imap_rights.specs.Rights.{has_any, lookup}
 use Rattle.imap_view.specs.After.{MayAsk}
 use Rattle.imap_view.specs.View.{View}
 use Rattle.imap_world.specs.declared.effect.Effect.{Effect}
-use Rattle.imap_answer.specs.Answer.{Answer, done_with}
-use Rattle.imap_answer.specs.Fit.{IsFit, is_unavailable}
+use Rattle.imap_answer.specs.Access.{missing_right_refusal}
+use Rattle.imap_answer.specs.Answer.{Answer, done_with, done_with_code, refusal}
+use Rattle.imap_answer.specs.Fit.{IsFit, IsViewed, is_unavailable}
 use Rattle.imap_answer.specs.Name.{answer_of_name, if_named, name_of_text}
 
 -- nothing is asked for
 pub fits_alone : (view : View) (untagged : List Response) (last : Response) → list_any is_unavailable (untagged ++ last ∷ []) ≡ false
     → IsFit view (record { untagged = untagged; last = last; effect = None })
-fits_alone view untagged last available = record { asks = tt; refused = λ e. refl; available = available }
+fits_alone view untagged last available = record { asks = λ _. tt; refused = λ e. refl; available = available }
+
+-- what is asked for may be asked for in each view of a world
+pub fits_asking_there : (view : View) (tag : List ℕ) (code : Option Code) (effect : Effect) → (IsViewed view → MayAsk view effect) → IsFit view (done_with_code tag code effect)
+fits_asking_there view tag code effect may = record { asks = may; refused = λ e. absurd (true≢false (sym e)); available = refl }
 
 pub fits_asking : (view : View) (tag : List ℕ) (effect : Effect) → MayAsk view effect → IsFit view (done_with tag effect)
-fits_asking view tag effect may = record { asks = may; refused = λ e. absurd (true≢false (sym e)); available = refl }
+fits_asking view tag effect may = record { asks = λ _. may; refused = λ e. absurd (true≢false (sym e)); available = refl }
+
+pub missing_right_fits : (view : View) (tag : List ℕ) (rights : ℕ) → IsFit view (refusal tag (missing_right_refusal rights))
+missing_right_fits view tag rights = by (has_any rights lookup)
+  where
+    by : (b : Bool) → IsFit view (refusal tag (cond b NoPerm NonExistent))
+    by true = fits_alone view [] _ refl
+    by false = fits_alone view [] _ refl
 
 fits_by_name : (view : View) (tag : List ℕ) (answer : Name → Answer) → ((name : Name) → IsFit view (answer name)) → (name : Option Name) → IsFit view (answer_of_name tag answer name)
 fits_by_name view tag answer fit None = fits_alone view [] _ refl

@@ -1,5 +1,5 @@
 -- A client reads each response of an answer as one line: names and tags have neither CR nor LF.
-use Rattle.std.proofs.Common.{◌≡◌, ℕ, Bool, true, false, cond, List, [], ◌∷◌, ◌++◌, refl, sym, ap, ◌∙◌}
+use Rattle.std.proofs.Common.{◌≡◌, ℕ, Bool, true, false, cond, List, [], ◌∷◌, ◌++◌, Option, refl, sym, ap, ◌∙◌}
 use Rattle.std.specs.Prelude.{◌||◌, codes, bytes_eq}
 use Rattle.std.proofs.lemmas.Str.{IsUtf8-from_is_utf8}
 use Rattle.imap_lex.specs.CommandTag.{IsTag}
@@ -8,10 +8,12 @@ use Rattle.imap_names.specs.Showing.{shown}
 use Rattle.imap_names.specs.UserName.{is_user_name}
 use Rattle.imap_names.specs.Valid.{IsName}
 use Rattle.imap_names.proofs.UserLaws.{user_name_facts, has_control-user}
+use Rattle.imap_print.specs.declared.response.Code.{Code}
 use Rattle.imap_print.specs.declared.response.Refusal.{Refusal}
+use Rattle.imap_print.specs.declared.response.Response.TheVariants as response
 use Rattle.imap_print.specs.Lines.{IsPlain, IsPrintable}
 use Rattle.imap_print.proofs.Plain.{IsPlain-append, IsPlain-tag, IsPlain-text}
-use Rattle.imap_answer.specs.Answer.{done_line, refused_line}
+use Rattle.imap_answer.specs.Answer.{refused_line}
 
 -- ---- names
 
@@ -42,8 +44,8 @@ shown_plain user name valid = by_root (is_empty (root_of name)) (bytes_eq (root_
 
 -- ---- replies
 
-pub done_printable : (tag : List ℕ) → IsTag tag → IsPrintable (done_line tag)
-done_printable tag is = record { plain = (IsPlain-tag tag is, tt); held = tt }
+pub done_printable : (tag : List ℕ) (code : Option Code) → IsTag tag → IsPrintable (response.Done tag code)
+done_printable tag code is = record { plain = (IsPlain-tag tag is, tt); held = tt }
 
 pub refused_printable : (tag : List ℕ) (refusal : Refusal) → IsTag tag → IsPrintable (refused_line tag refusal)
 refused_printable tag refusal is = record { plain = (IsPlain-tag tag is, tt); held = tt }

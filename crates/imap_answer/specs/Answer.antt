@@ -1,5 +1,6 @@
 -- What a command is answered, and what it asks of the mailboxes.
 use Rattle.std.specs.Prelude.{ℕ, List, [], ◌∷◌, ◌++◌, Option, Some, None}
+use Rattle.imap_print.specs.declared.response.Code.{Code}
 use Rattle.imap_print.specs.declared.response.Response.{Response}
 use Rattle.imap_print.specs.declared.response.Response.TheVariants as response
 use Rattle.imap_print.specs.declared.response.Refusal.{Refusal}
@@ -26,9 +27,13 @@ done_after untagged tag = record { untagged = untagged; last = done_line tag; ef
 abbrev pub done : (tag : List ℕ) → Answer
 done tag = done_after [] tag
 
--- the same of a command that changes the mailboxes
+-- the same of a command that changes the mailboxes, and may have a response code
+abbrev pub done_with_code : (tag : List ℕ) → Option Code → Effect → Answer
+done_with_code tag code effect =
+    record { untagged = []; last = response.Done tag code; effect = Some effect }
+
 abbrev pub done_with : (tag : List ℕ) → Effect → Answer
-done_with tag effect = record { untagged = []; last = done_line tag; effect = Some effect }
+done_with tag effect = done_with_code tag None effect
 
 -- the tagged line of a command that was not carried out
 abbrev pub refused_line : (tag : List ℕ) → Refusal → Response

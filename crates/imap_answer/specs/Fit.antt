@@ -6,8 +6,10 @@ use Rattle.imap_print.specs.declared.response.Refusal.TheVariants.{Unavailable}
 use Rattle.imap_print.specs.declared.response.Response.{Response}
 use Rattle.imap_print.specs.declared.response.Response.TheVariants as response
 use Rattle.imap_view.specs.After.{MayAsk}
-use Rattle.imap_view.specs.View.{View}
+use Rattle.imap_view.specs.View.{View, view_of}
 use Rattle.imap_world.specs.declared.effect.Effect.{Effect}
+use Rattle.imap_world.specs.Kept.{AreKept}
+use Rattle.imap_world.specs.World.{World}
 use Rattle.imap_answer.specs.Answer.{Answer, lines_of}
 
 abbrev pub is_refusal : Response → Bool
@@ -23,7 +25,13 @@ abbrev pub MayBeAsked : View → Option Effect → Type 0
 MayBeAsked view None = Unit {0}
 MayBeAsked view (Some effect) = MayAsk view effect
 
+-- it is what a user may see of a world in which the messages of each mailbox are as its type keeps them
+pub record IsViewed (view : View) : Type 0 where
+  pub world : World
+  pub kept : AreKept world.mailboxes
+  pub is : view ≡ view_of view.site view.user world
+
 pub record IsFit (view : View) (answer : Answer) : Type 0 where
-  pub asks : MayBeAsked view answer.effect
+  pub asks : IsViewed view → MayBeAsked view answer.effect
   pub refused : list_any is_refusal (lines_of answer) ≡ true → answer.effect ≡ None
   pub available : list_any is_unavailable (lines_of answer) ≡ false

@@ -2,25 +2,29 @@
 
 ghost use Rattle.std.specs.Prelude.{◌≡◌, IfOk};
 ghost use Rattle.std.specs.List.{AllByRecursion};
-ghost use Rattle.imap_print.specs.Lines.{IsPrintable};
+ghost use Rattle.imap_names.specs.Showing.{shown};
+ghost use Rattle.imap_print.specs.Lines.{IsPlain, IsPrintable};
+ghost use Rattle.imap_print.specs.declared.response.Response.TheVariants as response;
 ghost use Rattle.imap_answer.specs.Answer as specs;
 ghost use Rattle.imap_answer.specs.Name.{name_of_text};
 
 use crate::answer::Answer;
+use crate::moment::Moment;
 use imap_lex::{Octets, Tag};
-use imap_names::{Name, NameError, read_name};
-use imap_print::{Refusal, Response};
+use imap_names::{Name, NameError, read_name, show_name};
+use imap_print::{Code, Refusal, Response};
 use imap_view::View;
 use imap_world::Effect;
 use std::alloc::{AllocError, Global};
 use std::marker::Model;
 
-/// The view of the user who gives a command, and the command's tag.
+/// The view of the user who gives a command, the command's tag, and the moment at which it is given.
 #[derive(Drop)]
 pub struct Call<'a> {
     alloc: Global,
     view: &'a View<'a>,
     tag: &'a Tag,
+    at: Moment,
 }
 
 impl<'a> Model for Call<'a> {
@@ -30,16 +34,23 @@ impl<'a> Model for Call<'a> {
 
     ghost coded = { specs.call_code };
 
-    ghost view = { λ call. record { view = call.view.now; tag = call.tag.now } };
+    ghost view = { λ call. record { view = call.view.now; tag = call.tag.now; at = call.at } };
 }
 
 impl<'a> Call<'a> {
-    /// The command with this tag, of the user of the view. Answers take their memory from `alloc`.
-    pub fn new(alloc: Global, view: &'a View<'a>, tag: &'a Tag) -> Call<'a>
+    /// The command with this tag, which the user of the view gives at the moment `at`. Answers take their
+    /// memory from `alloc`.
+    pub fn new(alloc: Global, view: &'a View<'a>, tag: &'a Tag, at: Moment) -> Call<'a>
         ensures view { result.view ≡ view.now }
         ensures tag { result.tag ≡ tag.now }
+        ensures at { result.at ≡ at }
     {
-        Call { alloc, view, tag }
+        Call {
+            alloc,
+            view,
+            tag,
+            at,
+        }
     }
 
     /// The allocator from which answers take their memory.
@@ -54,15 +65,39 @@ impl<'a> Call<'a> {
         self.view
     }
 
-    /// Returns the name that the text means to the user, or `None` if it means none (RFC 9051, section 5.1).
+    /// When the command is given.
+    pub fn at(&self) -> Moment
+        ensures { result ≡ self.now.at }
+    {
+        self.at
+    }
+
+    /// Returns the name that the octets of a command mean to the user, or `None` if they mean none (RFC 9051,
+    /// section 5.1).
     pub fn name(&self, mailbox: &Octets) -> Result<Option<Name>, AllocError>
         ensures { IfOk result (λ name. name ≡ name_of_text self.now.view mailbox.now) }
     {
-        match read_name(self.alloc, self.view.user(), mailbox.as_slice()) {
+        self.name_of_text(mailbox.as_slice())
+    }
+
+    /// Returns the name that the text means to the user, or `None` if it means none.
+    pub fn name_of_text(&self, text: &[u8]) -> Result<Option<Name>, AllocError>
+        ensures { IfOk result (λ name. name ≡ name_of_text self.now.view text.now) }
+    {
+        match read_name(self.alloc, self.view.user(), text) {
             Ok(name) => Ok(Some(name)),
             Err(NameError::Memory) => Err(AllocError),
             Err(_) => Ok(None),
         }
+    }
+
+    /// Returns the octets by which the user names the mailbox.
+    pub fn shown(&self, name: &Name) -> Result<Octets, AllocError>
+        ensures octets { IfOk result (λ mailbox. mailbox ≡ shown self.now.view.user name.now) }
+        ensures plain { IsPlain (shown self.now.view.user name.now) }
+    {
+        let text = show_name(self.alloc, self.view.user(), name)?;
+        Octets::from_vec(text.into_bytes())
     }
 
     /// The command was carried out and has no other response.
@@ -77,14 +112,21 @@ impl<'a> Call<'a> {
         requires { AllByRecursion IsPrintable untagged.items }
         ensures { IfOk result (λ answer. answer ≡ specs.done_after untagged.items self.now.tag) }
     {
-        Ok(Answer::new(untagged, done_line(self.alloc, self.tag)?, None))
+        Ok(Answer::new(untagged, done_line(self.alloc, self.tag, None)?, None))
     }
 
     /// The command is carried out by the effect and has no other response.
     pub fn done_with(&self, effect: Effect) -> Result<Answer, AllocError>
         ensures { IfOk result (λ answer. answer ≡ specs.done_with self.now.tag effect) }
     {
-        let line = done_line(self.alloc, self.tag)?;
+        self.done_with_code(None, effect)
+    }
+
+    /// The command is carried out by the effect, which the last line says with a response code, if it has one.
+    pub fn done_with_code(&self, code: Option<Code>, effect: Effect) -> Result<Answer, AllocError>
+        ensures { IfOk result (λ answer. answer ≡ specs.done_with_code self.now.tag code effect) }
+    {
+        let line = done_line(self.alloc, self.tag, code)?;
         Ok(Answer::new(Vec::new(self.alloc), line, Some(effect)))
     }
 
@@ -98,13 +140,13 @@ impl<'a> Call<'a> {
 }
 
 /// The tagged line of a command that was carried out.
-fn done_line(alloc: Global, tag: &Tag) -> Result<Response, AllocError>
-    ensures line { IfOk result (λ response. response ≡ specs.done_line tag.now) }
-    ensures printable { IsPrintable (specs.done_line tag.now) }
+fn done_line(alloc: Global, tag: &Tag, code: Option<Code>) -> Result<Response, AllocError>
+    ensures line { IfOk result (λ line. line ≡ response.Done tag.now code) }
+    ensures printable { IsPrintable (response.Done tag.now code) }
 {
     Ok(Response::Done {
         tag: tag.try_copy(alloc)?,
-        code: None,
+        code,
     })
 }
 

@@ -6,13 +6,15 @@ use Rattle.std.proofs.lemmas.Bool.{leb-false}
 use Rattle.std.specs.List.{list_any}
 use Rattle.std.specs.FinMap as map
 use Rattle.imap_answer.specs.Answer.{Answer}
-use Rattle.imap_answer.specs.Fit.{IsFit, MayBeAsked, is_refusal, is_unavailable}
+use Rattle.imap_answer.specs.Fit.{IsFit, IsViewed, MayBeAsked, is_refusal, is_unavailable}
 use Rattle.imap_answer.proofs.Fits.{fits_alone}
 use Rattle.imap_grammar.specs.declared.request.Request.{Request}
 use Rattle.imap_grammar.specs.declared.request.Request.TheVariants as request
 use Rattle.imap_grammar.specs.declared.command.Command.{Command}
 use Rattle.imap_grammar.specs.declared.command.Command.TheVariants as command
 use Rattle.imap_list.proofs.Fitting as list
+use Rattle.imap_messages.proofs.Fitting as messages
+use Rattle.imap_syntax.specs.Moments.{Moment}
 use Rattle.imap_print.specs.declared.response.Farewell.TheVariants.{LimitReached}
 use Rattle.imap_print.specs.declared.response.Response.{Response}
 use Rattle.imap_print.specs.declared.response.Response.TheVariants as response
@@ -34,7 +36,7 @@ pub record IsIdle (outcome : Outcome) : Type 0 where
   pub effect : outcome.effect ≡ None
 
 pub record Fits (view : View) (own : Option Own) (number : ℕ) (outcome : Outcome) : Type 0 where
-  pub asks : MayBeAsked view outcome.effect
+  pub asks : IsViewed view → MayBeAsked view outcome.effect
   pub room : HasRoom own number outcome.session
   pub refused : list_any is_refusal outcome.replies ≡ true → IsIdle outcome
   pub available : list_any is_unavailable outcome.replies ≡ false
@@ -58,7 +60,7 @@ module _ (view : View) (own : Option Own) (number : ℕ) where
 
   says : (replies : List Response) → list_any is_unavailable replies ≡ false → Fits view own number (said replies session.Keep)
   says replies available = record {
-    asks = tt;
+    asks = λ _. tt;
     room = room_to_keep own number;
     refused = λ e. record { session = refl; effect = refl };
     available = available;
@@ -66,7 +68,7 @@ module _ (view : View) (own : Option Own) (number : ℕ) where
 
   ends : (replies : List Response) → list_any is_refusal replies ≡ false → list_any is_unavailable replies ≡ false → Fits view own number (said replies session.End)
   ends replies carried_out available = record {
-    asks = tt;
+    asks = λ _. tt;
     room = room_to_end own number;
     refused = λ e. absurd (true≢false (sym e ∙ carried_out));
     available = available;
@@ -74,52 +76,55 @@ module _ (view : View) (own : Option Own) (number : ℕ) where
 
   -- ---- commands
 
-  answer_fits : (tag : List ℕ) (what : Command) → IsFit view (command_answer view tag what)
-  answer_fits tag command.Capability = fits_alone view _ _ refl
-  answer_fits tag command.Noop = fits_alone view _ _ refl
-  answer_fits tag command.Logout = fits_alone view _ _ refl
-  answer_fits tag command.Authenticate = fits_alone view _ _ refl
-  answer_fits tag command.Namespace = list.namespace_fits view tag
-  answer_fits tag (command.List selection reference patterns returns) =
+  answer_fits : (tag : List ℕ) (at : Moment) (what : Command) → IsFit view (command_answer view tag at what)
+  answer_fits tag at command.Capability = fits_alone view _ _ refl
+  answer_fits tag at command.Noop = fits_alone view _ _ refl
+  answer_fits tag at command.Logout = fits_alone view _ _ refl
+  answer_fits tag at command.Authenticate = fits_alone view _ _ refl
+  answer_fits tag at command.Namespace = list.namespace_fits view tag
+  answer_fits tag at (command.List selection reference patterns returns) =
       list.list_fits view tag (record { selection = selection; reference = reference; patterns = patterns; returns = returns })
-  answer_fits tag (command.Subscribe mailbox) = list.subscribe_fits view tag mailbox
-  answer_fits tag (command.Unsubscribe mailbox) = list.unsubscribe_fits view tag mailbox
-  answer_fits tag (command.Create mailbox) = tree.create_fits view tag mailbox
-  answer_fits tag (command.Delete mailbox) = tree.delete_fits view tag mailbox
-  answer_fits tag (command.Rename from to) = tree.rename_fits view tag from to
-  answer_fits tag (command.SetAcl mailbox identifier rights) = tree.set_acl_fits view tag mailbox identifier rights
-  answer_fits tag (command.DeleteAcl mailbox identifier) = tree.delete_acl_fits view tag mailbox identifier
-  answer_fits tag (command.GetAcl mailbox) = tree.get_acl_fits view tag mailbox
-  answer_fits tag (command.ListRights mailbox identifier) = tree.list_rights_fits view tag mailbox identifier
-  answer_fits tag (command.MyRights mailbox) = tree.my_rights_fits view tag mailbox
-  answer_fits tag _ = fits_alone view _ _ refl
+  answer_fits tag at (command.Subscribe mailbox) = list.subscribe_fits view tag mailbox
+  answer_fits tag at (command.Unsubscribe mailbox) = list.unsubscribe_fits view tag mailbox
+  answer_fits tag at (command.Create mailbox) = tree.create_fits view tag mailbox
+  answer_fits tag at (command.Delete mailbox) = tree.delete_fits view tag mailbox
+  answer_fits tag at (command.Rename from to) = tree.rename_fits view tag from to
+  answer_fits tag at (command.Status mailbox items) = list.status_fits view tag mailbox items
+  answer_fits tag at (command.Append mailbox flags date message) =
+      messages.append_fits view tag at (record { mailbox = mailbox; flags = flags; date = date; message = message })
+  answer_fits tag at (command.SetAcl mailbox identifier rights) = tree.set_acl_fits view tag mailbox identifier rights
+  answer_fits tag at (command.DeleteAcl mailbox identifier) = tree.delete_acl_fits view tag mailbox identifier
+  answer_fits tag at (command.GetAcl mailbox) = tree.get_acl_fits view tag mailbox
+  answer_fits tag at (command.ListRights mailbox identifier) = tree.list_rights_fits view tag mailbox identifier
+  answer_fits tag at (command.MyRights mailbox) = tree.my_rights_fits view tag mailbox
+  answer_fits tag at _ = fits_alone view _ _ refl
 
-  command_fits : (tag : List ℕ) (what : Command) → Fits view own number (command_outcome view tag what)
-  command_fits tag command.Logout = ends _ refl refl
-  command_fits tag what = stays (command_answer view tag what) (answer_fits tag what)
+  command_fits : (tag : List ℕ) (at : Moment) (what : Command) → Fits view own number (command_outcome view tag at what)
+  command_fits tag at command.Logout = ends _ refl refl
+  command_fits tag at what = stays (command_answer view tag at what) (answer_fits tag at what)
 
-  request_fits : (what : Request) → Fits view own number (request_outcome view what)
-  request_fits (request.Command tag what) = command_fits tag what
-  request_fits (request.Malformed tag) = says _ refl
-  request_fits (request.TooBig tag) = says _ refl
+  request_fits : (at : Moment) (what : Request) → Fits view own number (request_outcome view at what)
+  request_fits at (request.Command tag what) = command_fits tag at what
+  request_fits at (request.Malformed tag) = says _ refl
+  request_fits at (request.TooBig tag) = says _ refl
 
 -- ---- sessions
 
 module _ (view : View) (own : Own) (number : ℕ) where
   opening : HasRoom (Some own) number (session.Put (record {})) → Fits view (Some own) number opened
   opening room = record {
-    asks = tt;
+    asks = λ _. tt;
     room = room;
     refused = λ e. absurd (true≢false (sym e));
     available = refl;
   }
 
-  open_fits : map.contains_key own number ≡ true → (what : Act) → Fits view (Some own) number (reply_when_open view what)
-  open_fits is act.Open = opening (inr is)
-  open_fits is (act.Do what) = request_fits view (Some own) number what
-  open_fits is act.Poll = says view (Some own) number [] refl
-  open_fits is act.Done = says view (Some own) number _ refl
-  open_fits is act.Leave = ends view (Some own) number [] refl refl
+  open_fits : map.contains_key own number ≡ true → (at : Moment) (what : Act) → Fits view (Some own) number (reply_when_open view at what)
+  open_fits is at act.Open = opening (inr is)
+  open_fits is at (act.Do what) = request_fits view (Some own) number at what
+  open_fits is at act.Poll = says view (Some own) number [] refl
+  open_fits is at act.Done = says view (Some own) number _ refl
+  open_fits is at act.Leave = ends view (Some own) number [] refl refl
 
   by_count : (b : Bool) → nat_le max_sessions (map.len own) ≡ b → Fits view (Some own) number (cond b (said (response.Bye LimitReached ∷ []) session.Keep) opened)
   by_count true e = says view (Some own) number _ refl
@@ -132,10 +137,10 @@ module _ (view : View) (own : Own) (number : ℕ) where
   closed_fits act.Done = says view (Some own) number [] refl
   closed_fits act.Leave = says view (Some own) number [] refl
 
-  by_session : (what : Act) (b : Bool) → map.contains_key own number ≡ b → Fits view (Some own) number (cond b (reply_when_open view what) (reply_when_closed own what))
-  by_session what true e = open_fits e what
-  by_session what false e = closed_fits what
+  by_session : (at : Moment) (what : Act) (b : Bool) → map.contains_key own number ≡ b → Fits view (Some own) number (cond b (reply_when_open view at what) (reply_when_closed own what))
+  by_session at what true e = open_fits e at what
+  by_session at what false e = closed_fits what
 
 pub outcome_fits : (view : View) (own : Option Own) (step : Step) → Fits view own step.who.number (outcome_for view own step)
 outcome_fits view None step = says view None step.who.number [] refl
-outcome_fits view (Some own) step = by_session view own step.who.number step.act _ refl
+outcome_fits view (Some own) step = by_session view own step.who.number step.at step.act _ refl

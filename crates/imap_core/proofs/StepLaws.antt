@@ -19,6 +19,7 @@ use Rattle.imap_core.specs.declared.sessions.Session.{Session}
 use Rattle.imap_core.specs.declared.sessions.SessionChange.{SessionChange}
 use Rattle.imap_core.specs.declared.sessions.SessionChange.TheVariants as session
 use Rattle.imap_core.specs.Laws.{EffectsAreMade, IsMadeIfAsked, NeverUnavailable, OtherSessionsStay, OtherUsersStay, RefusalsChangeNothing, StepsAreAlike}
+use Rattle.imap_answer.proofs.Alike.{viewed}
 use Rattle.imap_answer.specs.Alike.{effects_of}
 use Rattle.imap_answer.specs.Fit.{MayBeAsked}
 use Rattle.imap_core.specs.Machine.{accounts_after, next, outcome, outcome_for, own_in, view_in}
@@ -88,7 +89,7 @@ made_if_asked site user world (Some effect) kept may = own_effects_made site use
 pub effects_made : EffectsAreMade
 effects_made state step kept =
     made_if_asked state.site step.who.user state.world (outcome state step).effect kept
-    (outcome_fits (view_in state step.who.user) (own_in state step.who.user) step).asks
+    ((outcome_fits (view_in state step.who.user) (own_in state step.who.user) step).asks (viewed state.site step.who.user state.world kept))
 
 -- ---- refusals
 

@@ -6,7 +6,7 @@ use Rattle.std.proofs.lemmas.Map.Text.{is_eq-slice_cmp}
 use Rattle.std.proofs.lemmas.Slice.Eq.{bytes_eq-Decides}
 use Rattle.std.specs.FinMap as map
 use Rattle.std.specs.FinMap.{get-insert}
-use Rattle.imap_answer.proofs.Alike.{after_asking, view_after_asking}
+use Rattle.imap_answer.proofs.Alike.{after_asking, view_after_asking, viewed}
 use Rattle.imap_answer.specs.Alike.{effects_of}
 use Rattle.imap_view.specs.View.{View}
 use Rattle.imap_world.specs.declared.effect.Effect.{Effect}
@@ -31,7 +31,7 @@ view_next view own step = view_after_asking (outcome_for view own step).effect v
 pub view_in-next : (state : State) (step : Step) → AreKept state.world.mailboxes → view_in (next state step) step.who.user ≡ view_next (view_in state step.who.user) (own_in state step.who.user) step
 view_in-next state step kept =
     after_asking state.site step.who.user state.world (outcome state step).effect kept
-    (outcome_fits (view_in state step.who.user) (own_in state step.who.user) step).asks
+    ((outcome_fits (view_in state step.who.user) (own_in state step.who.user) step).asks (viewed state.site step.who.user state.world kept))
 
 one_is_apart : (asked : Option Effect) → AreApart (effects_of asked)
 one_is_apart None = inl (omega arith)

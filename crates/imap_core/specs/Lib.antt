@@ -11,5 +11,4 @@ pub mod Reply
 pub mod Same
 pub mod Sessions
 pub mod Starting
-pub mod Step
 pub mod Trace

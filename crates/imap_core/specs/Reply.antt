@@ -8,8 +8,11 @@ use Rattle.imap_grammar.specs.declared.request.Request.TheVariants as request
 use Rattle.imap_grammar.specs.declared.command.Command.{Command}
 use Rattle.imap_grammar.specs.declared.command.Command.TheVariants as command
 use Rattle.imap_list.specs.ListCommand.{list_answer, namespace_answer}
+use Rattle.imap_list.specs.Status.{status_answer}
 use Rattle.imap_list.specs.Subscriptions.{subscribe_answer, unsubscribe_answer}
+use Rattle.imap_syntax.specs.Moments.{Moment}
 use Rattle.imap_print.specs.declared.response.Response.TheVariants as response
+use Rattle.imap_messages.specs.Append.{append_answer}
 use Rattle.imap_print.specs.declared.response.Farewell.TheVariants.{LimitReached}
 use Rattle.imap_print.specs.declared.response.Refusal.{Refusal}
 use Rattle.imap_print.specs.declared.response.Refusal.TheVariants.{Cannot, Limit, Malformed}
@@ -32,60 +35,67 @@ use Rattle.imap_core.specs.Outcome.{Outcome, answered, said, silence}
 use Rattle.imap_core.specs.Sessions.{Own, max_sessions}
 
 -- a command that isn't built yet can't be done
-abbrev pub command_answer : View → (tag : List ℕ) → Command → Answer
-command_answer view tag command.Capability = capability_answer tag
-command_answer view tag command.Noop = noop_answer tag
-command_answer view tag command.Logout = logout_answer tag
-command_answer view tag command.Authenticate = authenticate_answer tag
-command_answer view tag command.Namespace = namespace_answer tag
-command_answer view tag (command.List selection reference patterns returns) = list_answer view tag (record {
+abbrev pub command_answer : View → (tag : List ℕ) → (at : Moment) → Command → Answer
+command_answer view tag at command.Capability = capability_answer tag
+command_answer view tag at command.Noop = noop_answer tag
+command_answer view tag at command.Logout = logout_answer tag
+command_answer view tag at command.Authenticate = authenticate_answer tag
+command_answer view tag at command.Namespace = namespace_answer tag
+command_answer view tag at (command.List selection reference patterns returns) = list_answer view tag (record {
   selection = selection;
   reference = reference;
   patterns = patterns;
   returns = returns;
 })
-command_answer view tag (command.Subscribe mailbox) = subscribe_answer view tag mailbox
-command_answer view tag (command.Unsubscribe mailbox) = unsubscribe_answer view tag mailbox
-command_answer view tag (command.Create mailbox) = create_answer view tag mailbox
-command_answer view tag (command.Delete mailbox) = delete_answer view tag mailbox
-command_answer view tag (command.Rename from to) = rename_answer view tag from to
-command_answer view tag (command.SetAcl mailbox identifier rights) =
+command_answer view tag at (command.Subscribe mailbox) = subscribe_answer view tag mailbox
+command_answer view tag at (command.Unsubscribe mailbox) = unsubscribe_answer view tag mailbox
+command_answer view tag at (command.Create mailbox) = create_answer view tag mailbox
+command_answer view tag at (command.Delete mailbox) = delete_answer view tag mailbox
+command_answer view tag at (command.Rename from to) = rename_answer view tag from to
+command_answer view tag at (command.Status mailbox items) = status_answer view tag mailbox items
+command_answer view tag at (command.Append mailbox flags date message) = append_answer view tag at (record {
+  mailbox = mailbox;
+  flags = flags;
+  date = date;
+  message = message;
+})
+command_answer view tag at (command.SetAcl mailbox identifier rights) =
     set_acl_answer view tag mailbox identifier rights
-command_answer view tag (command.DeleteAcl mailbox identifier) = delete_acl_answer view tag mailbox identifier
-command_answer view tag (command.GetAcl mailbox) = get_acl_answer view tag mailbox
-command_answer view tag (command.ListRights mailbox identifier) =
+command_answer view tag at (command.DeleteAcl mailbox identifier) = delete_acl_answer view tag mailbox identifier
+command_answer view tag at (command.GetAcl mailbox) = get_acl_answer view tag mailbox
+command_answer view tag at (command.ListRights mailbox identifier) =
     list_rights_answer view tag mailbox identifier
-command_answer view tag (command.MyRights mailbox) = my_rights_answer view tag mailbox
-command_answer view tag _ = refusal tag Cannot
+command_answer view tag at (command.MyRights mailbox) = my_rights_answer view tag mailbox
+command_answer view tag at _ = refusal tag Cannot
 
 -- LOGOUT ends the session
 abbrev pub session_change : Command → SessionChange
 session_change command.Logout = session.End
 session_change _ = session.Keep
 
-abbrev pub command_outcome : View → (tag : List ℕ) → Command → Outcome
-command_outcome view tag command = answered (command_answer view tag command) (session_change command)
+abbrev pub command_outcome : View → (tag : List ℕ) → (at : Moment) → Command → Outcome
+command_outcome view tag at command = answered (command_answer view tag at command) (session_change command)
 
 -- the line that refuses a request, with its tag if it has one
 abbrev pub refused : Option (List ℕ) → Refusal → Outcome
 refused tag refusal = said (response.Refused tag refusal ∷ []) session.Keep
 
-abbrev pub request_outcome : View → Request → Outcome
-request_outcome view (request.Command tag command) = command_outcome view tag command
-request_outcome view (request.Malformed tag) = refused tag Malformed
-request_outcome view (request.TooBig tag) = refused (Some tag) Limit
+abbrev pub request_outcome : View → (at : Moment) → Request → Outcome
+request_outcome view at (request.Command tag command) = command_outcome view tag at command
+request_outcome view at (request.Malformed tag) = refused tag Malformed
+request_outcome view at (request.TooBig tag) = refused (Some tag) Limit
 
 -- the session begins
 abbrev pub opened : Outcome
 opened = said (response.Greeting ∷ []) (session.Put (record {}))
 
 -- a session that is open begins anew; DONE where no IDLE runs (RFC 2177) is malformed, and has no tag
-abbrev pub reply_when_open : View → Act → Outcome
-reply_when_open view act.Open = opened
-reply_when_open view (act.Do request) = request_outcome view request
-reply_when_open view act.Poll = silence
-reply_when_open view act.Done = refused None Malformed
-reply_when_open view act.Leave = said [] session.End
+abbrev pub reply_when_open : View → (at : Moment) → Act → Outcome
+reply_when_open view at act.Open = opened
+reply_when_open view at (act.Do request) = request_outcome view at request
+reply_when_open view at act.Poll = silence
+reply_when_open view at act.Done = refused None Malformed
+reply_when_open view at act.Leave = said [] session.End
 
 -- of one user no more than the limit are open
 abbrev pub open_outcome : Own → Outcome
@@ -99,5 +109,5 @@ reply_when_closed own _ = silence
 
 abbrev pub reply : View → Own → Step → Outcome
 reply view own step =
-    if map.contains_key own step.who.number then reply_when_open view step.act
+    if map.contains_key own step.who.number then reply_when_open view step.at step.act
     else reply_when_closed own step.act

@@ -9,7 +9,10 @@ use crate::outcome::Outcome;
 use crate::sessions::SessionChange;
 use imap_answer::{Answer, Call};
 use imap_grammar::Command;
-use imap_list::{Query, list_answer, namespace_answer, subscribe_answer, unsubscribe_answer};
+use imap_list::{
+    Query, list_answer, namespace_answer, status_answer, subscribe_answer, unsubscribe_answer,
+};
+use imap_messages::{Append, append_answer};
 use imap_print::Refusal;
 use imap_tree::{
     create_answer, delete_acl_answer, delete_answer, get_acl_answer, list_rights_answer,
@@ -19,7 +22,8 @@ use session::{capability_answer, logout_answer};
 use std::alloc::AllocError;
 
 pub(crate) fn command_outcome(call: &Call<'_>, command: &Command) -> Result<Outcome, AllocError>
-    ensures { IfOk result (λ outcome. outcome ≡ command_outcome call.now.view call.now.tag command.now) }
+    ensures { let meant = command_outcome call.now.view call.now.tag call.now.at command.now in
+        IfOk result (λ outcome. outcome ≡ meant) }
 {
     Outcome::answered(command_answer(call, command)?, session_change(command))
 }
@@ -35,7 +39,8 @@ fn session_change(command: &Command) -> SessionChange
 }
 
 fn command_answer(call: &Call<'_>, command: &Command) -> Result<Answer, AllocError>
-    ensures { IfOk result (λ answer. answer ≡ command_answer call.now.view call.now.tag command.now) }
+    ensures { let meant = command_answer call.now.view call.now.tag call.now.at command.now in
+        IfOk result (λ answer. answer ≡ meant) }
 {
     match command {
         Command::Capability => capability_answer(call),
@@ -62,6 +67,21 @@ fn command_answer(call: &Call<'_>, command: &Command) -> Result<Answer, AllocErr
         Command::Create { mailbox } => create_answer(call, mailbox),
         Command::Delete { mailbox } => delete_answer(call, mailbox),
         Command::Rename { from, to } => rename_answer(call, from, to),
+        Command::Status { mailbox, items } => status_answer(call, mailbox, items),
+        Command::Append {
+            mailbox,
+            flags,
+            date,
+            message,
+        } => {
+            let asked = Append {
+                mailbox,
+                flags,
+                date: *date,
+                message,
+            };
+            append_answer(call, &asked)
+        }
         Command::SetAcl {
             mailbox,
             identifier,

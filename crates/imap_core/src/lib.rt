@@ -14,7 +14,6 @@ mod effects;
 mod frames;
 pub mod laws;
 mod machine;
-mod moment;
 mod opening;
 mod outcome;
 mod reply;
@@ -22,8 +21,8 @@ mod session_id;
 mod sessions;
 mod step;
 
+pub use imap_answer::Moment;
 pub use machine::{Core, Prepared};
-pub use moment::Moment;
 pub use session_id::{SessionId, SessionNumber};
 pub use sessions::{Session, SessionChange};
 pub use step::{Act, Step};

@@ -9,7 +9,7 @@ use crate::commands::command_outcome;
 use crate::outcome::Outcome;
 use crate::sessions::{OwnSessions, Session, SessionChange};
 use crate::step::{Act, Step};
-use imap_answer::{Call, refused_line};
+use imap_answer::{Call, Moment, refused_line};
 use imap_grammar::Request;
 use imap_lex::Tag;
 use imap_print::{Farewell, Refusal, Response};
@@ -25,18 +25,18 @@ pub(crate) fn step_outcome(
     ensures { IfOk result (λ outcome. outcome ≡ specs.reply view.now own.now step.now) }
 {
     if own.is_open(step.who.number) {
-        outcome_when_open(alloc, view, &step.act)
+        outcome_when_open(alloc, view, step)
     } else {
         outcome_when_closed(alloc, own, &step.act)
     }
 }
 
-fn outcome_when_open(alloc: Global, view: &View<'_>, act: &Act) -> Result<Outcome, AllocError>
-    ensures { IfOk result (λ outcome. outcome ≡ specs.reply_when_open view.now act.now) }
+fn outcome_when_open(alloc: Global, view: &View<'_>, step: &Step) -> Result<Outcome, AllocError>
+    ensures { IfOk result (λ outcome. outcome ≡ specs.reply_when_open view.now step.now.at step.now.act) }
 {
-    match act {
+    match &step.act {
         Act::Open => greeting(alloc),
-        Act::Do(request) => request_outcome(alloc, view, request),
+        Act::Do(request) => request_outcome(alloc, view, step.at, request),
         Act::Poll => Ok(Outcome::silence(alloc)),
         Act::Done => refused(alloc, &None, Refusal::Malformed),
         Act::Leave => Ok(Outcome::said(Vec::new(alloc), SessionChange::End)),
@@ -70,11 +70,16 @@ fn greeting(alloc: Global) -> Result<Outcome, AllocError>
     Ok(Outcome::said(greeting, SessionChange::Put(Session)))
 }
 
-fn request_outcome(alloc: Global, view: &View<'_>, request: &Request) -> Result<Outcome, AllocError>
-    ensures { IfOk result (λ outcome. outcome ≡ specs.request_outcome view.now request.now) }
+fn request_outcome(
+    alloc: Global,
+    view: &View<'_>,
+    at: Moment,
+    request: &Request,
+) -> Result<Outcome, AllocError>
+    ensures { IfOk result (λ outcome. outcome ≡ specs.request_outcome view.now at request.now) }
 {
     match request {
-        Request::Command { tag, body } => command_outcome(&Call::new(alloc, view, tag), body),
+        Request::Command { tag, body } => command_outcome(&Call::new(alloc, view, tag, at), body),
         Request::Malformed { tag } => refused(alloc, tag, Refusal::Malformed),
         Request::TooBig { tag } => refused(alloc, &Some(tag.try_copy(alloc)?), Refusal::Limit),
     }

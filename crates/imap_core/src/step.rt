@@ -2,8 +2,8 @@
 
 ghost use Rattle.std.specs.Prelude.{◌≡◌, ◌↔◌, IfOk, IsTrue};
 
-use crate::moment::Moment;
 use crate::session_id::SessionId;
+use imap_answer::Moment;
 use imap_grammar::Request;
 use imap_values::{Same, TryCopy};
 use std::alloc::{AllocError, Global};
@@ -73,8 +73,6 @@ impl Step {
     pub fn is_same(&self, other: &Step) -> bool
         ensures { IsTrue result ↔ (self.now ≡ other.now) }
     {
-        self.who.is_same(&other.who)
-            && self.at.seconds() == other.at.seconds()
-            && self.act.is_same(&other.act)
+        self.who.is_same(&other.who) && self.at.is_same(&other.at) && self.act.is_same(&other.act)
     }
 }

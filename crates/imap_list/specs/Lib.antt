@@ -6,6 +6,7 @@ pub mod ListCommand
 pub mod Listing
 pub mod Matching
 pub mod Namespaces
+pub mod Status
 pub mod Subscriptions
 pub mod Texts
 pub mod ViewNames

@@ -1,8 +1,9 @@
 -- LIST and NAMESPACE (RFC 9051, sections 6.3.9 and 6.3.10).
-use Rattle.std.specs.Prelude.{ℕ, Bool, true, false, not, ◌&&◌, ◌||◌, List, [], ◌∷◌, map, flat_map}
-use Rattle.std.specs.Prelude.{Option, Some, None, if◌then◌else◌}
+use Rattle.std.specs.Prelude.{ℕ, Bool, true, false, not, ◌&&◌, ◌||◌, ◌==◌, List, [], ◌∷◌, length, flat_map}
+use Rattle.std.specs.Prelude.{Option, Some, None, option_and_then, if◌then◌else◌}
 use Rattle.std.specs.List.{list_any}
 use Rattle.imap_answer.specs.Answer.{Answer, done_after, refusal}
+use Rattle.imap_answer.specs.Name.{name_of_text}
 use Rattle.imap_grammar.specs.commands.List.{is_recursive, is_subscribed}
 use Rattle.imap_grammar.specs.declared.commands.list.ListReturn.{ListReturn}
 use Rattle.imap_grammar.specs.declared.commands.list.ListReturn.TheVariants as option
@@ -17,9 +18,11 @@ use Rattle.imap_print.specs.declared.list.Children.TheVariants.{Has, HasNo}
 use Rattle.imap_print.specs.declared.response.Refusal.TheVariants.{Cannot}
 use Rattle.imap_print.specs.declared.response.Response.{Response}
 use Rattle.imap_print.specs.declared.response.Response.TheVariants as response
+use Rattle.imap_query.specs.declared.status.StatusItem.{StatusItem}
 use Rattle.imap_view.specs.View.{View}
 use Rattle.imap_list.specs.declared.line.Line.{Line}
 use Rattle.imap_list.specs.Listing.{listing, subscribed_listing}
+use Rattle.imap_list.specs.Status.{status_in}
 
 -- the arguments of LIST
 pub record Query : Type 0 where
@@ -52,10 +55,14 @@ returns_subscribed option.Subscribed = true
 returns_subscribed option.Children = false
 returns_subscribed (option.Status items) = false
 
-abbrev pub returns_status : ListReturn → Bool
-returns_status option.Subscribed = false
-returns_status option.Children = false
-returns_status (option.Status items) = true
+abbrev pub status_items_of : ListReturn → List StatusItem
+status_items_of option.Subscribed = []
+status_items_of option.Children = []
+status_items_of (option.Status items) = items
+
+-- the numbers of each mailbox that are asked for (RFC 9051, section 6.3.9.2)
+abbrev pub status_items : Query → List StatusItem
+status_items query = flat_map status_items_of (given query.returns)
 
 -- subscribed names are listed in place of mailboxes
 abbrev pub selects_subscribed : Query → Bool
@@ -65,10 +72,9 @@ selects_subscribed query = list_any is_subscribed (given query.selection)
 abbrev pub shows_subscribed : Query → Bool
 shows_subscribed query = selects_subscribed query || list_any returns_subscribed (given query.returns)
 
--- the selection RECURSIVEMATCH and the option STATUS (RFC 5819) are not built
+-- the selection RECURSIVEMATCH is not built
 abbrev pub is_unbuilt : Query → Bool
-is_unbuilt query =
-    list_any is_recursive (given query.selection) || list_any returns_status (given query.returns)
+is_unbuilt query = list_any is_recursive (given query.selection)
 
 -- the form of LIST with more than a reference and one pattern
 abbrev pub is_extended : Query → Bool
@@ -107,11 +113,33 @@ list_line with_subscribed line = response.List (record {
   subscribed = with_subscribed && line.is_subscribed;
 }) line.name
 
+-- a level of the hierarchy is no mailbox; a name that is subscribed to may be one without `l`
+abbrev pub may_have_status : Query → Line → Bool
+may_have_status query line = line.is_there || selects_subscribed query
+
+abbrev pub given_line : Option Response → List Response
+given_line None = []
+given_line (Some line) = line ∷ []
+
+-- the numbers of the mailbox that the text means to the user, if the user may read it
+abbrev pub status_of_text : View → List StatusItem → (text : List ℕ) → List Response
+status_of_text view items text = given_line (option_and_then (status_in view items) (name_of_text view text))
+
+abbrev pub status_after : View → Query → Line → List Response
+status_after view query line =
+    if length (status_items query) == 0 then []
+    else if may_have_status query line then status_of_text view (status_items query) line.name
+    else []
+
+-- a line, and after it the numbers of its mailbox
+abbrev pub responses_of : View → Query → Line → List Response
+responses_of view query line = list_line (shows_subscribed query) line ∷ status_after view query line
+
 abbrev pub list_answer : View → (tag : List ℕ) → Query → Answer
 list_answer view tag query =
     if is_unbuilt query then refusal tag Cannot
     else if asks_for_root query then done_after (response.ListRoot ∷ []) tag
-    else done_after (map (list_line (shows_subscribed query)) (lines_of view query)) tag
+    else done_after (flat_map (responses_of view query) (lines_of view query)) tag
 
 -- NAMESPACE
 abbrev pub namespace_answer : (tag : List ℕ) → Answer

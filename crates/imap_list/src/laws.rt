@@ -6,7 +6,9 @@ ghost use Rattle.imap_list.specs.Laws.{LevelsNeedPercent, ListingIsExact, Listin
 ghost use Rattle.imap_list.specs.Laws.{OrderMakesNoDifference, SubscribedListingIsExact};
 ghost use Rattle.imap_list.specs.ListCommand.{Query, list_answer};
 ghost use Rattle.imap_list.specs.Namespaces.{NamespacesArePrinted};
+ghost use Rattle.imap_list.specs.Status.{status_answer};
 ghost use Rattle.imap_list.specs.Subscriptions.{subscribe_answer, unsubscribe_answer};
+ghost use Rattle.imap_query.specs.declared.status.StatusItem.{StatusItem};
 
 use imap_names::laws::{match_is_tested, percent_is_tested};
 
@@ -56,6 +58,8 @@ pub fn namespaces_are_printed()
 /// that user.
 pub fn commands_are_alike()
     ensures list { (tag : List ℕ) (query : Query) → AnswersAlike (λ view. list_answer view tag query) }
+    ensures status { (tag mailbox : List ℕ) (items : List StatusItem)
+        → AnswersAlike (λ view. status_answer view tag mailbox items) }
     ensures subscribe { (tag mailbox : List ℕ) → AnswersAlike (λ view. subscribe_answer view tag mailbox) }
     ensures unsubscribe { (tag mailbox : List ℕ)
         → AnswersAlike (λ view. unsubscribe_answer view tag mailbox) }

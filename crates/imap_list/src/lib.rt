@@ -1,4 +1,5 @@
-//! Commands on lists of mailbox names: LIST, NAMESPACE, SUBSCRIBE and UNSUBSCRIBE (RFC 9051, section 6.3).
+//! Commands on lists of mailbox names, and STATUS, which lists numbers of a mailbox: LIST, NAMESPACE, STATUS,
+//! SUBSCRIBE and UNSUBSCRIBE (RFC 9051, section 6.3).
 //!
 //! [`list`] and [`list_subscribed`] find what is listed for the user of a view, and [`laws`] say what
 //! that is. The other functions answer the commands.
@@ -14,6 +15,7 @@ mod matching;
 mod ordered;
 mod query;
 mod shown_name;
+mod status;
 mod subscriptions;
 mod view_names;
 
@@ -22,4 +24,5 @@ pub use list_command::{list_answer, namespace_answer};
 pub use listing::{list, list_subscribed};
 pub use query::Query;
 pub use shown_name::ShownName;
+pub use status::status_answer;
 pub use subscriptions::{subscribe_answer, unsubscribe_answer};

@@ -8,6 +8,7 @@ ghost use Rattle.imap_list.specs.ListCommand as specs;
 use imap_grammar::{ListReturn, Patterns, Selection};
 use imap_lex::Octets;
 use imap_names::Pattern;
+use imap_query::StatusItem;
 use imap_syntax::Items;
 use std::alloc::{AllocError, Global};
 use std::marker::Model;
@@ -76,15 +77,9 @@ impl<'a> Query<'a> {
         }
     }
 
-    /// The selection RECURSIVEMATCH and the option STATUS (RFC 5819) are not built.
+    /// The selection RECURSIVEMATCH is not built.
     pub(crate) fn is_unbuilt(&self) -> bool
         ensures { result ≡ specs.is_unbuilt self.now }
-    {
-        self.selects_recursively() || self.returns_status()
-    }
-
-    fn selects_recursively(&self) -> bool
-        ensures { result ≡ list_any is_recursive (specs.given self.now.selection) }
     {
         match self.selection {
             Some(words) => any_recursive(words.as_slice()),
@@ -92,12 +87,13 @@ impl<'a> Query<'a> {
         }
     }
 
-    fn returns_status(&self) -> bool
-        ensures { result ≡ list_any specs.returns_status (specs.given self.now.returns) }
+    /// The numbers of each mailbox that are asked for (RFC 9051, section 6.3.9.2).
+    pub(crate) fn status_items(&self, alloc: Global) -> Result<Vec<StatusItem>, AllocError>
+        ensures { IfOk result (λ items. items.items ≡ specs.status_items self.now) }
     {
         match self.returns {
-            Some(options) => any_returns_status(options.as_slice()),
-            None => false,
+            Some(options) => status_items_in(alloc, options.as_slice()),
+            None => Ok(Vec::new(alloc)),
         }
     }
 
@@ -142,12 +138,23 @@ fn any_returns_subscribed(options: &[ListReturn]) -> bool
         .any(|option| matches!(option, ListReturn::Subscribed))
 }
 
-fn any_returns_status(options: &[ListReturn]) -> bool
-    ensures { result ≡ list_any specs.returns_status options.now }
+fn status_items_in(alloc: Global, options: &[ListReturn]) -> Result<Vec<StatusItem>, AllocError>
+    ensures { IfOk result (λ items. items.items ≡ flat_map specs.status_items_of options.now) }
 {
-    options
-        .iter()
-        .any(|option| matches!(option, ListReturn::Status(_)))
+    let mut items = Vec::new(alloc);
+    for option in options {
+        items.extend_from_slice(status_items_of(option))?;
+    }
+    Ok(items)
+}
+
+fn status_items_of(option: &ListReturn) -> &[StatusItem]
+    ensures { result.now ≡ specs.status_items_of option.now }
+{
+    match option {
+        ListReturn::Status(items) => items.as_slice(),
+        _ => &[],
+    }
 }
 
 /// Reads the patterns that can match anything.

@@ -8,3 +8,4 @@ pub mod InStep
 pub mod Following
 pub mod Walked
 pub mod Laws
+pub mod State

@@ -1,5 +1,6 @@
 //! What a session knows of its mailbox, and what it is told of it.
 //!
+//! A [`Session`] has what it selected and enabled; [`Session::commit`] makes a change of it without memory.
 //! A [`KnownList`] holds the messages of the selected mailbox as the session was told of them last.
 //! [`KnownList::notices`] finds the difference to the messages that are there: untagged lines, and a
 //! [`Delta`] of the known list, which [`KnownList::apply`] makes without memory. The messages come from a
@@ -16,6 +17,7 @@ mod mailbox_rows;
 mod notices;
 mod options;
 mod row_cursor;
+mod session;
 mod walk;
 
 pub use delta::{ChangedMessage, Delta};
@@ -24,3 +26,4 @@ pub use mailbox_rows::MailboxRows;
 pub use notices::Notices;
 pub use options::NoticeOptions;
 pub use row_cursor::RowCursor;
+pub use session::{Selected, SelectionChange, Session, SessionChange};

@@ -5,7 +5,7 @@ use Rattle.std.specs.FinMap as map
 use Rattle.std.specs.List.{list_any}
 use Rattle.imap_answer.specs.Answer.{done, done_with, refusal, refused_line}
 use Rattle.imap_answer.specs.Fit.{IsFit, is_unavailable}
-use Rattle.imap_answer.proofs.Fits.{fits_alone, fits_asking, fits_if_named}
+use Rattle.imap_answer.proofs.Fits.{fits_alone, fits_asking, fits_if_named, missing_right_fits}
 use Rattle.imap_names.specs.Name.{Name, is_inbox}
 use Rattle.imap_names.specs.Reading.{name_read}
 use Rattle.imap_names.specs.declared.error.NameError.{NameError}
@@ -24,7 +24,7 @@ use Rattle.imap_view.specs.TreeAfter.{may_set_rights, missing_in, validities_lef
 use Rattle.imap_view.specs.View.{View, acl_in, may_create, rights_in}
 use Rattle.imap_world.specs.declared.effect.Effect.TheVariants.{Create, Delete, Rename, SetRights}
 use Rattle.imap_world.specs.Moving.{can_move}
-use Rattle.imap_tree.specs.Access.{missing_right_refusal}
+use Rattle.imap_answer.specs.Access.{missing_right_refusal}
 use Rattle.imap_tree.specs.Create.{create_answer, create_of, without_delimiter}
 use Rattle.imap_tree.specs.Delete.{delete_answer, delete_of_name}
 use Rattle.imap_tree.specs.GetAcl.{get_acl_answer, get_acl_by, get_acl_of_name}
@@ -35,13 +35,6 @@ use Rattle.imap_tree.specs.Rename.{rename_answer, rename_of_name, rename_to}
 use Rattle.imap_tree.specs.SetAcl.{delete_acl_answer, set_acl_answer, set_acl_by, set_rights_answer, set_rights_by, set_rights_of_name}
 
 module _ (view : View) (tag : List ℕ) where
-  missing_right_fits : (rights : ℕ) → IsFit view (refusal tag (missing_right_refusal rights))
-  missing_right_fits rights = by (has_any rights lookup)
-    where
-      by : (b : Bool) → IsFit view (refusal tag (cond b NoPerm NonExistent))
-      by true = fits_alone view _ _ refl
-      by false = fits_alone view _ _ refl
-
   -- ---- MYRIGHTS
 
   my_rights_seen : (name : Name) (seen : Option Seen) → IsFit view (my_rights_of_seen view.user tag name seen)
@@ -55,7 +48,7 @@ module _ (view : View) (tag : List ℕ) where
   -- ---- GETACL
 
   get_acl_listed : (name : Name) (acl : Option AclMap) → IsFit view (get_acl_by view tag name acl)
-  get_acl_listed name None = missing_right_fits (rights_in view name)
+  get_acl_listed name None = missing_right_fits view tag (rights_in view name)
   get_acl_listed name (Some acl) = fits_alone view _ _ refl
 
   pub get_acl_fits : (mailbox : List ℕ) → IsFit view (get_acl_answer view tag mailbox)
@@ -71,7 +64,7 @@ module _ (view : View) (tag : List ℕ) where
   list_rights_held : (name : Name) (identifier : List ℕ) (held : Bool)
       → IsFit view (cond held (list_rights_by view tag name (identifier_read identifier)) (refusal tag (missing_right_refusal (rights_in view name))))
   list_rights_held name identifier true = list_rights_read name (identifier_read identifier)
-  list_rights_held name identifier false = missing_right_fits (rights_in view name)
+  list_rights_held name identifier false = missing_right_fits view tag (rights_in view name)
 
   pub list_rights_fits : (mailbox identifier : List ℕ) → IsFit view (list_rights_answer view tag mailbox identifier)
   list_rights_fits mailbox identifier =
@@ -93,7 +86,7 @@ module _ (view : View) (tag : List ℕ) where
   set_rights_held : (name : Name) (change : RightsChange) (identifier : List ℕ) (held : Bool)
       → IsFit view (cond held (set_rights_by view tag name change (identifier_read identifier)) (refusal tag (missing_right_refusal (rights_in view name))))
   set_rights_held name change identifier true = set_rights_read name change (identifier_read identifier)
-  set_rights_held name change identifier false = missing_right_fits (rights_in view name)
+  set_rights_held name change identifier false = missing_right_fits view tag (rights_in view name)
 
   set_rights_fits : (mailbox identifier : List ℕ) (change : RightsChange) → IsFit view (set_rights_answer view tag mailbox identifier change)
   set_rights_fits mailbox identifier change =
@@ -114,7 +107,7 @@ module _ (view : View) (tag : List ℕ) where
 
   delete_by : (name : Name) (held : Bool) → has_any (rights_in view name) delete_mailbox ≡ held → (inbox : Bool) → is_inbox name ≡ inbox → (below : Bool) → has_below name view.taken ≡ below
       → IsFit view (cond (not held) (refusal tag (missing_right_refusal (rights_in view name))) (cond inbox (refusal tag Cannot) (cond below (refusal tag HasChildren) (done_with tag (Delete name)))))
-  delete_by name false e inbox i below d = missing_right_fits (rights_in view name)
+  delete_by name false e inbox i below d = missing_right_fits view tag (rights_in view name)
   delete_by name true e true i below d = fits_alone view _ _ refl
   delete_by name true e false i true d = fits_alone view _ _ refl
   delete_by name true e false i false d = fits_asking view tag (Delete name) (λ k. e k && (not (i k) && not (d k)))
@@ -161,7 +154,7 @@ module _ (view : View) (tag : List ℕ) where
       → (used : Bool) → has_within new view.taken ≡ used → (all : Bool) → can_all_arrive view old new ≡ all
       → IsFit view (cond (not held) (refusal tag (missing_right_refusal (rights_in view old))) (cond (not can) (refusal tag Cannot) (cond (not may) (refusal tag NoPerm)
       (cond used (refusal tag AlreadyExists) (cond all (done_with tag (Rename (owner_of view.site new) old new)) (refusal tag Limit))))))
-  rename_by old new false h can c may m used u all a = missing_right_fits (rights_in view old)
+  rename_by old new false h can c may m used u all a = missing_right_fits view tag (rights_in view old)
   rename_by old new true h false c may m used u all a = fits_alone view _ _ refl
   rename_by old new true h true c false m used u all a = fits_alone view _ _ refl
   rename_by old new true h true c true m true u all a = fits_alone view _ _ refl

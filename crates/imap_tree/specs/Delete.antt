@@ -8,7 +8,7 @@ use Rattle.imap_print.specs.declared.response.Refusal.TheVariants.{Cannot, HasCh
 use Rattle.imap_rights.specs.Rights.{delete_mailbox, has_any}
 use Rattle.imap_view.specs.View.{View, rights_in}
 use Rattle.imap_world.specs.declared.effect.Effect.TheVariants.{Delete}
-use Rattle.imap_tree.specs.Access.{missing_right_refusal}
+use Rattle.imap_answer.specs.Access.{missing_right_refusal}
 
 -- No INBOX is deleted, and no mailbox that has names below it.
 abbrev pub delete_of_name : View → (tag : List ℕ) → Name → Answer

@@ -12,7 +12,7 @@ use Rattle.imap_print.specs.declared.response.Response.TheVariants as response
 use Rattle.imap_print.specs.Lines.{IsPlain}
 use Rattle.imap_rights.specs.Acl.{AclMap}
 use Rattle.imap_view.specs.View.{View, acl_in, rights_in}
-use Rattle.imap_tree.specs.Access.{missing_right_refusal}
+use Rattle.imap_answer.specs.Access.{missing_right_refusal}
 
 abbrev pub acl_entry : List ℕ × ℕ → AclEntry
 acl_entry entry = record { identifier = entry.0; rights = record { 0 = entry.1 } }

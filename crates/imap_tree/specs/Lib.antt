@@ -1,5 +1,4 @@
 -- Commands on the tree of mailboxes and on access control lists: their answers.
-pub mod Access
 pub mod Create
 pub mod Delete
 pub mod GetAcl

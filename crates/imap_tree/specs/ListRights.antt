@@ -11,7 +11,7 @@ use Rattle.imap_rights.specs.Identifier.{identifier_read}
 use Rattle.imap_rights.specs.Rights.{administer, has_any}
 use Rattle.imap_view.specs.Seen.{owner_of}
 use Rattle.imap_view.specs.View.{View, rights_in}
-use Rattle.imap_tree.specs.Access.{missing_right_refusal}
+use Rattle.imap_answer.specs.Access.{missing_right_refusal}
 
 -- an owner always has `l` and `a`; any other identifier may be given each right or none
 abbrev pub list_rights_line : View → Name → (identifier : List ℕ) → Response

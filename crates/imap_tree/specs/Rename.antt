@@ -12,7 +12,7 @@ use Rattle.imap_view.specs.Seen.{owner_of}
 use Rattle.imap_view.specs.View.{View, may_create, rights_in}
 use Rattle.imap_world.specs.declared.effect.Effect.TheVariants.{Rename}
 use Rattle.imap_world.specs.Moving.{can_move}
-use Rattle.imap_tree.specs.Access.{missing_right_refusal}
+use Rattle.imap_answer.specs.Access.{missing_right_refusal}
 use Rattle.imap_tree.specs.NewName.{new_name_read}
 
 -- All below the mailbox moves with it, what the user doesn't see too.

@@ -13,7 +13,7 @@ use Rattle.imap_rights.specs.Rights.{administer, has_any, no_rights}
 use Rattle.imap_view.specs.TreeAfter.{entry_after, may_set_rights}
 use Rattle.imap_view.specs.View.{View, acl_in, rights_in}
 use Rattle.imap_world.specs.declared.effect.Effect.TheVariants.{SetRights}
-use Rattle.imap_tree.specs.Access.{missing_right_refusal}
+use Rattle.imap_answer.specs.Access.{missing_right_refusal}
 
 -- whether the identifier's rights in the list stay as they are
 abbrev pub keeps_entry : (identifier : List ℕ) → RightsChange → Option AclMap → Bool

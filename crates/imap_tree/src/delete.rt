@@ -3,8 +3,7 @@
 ghost use Rattle.std.specs.Prelude.{◌≡◌, IfOk};
 ghost use Rattle.imap_tree.specs.Delete as specs;
 
-use crate::access::missing_right_refusal;
-use imap_answer::{Answer, Call};
+use imap_answer::{Answer, Call, missing_right_refusal};
 use imap_lex::Octets;
 use imap_names::Name;
 use imap_print::Refusal;

@@ -6,9 +6,7 @@ ghost use Rattle.imap_rights.specs.Entries.{pairs_of};
 ghost use Rattle.imap_rights.specs.Rights.{bits};
 ghost use Rattle.imap_tree.specs.GetAcl as specs;
 
-use crate::access::missing_right_refusal;
-use crate::shown_mailbox::shown_mailbox;
-use imap_answer::{Answer, Call};
+use imap_answer::{Answer, Call, missing_right_refusal};
 use imap_lex::Octets;
 use imap_names::Name;
 use imap_print::{AclEntry, Refusal, Response};
@@ -42,7 +40,7 @@ fn acl_line(call: &Call<'_>, name: &Name, acl: &Acl) -> Result<Response, AllocEr
 {
     let entries = printed_entries(call.alloc(), acl.entries())?;
     Ok(Response::Acl {
-        mailbox: shown_mailbox(call, name)?,
+        mailbox: call.shown(name)?,
         entries: Items::from_vec(entries),
     })
 }

@@ -4,7 +4,6 @@
 //! Each command is a function from what its user may see to an answer.
 #![tactic(auto)]
 
-mod access;
 mod create;
 mod delete;
 mod get_acl;
@@ -15,7 +14,6 @@ mod my_rights;
 mod new_name;
 mod rename;
 mod set_acl;
-mod shown_mailbox;
 
 pub use create::create_answer;
 pub use delete::delete_answer;

@@ -5,10 +5,8 @@ ghost use Rattle.imap_print.specs.Lines.{IsPrintable};
 ghost use Rattle.imap_rights.specs.Identifier.{identifier_read};
 ghost use Rattle.imap_tree.specs.ListRights as specs;
 
-use crate::access::missing_right_refusal;
 use crate::identifier::identifier;
-use crate::shown_mailbox::shown_mailbox;
-use imap_answer::{Answer, Call};
+use imap_answer::{Answer, Call, missing_right_refusal};
 use imap_lex::Octets;
 use imap_names::Name;
 use imap_print::{Refusal, Response};
@@ -58,7 +56,7 @@ fn list_rights_line(
 {
     let owner = call.view().owner(name);
     Ok(Response::ListRights {
-        mailbox: shown_mailbox(call, name)?,
+        mailbox: call.shown(name)?,
         identifier: Octets::from_slice(call.alloc(), identifier.as_bytes())?,
         owner: identifier.as_bytes() == owner.as_str().as_bytes(),
     })

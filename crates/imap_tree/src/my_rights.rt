@@ -3,7 +3,6 @@
 ghost use Rattle.std.specs.Prelude.{◌≡◌, IfOk};
 ghost use Rattle.imap_tree.specs.MyRights as specs;
 
-use crate::shown_mailbox::shown_mailbox;
 use imap_answer::{Answer, Call};
 use imap_lex::Octets;
 use imap_names::Name;
@@ -27,7 +26,7 @@ fn my_rights_of_name(call: &Call<'_>, name: &Name) -> Result<Answer, AllocError>
     match call.view().seen(&name.as_ref()) {
         Some(seen) => {
             let line = Response::MyRights {
-                mailbox: shown_mailbox(call, name)?,
+                mailbox: call.shown(name)?,
                 rights: seen.rights(),
             };
             call.done_after(vec![in call.alloc(); line]?)

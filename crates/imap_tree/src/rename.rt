@@ -10,9 +10,8 @@ ghost use Rattle.imap_view.specs.RenameAfter.{can_all_arrive, missing_above, nam
 ghost use Rattle.imap_view.specs.TreeAfter.{validities_left};
 ghost use Rattle.imap_world.specs.Moving.{can_arrive};
 
-use crate::access::missing_right_refusal;
 use crate::new_name::read_new_name;
-use imap_answer::{Answer, Call};
+use imap_answer::{Answer, Call, missing_right_refusal};
 use imap_lex::Octets;
 use imap_names::Name;
 use imap_print::Refusal;

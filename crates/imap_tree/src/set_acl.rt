@@ -5,10 +5,9 @@ ghost use Rattle.imap_tree.specs.SetAcl as specs;
 ghost use Rattle.imap_view.specs.TreeAfter.{may_set_rights};
 ghost use Rattle.imap_view.specs.View.{acl_in};
 
-use crate::access::missing_right_refusal;
 use crate::identifier::identifier;
 use bitflags::Flags;
-use imap_answer::{Answer, Call};
+use imap_answer::{Answer, Call, missing_right_refusal};
 use imap_lex::Octets;
 use imap_names::Name;
 use imap_print::Refusal;

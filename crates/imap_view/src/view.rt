@@ -138,7 +138,7 @@ impl<'a> View<'a> {
     }
 
     /// Whether the tree that the name lies in is the user's own.
-    pub(crate) fn owns_tree(&self, name: &NameRef<'_>) -> bool
+    pub fn owns_tree(&self, name: &NameRef<'_>) -> bool
         ensures own { result ≡ is_own_root self.now.site self.now.user (root_of name.now) }
         ensures valid { IsName name.now }
     {

@@ -6,6 +6,6 @@ use Rattle.imap_tree.proofs.get_acl.acl_line.Goals as goal
 
 pub returns-clause-printable : goal.returns-clause-printable
 returns-clause-printable c =
-    let mailbox = subst IsPlain (sym c.in_ok-shown_mailbox.ensures.octets) c.in_ok-shown_mailbox.ensures.plain in
+    let mailbox = subst IsPlain (sym c.in_ok-shown.ensures.octets) c.in_ok-shown.ensures.plain in
     let plain = subst ArePlain (sym c.from_vec.ensures) c.in_ok-entries.ensures.plain in
     record { plain = (mailbox, plain_identifiers c.from_vec.result plain); held = tt }

@@ -1,0 +1,3 @@
+pub mod Fitting
+pub mod Permitted
+pub mod Possible

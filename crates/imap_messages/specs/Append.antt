@@ -1,0 +1,85 @@
+-- APPEND (RFC 9051, section 6.3.12; RFC 4314, section 4).
+use Rattle.std.specs.Prelude.{ℕ, Bool, true, not, ◌==◌, List, [], ◌∷◌, Option, Some, None, if◌then◌else◌}
+use Rattle.std.specs.FinMap as map
+use Rattle.imap_answer.specs.Answer.{Answer, done_with_code, refusal}
+use Rattle.imap_answer.specs.Name.{if_named}
+use Rattle.imap_batch.specs.declared.batch.Batch.{Batch}
+use Rattle.imap_batch.specs.declared.batch.NewMessage.{NewMessage}
+use Rattle.imap_mailbox.specs.Flags.{has_too_many}
+use Rattle.imap_mailbox.specs.Shown.{Content}
+use Rattle.imap_names.specs.Name.{Name}
+use Rattle.imap_print.specs.declared.response.Code.{Code}
+use Rattle.imap_print.specs.declared.response.Code.TheVariants as code
+use Rattle.imap_print.specs.declared.response.Refusal.TheVariants.{Cannot, Limit, OverQuota}
+use Rattle.imap_rights.specs.Rights.{has_any, insert, read}
+use Rattle.imap_syntax.specs.declared.flag.Flag.{Flag}
+use Rattle.imap_syntax.specs.Lexical.{has_nul}
+use Rattle.imap_syntax.specs.Moments.{Moment}
+use Rattle.imap_view.specs.Seen.{Seen}
+use Rattle.imap_view.specs.View.{View}
+use Rattle.imap_world.specs.declared.effect.Effect.{Effect}
+use Rattle.imap_world.specs.declared.effect.Effect.TheVariants as effect
+use Rattle.imap_messages.specs.NewFlags.{is_new_seen, new_flags}
+use Rattle.imap_messages.specs.Target.{target_refusal}
+
+-- the arguments of APPEND
+pub record Append : Type 0 where
+  pub mailbox : List ℕ
+  pub flags : List Flag
+  pub date : Option Moment
+  pub message : List ℕ
+
+-- none may be added, as far as the user may know
+abbrev pub is_full : (room : Option ℕ) → Bool
+is_full None = true
+is_full (Some room) = room == 0
+
+-- the date that is given, or else the moment of the command
+abbrev pub date_or : Option Moment → Moment → Moment
+date_or (Some date) at = date
+date_or None at = at
+
+abbrev pub message_of : (rights : ℕ) → (at : Moment) → Append → NewMessage
+message_of rights at asked = record {
+  date = date_or asked.date at;
+  octets = asked.message;
+  flags = new_flags rights asked.flags;
+  seen = is_new_seen rights asked.flags;
+}
+
+abbrev pub batch_of : (user : List ℕ) → NewMessage → Batch
+batch_of user message = record { user = user; added = message ∷ []; marks = []; expunged = [] }
+
+abbrev pub appends : (user : List ℕ) → Name → NewMessage → Effect
+appends user name message = effect.Messages (record { name = name; batch = batch_of user message }) None
+
+-- ---- the response code APPENDUID
+
+abbrev pub uid_code : (validity : Option ℕ) → Option Content → Option Code
+uid_code (Some validity) (Some content) = Some (code.AppendUid validity content.next)
+uid_code _ _ = None
+
+-- only one who may read is told the UID
+abbrev pub append_code : Seen → Option Code
+append_code seen = if has_any seen.rights read then uid_code seen.validity seen.messages.content else None
+
+-- ---- the answer. A message of text has no NUL (RFC 9051, section 4.3.1)
+
+abbrev pub append_message : View → (tag : List ℕ) → Name → Seen → NewMessage → Answer
+append_message view tag name seen message =
+    if has_too_many message.flags then refusal tag Limit
+    else if is_full seen.messages.room then refusal tag OverQuota
+    else done_with_code tag (append_code seen) (appends view.user name message)
+
+abbrev pub append_to_seen : View → (tag : List ℕ) → (at : Moment) → Append → Name → Option Seen → Answer
+append_to_seen view tag at asked name None = refusal tag (target_refusal view name)
+append_to_seen view tag at asked name (Some seen) =
+    if not (has_any seen.rights insert) then refusal tag (target_refusal view name)
+    else if has_nul asked.message then refusal tag Cannot
+    else append_message view tag name seen (message_of seen.rights at asked)
+
+abbrev pub append_to_name : View → (tag : List ℕ) → (at : Moment) → Append → Name → Answer
+append_to_name view tag at asked name = append_to_seen view tag at asked name (map.get view.seen name)
+
+abbrev pub append_answer : View → (tag : List ℕ) → (at : Moment) → Append → Answer
+append_answer view tag at asked = if_named view tag asked.mailbox (append_to_name view tag at asked)

@@ -1,0 +1,13 @@
+//! What holds of each command.
+
+ghost use Rattle.std.specs.Prelude.{ℕ, List};
+ghost use Rattle.imap_answer.specs.Alike.{AnswersAlike};
+ghost use Rattle.imap_messages.specs.Append.{Append, append_answer};
+ghost use Rattle.imap_syntax.specs.Moments.{Moment};
+
+/// In two worlds that are alike to its user each command is answered alike, and leaves them alike to that
+/// user.
+pub fn commands_are_alike()
+    ensures append { (tag : List ℕ) (at : Moment) (asked : Append)
+        → AnswersAlike (λ view. append_answer view tag at asked) }
+{}

@@ -1,0 +1,118 @@
+//! Sessions, and what becomes of them.
+
+ghost use Rattle.std.specs.Prelude.{◌≡◌, Some, option_map};
+ghost use Rattle.imap_session.specs.State.{change_of_selection, selection_of, state_of, state_after, with_delta};
+ghost use Rattle.imap_session.specs.State.{IsDeltaReady, IsReady, IsSelectionReady};
+ghost use Rattle.imap_session.specs.State as specs;
+
+use crate::delta::Delta;
+use crate::known_list::KnownList;
+use imap_lex::Tag;
+use imap_names::Name;
+use imap_print::EnabledCapabilities;
+
+/// The mailbox that a session has selected (RFC 9051, section 3.3).
+#[derive(Drop)]
+pub struct Selected {
+    pub name: Name,
+    /// Its UIDVALIDITY when it was selected.
+    pub validity: u32,
+    /// It was examined: the session may not change it (RFC 9051, section 6.3.3).
+    pub read_only: bool,
+    pub known: KnownList,
+    /// The mod-sequence up to which the session was told all, but for expunges that were held back.
+    pub up_to: u64,
+}
+
+/// An open session.
+#[derive(Drop)]
+pub struct Session {
+    pub selected: Option<Selected>,
+    /// What the client enabled (RFC 9051, section 6.3.1).
+    pub enabled: EnabledCapabilities,
+    /// The tag of an IDLE that runs (RFC 2177).
+    pub idle: Option<Tag>,
+}
+
+/// What becomes of the selection of a session.
+#[derive(Drop)]
+pub enum SelectionChange {
+    Keep,
+    /// The session is told what changed in its mailbox, up to the mod-sequence `up_to`.
+    Tell { delta: Delta, up_to: u64 },
+    Select(Selected),
+    /// No mailbox is selected any more.
+    Close,
+}
+
+/// What becomes of an open session.
+#[derive(Drop)]
+pub struct SessionChange {
+    pub selection: SelectionChange,
+    pub enabled: EnabledCapabilities,
+    pub idle: Option<Tag>,
+}
+
+impl Session {
+    /// A session that begins: nothing is selected, enabled or running.
+    pub fn new() -> Session
+        ensures { state_of result ≡ specs.new_session }
+    {
+        Session {
+            selected: None,
+            enabled: EnabledCapabilities {
+                condstore: false,
+                imap4rev2: false,
+                qresync: false,
+            },
+            idle: None,
+        }
+    }
+
+    /// Makes a change that was prepared, without memory.
+    pub fn commit(&mut self, change: SessionChange)
+        requires { IsReady change self.old }
+        ensures { state_of self.new ≡ state_after change (state_of self.old) }
+    {
+        let SessionChange {
+            selection,
+            enabled,
+            idle,
+        } = change;
+        self.enabled = enabled;
+        self.idle = idle;
+        change_selection(&mut self.selected, selection);
+    }
+}
+
+fn change_selection(selected: &mut Option<Selected>, change: SelectionChange)
+    requires { IsSelectionReady change selected.old }
+    ensures { option_map selection_of selected.new
+        ≡ change_of_selection change (option_map selection_of selected.old) }
+{
+    match change {
+        SelectionChange::Keep => {}
+        SelectionChange::Tell { delta, up_to } => tell(selected, delta, up_to),
+        SelectionChange::Select(new) => *selected = Some(new),
+        SelectionChange::Close => *selected = None,
+    }
+}
+
+fn tell(selected: &mut Option<Selected>, delta: Delta, up_to: u64)
+    requires { IsDeltaReady delta selected.old }
+    ensures { option_map selection_of selected.new
+        ≡ option_map (with_delta delta) (option_map selection_of selected.old) }
+{
+    match selected {
+        Some(selected) => tell_selected(selected, delta, up_to),
+        None => {}
+    }
+}
+
+fn tell_selected(selected: &mut Selected, delta: Delta, up_to: u64)
+    requires { IsDeltaReady delta (Some selected.old) }
+    ensures { selection_of selected.new ≡ with_delta delta (selection_of selected.old) }
+{
+    selected.known.apply(delta);
+    selected.up_to = up_to;
+}
