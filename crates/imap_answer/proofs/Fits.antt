@@ -1,7 +1,9 @@
 -- The forms of an answer that are fit.
-use Rattle.std.proofs.Common.{◌≡◌, ℕ, Bool, true, false, cond, List, [], ◌∷◌, ◌++◌, Option, Some, None, refl, sym, true≢false}
+use Rattle.std.proofs.Common.{◌≡◌, ℕ, Bool, true, false, cond, List, [], ◌∷◌, ◌++◌, ◌||◌, append_assoc, Option, Some, None, refl, sym, ap, ◌∙◌, true≢false}
 use Rattle.std.specs.List.{list_any}
+use Rattle.std.proofs.lemmas.List.Folds.{list_any-append}
 use Rattle.imap_names.specs.Name.{Name}
+use Rattle.imap_print.specs.declared.enabled.EnabledCapabilities.{EnabledCapabilities}
 use Rattle.imap_print.specs.declared.response.Code.{Code}
 use Rattle.imap_print.specs.declared.response.Response.{Response}
 use Rattle.imap_print.specs.declared.response.Refusal.TheVariants.{NonExistent, NoPerm}
@@ -10,14 +12,31 @@ use Rattle.imap_view.specs.After.{MayAsk}
 use Rattle.imap_view.specs.View.{View}
 use Rattle.imap_world.specs.declared.effect.Effect.{Effect}
 use Rattle.imap_answer.specs.Access.{missing_right_refusal}
-use Rattle.imap_answer.specs.Answer.{Answer, done_with, done_with_code, refusal}
-use Rattle.imap_answer.specs.Fit.{IsFit, IsViewed, is_unavailable}
+use Rattle.imap_answer.specs.Answer.{Answer, done_with, done_with_code, enabling, lines_of, nothing_enabled, preceded_by, refusal}
+use Rattle.imap_answer.specs.Fit.{IsFit, IsViewed, is_refusal, is_unavailable}
 use Rattle.imap_answer.specs.Name.{answer_of_name, if_named, name_of_text}
 
 -- nothing is asked for
 pub fits_alone : (view : View) (untagged : List Response) (last : Response) → list_any is_unavailable (untagged ++ last ∷ []) ≡ false
-    → IsFit view (record { untagged = untagged; last = last; effect = None })
-fits_alone view untagged last available = record { asks = λ _. tt; refused = λ e. refl; available = available }
+    → IsFit view (record { untagged = untagged; last = last; effect = None; enables = nothing_enabled })
+fits_alone view untagged last available = record { asks = λ _. tt; refused = λ e. (refl, refl); available = available }
+
+-- what is carried out may enable capabilities
+pub fits_enabling : (view : View) (enables : EnabledCapabilities) (answer : Answer) → list_any is_refusal (lines_of answer) ≡ false → IsFit view answer → IsFit view (enabling enables answer)
+fits_enabling view enables answer done fit = record { asks = fit.asks; refused = λ e. absurd (true≢false (sym e ∙ done)); available = fit.available }
+
+-- lines in front that refuse nothing
+pub fits_preceded : (view : View) (front : List Response) (answer : Answer) → list_any is_refusal front ≡ false → list_any is_unavailable front ≡ false → IsFit view answer → IsFit view (preceded_by front answer)
+fits_preceded view front answer none available fit = record {
+  asks = fit.asks;
+  refused = λ e. fit.refused (sym (behind is_refusal none) ∙ e);
+  available = behind is_unavailable available ∙ fit.available;
+}
+  where
+    behind : (test : Response → Bool) → list_any test front ≡ false → list_any test (lines_of (preceded_by front answer)) ≡ list_any test (lines_of answer)
+    behind test absent =
+        ap (list_any test) (append_assoc front answer.untagged (answer.last ∷ []))
+        ∙ list_any-append test front (lines_of answer) ∙ ap (λ b. b || list_any test (lines_of answer)) absent
 
 -- what is asked for may be asked for in each view of a world
 pub fits_asking_there : (view : View) (tag : List ℕ) (code : Option Code) (effect : Effect) → (IsViewed view → MayAsk view effect) → IsFit view (done_with_code tag code effect)

@@ -10,7 +10,7 @@ use Rattle.imap_view.specs.View.{View, view_of}
 use Rattle.imap_world.specs.declared.effect.Effect.{Effect}
 use Rattle.imap_world.specs.Kept.{AreKept}
 use Rattle.imap_world.specs.World.{World}
-use Rattle.imap_answer.specs.Answer.{Answer, lines_of}
+use Rattle.imap_answer.specs.Answer.{Answer, lines_of, nothing_enabled}
 
 abbrev pub is_refusal : Response → Bool
 is_refusal (response.Refused tag refusal) = true
@@ -33,5 +33,6 @@ pub record IsViewed (view : View) : Type 0 where
 
 pub record IsFit (view : View) (answer : Answer) : Type 0 where
   pub asks : IsViewed view → MayBeAsked view answer.effect
-  pub refused : list_any is_refusal (lines_of answer) ≡ true → answer.effect ≡ None
+  pub refused : list_any is_refusal (lines_of answer) ≡ true
+      → (answer.effect ≡ None) × (answer.enables ≡ nothing_enabled)
   pub available : list_any is_unavailable (lines_of answer) ≡ false

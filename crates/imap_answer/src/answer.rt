@@ -1,20 +1,23 @@
 //! The answer to a command.
 
-ghost use Rattle.std.specs.Prelude.{◌≡◌};
+ghost use Rattle.std.specs.Prelude.{◌≡◌, IfOk};
 ghost use Rattle.std.specs.List.{AllByRecursion};
 ghost use Rattle.imap_print.specs.Lines.{IsPrintable};
+ghost use Rattle.imap_answer.specs.Answer.{enabling, nothing_enabled, preceded_by};
 
-use imap_print::Response;
+use imap_print::{EnabledCapabilities, Response};
 use imap_world::Effect;
+use std::alloc::AllocError;
 use std::marker::Model;
 
-/// The untagged responses to a command, its last line, and what it asks of the mailboxes. A client reads
-/// each response as one line, whatever names and tags are in it.
+/// The untagged responses to a command, its last line, what it asks of the mailboxes, and what it enables in
+/// its session. A client reads each response as one line, whatever names and tags are in it.
 #[derive(Drop)]
 pub struct Answer {
     untagged: Vec<Response>,
     last: Response,
     effect: Option<Effect>,
+    enables: EnabledCapabilities,
 }
 
 impl Model for Answer {
@@ -22,7 +25,9 @@ impl Model for Answer {
     ghost use Rattle.std.specs.Coded.{code_by, coded×, codes};
     ghost use Rattle.std.specs.List.{AllByRecursion};
     ghost use Rattle.imap_print.specs.Lines.{IsPrintable};
+    ghost use Rattle.imap_print.specs.contracts.enabled.EnabledCapabilities.{the_row as enabled_row};
     ghost use Rattle.imap_print.specs.contracts.response.Response.{the_row as response_row};
+    ghost use Rattle.imap_print.specs.declared.enabled.EnabledCapabilities.{EnabledCapabilities};
     ghost use Rattle.imap_print.specs.declared.response.Response.{Response};
     ghost use Rattle.imap_world.specs.contracts.effect.Effect.{the_row as effect_row};
     ghost use Rattle.imap_world.specs.declared.effect.Effect.{Effect};
@@ -30,15 +35,16 @@ impl Model for Answer {
 
     ghost Value = { specs.Answer };
 
-    ghost coded = { code_by (List Response × (Response × Option Effect))
-        (Prim.hlevel (codes, response_row.coded, effect_row.coded))
-        (λ answer. (answer.untagged, (answer.last, answer.effect)))
-        (λ p. record { untagged = p.0; last = p.1.0; effect = p.1.1 }) (λ _. refl) };
+    ghost coded = { code_by (List Response × (Response × (Option Effect × EnabledCapabilities)))
+        (Prim.hlevel (codes, response_row.coded, effect_row.coded, enabled_row.coded))
+        (λ answer. (answer.untagged, (answer.last, (answer.effect, answer.enables))))
+        (λ p. record { untagged = p.0; last = p.1.0; effect = p.1.1.0; enables = p.1.1.1 }) (λ _. refl) };
 
     ghost view = { λ answer. record {
       untagged = answer.untagged.items;
       last = answer.last;
       effect = answer.effect;
+      enables = answer.enables;
     } };
 
     ghost invariant = { λ answer. AllByRecursion IsPrintable answer.untagged.items
@@ -46,17 +52,63 @@ impl Model for Answer {
 }
 
 impl Answer {
-    /// The responses `untagged` and then the line `last`, and what the command asks of the mailboxes.
+    /// The responses `untagged` and then the line `last`, and what the command asks of the mailboxes. It
+    /// enables nothing.
     pub fn new(untagged: Vec<Response>, last: Response, effect: Option<Effect>) -> Answer
         requires untagged { AllByRecursion IsPrintable untagged.items }
         requires last { IsPrintable last }
-        ensures { result ≡ record { untagged = untagged.items; last = last; effect = effect } }
+        ensures { result ≡ record {
+          untagged = untagged.items;
+          last = last;
+          effect = effect;
+          enables = nothing_enabled;
+        } }
     {
         Answer {
             untagged,
             last,
             effect,
+            enables: EnabledCapabilities {
+                condstore: false,
+                imap4rev2: false,
+                qresync: false,
+            },
         }
+    }
+
+    /// The same answer, to a command that enables these capabilities.
+    pub fn enabling(self, enables: EnabledCapabilities) -> Answer
+        ensures { result ≡ enabling enables self }
+    {
+        Answer {
+            untagged: self.untagged,
+            last: self.last,
+            effect: self.effect,
+            enables,
+        }
+    }
+
+    /// The same answer, after these responses.
+    pub fn preceded_by(self, front: Vec<Response>) -> Result<Answer, AllocError>
+        requires { AllByRecursion IsPrintable front.items }
+        ensures { IfOk result (λ answer. answer ≡ preceded_by front.items self) }
+    {
+        let mut untagged = front;
+        let mut later = self.untagged;
+        untagged.append(&mut later)?;
+        Ok(Answer {
+            untagged,
+            last: self.last,
+            effect: self.effect,
+            enables: self.enables,
+        })
+    }
+
+    /// What the command enables in its session.
+    pub fn enables(&self) -> EnabledCapabilities
+        ensures { result ≡ self.now.enables }
+    {
+        self.enables
     }
 
     /// Returns the untagged responses, the last line and the effect.
@@ -70,6 +122,7 @@ impl Answer {
             untagged,
             last,
             effect,
+            enables: _,
         } = self;
         (untagged, last, effect)
     }

@@ -112,7 +112,7 @@ impl<'a> Call<'a> {
         requires { AllByRecursion IsPrintable untagged.items }
         ensures { IfOk result (λ answer. answer ≡ specs.done_after untagged.items self.now.tag) }
     {
-        Ok(Answer::new(untagged, done_line(self.alloc, self.tag, None)?, None))
+        self.carried_out(untagged, None, None)
     }
 
     /// The command is carried out by the effect and has no other response.
@@ -126,8 +126,23 @@ impl<'a> Call<'a> {
     pub fn done_with_code(&self, code: Option<Code>, effect: Effect) -> Result<Answer, AllocError>
         ensures { IfOk result (λ answer. answer ≡ specs.done_with_code self.now.tag code effect) }
     {
+        self.carried_out(Vec::new(self.alloc), code, Some(effect))
+    }
+
+    /// The command is carried out by the effect, if it has one, after these responses. The last line has the
+    /// response code, if there is one.
+    pub fn carried_out(
+        &self,
+        untagged: Vec<Response>,
+        code: Option<Code>,
+        effect: Option<Effect>,
+    ) -> Result<Answer, AllocError>
+        requires { AllByRecursion IsPrintable untagged.items }
+        ensures { let answer = specs.carried_out untagged.items self.now.tag code effect in
+            IfOk result (λ given. given ≡ answer) }
+    {
         let line = done_line(self.alloc, self.tag, code)?;
-        Ok(Answer::new(Vec::new(self.alloc), line, Some(effect)))
+        Ok(Answer::new(untagged, line, effect))
     }
 
     /// The command was not carried out.

@@ -12,3 +12,7 @@ with_own-lent old new user f found own r is value lends changed =
     let there : map.get old.map user ≡ Some found.now = sym value ∙ ap option_copied_mut is in
     ap (λ (rows : Rows Own). rows.map) (subst (λ o. OnSome o (new ≡ with_value old user own)) is lends)
     ∙ ap (map.insert old.map user) changed ∙ ap (with_own old.map user f) (sym there)
+
+-- what is lent is what is there
+pub own_there : (found : MutBor Own) (r : Option (MutBor Own)) (there : Option Own) → r ≡ Some found → option_copied_mut r ≡ there → Some found.now ≡ there
+own_there found r there is value = sym (ap option_copied_mut is) ∙ value

@@ -2,6 +2,7 @@ pub mod Admitted
 pub mod Fitting
 pub mod Lent
 pub mod Numbered
+pub mod Opened
 pub mod Replay
 pub mod Runs
 pub mod Sameness

@@ -23,14 +23,14 @@ not_true : (b : Bool) → not b ≡ true → b ≡ false
 not_true true h = absurd (cc)
 not_true false h = refl
 
-turned : (m n : ℕ) → eqb m n ≡ eqb n m
+pub turned : (m n : ℕ) → eqb m n ≡ eqb n m
 turned m n = grind (arith, nat_tests)
 
 module _ {X : Type 0} where
   abbrev numbered : List (ℕ × X) → FinMap {K = ℕ} nat_cmp X
   numbered es = from_entries es
 
-  abbrev others : ℕ → List (ℕ × X) → List (ℕ × X)
+  abbrev pub others : ℕ → List (ℕ × X) → List (ℕ × X)
   others k es = filter (λ e. not (eqb e.0 k)) es
 
   find_there : (es : List (ℕ × X)) (k : ℕ) → is_some (find nat_cmp k es) ≡ list_any (λ e. eqb e.0 k) es

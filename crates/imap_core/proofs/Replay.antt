@@ -4,14 +4,15 @@ use Rattle.std.specs.Str.{bytes_eq}
 use Rattle.std.proofs.lemmas.Slice.Eq.{bytes_eq-Decides}
 use Rattle.imap_print.specs.declared.response.Response.{Response}
 use Rattle.std.specs.FinMap as map
-use Rattle.imap_core.specs.declared.sessions.SessionChange.TheVariants as session
+use Rattle.imap_core.specs.declared.sessions.SessionEffect.TheVariants as session
 use Rattle.imap_core.specs.declared.step.Act.{Act}
 use Rattle.imap_core.specs.declared.step.Act.TheVariants as act
 use Rattle.imap_core.specs.declared.step.Step.{Step}
 use Rattle.imap_core.specs.Machine.{State, outcome_for, answer, next, view_in, own_in}
-use Rattle.imap_core.specs.Outcome.{silence}
+use Rattle.imap_core.specs.Reply.{reply_by_session}
 use Rattle.imap_core.specs.Sessions.{Own}
 use Rattle.imap_core.specs.Trace.{Event, Acts, Sees, is_quiet, with_replies, trace, transcript, same_view, EqualViewsAreSame, Isolation}
+use Rattle.imap_session.specs.State.{SessionState}
 use Rattle.imap_view.specs.View.{View, view_code}
 use Rattle.imap_world.specs.Kept.{AreKept}
 use Rattle.imap_core.proofs.Fitting.{IsIdle}
@@ -47,11 +48,11 @@ polled : (view : View) (own : Option Own) (step : Step) (what : Act) → what �
 polled view None step what e = record { session = refl; effect = refl }
 polled view (Some own) step act.Open e = absurd (cc)
 polled view (Some own) step (act.Do request) e = absurd (cc)
-polled view (Some own) step act.Poll e = by (map.contains_key own step.who.number)
+polled view (Some own) step act.Poll e = by (map.get own step.who.number)
   where
-    by : (b : Bool) → IsIdle (cond b silence silence)
-    by true = record { session = refl; effect = refl }
-    by false = record { session = refl; effect = refl }
+    by : (active : Option SessionState) → IsIdle (reply_by_session view own (record step { act = act.Poll }) active)
+    by None = record { session = refl; effect = refl }
+    by (Some active) = record { session = refl; effect = refl }
 polled view (Some own) step act.Done e = absurd (cc)
 polled view (Some own) step act.Leave e = absurd (cc)
 

@@ -15,15 +15,16 @@ use Rattle.imap_world.specs.declared.effect.Effect.{Effect}
 use Rattle.imap_world.specs.Effects.{after_all}
 use Rattle.imap_world.specs.Kept.{AreKept}
 use Rattle.imap_world.specs.World.{World}
-use Rattle.imap_core.specs.declared.sessions.Session.{Session}
-use Rattle.imap_core.specs.declared.sessions.SessionChange.{SessionChange}
-use Rattle.imap_core.specs.declared.sessions.SessionChange.TheVariants as session
+use Rattle.imap_print.specs.declared.enabled.EnabledCapabilities.{EnabledCapabilities}
+use Rattle.imap_session.specs.State.{SessionState, new_session, with_enabled}
+use Rattle.imap_core.specs.declared.sessions.SessionEffect.{SessionEffect}
+use Rattle.imap_core.specs.declared.sessions.SessionEffect.TheVariants as session
 use Rattle.imap_core.specs.Laws.{EffectsAreMade, IsMadeIfAsked, NeverUnavailable, OtherSessionsStay, OtherUsersStay, RefusalsChangeNothing, StepsAreAlike}
 use Rattle.imap_answer.proofs.Alike.{viewed}
 use Rattle.imap_answer.specs.Alike.{effects_of}
 use Rattle.imap_answer.specs.Fit.{MayBeAsked}
 use Rattle.imap_core.specs.Machine.{accounts_after, next, outcome, outcome_for, own_in, view_in}
-use Rattle.imap_core.specs.Sessions.{Own}
+use Rattle.imap_core.specs.Sessions.{Own, enabled_if_open}
 use Rattle.imap_core.proofs.Fitting.{outcome_fits}
 use Rattle.imap_core.proofs.Numbered.{at_number}
 use Rattle.imap_core.proofs.Steps.{kept_next, own_after, own_after_change, own_in-next, own_in-other, view_in-next, view_next}
@@ -42,7 +43,7 @@ alike_on s t step alike = (
 
 -- ---- other sessions
 
-abbrev of_number : ℕ → Option Own → Option Session
+abbrev of_number : ℕ → Option Own → Option SessionState
 of_number number own = option_and_then (λ sessions. map.get sessions number) own
 
 other_way : (m n : ℕ) → eqb m n ≡ eqb n m
@@ -51,11 +52,19 @@ other_way m n = grind (arith, nat_tests)
 apart_from : (changed number : ℕ) → eqb changed number ≡ false → eq_by_cmp nat_cmp number changed ≡ false
 apart_from changed number apart = at_number number changed ∙ other_way number changed ∙ apart
 
-other_number : (own : Option Own) (changed number : ℕ) (change : SessionChange) → eqb changed number ≡ false → of_number number (own_after_change own changed change) ≡ of_number number own
+put_elsewhere : (own : Own) (changed number : ℕ) (fresh : SessionState) → eqb changed number ≡ false → map.get (map.insert own changed fresh) number ≡ map.get own number
+put_elsewhere own changed number fresh apart =
+    get-insert nat_cmp_total own changed fresh number ∙ ap (λ b. cond b (Some fresh) (map.get own number)) (apart_from changed number apart)
+
+enabled_elsewhere : (own : Own) (changed number : ℕ) (more : EnabledCapabilities) (session : Option SessionState) → eqb changed number ≡ false → map.get (enabled_if_open changed more own session) number ≡ map.get own number
+enabled_elsewhere own changed number more None apart = refl
+enabled_elsewhere own changed number more (Some session) apart = put_elsewhere own changed number (with_enabled more session) apart
+
+other_number : (own : Option Own) (changed number : ℕ) (change : SessionEffect) → eqb changed number ≡ false → of_number number (own_after_change own changed change) ≡ of_number number own
 other_number None changed number change apart = refl
 other_number (Some own) changed number session.Keep apart = refl
-other_number (Some own) changed number (session.Put fresh) apart =
-    get-insert nat_cmp_total own changed fresh number ∙ ap (λ b. cond b (Some fresh) (map.get own number)) (apart_from changed number apart)
+other_number (Some own) changed number session.Open apart = put_elsewhere own changed number new_session apart
+other_number (Some own) changed number (session.Enable more) apart = enabled_elsewhere own changed number more (map.get own changed) apart
 other_number (Some own) changed number session.End apart =
     get-remove nat_cmp_total own changed number ∙ ap (λ b. cond b None (map.get own number)) (apart_from changed number apart)
 

@@ -13,13 +13,13 @@ use Rattle.imap_world.specs.declared.effect.Effect.{Effect}
 use Rattle.imap_world.specs.Kept.{AreKept}
 use Rattle.imap_world.specs.Ready.{AreApart}
 use Rattle.imap_world.proofs.Histories.{all_stay_kept}
-use Rattle.imap_core.specs.declared.sessions.SessionChange.{SessionChange}
-use Rattle.imap_core.specs.declared.sessions.SessionChange.TheVariants as session
+use Rattle.imap_core.specs.declared.sessions.SessionEffect.{SessionEffect}
+use Rattle.imap_core.specs.declared.sessions.SessionEffect.TheVariants as session
 use Rattle.imap_core.specs.declared.session_id.SessionId.{SessionId}
 use Rattle.imap_core.specs.declared.step.Step.{Step}
 use Rattle.imap_core.specs.Accounts.{Accounts}
-use Rattle.imap_core.specs.Machine.{State, outcome_for, outcome, next, view_in, own_in, with_own, accounts_after}
-use Rattle.imap_core.specs.Sessions.{Own}
+use Rattle.imap_core.specs.Machine.{State, outcome_for, outcome, next, view_in, own_in, with_own, accounts_after, accounts_with}
+use Rattle.imap_core.specs.Sessions.{Own, own_with}
 use Rattle.imap_core.proofs.Fitting.{outcome_fits}
 
 -- ---- the view
@@ -46,11 +46,9 @@ kept_next state step kept =
 -- ---- sessions
 
 -- what a user's sessions are after a step of one of them
-abbrev pub own_after_change : Option Own → ℕ → SessionChange → Option Own
-own_after_change None number change = None
-own_after_change (Some own) number session.Keep = Some own
-own_after_change (Some own) number (session.Put fresh) = Some (map.insert own number fresh)
-own_after_change (Some own) number session.End = Some (map.remove own number)
+abbrev pub own_after_change : Option Own → ℕ → SessionEffect → Option Own
+own_after_change None number effect = None
+own_after_change (Some own) number effect = Some (own_with number effect own)
 
 -- the sessions of the users after those of one of them were put
 put_own : (accounts : Accounts) (user other : List ℕ) (own : Own) → map.get (map.insert accounts user own) other ≡ cond (bytes_eq other user) (Some own) (map.get accounts other)
@@ -66,20 +64,29 @@ with_own_there : (accounts : Accounts) (user other : List ℕ) (f : Own → Own)
 with_own_there accounts user other f None apart = refl
 with_own_there accounts user other f (Some own) apart = put_own accounts user other (f own) ∙ ap (λ b. cond b (Some (f own)) (map.get accounts other)) apart
 
-accounts_after_here : (accounts : Accounts) (who : SessionId) (change : SessionChange) (own : Option Own) → map.get accounts who.user ≡ own → map.get (accounts_after accounts who change) who.user ≡ own_after_change own who.number change
-accounts_after_here accounts who session.Keep None is = is
-accounts_after_here accounts who session.Keep (Some own) is = is
-accounts_after_here accounts who (session.Put fresh) None is = ap (λ o. map.get (with_own accounts who.user (λ own. map.insert own who.number fresh) o) who.user) is ∙ is
-accounts_after_here accounts who (session.Put fresh) (Some own) is =
-    ap (λ o. map.get (with_own accounts who.user (λ own. map.insert own who.number fresh) o) who.user) is ∙ with_own_here accounts who.user (λ own. map.insert own who.number fresh) own
-accounts_after_here accounts who session.End None is = ap (λ o. map.get (with_own accounts who.user (λ own. map.remove own who.number) o) who.user) is ∙ is
-accounts_after_here accounts who session.End (Some own) is =
-    ap (λ o. map.get (with_own accounts who.user (λ own. map.remove own who.number) o) who.user) is ∙ with_own_here accounts who.user (λ own. map.remove own who.number) own
+accounts_with_here : (accounts : Accounts) (who : SessionId) (effect : SessionEffect) (own : Option Own) → map.get accounts who.user ≡ own → map.get (accounts_with accounts who effect) who.user ≡ own_after_change own who.number effect
+accounts_with_here accounts who effect None is = ap (λ o. map.get (with_own accounts who.user (own_with who.number effect) o) who.user) is ∙ is
+accounts_with_here accounts who effect (Some own) is =
+    ap (λ o. map.get (with_own accounts who.user (own_with who.number effect) o) who.user) is ∙ with_own_here accounts who.user (own_with who.number effect) own
 
-accounts_after_there : (accounts : Accounts) (who : SessionId) (other : List ℕ) (change : SessionChange) → bytes_eq other who.user ≡ false → map.get (accounts_after accounts who change) other ≡ map.get accounts other
+kept_here : (accounts : Accounts) (who : SessionId) (own : Option Own) → map.get accounts who.user ≡ own → map.get accounts who.user ≡ own_after_change own who.number session.Keep
+kept_here accounts who None is = is
+kept_here accounts who (Some own) is = is
+
+accounts_after_here : (accounts : Accounts) (who : SessionId) (effect : SessionEffect) (own : Option Own) → map.get accounts who.user ≡ own → map.get (accounts_after accounts who effect) who.user ≡ own_after_change own who.number effect
+accounts_after_here accounts who session.Keep own is = kept_here accounts who own is
+accounts_after_here accounts who session.Open own is = accounts_with_here accounts who session.Open own is
+accounts_after_here accounts who (session.Enable more) own is = accounts_with_here accounts who (session.Enable more) own is
+accounts_after_here accounts who session.End own is = accounts_with_here accounts who session.End own is
+
+accounts_with_there : (accounts : Accounts) (who : SessionId) (other : List ℕ) (effect : SessionEffect) → bytes_eq other who.user ≡ false → map.get (accounts_with accounts who effect) other ≡ map.get accounts other
+accounts_with_there accounts who other effect apart = with_own_there accounts who.user other (own_with who.number effect) (map.get accounts who.user) apart
+
+accounts_after_there : (accounts : Accounts) (who : SessionId) (other : List ℕ) (effect : SessionEffect) → bytes_eq other who.user ≡ false → map.get (accounts_after accounts who effect) other ≡ map.get accounts other
 accounts_after_there accounts who other session.Keep apart = refl
-accounts_after_there accounts who other (session.Put fresh) apart = with_own_there accounts who.user other (λ own. map.insert own who.number fresh) (map.get accounts who.user) apart
-accounts_after_there accounts who other session.End apart = with_own_there accounts who.user other (λ own. map.remove own who.number) (map.get accounts who.user) apart
+accounts_after_there accounts who other session.Open apart = accounts_with_there accounts who other session.Open apart
+accounts_after_there accounts who other (session.Enable more) apart = accounts_with_there accounts who other (session.Enable more) apart
+accounts_after_there accounts who other session.End apart = accounts_with_there accounts who other session.End apart
 
 -- the acting user's sessions after a step are a function of those before, the view and the step
 abbrev pub own_after : View → Option Own → Step → Option Own

@@ -4,7 +4,7 @@ use Rattle.std.specs.Prelude.{bytes_eq, option_and_then}
 use Rattle.std.specs.List.{list_any}
 use Rattle.std.specs.FinMap as map
 use Rattle.imap_answer.specs.Fit.{is_refusal, is_unavailable}
-use Rattle.imap_core.specs.declared.sessions.Session.{Session}
+use Rattle.imap_session.specs.State.{SessionState}
 use Rattle.imap_core.specs.declared.step.Step.{Step}
 use Rattle.imap_view.specs.After.{DifferInHidden, IsMade}
 use Rattle.imap_world.specs.declared.effect.Effect.{Effect}
@@ -24,7 +24,7 @@ OtherUsersStay = (state : State) (step : Step) (user : List ℕ)
     → bytes_eq step.who.user user ≡ false → own_in (next state step) user ≡ own_in state user
 
 -- a session, if it is open
-abbrev pub session_in : State → (user : List ℕ) → (number : ℕ) → Option Session
+abbrev pub session_in : State → (user : List ℕ) → (number : ℕ) → Option SessionState
 session_in state user number = option_and_then (λ own. map.get own number) (own_in state user)
 
 -- A step changes no session but its own: no other one of its user either.

@@ -9,14 +9,14 @@ use Rattle.imap_world.specs.declared.site.Site.{Site}
 use Rattle.imap_world.specs.Effects.{after_all}
 use Rattle.imap_world.specs.Stored.{Stored, stored_code}
 use Rattle.imap_world.specs.World.{World, world_code}
-use Rattle.imap_core.specs.declared.sessions.SessionChange.{SessionChange}
-use Rattle.imap_core.specs.declared.sessions.SessionChange.TheVariants as session
+use Rattle.imap_core.specs.declared.sessions.SessionEffect.{SessionEffect}
+use Rattle.imap_core.specs.declared.sessions.SessionEffect.TheVariants as session
 use Rattle.imap_core.specs.declared.session_id.SessionId.{SessionId}
 use Rattle.imap_core.specs.declared.step.Step.{Step}
 use Rattle.imap_core.specs.Accounts.{Accounts, accounts_code}
 use Rattle.imap_core.specs.Outcome.{Outcome, silence}
 use Rattle.imap_core.specs.Reply.{reply}
-use Rattle.imap_core.specs.Sessions.{Own}
+use Rattle.imap_core.specs.Sessions.{Own, own_with}
 
 pub record State : Type 0 where
   pub site : Site
@@ -64,12 +64,15 @@ abbrev pub with_own : Accounts → List ℕ → (Own → Own) → Option Own →
 with_own accounts user f None = accounts
 with_own accounts user f (Some own) = map.insert accounts user (f own)
 
-abbrev pub accounts_after : Accounts → SessionId → SessionChange → Accounts
+abbrev pub accounts_with : Accounts → SessionId → SessionEffect → Accounts
+accounts_with accounts who effect =
+    with_own accounts who.user (own_with who.number effect) (map.get accounts who.user)
+
+abbrev pub accounts_after : Accounts → SessionId → SessionEffect → Accounts
 accounts_after accounts who session.Keep = accounts
-accounts_after accounts who (session.Put fresh) =
-    with_own accounts who.user (λ own. map.insert own who.number fresh) (map.get accounts who.user)
-accounts_after accounts who session.End =
-    with_own accounts who.user (λ own. map.remove own who.number) (map.get accounts who.user)
+accounts_after accounts who session.Open = accounts_with accounts who session.Open
+accounts_after accounts who (session.Enable more) = accounts_with accounts who (session.Enable more)
+accounts_after accounts who session.End = accounts_with accounts who session.End
 
 abbrev pub next : State → Step → State
 next state step = record {

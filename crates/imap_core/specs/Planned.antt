@@ -9,8 +9,8 @@ use Rattle.imap_world.specs.declared.change.Write.{Write}
 use Rattle.imap_world.specs.Effects.{after_writes}
 use Rattle.imap_world.specs.Ready as world
 use Rattle.imap_core.specs.declared.session_id.SessionId.{SessionId}
-use Rattle.imap_core.specs.declared.sessions.SessionChange.{SessionChange}
-use Rattle.imap_core.specs.declared.sessions.SessionChange.TheVariants as session
+use Rattle.imap_core.specs.declared.sessions.SessionEffect.{SessionEffect}
+use Rattle.imap_core.specs.declared.sessions.SessionEffect.TheVariants as session
 use Rattle.imap_core.specs.declared.machine.Prepared.{Prepared}
 use Rattle.imap_core.specs.Machine.{State, Machine, accounts_after}
 use Rattle.imap_core.specs.Sessions.{Own, max_sessions}
@@ -33,7 +33,7 @@ change_of prepared = prepared.change
 abbrev pub who_of : Prepared → SessionId
 who_of prepared = prepared.who
 
-abbrev pub session_of : Prepared → SessionChange
+abbrev pub session_of : Prepared → SessionEffect
 session_of prepared = prepared.session
 
 -- the state once it is made
@@ -44,21 +44,24 @@ state_after prepared state = record {
   accounts = accounts_after state.accounts prepared.who prepared.session;
 }
 
-abbrev pub is_put : SessionChange → Bool
-is_put session.Keep = false
-is_put (session.Put fresh) = true
-is_put session.End = false
+abbrev pub is_open : SessionEffect → Bool
+is_open session.Keep = false
+is_open session.Open = true
+is_open (session.Enable more) = false
+is_open session.End = false
 
-abbrev pub is_end : SessionChange → Bool
+abbrev pub is_end : SessionEffect → Bool
 is_end session.Keep = false
-is_end (session.Put fresh) = false
+is_end session.Open = false
+is_end (session.Enable more) = false
 is_end session.End = true
 
 -- if a session is opened, fewer are open than may be, or it is one of them
-abbrev pub HasRoom : Option Own → ℕ → SessionChange → Type 0
+abbrev pub HasRoom : Option Own → ℕ → SessionEffect → Type 0
 HasRoom None number change = Unit {0}
 HasRoom (Some own) number session.Keep = Unit {0}
-HasRoom (Some own) number (session.Put fresh) =
+HasRoom (Some own) number (session.Enable more) = Unit {0}
+HasRoom (Some own) number session.Open =
     (map.len own < max_sessions) ⊎ (map.contains_key own number ≡ true)
 HasRoom (Some own) number session.End = Unit {0}
 

@@ -1,24 +1,45 @@
 -- The open sessions of a user, by their numbers.
-use Rattle.std.specs.Prelude.{◌≡◌, ℕ, ◌≤◌, Bool, true, not, ◌==◌, ◌&&◌, List, [], ◌∷◌, length, refl}
+use Rattle.std.specs.Prelude.{◌≡◌, ℕ, ◌≤◌, Bool, true, not, ◌==◌, ◌&&◌, List, [], ◌∷◌, length}
+use Rattle.std.specs.Prelude.{Option, Some, None, map as map_list}
 use Rattle.std.specs.List.{list_any}
 use Rattle.std.specs.Vec.{vec_capacity}
 use Rattle.std.specs.Ordering.{nat_cmp}
 use Rattle.std.specs.FinMap as map
 use Rattle.std.specs.FinMap.{FinMap}
-use Rattle.std.specs.Coded.{Coded, coded_ℕ, code_by}
-use base.Stored.{coded_unit}
+use Rattle.std.specs.Coded.{Coded, coded_ℕ}
 use Rattle.std.specs.declared.vec.Vec.{Vec}
-use Rattle.imap_core.specs.declared.sessions.Session.{Session}
+use Rattle.imap_print.specs.declared.enabled.EnabledCapabilities.{EnabledCapabilities}
+use Rattle.imap_session.specs.declared.session.Session.{Session}
+use Rattle.imap_session.specs.State.{SessionState, new_session, session_code, state_of}
+use Rattle.imap_session.specs.State.{with_enabled as enabled_in_session}
+use Rattle.imap_core.specs.declared.sessions.SessionEffect.{SessionEffect}
+use Rattle.imap_core.specs.declared.sessions.SessionEffect.TheVariants as session
 
 -- the most sessions that a user may have open at once
 abbrev pub max_sessions : ℕ
 max_sessions = 16
 
 abbrev pub Own : Type 0
-Own = FinMap {K = ℕ} nat_cmp Session
+Own = FinMap {K = ℕ} nat_cmp SessionState
 
-abbrev pub session_code : Coded Session
-session_code = code_by (Unit {0}) coded_unit (λ _. tt) (λ _. record {}) (λ _. refl)
+-- the sessions without their room
+abbrev pub states_of : List (ℕ × Session) → List (ℕ × SessionState)
+states_of entries = map_list (λ e. (e.0, state_of e.1)) entries
+
+abbrev pub enabled_if_open : (number : ℕ) → EnabledCapabilities → Own → Option SessionState → Own
+enabled_if_open number more own None = own
+enabled_if_open number more own (Some session) = map.insert own number (enabled_in_session more session)
+
+-- with further capabilities enabled in a session, if it is open
+abbrev pub with_enabled : (number : ℕ) → EnabledCapabilities → Own → Own
+with_enabled number more own = enabled_if_open number more own (map.get own number)
+
+-- after what a step asks of the session with the number
+abbrev pub own_with : (number : ℕ) → SessionEffect → Own → Own
+own_with number session.Keep own = own
+own_with number session.Open own = map.insert own number new_session
+own_with number (session.Enable more) own = with_enabled number more own
+own_with number session.End own = map.remove own number
 
 abbrev pub own_code : Coded Own
 own_code = map.code coded_ℕ session_code

@@ -24,5 +24,5 @@ mod step;
 pub use imap_answer::Moment;
 pub use machine::{Core, Prepared};
 pub use session_id::{SessionId, SessionNumber};
-pub use sessions::{Session, SessionChange};
+pub use sessions::SessionEffect;
 pub use step::{Act, Step};

@@ -11,7 +11,7 @@ ghost use Rattle.imap_core.specs.Machine as specs;
 ghost use Rattle.imap_answer.specs.Alike.{effects_of};
 ghost use Rattle.imap_core.specs.Machine.{IsPartWay, after_steps, answer, answers, next};
 ghost use Rattle.imap_core.specs.Opening.{admission, state_at_start};
-ghost use Rattle.imap_core.specs.Planned.{ArePrintable, HasRoom, IsReady, change_of, is_end, is_put};
+ghost use Rattle.imap_core.specs.Planned.{ArePrintable, HasRoom, IsReady, change_of, is_end, is_open};
 ghost use Rattle.imap_core.specs.Planned.{replies_in, replies_of, session_of, state_after, who_of};
 ghost use Rattle.imap_core.specs.Trace.{sent_to, transcript};
 
@@ -21,7 +21,7 @@ use crate::opening::Opening;
 use crate::outcome::Outcome;
 use crate::reply::step_outcome;
 use crate::session_id::SessionId;
-use crate::sessions::{OwnSessions, SessionChange};
+use crate::sessions::{OwnSessions, SessionEffect};
 use crate::step::Step;
 use imap_names::{UserName, inbox_ref};
 use imap_print::Response;
@@ -59,7 +59,7 @@ impl Model for Core {
 pub struct Prepared {
     who: SessionId,
     replies: Vec<Response>,
-    session: SessionChange,
+    session: SessionEffect,
     change: Change,
 }
 
@@ -80,16 +80,16 @@ impl Prepared {
 
     /// Whether the step opens its session, or lets it begin anew.
     pub fn opens_session(&self) -> bool
-        ensures { result ≡ is_put self.now.session }
+        ensures { result ≡ is_open self.now.session }
     {
-        matches!(self.session, SessionChange::Put(_))
+        matches!(self.session, SessionEffect::Open)
     }
 
     /// Whether the step ends its session.
     pub fn ends_session(&self) -> bool
         ensures { result ≡ is_end self.now.session }
     {
-        matches!(self.session, SessionChange::End)
+        matches!(self.session, SessionEffect::End)
     }
 }
 

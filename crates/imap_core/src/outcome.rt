@@ -5,7 +5,7 @@ ghost use Rattle.std.specs.List.{AllByRecursion};
 ghost use Rattle.imap_print.specs.Lines.{IsPrintable};
 ghost use Rattle.imap_core.specs.Outcome as specs;
 
-use crate::sessions::SessionChange;
+use crate::sessions::SessionEffect;
 use imap_answer::Answer;
 use imap_print::Response;
 use imap_world::Effect;
@@ -18,7 +18,7 @@ use std::marker::Model;
 pub(crate) struct Outcome {
     replies: Vec<Response>,
     effect: Option<Effect>,
-    session: SessionChange,
+    session: SessionEffect,
 }
 
 impl Model for Outcome {
@@ -30,13 +30,13 @@ impl Model for Outcome {
     ghost use Rattle.imap_print.specs.declared.response.Response.{Response};
     ghost use Rattle.imap_world.specs.contracts.effect.Effect.{the_row as effect_row};
     ghost use Rattle.imap_world.specs.declared.effect.Effect.{Effect};
-    ghost use Rattle.imap_core.specs.contracts.sessions.SessionChange.{the_row as session_row};
-    ghost use Rattle.imap_core.specs.declared.sessions.SessionChange.{SessionChange};
+    ghost use Rattle.imap_core.specs.contracts.sessions.SessionEffect.{the_row as session_row};
+    ghost use Rattle.imap_core.specs.declared.sessions.SessionEffect.{SessionEffect};
     ghost use Rattle.imap_core.specs.Outcome as specs;
 
     ghost Value = { specs.Outcome };
 
-    ghost coded = { code_by (List Response × (Option Effect × SessionChange))
+    ghost coded = { code_by (List Response × (Option Effect × SessionEffect))
         (Prim.hlevel (codes, response_row.coded, effect_row.coded, session_row.coded))
         (λ outcome. (outcome.replies, (outcome.effect, outcome.session)))
         (λ p. record { replies = p.0; effect = p.1.0; session = p.1.1 }) (λ _. refl) };
@@ -52,7 +52,7 @@ impl Model for Outcome {
 
 impl Outcome {
     /// Of a command with this answer.
-    pub(crate) fn answered(answer: Answer, session: SessionChange) -> Result<Outcome, AllocError>
+    pub(crate) fn answered(answer: Answer, session: SessionEffect) -> Result<Outcome, AllocError>
         ensures { IfOk result (λ outcome. outcome ≡ specs.answered answer session) }
     {
         let (mut replies, last, effect) = answer.into_parts();
@@ -65,7 +65,7 @@ impl Outcome {
     }
 
     /// Of a step that is no command.
-    pub(crate) fn said(replies: Vec<Response>, session: SessionChange) -> Outcome
+    pub(crate) fn said(replies: Vec<Response>, session: SessionEffect) -> Outcome
         requires { AllByRecursion IsPrintable replies.items }
         ensures { result ≡ specs.said replies.items session }
     {
@@ -80,11 +80,11 @@ impl Outcome {
     pub(crate) fn silence(alloc: Global) -> Outcome
         ensures { result ≡ specs.silence }
     {
-        Outcome::said(Vec::new(alloc), SessionChange::Keep)
+        Outcome::said(Vec::new(alloc), SessionEffect::Keep)
     }
 
     /// Returns the replies, the effect and what becomes of the session.
-    pub(crate) fn into_parts(self) -> (Vec<Response>, Option<Effect>, SessionChange)
+    pub(crate) fn into_parts(self) -> (Vec<Response>, Option<Effect>, SessionEffect)
         ensures replies { result.0.items ≡ self.replies }
         ensures effect { result.1 ≡ self.effect }
         ensures session { result.2 ≡ self.session }

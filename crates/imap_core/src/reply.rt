@@ -4,15 +4,17 @@ ghost use Rattle.std.specs.Prelude.{◌≡◌, IfOk};
 ghost use Rattle.imap_print.specs.Lines.{IsPrintable};
 ghost use Rattle.imap_print.specs.declared.response.Response.TheVariants as response;
 ghost use Rattle.imap_core.specs.Reply as specs;
+ghost use Rattle.imap_session.specs.State.{state_of};
 
 use crate::commands::command_outcome;
 use crate::outcome::Outcome;
-use crate::sessions::{OwnSessions, Session, SessionChange};
+use crate::sessions::{OwnSessions, SessionEffect};
 use crate::step::{Act, Step};
 use imap_answer::{Call, Moment, refused_line};
 use imap_grammar::Request;
 use imap_lex::Tag;
 use imap_print::{Farewell, Refusal, Response};
+use imap_session::Session;
 use imap_view::View;
 use std::alloc::{AllocError, Global};
 
@@ -24,22 +26,27 @@ pub(crate) fn step_outcome(
 ) -> Result<Outcome, AllocError>
     ensures { IfOk result (λ outcome. outcome ≡ specs.reply view.now own.now step.now) }
 {
-    if own.is_open(step.who.number) {
-        outcome_when_open(alloc, view, step)
-    } else {
-        outcome_when_closed(alloc, own, &step.act)
+    match own.get(step.who.number) {
+        Some(session) => outcome_when_open(alloc, view, session, step),
+        None => outcome_when_closed(alloc, own, &step.act),
     }
 }
 
-fn outcome_when_open(alloc: Global, view: &View<'_>, step: &Step) -> Result<Outcome, AllocError>
-    ensures { IfOk result (λ outcome. outcome ≡ specs.reply_when_open view.now step.now.at step.now.act) }
+fn outcome_when_open(
+    alloc: Global,
+    view: &View<'_>,
+    session: &Session,
+    step: &Step,
+) -> Result<Outcome, AllocError>
+    ensures { let meant = specs.reply_when_open view.now (state_of session.now) step.now.at step.now.act in
+        IfOk result (λ outcome. outcome ≡ meant) }
 {
     match &step.act {
         Act::Open => greeting(alloc),
-        Act::Do(request) => request_outcome(alloc, view, step.at, request),
+        Act::Do(request) => request_outcome(alloc, view, session, step.at, request),
         Act::Poll => Ok(Outcome::silence(alloc)),
         Act::Done => refused(alloc, &None, Refusal::Malformed),
-        Act::Leave => Ok(Outcome::said(Vec::new(alloc), SessionChange::End)),
+        Act::Leave => Ok(Outcome::said(Vec::new(alloc), SessionEffect::End)),
     }
 }
 
@@ -58,7 +65,7 @@ fn open_outcome(alloc: Global, own: &OwnSessions) -> Result<Outcome, AllocError>
 {
     if own.is_full() {
         let bye = vec![in alloc; Response::Bye(Farewell::LimitReached)]?;
-        return Ok(Outcome::said(bye, SessionChange::Keep));
+        return Ok(Outcome::said(bye, SessionEffect::Keep));
     }
     greeting(alloc)
 }
@@ -67,19 +74,25 @@ fn greeting(alloc: Global) -> Result<Outcome, AllocError>
     ensures { IfOk result (λ outcome. outcome ≡ specs.opened) }
 {
     let greeting = vec![in alloc; Response::Greeting]?;
-    Ok(Outcome::said(greeting, SessionChange::Put(Session)))
+    Ok(Outcome::said(greeting, SessionEffect::Open))
 }
 
 fn request_outcome(
     alloc: Global,
     view: &View<'_>,
+    session: &Session,
     at: Moment,
     request: &Request,
 ) -> Result<Outcome, AllocError>
-    ensures { IfOk result (λ outcome. outcome ≡ specs.request_outcome view.now at request.now) }
+    ensures { let meant = specs.request_outcome view.now (state_of session.now) at request.now in
+        IfOk result (λ outcome. outcome ≡ meant) }
 {
     match request {
-        Request::Command { tag, body } => command_outcome(&Call::new(alloc, view, tag, at), body),
+        Request::Command { tag, body } => command_outcome(
+            &Call::new(alloc, view, tag, at),
+            session,
+            body,
+        ),
         Request::Malformed { tag } => refused(alloc, tag, Refusal::Malformed),
         Request::TooBig { tag } => refused(alloc, &Some(tag.try_copy(alloc)?), Refusal::Limit),
     }
@@ -90,7 +103,7 @@ fn refused(alloc: Global, tag: &Option<Tag>, refusal: Refusal) -> Result<Outcome
     ensures { IfOk result (λ outcome. outcome ≡ specs.refused (tag.now) refusal) }
 {
     let line = line_of_refusal(alloc, tag, refusal)?;
-    Ok(Outcome::said(vec![in alloc; line]?, SessionChange::Keep))
+    Ok(Outcome::said(vec![in alloc; line]?, SessionEffect::Keep))
 }
 
 fn line_of_refusal(

@@ -1,13 +1,18 @@
 //! The open sessions of one user.
 
-ghost use Rattle.std.specs.Prelude.{◌≡◌, ◌<◌, ◌≤◌, ◌==◌, ◌⊎◌, not, filter, length, vec_len, true};
-ghost use Rattle.std.specs.Prelude.{IfOk, nat_le};
-ghost use Rattle.std.specs.List.{list_any};
+ghost use Rattle.std.specs.Prelude.{◌≡◌, ◌<◌, ◌≤◌, ◌==◌, ◌⊎◌, not, Some, filter, vec_len, true};
+ghost use Rattle.std.specs.Prelude.{IfOk, nat_le, option_copied, option_map};
+ghost use Rattle.std.specs.List.{position};
 ghost use Rattle.std.specs.Vec.{vec_capacity};
 ghost use Rattle.std.specs.FinMap as map;
-ghost use Rattle.imap_core.specs.Sessions.{max_sessions};
+ghost use Rattle.imap_core.specs.Planned.{HasRoom};
+ghost use Rattle.imap_core.specs.Sessions as specs;
+ghost use Rattle.imap_core.specs.Sessions.{max_sessions, states_of};
+ghost use Rattle.imap_session.specs.State.{new_session, state_of, with_enabled};
 
 use crate::session_id::SessionNumber;
+use imap_print::EnabledCapabilities;
+use imap_session::Session;
 use imap_values::TryCopy;
 use std::alloc::{AllocError, Global};
 use std::marker::Model;
@@ -15,16 +20,14 @@ use std::marker::Model;
 /// The most sessions that a user may have open at once.
 pub const MAX_SESSIONS: usize = 16;
 
-/// What is kept of an open session. Nothing yet: no command selects a mailbox.
+/// What a step asks of its session.
 #[derive(Clone, Copy)]
-pub struct Session;
-
-/// What becomes of a session.
-#[derive(Clone, Copy)]
-pub enum SessionChange {
+pub enum SessionEffect {
     Keep,
     /// It is opened, or begins anew.
-    Put(Session),
+    Open,
+    /// Its client enables these.
+    Enable(EnabledCapabilities),
     End,
 }
 
@@ -37,13 +40,13 @@ pub struct OwnSessions {
 
 impl Model for OwnSessions {
     ghost use Rattle.std.specs.FinMap as map;
-    ghost use Rattle.imap_core.specs.Sessions.{Own, own_code, IsKept};
+    ghost use Rattle.imap_core.specs.Sessions.{Own, own_code, states_of, IsKept};
 
     ghost Value = { Own };
 
     ghost coded = { own_code };
 
-    ghost view = { λ s. map.from_entries s.entries.items };
+    ghost view = { λ s. map.from_entries (states_of s.entries.items) };
 
     ghost invariant = { λ s. IsKept s.entries };
 }
@@ -61,7 +64,17 @@ impl OwnSessions {
     pub fn is_open(&self, number: SessionNumber) -> bool
         ensures { result ≡ map.contains_key self.now number }
     {
-        stands_in(&self.entries, number)
+        self.get(number).is_some()
+    }
+
+    /// The session with this number, if it is open.
+    pub fn get(&self, number: SessionNumber) -> Option<&Session>
+        ensures { option_map state_of (option_copied result) ≡ map.get self.now number }
+    {
+        match place_of(&self.entries, number) {
+            Some(place) => Some(&self.entries[place].1),
+            None => None,
+        }
     }
 
     /// Whether as many are open as may be.
@@ -71,17 +84,40 @@ impl OwnSessions {
         self.entries.len() >= MAX_SESSIONS
     }
 
+    /// Makes what a step asks of the session with the number.
+    pub fn change(&mut self, number: SessionNumber, effect: SessionEffect)
+        requires { HasRoom (Some self.old) number effect }
+        ensures { self.new ≡ specs.own_with number effect self.old }
+    {
+        match effect {
+            SessionEffect::Keep => {}
+            SessionEffect::Open => self.open(number),
+            SessionEffect::Enable(more) => self.enable(number, more),
+            SessionEffect::End => self.remove(number),
+        }
+    }
+
     /// Opens a session, or begins an open one anew.
-    pub fn put(&mut self, number: SessionNumber, session: Session)
+    fn open(&mut self, number: SessionNumber)
         requires { (map.len self.old < max_sessions) ⊎ (map.contains_key self.old number ≡ true) }
-        ensures { self.new ≡ map.insert self.old number session }
+        ensures { self.new ≡ map.insert self.old number new_session }
     {
         take_out(&mut self.entries, number);
-        self.entries.push_reserved((number, session));
+        self.entries.push_reserved((number, Session::new()));
+    }
+
+    /// Enables further capabilities in a session, if it is open.
+    fn enable(&mut self, number: SessionNumber, more: EnabledCapabilities)
+        ensures { self.new ≡ specs.with_enabled number more self.old }
+    {
+        match place_of(&self.entries, number) {
+            Some(place) => enable_in(&mut self.entries[place], more),
+            None => {}
+        }
     }
 
     /// Closes a session, if it is open.
-    pub fn remove(&mut self, number: SessionNumber)
+    fn remove(&mut self, number: SessionNumber)
         ensures { self.new ≡ map.remove self.old number }
     {
         take_out(&mut self.entries, number);
@@ -100,18 +136,27 @@ fn copy_entries(
     alloc: Global,
     entries: &[(SessionNumber, Session)],
 ) -> Result<Vec<(SessionNumber, Session)>, AllocError>
-    ensures items { IfOk result (λ copy. copy.items ≡ entries.now) }
+    ensures items { IfOk result (λ copy. states_of copy.items ≡ states_of entries.now) }
     ensures room { IfOk result (λ copy. max_sessions ≤ vec_capacity copy) }
 {
     let mut copy = Vec::with_capacity(alloc, MAX_SESSIONS)?;
-    copy.extend_from_slice(entries)?;
+    for (number, session) in entries {
+        copy.push((*number, session.try_copy(alloc)?))?;
+    }
     Ok(copy)
 }
 
-fn stands_in(entries: &[(SessionNumber, Session)], number: SessionNumber) -> bool
-    ensures { result ≡ list_any (λ e. e.0 == number) entries.now }
+fn enable_in(entry: &mut (SessionNumber, Session), more: EnabledCapabilities)
+    ensures number { entry.new.0 ≡ entry.old.0 }
+    ensures state { state_of entry.new.1 ≡ with_enabled more (state_of entry.old.1) }
 {
-    entries.iter().any(|entry| entry.0 == number)
+    entry.1.enable(more);
+}
+
+fn place_of(entries: &[(SessionNumber, Session)], number: SessionNumber) -> Option<usize>
+    ensures { result ≡ position (λ e. e.0 == number) entries.now }
+{
+    entries.iter().position(|entry| entry.0 == number)
 }
 
 fn take_out(entries: &mut Vec<(SessionNumber, Session)>, number: SessionNumber)

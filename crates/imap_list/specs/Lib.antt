@@ -4,6 +4,7 @@ pub mod Laws
 pub mod Lines
 pub mod ListCommand
 pub mod Listing
+pub mod MailboxLine
 pub mod Matching
 pub mod Namespaces
 pub mod Status

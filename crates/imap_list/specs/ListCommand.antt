@@ -2,7 +2,7 @@
 use Rattle.std.specs.Prelude.{ℕ, Bool, true, false, not, ◌&&◌, ◌||◌, ◌==◌, List, [], ◌∷◌, length, flat_map}
 use Rattle.std.specs.Prelude.{Option, Some, None, option_and_then, if◌then◌else◌}
 use Rattle.std.specs.List.{list_any}
-use Rattle.imap_answer.specs.Answer.{Answer, done_after, refusal}
+use Rattle.imap_answer.specs.Answer.{Answer, done_after, enabling, refusal}
 use Rattle.imap_answer.specs.Name.{name_of_text}
 use Rattle.imap_grammar.specs.commands.List.{is_recursive, is_subscribed}
 use Rattle.imap_grammar.specs.declared.commands.list.ListReturn.{ListReturn}
@@ -22,7 +22,7 @@ use Rattle.imap_query.specs.declared.status.StatusItem.{StatusItem}
 use Rattle.imap_view.specs.View.{View}
 use Rattle.imap_list.specs.declared.line.Line.{Line}
 use Rattle.imap_list.specs.Listing.{listing, subscribed_listing}
-use Rattle.imap_list.specs.Status.{status_in}
+use Rattle.imap_list.specs.Status.{enabled_by, status_in}
 
 -- the arguments of LIST
 pub record Query : Type 0 where
@@ -135,11 +135,14 @@ status_after view query line =
 abbrev pub responses_of : View → Query → Line → List Response
 responses_of view query line = list_line (shows_subscribed query) line ∷ status_after view query line
 
+abbrev pub list_responses : View → Query → List Response
+list_responses view query = flat_map (responses_of view query) (lines_of view query)
+
 abbrev pub list_answer : View → (tag : List ℕ) → Query → Answer
 list_answer view tag query =
     if is_unbuilt query then refusal tag Cannot
     else if asks_for_root query then done_after (response.ListRoot ∷ []) tag
-    else done_after (flat_map (responses_of view query) (lines_of view query)) tag
+    else enabling (enabled_by (status_items query)) (done_after (list_responses view query) tag)
 
 -- NAMESPACE
 abbrev pub namespace_answer : (tag : List ℕ) → Answer

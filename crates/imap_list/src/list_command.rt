@@ -8,7 +8,7 @@ ghost use Rattle.imap_list.specs.ListCommand as specs;
 use crate::line::Line;
 use crate::listing::{list, list_subscribed};
 use crate::query::Query;
-use crate::status::status_line;
+use crate::status::{enabled_by, status_line};
 use imap_answer::{Answer, Call};
 use imap_lex::Octets;
 use imap_print::{Children, ListAttributes, Refusal, Response};
@@ -29,7 +29,10 @@ pub fn list_answer(call: &Call<'_>, query: &Query<'_>) -> Result<Answer, AllocEr
     let lines = lines_of(call.alloc(), call.view(), query)?;
     let items = query.status_items(call.alloc())?;
     let responses = responses_of_lines(call, query, items.as_slice(), lines)?;
-    call.done_after(responses)
+    Ok(
+        call.done_after(responses)?
+            .enabling(enabled_by(items.as_slice())),
+    )
 }
 
 fn lines_of(alloc: Global, view: &View<'_>, query: &Query<'_>) -> Result<Vec<Line>, AllocError>
@@ -133,7 +136,7 @@ fn status_of_text(
     }
 }
 
-fn list_line(with_subscribed: bool, line: Line) -> Result<Response, AllocError>
+pub(crate) fn list_line(with_subscribed: bool, line: Line) -> Result<Response, AllocError>
     ensures line { IfOk result (λ response. response ≡ specs.list_line with_subscribed line) }
     ensures printable { IsPrintable (specs.list_line with_subscribed line) }
 {

@@ -1,32 +1,18 @@
 //! STATUS (RFC 9051, section 6.3.11).
 
 ghost use Rattle.std.specs.Prelude.{◌≡◌, IfOk, IfSome, map};
+ghost use Rattle.std.specs.List.{list_any};
 ghost use Rattle.imap_list.specs.Status as specs;
 ghost use Rattle.imap_print.specs.Lines.{IsPrintable};
-ghost use Rattle.imap_view.specs.Seen.{shown};
 
 use imap_answer::{Answer, Call, missing_right_refusal};
 use imap_lex::Octets;
-use imap_mailbox::Rows;
 use imap_names::Name;
-use imap_print::{Refusal, Response, StatusValue};
+use imap_print::{EnabledCapabilities, Refusal, Response, StatusValue};
 use imap_query::StatusItem;
-use imap_rights::Rights;
 use imap_syntax::Items;
-use imap_view::Seen;
+use imap_view::Readable;
 use std::alloc::{AllocError, Global};
-
-/// What STATUS may ask of a mailbox.
-#[derive(Drop)]
-struct Numbers<'a> {
-    /// UIDVALIDITY.
-    validity: u32,
-    /// UIDNEXT.
-    next: u32,
-    /// HIGHESTMODSEQ.
-    highest: u64,
-    rows: Rows<'a>,
-}
 
 /// Answers STATUS of a mailbox, as it is named in the command.
 pub fn status_answer(
@@ -48,9 +34,32 @@ fn status_of_name(call: &Call<'_>, name: &Name, items: &[StatusItem]) -> Result<
         IfOk result (λ answer. answer ≡ meant) }
 {
     match status_line(call, name, items)? {
-        Some(line) => call.done_after(vec![in call.alloc(); line]?),
+        Some(line) => {
+            let answer = call.done_after(vec![in call.alloc(); line]?)?;
+            Ok(answer.enabling(enabled_by(items)))
+        }
         None => call.refuse(missing_right_refusal(call.view().rights(&name.as_ref()))),
     }
+}
+
+/// The capabilities that are enabled by asking for these items: CONDSTORE by HIGHESTMODSEQ (RFC 7162, section
+/// 3.1).
+pub(crate) fn enabled_by(items: &[StatusItem]) -> EnabledCapabilities
+    ensures { result ≡ specs.enabled_by items.now }
+{
+    EnabledCapabilities {
+        condstore: has_highest(items),
+        imap4rev2: false,
+        qresync: false,
+    }
+}
+
+fn has_highest(items: &[StatusItem]) -> bool
+    ensures { result ≡ list_any specs.is_highest items.now }
+{
+    items
+        .iter()
+        .any(|item| matches!(item, StatusItem::HighestModSeq))
 }
 
 /// Returns the line with the numbers of the mailbox, or `None` if the user may not read it.
@@ -62,25 +71,9 @@ pub(crate) fn status_line(
     ensures line { IfOk result (λ line. line ≡ specs.status_in call.now.view items.now name.now) }
     ensures printable { IfOk result (λ line. IfSome line IsPrintable) }
 {
-    match call.view().seen(&name.as_ref()) {
-        Some(seen) => line_of_seen(call, name, items, &seen),
-        None => Ok(None),
-    }
-}
-
-fn line_of_seen(
-    call: &Call<'_>,
-    name: &Name,
-    items: &[StatusItem],
-    seen: &Seen<'_>,
-) -> Result<Option<Response>, AllocError>
-    ensures line { let meant = specs.line_of_seen call.now.view.user name.now items.now (shown seen.now) in
-        IfOk result (λ line. line ≡ meant) }
-    ensures printable { IfOk result (λ line. IfSome line IsPrintable) }
-{
-    match numbers_of(seen) {
-        Some(numbers) => {
-            let values = status_values(call.alloc(), &numbers, items)?;
+    match call.view().readable(&name.as_ref()) {
+        Some(mailbox) => {
+            let values = status_values(call.alloc(), &mailbox, items)?;
             Ok(Some(Response::Status {
                 mailbox: call.shown(name)?,
                 items: Items::from_vec(values),
@@ -90,48 +83,33 @@ fn line_of_seen(
     }
 }
 
-/// What STATUS may ask of the mailbox, if the user may read it.
-fn numbers_of<'a>(seen: &Seen<'a>) -> Option<Numbers<'a>>
-    ensures { result ≡ specs.numbers_of (shown seen.now) }
-{
-    if !seen.rights().has_any(Rights::READ) {
-        return None;
-    }
-    Some(Numbers {
-        validity: seen.validity()?,
-        next: seen.next_uid()?,
-        highest: seen.highest()?,
-        rows: seen.rows()?,
-    })
-}
-
 fn status_values(
     alloc: Global,
-    numbers: &Numbers<'_>,
+    mailbox: &Readable<'_>,
     items: &[StatusItem],
 ) -> Result<Vec<StatusValue>, AllocError>
-    ensures { IfOk result (λ values. values.items ≡ map (specs.status_value numbers.now) items.now) }
+    ensures { IfOk result (λ values. values.items ≡ map (specs.status_value mailbox.now) items.now) }
 {
     let mut values = Vec::with_capacity(alloc, items.len())?;
     for item in items {
         values.push(StatusValue {
             item: *item,
-            value: status_number(numbers, *item),
+            value: status_number(mailbox, *item),
         })?;
     }
     Ok(values)
 }
 
-fn status_number(numbers: &Numbers<'_>, item: StatusItem) -> u64
-    ensures { result ≡ specs.status_number numbers.now item }
+fn status_number(mailbox: &Readable<'_>, item: StatusItem) -> u64
+    ensures { result ≡ specs.status_number mailbox.now item }
 {
     match item {
-        StatusItem::Messages => numbers.rows.len() as u64,
-        StatusItem::UidNext => u64::from(numbers.next),
-        StatusItem::UidValidity => u64::from(numbers.validity),
-        StatusItem::Unseen => numbers.rows.unseen_len() as u64,
-        StatusItem::Deleted => numbers.rows.deleted_len() as u64,
-        StatusItem::Size => numbers.rows.size(),
-        StatusItem::HighestModSeq => numbers.highest,
+        StatusItem::Messages => mailbox.rows.len() as u64,
+        StatusItem::UidNext => u64::from(mailbox.next_uid),
+        StatusItem::UidValidity => u64::from(mailbox.validity),
+        StatusItem::Unseen => mailbox.rows.unseen_len() as u64,
+        StatusItem::Deleted => mailbox.rows.deleted_len() as u64,
+        StatusItem::Size => mailbox.rows.size(),
+        StatusItem::HighestModSeq => mailbox.highest,
     }
 }

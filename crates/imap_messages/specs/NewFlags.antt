@@ -1,5 +1,6 @@
 -- The flags that a user gives to a message (RFC 9051, section 2.3.2; RFC 4314, section 4).
-use Rattle.std.specs.Prelude.{◌≡◌, ℕ, Bool, true, false, ◌&&◌, List, [], ◌∷◌, Option, Some, None, if◌then◌else◌}
+use Rattle.std.specs.Prelude.{◌≡◌, ℕ, Bool, true, false, ◌&&◌, List, [], ◌∷◌}
+use Rattle.std.specs.Prelude.{Option, Some, None, if◌then◌else◌}
 use Rattle.std.specs.List.{list_any}
 use Rattle.imap_mailbox.specs.declared.flags.SharedFlags.{SharedFlags}
 use Rattle.imap_mailbox.specs.Flags.{has_too_many, no_flags, with_flag}

@@ -17,7 +17,7 @@ abbrev pub holds_create_above : View → Name → Bool
 holds_create_above view [] = false
 holds_create_above view (deepest ∷ above) = holds_create view above || holds_create_above view above
 
--- why nothing is put into a mailbox on which the user lacks `i`. Without `l` it is as if there were no mailbox
+-- why nothing is put into a mailbox on which the user lacks `i`. Without `l` it is as if it were not there
 -- (RFC 4314, section 6), and the client is told if it may try to make one
 abbrev pub target_refusal : View → Name → Refusal
 target_refusal view name =

@@ -1,5 +1,9 @@
 -- An open session, and what becomes of it (RFC 9051, section 3).
-use Rattle.std.specs.Prelude.{ℕ, ◌≤◌, Bool, false, List, length, Option, Some, None, option_map}
+use Rattle.std.specs.Prelude.{ℕ, ◌≤◌, Bool, ◌||◌, List, length, Option, Some, None, option_map, refl}
+use Rattle.std.specs.Coded.{Coded, code_by, coded×, coded_ℕ, coded_bool, coded_list, coded_option}
+use Rattle.imap_mailbox.specs.contracts.known.KnownMessage as known_message
+use Rattle.imap_print.specs.contracts.enabled.EnabledCapabilities as enabled
+use Rattle.imap_answer.specs.Answer.{nothing_enabled}
 use Rattle.imap_mailbox.specs.declared.known.KnownMessage.{KnownMessage}
 use Rattle.imap_names.specs.Name.{Name}
 use Rattle.imap_print.specs.declared.enabled.EnabledCapabilities.{EnabledCapabilities}
@@ -11,7 +15,7 @@ use Rattle.imap_session.specs.declared.session.Session.{Session}
 use Rattle.imap_session.specs.declared.session.SessionChange.{SessionChange}
 use Rattle.imap_session.specs.Delta.{IsChangeOf, list_after}
 
--- ---- a session as definitions see it: without room, and without the mod-sequence up to which it was told all
+-- ---- a session as definitions see it: without room, and without the mod-sequence up to which all was told
 
 -- the selected mailbox, with the UIDVALIDITY that it had, and its messages as the session knows them
 pub record Selection : Type 0 where
@@ -20,22 +24,57 @@ pub record Selection : Type 0 where
   pub read_only : Bool
   pub known : List KnownMessage
 
-pub record State : Type 0 where
+pub record SessionState : Type 0 where
   pub selected : Option Selection
   pub enabled : EnabledCapabilities
   pub idle : Option (List ℕ)
 
-abbrev pub selection_of : Selected → Selection
-selection_of s = record { name = s.name; validity = s.validity; read_only = s.read_only; known = s.known.list }
+abbrev pub selection_code : Coded Selection
+selection_code =
+    code_by (Name × (ℕ × (Bool × List KnownMessage)))
+    (coded× (coded_list (coded_list coded_ℕ)) (coded× coded_ℕ
+    (coded× coded_bool (coded_list known_message.the_row.coded))))
+    (λ s. (s.name, (s.validity, (s.read_only, s.known))))
+    (λ p. record { name = p.0; validity = p.1.0; read_only = p.1.1.0; known = p.1.1.1 }) (λ _. refl)
 
-abbrev pub state_of : Session → State
+abbrev pub session_code : Coded SessionState
+session_code =
+    code_by (Option Selection × (EnabledCapabilities × Option (List ℕ)))
+    (coded× (coded_option selection_code) (coded× enabled.the_row.coded (coded_option (coded_list coded_ℕ))))
+    (λ s. (s.selected, (s.enabled, s.idle)))
+    (λ p. record { selected = p.0; enabled = p.1.0; idle = p.1.1 }) (λ _. refl)
+
+abbrev pub selection_of : Selected → Selection
+selection_of s = record {
+  name = s.name;
+  validity = s.validity;
+  read_only = s.read_only;
+  known = s.known.list;
+}
+
+abbrev pub state_of : Session → SessionState
 state_of s = record { selected = option_map selection_of s.selected; enabled = s.enabled; idle = s.idle }
 
-abbrev pub nothing_enabled : EnabledCapabilities
-nothing_enabled = record { condstore = false; imap4rev2 = false; qresync = false }
+abbrev pub selected_name : SessionState → Option Name
+selected_name state = option_map (λ s. s.name) state.selected
 
-abbrev pub new_session : State
+abbrev pub new_session : SessionState
 new_session = record { selected = None; enabled = nothing_enabled; idle = None }
+
+-- with further capabilities enabled
+abbrev pub both_enabled : (more enabled : EnabledCapabilities) → EnabledCapabilities
+both_enabled more enabled = record {
+  condstore = more.condstore || enabled.condstore;
+  imap4rev2 = more.imap4rev2 || enabled.imap4rev2;
+  qresync = more.qresync || enabled.qresync;
+}
+
+abbrev pub with_enabled : EnabledCapabilities → SessionState → SessionState
+with_enabled more state = record {
+  selected = state.selected;
+  enabled = both_enabled more state.enabled;
+  idle = state.idle;
+}
 
 -- ---- a change
 
@@ -48,7 +87,7 @@ change_of_selection (selection.Tell delta up_to) selected = option_map (with_del
 change_of_selection (selection.Select new) selected = Some (selection_of new)
 change_of_selection selection.Close selected = None
 
-abbrev pub state_after : SessionChange → State → State
+abbrev pub state_after : SessionChange → SessionState → SessionState
 state_after change state = record {
   selected = change_of_selection change.selection state.selected;
   enabled = change.enabled;

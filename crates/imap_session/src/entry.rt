@@ -1,12 +1,14 @@
 //! The entries of a known list.
 
-ghost use Rattle.std.specs.Prelude.{◌≡◌, ◌≤◌, true, length, nat_lt};
+ghost use Rattle.std.specs.Prelude.{◌≡◌, ◌≤◌, true, length, nat_lt, IfOk};
 ghost use Rattle.std.specs.List.{prefix_len};
 ghost use Rattle.imap_mailbox.specs.Lent.{place_in};
 ghost use Rattle.imap_mailbox.specs.Brought.{known_uids};
-ghost use Rattle.imap_session.specs.Held.{list_in, UidsRise};
+ghost use Rattle.imap_session.specs.Held.{are_staying, list_in, UidsRise};
 
 use imap_mailbox::KnownMessage;
+use imap_values::TryCopy;
+use std::alloc::{AllocError, Global};
 
 /// A message of a known list.
 #[derive(Drop)]
@@ -21,6 +23,21 @@ pub(crate) fn mark(entry: &mut Entry)
     ensures { entry.new ≡ record { message = entry.old.message; leaving = true } }
 {
     entry.leaving = true;
+}
+
+/// Returns a copy that shares keywords.
+pub(crate) fn copy_entries(alloc: Global, entries: &[Entry]) -> Result<Vec<Entry>, AllocError>
+    ensures list { IfOk result (λ copies. list_in copies.items ≡ list_in entries.now) }
+    ensures staying { IfOk result (λ copies. are_staying copies.items ≡ true) }
+{
+    let mut copies = Vec::with_capacity(alloc, entries.len())?;
+    for entry in entries {
+        copies.push(Entry {
+            message: entry.message.try_copy(alloc)?,
+            leaving: false,
+        })?;
+    }
+    Ok(copies)
 }
 
 /// Returns the number of messages with a lower UID, by a search that halves.

@@ -8,7 +8,7 @@ ghost use Rattle.imap_session.specs.Delta.{list_after, IsChangeOf};
 ghost use Rattle.imap_session.specs.Held.{UidsRise};
 
 use crate::delta::{Delta, push_all, put_all, remove_all};
-use crate::entry::{Entry, count_lower, find_entry};
+use crate::entry::{Entry, copy_entries, count_lower, find_entry};
 use crate::row_cursor::RowCursor;
 use crate::walk::messages_left;
 use imap_mailbox::KnownMessage;
@@ -58,6 +58,15 @@ impl KnownList {
         let mut entries = Vec::with_capacity(alloc, messages.len())?;
         push_all(&mut entries, messages);
         Ok(KnownList { entries })
+    }
+
+    /// Returns a copy that shares keywords. Its room may be another.
+    pub fn try_copy(&self, alloc: Global) -> Result<KnownList, AllocError>
+        ensures { IfOk result (λ copy. copy.list ≡ self.now.list) }
+    {
+        Ok(KnownList {
+            entries: copy_entries(alloc, self.entries.as_slice())?,
+        })
     }
 
     /// The number of messages.

@@ -1,7 +1,8 @@
 //! Sessions, and what becomes of them.
 
-ghost use Rattle.std.specs.Prelude.{◌≡◌, Some, option_map};
-ghost use Rattle.imap_session.specs.State.{change_of_selection, selection_of, state_of, state_after, with_delta};
+ghost use Rattle.std.specs.Prelude.{◌≡◌, Some, IfOk, option_copied, option_map};
+ghost use Rattle.imap_session.specs.State.{change_of_selection, selection_of, state_of, state_after};
+ghost use Rattle.imap_session.specs.State.{with_delta};
 ghost use Rattle.imap_session.specs.State.{IsDeltaReady, IsReady, IsSelectionReady};
 ghost use Rattle.imap_session.specs.State as specs;
 
@@ -10,6 +11,8 @@ use crate::known_list::KnownList;
 use imap_lex::Tag;
 use imap_names::Name;
 use imap_print::EnabledCapabilities;
+use imap_values::TryCopy;
+use std::alloc::{AllocError, Global};
 
 /// The mailbox that a session has selected (RFC 9051, section 3.3).
 #[derive(Drop)]
@@ -69,6 +72,40 @@ impl Session {
         }
     }
 
+    /// Returns a copy that shares keywords and the texts of names. Its room may be another.
+    pub fn try_copy(&self, alloc: Global) -> Result<Session, AllocError>
+        ensures { IfOk result (λ copy. state_of copy ≡ state_of self.now) }
+    {
+        let selected = copy_selected(alloc, &self.selected)?;
+        let idle = self.idle.try_copy(alloc)?;
+        Ok(Session {
+            selected,
+            enabled: self.enabled,
+            idle,
+        })
+    }
+
+    /// The name of the selected mailbox.
+    pub fn selected_name(&self) -> Option<&Name>
+        ensures { option_copied result ≡ specs.selected_name (state_of self.now) }
+    {
+        match &self.selected {
+            Some(selected) => Some(&selected.name),
+            None => None,
+        }
+    }
+
+    /// Enables further capabilities.
+    pub fn enable(&mut self, more: EnabledCapabilities)
+        ensures { state_of self.new ≡ specs.with_enabled more (state_of self.old) }
+    {
+        self.enabled = EnabledCapabilities {
+            condstore: more.condstore || self.enabled.condstore,
+            imap4rev2: more.imap4rev2 || self.enabled.imap4rev2,
+            qresync: more.qresync || self.enabled.qresync,
+        };
+    }
+
     /// Makes a change that was prepared, without memory.
     pub fn commit(&mut self, change: SessionChange)
         requires { IsReady change self.old }
@@ -83,6 +120,29 @@ impl Session {
         self.idle = idle;
         change_selection(&mut self.selected, selection);
     }
+}
+
+fn copy_selected(alloc: Global, selected: &Option<Selected>) -> Result<Option<Selected>, AllocError>
+    ensures { IfOk result (λ copy. option_map selection_of copy ≡ option_map selection_of selected.now) }
+{
+    match selected {
+        Some(selected) => Ok(Some(copy_one(alloc, selected)?)),
+        None => Ok(None),
+    }
+}
+
+fn copy_one(alloc: Global, selected: &Selected) -> Result<Selected, AllocError>
+    ensures { IfOk result (λ copy. selection_of copy ≡ selection_of selected.now) }
+{
+    let name = selected.name.try_copy()?;
+    let known = selected.known.try_copy(alloc)?;
+    Ok(Selected {
+        name,
+        validity: selected.validity,
+        read_only: selected.read_only,
+        known,
+        up_to: selected.up_to,
+    })
 }
 
 fn change_selection(selected: &mut Option<Selected>, change: SelectionChange)

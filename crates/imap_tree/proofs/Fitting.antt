@@ -12,7 +12,7 @@ use Rattle.imap_names.specs.declared.error.NameError.{NameError}
 use Rattle.imap_names.specs.declared.error.NameError.TheVariants.{Control, EmptyComponent, Memory, Reserved, TooDeep, TooLong}
 use Rattle.imap_name_map.specs.Rows.{has_below, has_within}
 use Rattle.imap_print.specs.declared.response.Refusal.{Refusal}
-use Rattle.imap_print.specs.declared.response.Refusal.TheVariants.{AlreadyExists, Cannot, HasChildren, Limit, NonExistent, NoPerm}
+use Rattle.imap_print.specs.declared.response.Refusal.TheVariants.{AlreadyExists, Cannot, HasChildren, InUse, Limit, NonExistent, NoPerm}
 use Rattle.imap_rights.specs.declared.change.RightsChange.{RightsChange}
 use Rattle.imap_rights.specs.Acl.{AclMap}
 use Rattle.imap_rights.specs.Change.{replacing, rights_read}
@@ -32,6 +32,7 @@ use Rattle.imap_tree.specs.ListRights.{list_rights_answer, list_rights_by, list_
 use Rattle.imap_tree.specs.MyRights.{my_rights_answer, my_rights_of_name, my_rights_of_seen}
 use Rattle.imap_tree.specs.NewName.{new_name_read, or_refusal}
 use Rattle.imap_tree.specs.Rename.{rename_answer, rename_of_name, rename_to}
+use Rattle.imap_tree.specs.Selected.{is_selected}
 use Rattle.imap_tree.specs.SetAcl.{delete_acl_answer, set_acl_answer, set_acl_by, set_rights_answer, set_rights_by, set_rights_of_name}
 
 module _ (view : View) (tag : List ℕ) where
@@ -105,16 +106,18 @@ module _ (view : View) (tag : List ℕ) where
 
   -- ---- DELETE
 
-  delete_by : (name : Name) (held : Bool) → has_any (rights_in view name) delete_mailbox ≡ held → (inbox : Bool) → is_inbox name ≡ inbox → (below : Bool) → has_below name view.taken ≡ below
-      → IsFit view (cond (not held) (refusal tag (missing_right_refusal (rights_in view name))) (cond inbox (refusal tag Cannot) (cond below (refusal tag HasChildren) (done_with tag (Delete name)))))
-  delete_by name false e inbox i below d = missing_right_fits view tag (rights_in view name)
-  delete_by name true e true i below d = fits_alone view _ _ refl
-  delete_by name true e false i true d = fits_alone view _ _ refl
-  delete_by name true e false i false d = fits_asking view tag (Delete name) (λ k. e k && (not (i k) && not (d k)))
+  delete_by : (name : Name) (held : Bool) → has_any (rights_in view name) delete_mailbox ≡ held → (inbox : Bool) → is_inbox name ≡ inbox → (selected below : Bool) → has_below name view.taken ≡ below
+      → IsFit view (cond (not held) (refusal tag (missing_right_refusal (rights_in view name))) (cond inbox (refusal tag Cannot) (cond selected (refusal tag InUse)
+      (cond below (refusal tag HasChildren) (done_with tag (Delete name))))))
+  delete_by name false e inbox i selected below d = missing_right_fits view tag (rights_in view name)
+  delete_by name true e true i selected below d = fits_alone view _ _ refl
+  delete_by name true e false i true below d = fits_alone view _ _ refl
+  delete_by name true e false i false true d = fits_alone view _ _ refl
+  delete_by name true e false i false false d = fits_asking view tag (Delete name) (λ k. e k && (not (i k) && not (d k)))
 
-  pub delete_fits : (mailbox : List ℕ) → IsFit view (delete_answer view tag mailbox)
-  delete_fits mailbox =
-      fits_if_named view tag mailbox (delete_of_name view tag) (λ name. delete_by name _ refl _ refl _ refl)
+  pub delete_fits : (selected : Option Name) (mailbox : List ℕ) → IsFit view (delete_answer view selected tag mailbox)
+  delete_fits selected mailbox =
+      fits_if_named view tag mailbox (delete_of_name view selected tag) (λ name. delete_by name _ refl _ refl (is_selected selected name) _ refl)
 
   -- ---- CREATE
 
@@ -150,24 +153,25 @@ module _ (view : View) (tag : List ℕ) where
 
   -- ---- RENAME
 
-  rename_by : (old new : Name) (held : Bool) → has_any (rights_in view old) delete_mailbox ≡ held → (can : Bool) → can_move old new ≡ can → (may : Bool) → may_create view new ≡ may
+  rename_by : (old new : Name) (held : Bool) → has_any (rights_in view old) delete_mailbox ≡ held → (can : Bool) → can_move old new ≡ can → (selected may : Bool) → may_create view new ≡ may
       → (used : Bool) → has_within new view.taken ≡ used → (all : Bool) → can_all_arrive view old new ≡ all
-      → IsFit view (cond (not held) (refusal tag (missing_right_refusal (rights_in view old))) (cond (not can) (refusal tag Cannot) (cond (not may) (refusal tag NoPerm)
-      (cond used (refusal tag AlreadyExists) (cond all (done_with tag (Rename (owner_of view.site new) old new)) (refusal tag Limit))))))
-  rename_by old new false h can c may m used u all a = missing_right_fits view tag (rights_in view old)
-  rename_by old new true h false c may m used u all a = fits_alone view _ _ refl
-  rename_by old new true h true c false m used u all a = fits_alone view _ _ refl
-  rename_by old new true h true c true m true u all a = fits_alone view _ _ refl
-  rename_by old new true h true c true m false u false a = fits_alone view _ _ refl
-  rename_by old new true h true c true m false u true a =
+      → IsFit view (cond (not held) (refusal tag (missing_right_refusal (rights_in view old))) (cond (not can) (refusal tag Cannot) (cond selected (refusal tag InUse) (cond (not may) (refusal tag NoPerm)
+      (cond used (refusal tag AlreadyExists) (cond all (done_with tag (Rename (owner_of view.site new) old new)) (refusal tag Limit)))))))
+  rename_by old new false h can c selected may m used u all a = missing_right_fits view tag (rights_in view old)
+  rename_by old new true h false c selected may m used u all a = fits_alone view _ _ refl
+  rename_by old new true h true c true may m used u all a = fits_alone view _ _ refl
+  rename_by old new true h true c false false m used u all a = fits_alone view _ _ refl
+  rename_by old new true h true c false true m true u all a = fits_alone view _ _ refl
+  rename_by old new true h true c false true m false u false a = fits_alone view _ _ refl
+  rename_by old new true h true c false true m false u true a =
       fits_asking view tag (Rename (owner_of view.site new) old new)
       (refl, λ k. h k && (c k && (m k && (not (u k) && a k))))
 
-  rename_read : (old : Name) (new : Result Name Refusal) → IsRefusalFit new → IsFit view (rename_to view tag old new)
-  rename_read old (Err reason) fit = fits_alone view _ _ fit
-  rename_read old (Ok new) fit = rename_by old new _ refl _ refl _ refl _ refl _ refl
+  rename_read : (selected : Option Name) (old : Name) (new : Result Name Refusal) → IsRefusalFit new → IsFit view (rename_to view selected tag old new)
+  rename_read selected old (Err reason) fit = fits_alone view _ _ fit
+  rename_read selected old (Ok new) fit = rename_by old new _ refl _ refl (is_selected selected old) _ refl _ refl _ refl
 
-  pub rename_fits : (old new : List ℕ) → IsFit view (rename_answer view tag old new)
-  rename_fits old new =
-      fits_if_named view tag old (rename_of_name view tag new)
-      (λ old. rename_read old (new_name_read view.user new) (name_fit (name_read view.user new)))
+  pub rename_fits : (selected : Option Name) (old new : List ℕ) → IsFit view (rename_answer view selected tag old new)
+  rename_fits selected old new =
+      fits_if_named view tag old (rename_of_name view selected tag new)
+      (λ old. rename_read selected old (new_name_read view.user new) (name_fit (name_read view.user new)))

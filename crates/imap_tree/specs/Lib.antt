@@ -6,4 +6,5 @@ pub mod ListRights
 pub mod MyRights
 pub mod NewName
 pub mod Rename
+pub mod Selected
 pub mod SetAcl

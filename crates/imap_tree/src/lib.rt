@@ -13,6 +13,7 @@ mod list_rights;
 mod my_rights;
 mod new_name;
 mod rename;
+mod selected;
 mod set_acl;
 
 pub use create::create_answer;

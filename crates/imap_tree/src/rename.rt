@@ -1,6 +1,6 @@
 //! RENAME (RFC 9051, section 6.3.6).
 
-ghost use Rattle.std.specs.Prelude.{◌≡◌, true, IfOk, map};
+ghost use Rattle.std.specs.Prelude.{◌≡◌, true, option_copied, IfOk, map};
 ghost use Rattle.std.specs.List.{list_all};
 ghost use Rattle.imap_name_map.specs.Rows.{has_within};
 ghost use Rattle.imap_names.specs.Order.{is_within, moved};
@@ -11,6 +11,7 @@ ghost use Rattle.imap_view.specs.TreeAfter.{validities_left};
 ghost use Rattle.imap_world.specs.Moving.{can_arrive};
 
 use crate::new_name::read_new_name;
+use crate::selected::is_selected;
 use imap_answer::{Answer, Call, missing_right_refusal};
 use imap_lex::Octets;
 use imap_names::Name;
@@ -20,28 +21,46 @@ use imap_view::View;
 use imap_world::{Effect, can_move};
 use std::alloc::{AllocError, Global};
 
-/// Answers RENAME of a mailbox to a new name, both as they stand in the command.
-pub fn rename_answer(call: &Call<'_>, old: &Octets, new: &Octets) -> Result<Answer, AllocError>
-    ensures { let meant = specs.rename_answer call.now.view call.now.tag old.now new.now in
-        IfOk result (λ answer. answer ≡ meant) }
+/// Answers RENAME of a mailbox to a new name, both as they stand in the command, in a session that has
+/// selected `selected`.
+pub fn rename_answer(
+    call: &Call<'_>,
+    selected: Option<&Name>,
+    old: &Octets,
+    new: &Octets,
+) -> Result<Answer, AllocError>
+    ensures { let answer = specs.rename_answer call.now.view (option_copied selected.entry) call.now.tag in
+        IfOk result (λ given. given ≡ answer old.now new.now) }
 {
     match call.name(old)? {
-        Some(old) => rename_of_name(call, old, new),
+        Some(old) => rename_of_name(call, selected, old, new),
         None => call.refuse(Refusal::NonExistent),
     }
 }
 
-fn rename_of_name(call: &Call<'_>, old: Name, new: &Octets) -> Result<Answer, AllocError>
-    ensures { IfOk result (λ answer. answer ≡ specs.rename_of_name call.now.view call.now.tag new.now old) }
+fn rename_of_name(
+    call: &Call<'_>,
+    selected: Option<&Name>,
+    old: Name,
+    new: &Octets,
+) -> Result<Answer, AllocError>
+    ensures { let answer = specs.rename_of_name call.now.view (option_copied selected.entry) call.now.tag in
+        IfOk result (λ given. given ≡ answer new.now old) }
 {
     match read_new_name(call, new.as_slice())? {
-        Ok(new) => rename_of_names(call, old, new),
+        Ok(new) => rename_of_names(call, selected, old, new),
         Err(refusal) => call.refuse(refusal),
     }
 }
 
-fn rename_of_names(call: &Call<'_>, old: Name, new: Name) -> Result<Answer, AllocError>
-    ensures { IfOk result (λ answer. answer ≡ specs.rename_of_names call.now.view call.now.tag old new) }
+fn rename_of_names(
+    call: &Call<'_>,
+    selected: Option<&Name>,
+    old: Name,
+    new: Name,
+) -> Result<Answer, AllocError>
+    ensures { let answer = specs.rename_of_names call.now.view (option_copied selected.entry) call.now.tag in
+        IfOk result (λ given. given ≡ answer old new) }
 {
     let view = call.view();
     let rights = view.rights(&old.as_ref());
@@ -50,6 +69,9 @@ fn rename_of_names(call: &Call<'_>, old: Name, new: Name) -> Result<Answer, Allo
     }
     if !can_move(&old, &new) {
         return call.refuse(Refusal::Cannot);
+    }
+    if is_selected(selected, &old) {
+        return call.refuse(Refusal::InUse);
     }
     if !view.may_create(&new.as_ref()) {
         return call.refuse(Refusal::NoPerm);

@@ -16,7 +16,7 @@ use Rattle.imap_user_map.specs.Finite.{kept_entry}
 use Rattle.imap_world.specs.World.{World, NameSet}
 use Rattle.imap_user_map.proofs.KeptValues.{entries-keep}
 use Rattle.imap_view.specs.Listing.{names_below, known_among, seen_among}
-use Rattle.imap_view.specs.Seen.{seen_at}
+use Rattle.imap_view.specs.Seen.{Seen, seen_at}
 use Rattle.imap_view.specs.View.{View, view_of, may_know_name_in, if_true}
 
 abbrev known_entry : View → Name → Mailbox → Option (Unit {0})
@@ -60,6 +60,39 @@ module _ (view : View) (top : Name) where
       both false true rest = rest
       both false false rest = rest
 
+-- what is seen of a run is the run of what is seen
+seen_narrowed : (view : View) (top : Name) (es : List (Name × MailboxEntry)) → seen_among view (entries_below top es) ≡ entries_below top (seen_among view es)
+seen_narrowed view top [] = refl
+seen_narrowed view top (e ∷ es) = first (is_below top e.0) ∙ both (is_below top e.0) (seen_narrowed view top es) ∙ sym (kept (seen_at view.site view.user e.0 (plain e.1)))
+  where
+    entry : Option Seen → Option (Name × Seen)
+    entry o = option_map (λ seen. (e.0, seen)) o
+
+    seen : Option (Name × Seen)
+    seen = entry (seen_at view.site view.user e.0 (plain e.1))
+
+    later : List (Name × Seen)
+    later = seen_among view (entries_below top es)
+
+    narrowed : List (Name × Seen)
+    narrowed = entries_below top (seen_among view es)
+
+    first : (below : Bool) → seen_among view (cond below (e ∷ entries_below top es) (entries_below top es)) ≡ cond below (cons_option seen later) later
+    first true = refl
+    first false = refl
+
+    both : (below : Bool) → later ≡ narrowed → cond below (cons_option seen later) later ≡ cond below (cons_option seen narrowed) narrowed
+    both true rest = ap (cons_option seen) rest
+    both false rest = rest
+
+    alone : (below : Bool) → narrowed ≡ cond below narrowed narrowed
+    alone true = refl
+    alone false = refl
+
+    kept : (o : Option Seen) → entries_below top (cons_option (entry o) (seen_among view es)) ≡ cond (is_below top e.0) (cons_option (entry o) narrowed) narrowed
+    kept (Some s) = refl
+    kept None = alone (is_below top e.0)
+
 -- without their room
 seen_plain : (view : View) (es : List (Name × MailboxEntry)) → seen_among view es ≡ filter_map (kept_entry (seen_at view.site view.user)) (map plain_entry es)
 seen_plain view [] = refl
@@ -89,6 +122,9 @@ module _ (site : Site) (user : List ℕ) (world : World) (view : View) (is : vie
   names_seen m are =
       seen_plain view (fin.entries m) ∙ ap (filter_map (kept_entry (seen_at view.site view.user))) (sym (entries_plain m) ∙ ap fin.entries are)
       ∙ subst (λ v. filter_map (kept_entry (seen_at v.site v.user)) (fin.entries world.mailboxes) ≡ fin.entries v.seen) is (entries_seen site user world)
+
+  pub names_seen_below : (top : Name) (m : Names MailboxEntry) → plain_all m ≡ world.mailboxes → seen_among view (below_of top m) ≡ below_of top view.seen
+  names_seen_below top m are = seen_narrowed view top (fin.entries m) ∙ ap (entries_below top) (names_seen m are)
 
 -- ---- whether there is one
 

@@ -2,6 +2,7 @@
 pub mod After
 pub mod Listing
 pub mod MessagesAfter
+pub mod Readable
 pub mod RenameAfter
 pub mod Seen
 pub mod TreeAfter

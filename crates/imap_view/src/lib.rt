@@ -6,11 +6,13 @@
 
 mod climb;
 pub mod laws;
+mod readable;
 mod seen;
 mod seen_names;
 mod taken_names;
 mod view;
 
+pub use readable::Readable;
 pub use seen::Seen;
 pub use seen_names::SeenNames;
 pub use taken_names::TakenNames;

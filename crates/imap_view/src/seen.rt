@@ -128,7 +128,7 @@ impl<'a> Seen<'a> {
             || (self.rights.has_any(Rights::INSERT) || self.rights.has_any(Rights::ADMINISTER))
     }
 
-    fn messages(&self) -> &'a Mailbox
+    pub(crate) fn messages(&self) -> &'a Mailbox
         ensures { result.now ≡ self.now.mailbox.now.messages.value }
     {
         self.mailbox.messages.as_ref()

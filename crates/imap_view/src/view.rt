@@ -4,7 +4,7 @@ ghost use Rattle.std.specs.Prelude.{◌≡◌, false, nat_lt, option_copied, opt
 ghost use Rattle.std.specs.FinMap as map;
 ghost use Rattle.imap_names.specs.Name.{root_of};
 ghost use Rattle.imap_names.specs.Valid.{IsName};
-ghost use Rattle.imap_name_map.specs.Rows.{has_below};
+ghost use Rattle.imap_name_map.specs.Rows.{below_of, has_below};
 ghost use Rattle.imap_rights.specs.Rights.{bits};
 ghost use Rattle.imap_view.specs.Listing.{names_below};
 ghost use Rattle.imap_view.specs.Seen.{is_root, owner_by_root, owner_of, seen_at, shown};
@@ -123,6 +123,16 @@ impl<'a> View<'a> {
         SeenNames {
             from: View::new(self.world, self.site, self.user),
             mailboxes: self.world.mailboxes().entries(),
+        }
+    }
+
+    /// The mailboxes that the user sees below `name`, in the order of their names.
+    pub fn seen_below(&self, name: &NameRef<'_>) -> SeenNames<'a>
+        ensures { result ≡ below_of name.now self.now.seen }
+    {
+        SeenNames {
+            from: View::new(self.world, self.site, self.user),
+            mailboxes: self.world.mailboxes().entries_below(name),
         }
     }
 

@@ -13,10 +13,10 @@ pub returns-clause-create : goal.returns-clause-create
 returns-clause-create c = λ tag mailbox. answers_alike (λ view. create_answer view tag mailbox) (λ view. create_fits view tag mailbox)
 
 pub returns-clause-delete : goal.returns-clause-delete
-returns-clause-delete c = λ tag mailbox. answers_alike (λ view. delete_answer view tag mailbox) (λ view. delete_fits view tag mailbox)
+returns-clause-delete c = λ selected tag mailbox. answers_alike (λ view. delete_answer view selected tag mailbox) (λ view. delete_fits view tag selected mailbox)
 
 pub returns-clause-rename : goal.returns-clause-rename
-returns-clause-rename c = λ tag old new. answers_alike (λ view. rename_answer view tag old new) (λ view. rename_fits view tag old new)
+returns-clause-rename c = λ selected tag old new. answers_alike (λ view. rename_answer view selected tag old new) (λ view. rename_fits view tag selected old new)
 
 pub returns-clause-set_acl : goal.returns-clause-set_acl
 returns-clause-set_acl c = λ tag mailbox identifier rights.

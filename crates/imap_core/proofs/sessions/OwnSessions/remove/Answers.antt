@@ -1,6 +1,8 @@
 use Rattle.std.proofs.Common.{ap, ◌∙◌, arith, length}
 use Rattle.std.specs.FinMap as map
+use Rattle.imap_core.specs.Sessions.{states_of}
 use Rattle.imap_core.proofs.Numbered.{numbered-others, are_apart-others, length-others}
+use Rattle.imap_core.proofs.Opened.{states_others}
 use Rattle.imap_core.proofs.sessions.OwnSessions.remove.Goals as goal
 
 pub invariant_of-self : goal.invariant_of-self
@@ -11,4 +13,7 @@ invariant_of-self c = record {
 }
 
 pub returns : goal.returns
-returns c = ap map.from_entries c.take_out.ensures.items ∙ numbered-others _ _ ∙ ap (λ m. map.remove m c.args.number) c.self.view_is
+returns c =
+    let es = c.self.inside.entries.items in
+    ap (λ l. map.from_entries (states_of l)) c.take_out.ensures.items ∙ ap map.from_entries (states_others es c.args.number)
+    ∙ numbered-others (states_of es) c.args.number ∙ ap (λ m. map.remove m c.args.number) c.self.view_is
