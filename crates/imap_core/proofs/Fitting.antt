@@ -1,13 +1,15 @@
 -- What holds of what comes of a step: what it asks for may be asked for by its user, there is room for the session that
 -- it opens, a refusal changes nothing, and none is UNAVAILABLE.
-use Rattle.std.proofs.Common.{◌≡◌, ℕ, Bool, true, false, cond, List, [], ◌∷◌, Option, Some, None, is_some, inl, inr, refl, sym, ap, ◌∙◌, true≢false}
+use Rattle.std.proofs.Common.{◌≡◌, ℕ, Bool, true, false, cond, List, [], ◌∷◌, ◌++◌, ◌⊎◌, ◌||◌, Option, Some, None, is_some, inl, inr, refl, sym, ap, ◌∙◌, true≢false}
 use Rattle.std.specs.Prelude.{nat_le}
 use Rattle.std.proofs.lemmas.Bool.{leb-false}
 use Rattle.std.specs.List.{list_any}
 use Rattle.std.specs.FinMap as map
-use Rattle.imap_answer.specs.Answer.{Answer}
+use Rattle.imap_answer.specs.Answer.{Answer, carried_out, done, lines_of, preceded_by, refusal, refused_line}
 use Rattle.imap_answer.specs.Fit.{IsFit, IsViewed, MayBeAsked, is_refusal, is_unavailable}
-use Rattle.imap_answer.proofs.Fits.{fits_alone, fits_enabling}
+use Rattle.imap_answer.proofs.Fits.{fits_alone, fits_enabling, fits_preceded}
+use Rattle.imap_answer.specs.Name.{name_of_text}
+use Rattle.imap_answer.specs.Access.{missing_right_refusal}
 use Rattle.imap_grammar.specs.declared.request.Request.{Request}
 use Rattle.imap_grammar.specs.declared.request.Request.TheVariants as request
 use Rattle.imap_grammar.specs.declared.command.Command.{Command}
@@ -19,9 +21,18 @@ use Rattle.imap_print.specs.declared.enabled.EnabledCapabilities.{EnabledCapabil
 use Rattle.imap_print.specs.declared.response.Farewell.TheVariants.{LimitReached}
 use Rattle.imap_print.specs.declared.response.Response.{Response}
 use Rattle.imap_print.specs.declared.response.Response.TheVariants as response
-use Rattle.imap_session.specs.State.{SessionState, selected_name}
+use Rattle.imap_session.specs.Lost.{is_lost}
+use Rattle.imap_session.specs.Select.{closed_line, mailbox_lines, mode, refused_selecting, rights_to_change, select_answer, select_if_named, select_if_readable, selected_as}
+use Rattle.imap_session.specs.State.{Selection, SessionState, selected_name}
 use Rattle.imap_tree.proofs.Fitting as tree
-use Rattle.imap_view.specs.View.{View}
+use Rattle.imap_names.specs.Name.{Name}
+use Rattle.imap_print.specs.declared.response.Refusal.{Refusal}
+use Rattle.imap_print.specs.declared.response.Refusal.TheVariants.{Cannot, NonExistent, NoPerm, WrongState}
+use Rattle.imap_rights.specs.Rights.{has_any, lookup}
+use Rattle.imap_grammar.specs.declared.commands.select.SelectParameters.{SelectParameters}
+use Rattle.imap_view.specs.declared.readable.Readable.{Readable}
+use Rattle.imap_view.specs.Readable.{readable_in}
+use Rattle.imap_view.specs.View.{View, rights_in}
 use Rattle.imap_core.specs.declared.sessions.SessionEffect.TheVariants as session
 use Rattle.imap_core.specs.declared.step.Act.{Act}
 use Rattle.imap_core.specs.declared.step.Act.TheVariants as act
@@ -30,7 +41,9 @@ use Rattle.imap_core.specs.Machine.{outcome_for}
 use Rattle.imap_core.specs.Outcome.{Outcome, answered, said}
 use Rattle.imap_core.specs.Planned.{HasRoom}
 use Rattle.imap_core.specs.Commands.Session.{enabled_by_names, named_by}
-use Rattle.imap_core.specs.Reply.{command_answer, command_outcome, effect_of_enabling, enables_nothing, opened, reply_by_session, reply_when_closed, reply_when_open, request_outcome}
+use Rattle.imap_core.specs.Laws.{selects}
+use Rattle.imap_core.specs.Reply.{command_answer, command_outcome, effect_of_enabling, enables_nothing, has_parameters, highest_line, if_selected, kept, newly_enables_condstore, opened, outcome_of_answer, outcome_of_selecting, reply_by_session, reply_when_closed, reply_when_open, request_outcome}
+use Rattle.imap_core.specs.Reply.{select_outcome, selected_mailbox, unbuilt_outcome, unless_lost, unselect_outcome}
 use Rattle.imap_core.specs.Sessions.{Own, max_sessions}
 
 -- nothing is asked for, and the session stays
@@ -38,10 +51,15 @@ pub record IsIdle (outcome : Outcome) : Type 0 where
   pub session : outcome.session ≡ session.Keep
   pub effect : outcome.effect ≡ None
 
-pub record Fits (view : View) (own : Option Own) (number : ℕ) (outcome : Outcome) : Type 0 where
+-- nothing is asked for; and the session stays, or has no mailbox selected after SELECT or EXAMINE
+pub record IsRefused (what : Act) (outcome : Outcome) : Type 0 where
+  pub session : (outcome.session ≡ session.Keep) ⊎ ((selects what ≡ true) × (outcome.session ≡ session.Select None))
+  pub effect : outcome.effect ≡ None
+
+pub record Fits (view : View) (own : Option Own) (number : ℕ) (what : Act) (outcome : Outcome) : Type 0 where
   pub asks : IsViewed view → MayBeAsked view outcome.effect
   pub room : HasRoom own number outcome.session
-  pub refused : list_any is_refusal outcome.replies ≡ true → IsIdle outcome
+  pub refused : list_any is_refusal outcome.replies ≡ true → IsRefused what outcome
   pub available : list_any is_unavailable outcome.replies ≡ false
 
 room_to_keep : (own : Option Own) (number : ℕ) → HasRoom own number session.Keep
@@ -52,32 +70,55 @@ room_to_enable : (own : Option Own) (number : ℕ) (more : EnabledCapabilities) 
 room_to_enable None number more = tt
 room_to_enable (Some own) number more = tt
 
+room_to_select : (own : Option Own) (number : ℕ) (selection : Option Selection) → HasRoom own number (session.Select selection)
+room_to_select None number selection = tt
+room_to_select (Some own) number selection = tt
+
 room_to_end : (own : Option Own) (number : ℕ) → HasRoom own number session.End
 room_to_end None number = tt
 room_to_end (Some own) number = tt
 
-module _ (view : View) (own : Option Own) (number : ℕ) where
+module _ (view : View) (own : Option Own) (number : ℕ) (what : Act) where
   room_enabling : (nothing : Bool) (enables : EnabledCapabilities) → HasRoom own number (cond nothing session.Keep (session.Enable enables))
   room_enabling true enables = room_to_keep own number
   room_enabling false enables = room_to_enable own number enables
 
-  enabling_fits : (answer : Answer) → IsFit view answer → Fits view own number (answered answer (effect_of_enabling answer.enables))
+  enabling_fits : (answer : Answer) → IsFit view answer → Fits view own number what (answered answer (effect_of_enabling answer.enables))
   enabling_fits answer fit = record {
     asks = fit.asks;
     room = room_enabling (enables_nothing answer.enables) answer.enables;
-    refused = λ e. record { session = ap effect_of_enabling (fit.refused e).1; effect = (fit.refused e).0 };
+    refused = λ e. record { session = inl (ap effect_of_enabling (fit.refused e).1); effect = (fit.refused e).0 };
     available = fit.available;
   }
 
-  says : (replies : List Response) → list_any is_unavailable replies ≡ false → Fits view own number (said replies session.Keep)
+  kept_fits : (answer : Answer) → IsFit view answer → Fits view own number what (kept answer)
+  kept_fits answer fit = record {
+    asks = fit.asks;
+    room = room_to_keep own number;
+    refused = λ e. record { session = inl refl; effect = (fit.refused e).0 };
+    available = fit.available;
+  }
+
+  highest_fits : (answer : Answer) → IsFit view answer → (mailbox : Option Readable) → IsFit view (preceded_by (highest_line mailbox) answer)
+  highest_fits answer fit None = fits_preceded view [] answer refl refl fit
+  highest_fits answer fit (Some mailbox) = fits_preceded view (response.HighestModSeq mailbox.highest ∷ []) answer refl refl fit
+
+  answer_fits : (active : SessionState) (answer : Answer) → IsFit view answer → Fits view own number what (outcome_of_answer view active answer)
+  answer_fits active answer fit = by (newly_enables_condstore active answer)
+    where
+      by : (b : Bool) → Fits view own number what (answered (cond b (preceded_by (highest_line (selected_mailbox view active.selected)) answer) answer) (effect_of_enabling answer.enables))
+      by true = enabling_fits (preceded_by (highest_line (selected_mailbox view active.selected)) answer) (highest_fits answer fit (selected_mailbox view active.selected))
+      by false = enabling_fits answer fit
+
+  says : (replies : List Response) → list_any is_unavailable replies ≡ false → Fits view own number what (said replies session.Keep)
   says replies available = record {
     asks = λ _. tt;
     room = room_to_keep own number;
-    refused = λ e. record { session = refl; effect = refl };
+    refused = λ e. record { session = inl refl; effect = refl };
     available = available;
   }
 
-  ends : (replies : List Response) → list_any is_refusal replies ≡ false → list_any is_unavailable replies ≡ false → Fits view own number (said replies session.End)
+  ends : (replies : List Response) → list_any is_refusal replies ≡ false → list_any is_unavailable replies ≡ false → Fits view own number what (said replies session.End)
   ends replies carried_out available = record {
     asks = λ _. tt;
     room = room_to_end own number;
@@ -85,74 +126,160 @@ module _ (view : View) (own : Option Own) (number : ℕ) where
     available = available;
   }
 
-  -- ---- commands
+  -- ---- mailboxes that are selected
 
-  answer_fits : (active : SessionState) (tag : List ℕ) (at : Moment) (what : Command) → IsFit view (command_answer view active tag at what)
-  answer_fits active tag at command.Capability = fits_alone view _ _ refl
-  answer_fits active tag at command.Noop = fits_alone view _ _ refl
-  answer_fits active tag at command.Logout = fits_alone view _ _ refl
-  answer_fits active tag at command.Authenticate = fits_alone view _ _ refl
-  answer_fits active tag at command.Namespace = list.namespace_fits view tag
-  answer_fits active tag at (command.List selection reference patterns returns) =
+  selects_nothing : (answer : Answer) → IsFit view answer → list_any is_refusal (lines_of answer) ≡ false → Fits view own number what (answered answer (session.Select None))
+  selects_nothing answer fit carried_out = record {
+    asks = fit.asks;
+    room = room_to_select own number None;
+    refused = λ e. absurd (true≢false (sym e ∙ carried_out));
+    available = fit.available;
+  }
+
+  selected_fits : (active : SessionState) (tag : List ℕ) (outcome : Outcome) → Fits view own number what outcome → (selected : Option Selection) → Fits view own number what (if_selected selected tag outcome)
+  selected_fits active tag outcome fit None = kept_fits (refusal tag WrongState) (fits_alone view _ _ refl)
+  selected_fits active tag outcome fit (Some s) = fit
+
+  module _ (asked : selects what ≡ true) (active : SessionState) (tag : List ℕ) (read_only : Bool) where
+    selecting_fits : (name : Name) (mailbox : Readable) (old : Option Selection) → Fits view own number what
+        (answered (preceded_by (closed_line old) (carried_out (mailbox_lines view name (rights_to_change read_only (rights_in view name)) mailbox) tag (Some (mode read_only (rights_in view name))) None))
+        (session.Select (Some (selected_as name read_only mailbox))))
+    selecting_fits name mailbox None = record {
+      asks = λ _. tt;
+      room = room_to_select own number _;
+      refused = λ e. absurd (true≢false (sym e));
+      available = refl;
+    }
+    selecting_fits name mailbox (Some s) = record {
+      asks = λ _. tt;
+      room = room_to_select own number _;
+      refused = λ e. absurd (true≢false (sym e));
+      available = refl;
+    }
+
+    refused_fits : (reason : Refusal) → is_unavailable (refused_line tag reason) ≡ false → (old : Option Selection) → Fits view own number what (answered (preceded_by (closed_line old) (refusal tag reason)) (session.Select None))
+    refused_fits reason available None = record {
+      asks = λ _. tt;
+      room = room_to_select own number None;
+      refused = λ e. record { session = inr (asked, refl); effect = refl };
+      available = ap (λ b. b || false) available;
+    }
+    refused_fits reason available (Some s) = record {
+      asks = λ _. tt;
+      room = room_to_select own number None;
+      refused = λ e. record { session = inr (asked, refl); effect = refl };
+      available = ap (λ b. b || false) available;
+    }
+
+    missing_is_available : (held : Bool) → is_unavailable (refused_line tag (cond held NoPerm NonExistent)) ≡ false
+    missing_is_available true = refl
+    missing_is_available false = refl
+
+    readable_fits : (name : Name) (mailbox : Option Readable) → Fits view own number what (outcome_of_selecting (select_if_readable view active tag read_only name mailbox))
+    readable_fits name None = refused_fits (missing_right_refusal (rights_in view name)) (missing_is_available (has_any (rights_in view name) lookup)) active.selected
+    readable_fits name (Some mailbox) = selecting_fits name mailbox active.selected
+
+    named_fits : (name : Option Name) → Fits view own number what (outcome_of_selecting (select_if_named view active tag read_only name))
+    named_fits None = refused_fits NonExistent refl active.selected
+    named_fits (Some name) = readable_fits name (readable_in view name)
+
+    select_by : (mailbox : List ℕ) (parameters : Bool) → Fits view own number what (outcome_of_selecting (cond parameters (refused_selecting active tag Cannot) (select_answer view active tag read_only mailbox)))
+    select_by mailbox true = refused_fits Cannot refl active.selected
+    select_by mailbox false = named_fits (name_of_text view mailbox)
+
+    select_fits : (mailbox : List ℕ) (parameters : SelectParameters) → Fits view own number what (select_outcome view active tag read_only mailbox parameters)
+    select_fits mailbox parameters = select_by mailbox (has_parameters parameters)
+
+-- ---- commands
+
+module _ (view : View) where
+  command_fits : (active : SessionState) (tag : List ℕ) (at : Moment) (what : Command) → IsFit view (command_answer view active tag at what)
+  command_fits active tag at command.Capability = fits_alone view _ _ refl
+  command_fits active tag at command.Noop = fits_alone view _ _ refl
+  command_fits active tag at command.Authenticate = fits_alone view _ _ refl
+  command_fits active tag at command.Namespace = list.namespace_fits view tag
+  command_fits active tag at (command.List selection reference patterns returns) =
       list.list_fits view tag (record { selection = selection; reference = reference; patterns = patterns; returns = returns })
-  answer_fits active tag at (command.Subscribe mailbox) = list.subscribe_fits view tag mailbox
-  answer_fits active tag at (command.Unsubscribe mailbox) = list.unsubscribe_fits view tag mailbox
-  answer_fits active tag at (command.Create mailbox) = tree.create_fits view tag mailbox
-  answer_fits active tag at (command.Delete mailbox) = tree.delete_fits view tag (selected_name active) mailbox
-  answer_fits active tag at (command.Rename from to) = tree.rename_fits view tag (selected_name active) from to
-  answer_fits active tag at (command.Enable words) = fits_enabling view (enabled_by_names (named_by words)) _ refl (fits_alone view _ _ refl)
-  answer_fits active tag at (command.Status mailbox items) = list.status_fits view tag mailbox items
-  answer_fits active tag at (command.Append mailbox flags date message) =
+  command_fits active tag at (command.Subscribe mailbox) = list.subscribe_fits view tag mailbox
+  command_fits active tag at (command.Unsubscribe mailbox) = list.unsubscribe_fits view tag mailbox
+  command_fits active tag at (command.Create mailbox) = tree.create_fits view tag mailbox
+  command_fits active tag at (command.Delete mailbox) = tree.delete_fits view tag (selected_name active) mailbox
+  command_fits active tag at (command.Rename from to) = tree.rename_fits view tag (selected_name active) from to
+  command_fits active tag at (command.Enable words) = fits_enabling view (enabled_by_names (named_by words)) _ refl (fits_alone view _ _ refl)
+  command_fits active tag at (command.Status mailbox items) = list.status_fits view tag mailbox items
+  command_fits active tag at (command.Append mailbox flags date message) =
       messages.append_fits view tag at (record { mailbox = mailbox; flags = flags; date = date; message = message })
-  answer_fits active tag at (command.SetAcl mailbox identifier rights) = tree.set_acl_fits view tag mailbox identifier rights
-  answer_fits active tag at (command.DeleteAcl mailbox identifier) = tree.delete_acl_fits view tag mailbox identifier
-  answer_fits active tag at (command.GetAcl mailbox) = tree.get_acl_fits view tag mailbox
-  answer_fits active tag at (command.ListRights mailbox identifier) = tree.list_rights_fits view tag mailbox identifier
-  answer_fits active tag at (command.MyRights mailbox) = tree.my_rights_fits view tag mailbox
-  answer_fits active tag at _ = fits_alone view _ _ refl
+  command_fits active tag at (command.SetAcl mailbox identifier rights) = tree.set_acl_fits view tag mailbox identifier rights
+  command_fits active tag at (command.DeleteAcl mailbox identifier) = tree.delete_acl_fits view tag mailbox identifier
+  command_fits active tag at (command.GetAcl mailbox) = tree.get_acl_fits view tag mailbox
+  command_fits active tag at (command.ListRights mailbox identifier) = tree.list_rights_fits view tag mailbox identifier
+  command_fits active tag at (command.MyRights mailbox) = tree.my_rights_fits view tag mailbox
+  command_fits active tag at _ = fits_alone view _ _ refl
 
-  command_fits : (active : SessionState) (tag : List ℕ) (at : Moment) (what : Command) → Fits view own number (command_outcome view active tag at what)
-  command_fits active tag at command.Logout = ends _ refl refl
-  command_fits active tag at what = enabling_fits (command_answer view active tag at what) (answer_fits active tag at what)
+module _ (view : View) (own : Option Own) (number : ℕ) where
+  unselect_fits : (what : Act) (tag : List ℕ) (active : SessionState) → Fits view own number what (unselect_outcome active tag)
+  unselect_fits what tag active = selected_fits view own number what active tag _ (selects_nothing view own number what (done tag) (fits_alone view _ _ refl) refl) active.selected
 
-  request_fits : (active : SessionState) (at : Moment) (what : Request) → Fits view own number (request_outcome view active at what)
-  request_fits active at (request.Command tag what) = command_fits active tag at what
-  request_fits active at (request.Malformed tag) = says _ refl
-  request_fits active at (request.TooBig tag) = says _ refl
+  unbuilt_fits : (what : Act) (tag : List ℕ) (active : SessionState) → Fits view own number what (unbuilt_outcome active tag)
+  unbuilt_fits what tag active = selected_fits view own number what active tag _ (kept_fits view own number what (refusal tag Cannot) (fits_alone view _ _ refl)) active.selected
+
+  outcome_of_command_fits : (active : SessionState) (tag : List ℕ) (at : Moment) (asked : Command) → Fits view own number (act.Do (request.Command tag asked)) (command_outcome view active tag at asked)
+  outcome_of_command_fits active tag at command.Logout = ends view own number _ _ refl refl
+  outcome_of_command_fits active tag at (command.Select mailbox parameters) = select_fits view own number _ refl active tag false mailbox parameters
+  outcome_of_command_fits active tag at (command.Examine mailbox parameters) = select_fits view own number _ refl active tag true mailbox parameters
+  outcome_of_command_fits active tag at command.Unselect = unselect_fits _ tag active
+  outcome_of_command_fits active tag at command.Close = unbuilt_fits _ tag active
+  outcome_of_command_fits active tag at command.Expunge = unbuilt_fits _ tag active
+  outcome_of_command_fits active tag at (command.UidExpunge messages) = unbuilt_fits _ tag active
+  outcome_of_command_fits active tag at (command.Search numbering returns charset keys) = unbuilt_fits _ tag active
+  outcome_of_command_fits active tag at (command.Fetch numbering messages items since vanished) = unbuilt_fits _ tag active
+  outcome_of_command_fits active tag at (command.Store numbering messages store) = unbuilt_fits _ tag active
+  outcome_of_command_fits active tag at (command.Copy numbering messages mailbox) = unbuilt_fits _ tag active
+  outcome_of_command_fits active tag at (command.Move numbering messages mailbox) = unbuilt_fits _ tag active
+  outcome_of_command_fits active tag at asked = answer_fits view own number _ active (command_answer view active tag at asked) (command_fits view active tag at asked)
+
+  request_fits : (active : SessionState) (at : Moment) (asked : Request) → Fits view own number (act.Do asked) (request_outcome view active at asked)
+  request_fits active at (request.Command tag asked) = outcome_of_command_fits active tag at asked
+  request_fits active at (request.Malformed tag) = says view own number _ _ refl
+  request_fits active at (request.TooBig tag) = says view own number _ _ refl
 
 -- ---- sessions
 
 module _ (view : View) (own : Own) (number : ℕ) where
-  opening : HasRoom (Some own) number session.Open → Fits view (Some own) number opened
-  opening room = record {
+  opening : (what : Act) → HasRoom (Some own) number session.Open → Fits view (Some own) number what opened
+  opening what room = record {
     asks = λ _. tt;
     room = room;
     refused = λ e. absurd (true≢false (sym e));
     available = refl;
   }
 
-  open_fits : map.contains_key own number ≡ true → (active : SessionState) (at : Moment) (what : Act) → Fits view (Some own) number (reply_when_open view active at what)
-  open_fits is active at act.Open = opening (inr is)
-  open_fits is active at (act.Do what) = request_fits view (Some own) number active at what
-  open_fits is active at act.Poll = says view (Some own) number [] refl
-  open_fits is active at act.Done = says view (Some own) number _ refl
-  open_fits is active at act.Leave = ends view (Some own) number [] refl refl
+  unless_lost_fits : (what : Act) (outcome : Outcome) → Fits view (Some own) number what outcome → (is : Bool) → Fits view (Some own) number what (unless_lost is outcome)
+  unless_lost_fits what outcome fit true = ends view (Some own) number what _ refl refl
+  unless_lost_fits what outcome fit false = fit
 
-  by_count : (b : Bool) → nat_le max_sessions (map.len own) ≡ b → Fits view (Some own) number (cond b (said (response.Bye LimitReached ∷ []) session.Keep) opened)
-  by_count true e = says view (Some own) number _ refl
-  by_count false e = opening (inl (leb-false max_sessions (map.len own) e))
+  open_fits : map.contains_key own number ≡ true → (active : SessionState) (at : Moment) (what : Act) → Fits view (Some own) number what (reply_when_open view active at what)
+  open_fits is active at act.Open = opening act.Open (inr is)
+  open_fits is active at (act.Do asked) = unless_lost_fits (act.Do asked) _ (request_fits view (Some own) number active at asked) (is_lost view active)
+  open_fits is active at act.Poll = unless_lost_fits act.Poll _ (says view (Some own) number act.Poll [] refl) (is_lost view active)
+  open_fits is active at act.Done = unless_lost_fits act.Done _ (says view (Some own) number act.Done _ refl) (is_lost view active)
+  open_fits is active at act.Leave = ends view (Some own) number act.Leave [] refl refl
 
-  closed_fits : (what : Act) → Fits view (Some own) number (reply_when_closed own what)
+  by_count : (b : Bool) → nat_le max_sessions (map.len own) ≡ b → Fits view (Some own) number act.Open (cond b (said (response.Bye LimitReached ∷ []) session.Keep) opened)
+  by_count true e = says view (Some own) number act.Open _ refl
+  by_count false e = opening act.Open (inl (leb-false max_sessions (map.len own) e))
+
+  closed_fits : (what : Act) → Fits view (Some own) number what (reply_when_closed own what)
   closed_fits act.Open = by_count _ refl
-  closed_fits (act.Do what) = says view (Some own) number [] refl
-  closed_fits act.Poll = says view (Some own) number [] refl
-  closed_fits act.Done = says view (Some own) number [] refl
-  closed_fits act.Leave = says view (Some own) number [] refl
+  closed_fits (act.Do asked) = says view (Some own) number (act.Do asked) [] refl
+  closed_fits act.Poll = says view (Some own) number act.Poll [] refl
+  closed_fits act.Done = says view (Some own) number act.Done [] refl
+  closed_fits act.Leave = says view (Some own) number act.Leave [] refl
 
-  by_session : (step : Step) (active : Option SessionState) → map.get own number ≡ active → Fits view (Some own) number (reply_by_session view own step active)
+  by_session : (step : Step) (active : Option SessionState) → map.get own number ≡ active → Fits view (Some own) number step.act (reply_by_session view own step active)
   by_session step None e = closed_fits step.act
   by_session step (Some active) e = open_fits (ap is_some e) active step.at step.act
 
-pub outcome_fits : (view : View) (own : Option Own) (step : Step) → Fits view own step.who.number (outcome_for view own step)
-outcome_fits view None step = says view None step.who.number [] refl
+pub outcome_fits : (view : View) (own : Option Own) (step : Step) → Fits view own step.who.number step.act (outcome_for view own step)
+outcome_fits view None step = says view None step.who.number step.act [] refl
 outcome_fits view (Some own) step = by_session view own step.who.number step _ refl

@@ -9,9 +9,11 @@ use Rattle.imap_core.specs.declared.step.Act.{Act}
 use Rattle.imap_core.specs.declared.step.Act.TheVariants as act
 use Rattle.imap_core.specs.declared.step.Step.{Step}
 use Rattle.imap_core.specs.Machine.{State, outcome_for, answer, next, view_in, own_in}
-use Rattle.imap_core.specs.Reply.{reply_by_session}
+use Rattle.imap_core.specs.Outcome.{silence}
+use Rattle.imap_core.specs.Reply.{reply_by_session, unless_lost}
 use Rattle.imap_core.specs.Sessions.{Own}
 use Rattle.imap_core.specs.Trace.{Event, Acts, Sees, is_quiet, with_replies, trace, transcript, same_view, EqualViewsAreSame, Isolation}
+use Rattle.imap_session.specs.Lost.{is_lost}
 use Rattle.imap_session.specs.State.{SessionState}
 use Rattle.imap_view.specs.View.{View, view_code}
 use Rattle.imap_world.specs.Kept.{AreKept}
@@ -43,29 +45,33 @@ quiet_act act.Poll (reply ∷ replies) e = absurd (true≢false (sym e))
 quiet_act act.Done replies e = absurd (true≢false (sym e))
 quiet_act act.Leave replies e = absurd (true≢false (sym e))
 
--- a poll asks for nothing and leaves the session
-polled : (view : View) (own : Option Own) (step : Step) (what : Act) → what ≡ act.Poll → IsIdle (outcome_for view own (record step { act = what }))
-polled view None step what e = record { session = refl; effect = refl }
-polled view (Some own) step act.Open e = absurd (cc)
-polled view (Some own) step (act.Do request) e = absurd (cc)
-polled view (Some own) step act.Poll e = by (map.get own step.who.number)
+-- a poll to which nothing is answered asks for nothing and leaves the session
+polled : (view : View) (own : Option Own) (step : Step) (what : Act) → what ≡ act.Poll → (outcome_for view own (record step { act = what })).replies ≡ [] → IsIdle (outcome_for view own (record step { act = what }))
+polled view None step what e quiet = record { session = refl; effect = refl }
+polled view (Some own) step act.Open e quiet = absurd (cc)
+polled view (Some own) step (act.Do request) e quiet = absurd (cc)
+polled view (Some own) step act.Poll e quiet = by (map.get own step.who.number) quiet
   where
-    by : (active : Option SessionState) → IsIdle (reply_by_session view own (record step { act = act.Poll }) active)
-    by None = record { session = refl; effect = refl }
-    by (Some active) = record { session = refl; effect = refl }
-polled view (Some own) step act.Done e = absurd (cc)
-polled view (Some own) step act.Leave e = absurd (cc)
+    unless : (is : Bool) → (unless_lost is silence).replies ≡ [] → IsIdle (unless_lost is silence)
+    unless true quiet = absurd (cc quiet)
+    unless false quiet = record { session = refl; effect = refl }
+
+    by : (active : Option SessionState) → (reply_by_session view own (record step { act = act.Poll }) active).replies ≡ [] → IsIdle (reply_by_session view own (record step { act = act.Poll }) active)
+    by None quiet = record { session = refl; effect = refl }
+    by (Some active) quiet = unless (is_lost view active) quiet
+polled view (Some own) step act.Done e quiet = absurd (cc)
+polled view (Some own) step act.Leave e quiet = absurd (cc)
 
 kept_own : (own : Option Own) (number : ℕ) → own_after_change own number session.Keep ≡ own
 kept_own None number = refl
 kept_own (Some own) number = refl
 
-module _ (view : View) (own : Option Own) (step : Step) (quiet : step.act ≡ act.Poll) where
+module _ (view : View) (own : Option Own) (step : Step) (quiet : step.act ≡ act.Poll) (nothing : (outcome_for view own step).replies ≡ []) where
   quiet_own : own_after view own step ≡ own
-  quiet_own = ap (own_after_change own step.who.number) (polled view own step step.act quiet).session ∙ kept_own own step.who.number
+  quiet_own = ap (own_after_change own step.who.number) (polled view own step step.act quiet nothing).session ∙ kept_own own step.who.number
 
   quiet_view : view_next view own step ≡ view
-  quiet_view = ap (λ asked. view_after_asking asked view) (polled view own step step.act quiet).effect
+  quiet_view = ap (λ asked. view_after_asking asked view) (polled view own step step.act quiet nothing).effect
 
 -- ---- along a run
 
@@ -85,8 +91,8 @@ module _ (state : State) (step : Step) (steps : List Step) (kept : AreKept state
       let quiet = quiet_act step.act (answer state step) e in
       ap (λ replies. with_replies step.who.number replies (transcript user after steps)) quiet.1 ∙ rest
       ∙ λ i. replay
-      ((view_in-next state step kept ∙ quiet_view (view_in state user) (own_in state user) step quiet.0) i)
-      ((own_in-next state step ∙ quiet_own (view_in state user) (own_in state user) step quiet.0) i) (trace user after steps)
+      ((view_in-next state step kept ∙ quiet_view (view_in state user) (own_in state user) step quiet.0 quiet.1) i)
+      ((own_in-next state step ∙ quiet_own (view_in state user) (own_in state user) step quiet.0 quiet.1) i) (trace user after steps)
   own_step rest false e =
       ap (with_replies step.who.number (answer state step)) (rest ∙ λ i. replay (view_in-next state step kept i) (own_in-next state step i) (trace step.who.user after steps))
 

@@ -1,5 +1,5 @@
 -- What holds of one step.
-use Rattle.std.proofs.Common.{◌≡◌, ℕ, Bool, true, false, cond, ◌&&◌, eqb, List, Option, Some, None, refl, sym, ap, subst, ◌∙◌, arith}
+use Rattle.std.proofs.Common.{◌≡◌, ℕ, Bool, true, false, cond, ◌&&◌, ◌⊎◌, inl, inr, eqb, List, Option, Some, None, refl, sym, ap, subst, ◌∙◌, arith}
 use Rattle.std.specs.Prelude.{option_and_then}
 use Rattle.std.specs.Ordering.{nat_cmp, eq_by_cmp}
 use Rattle.std.specs.Str.{bytes_eq}
@@ -15,17 +15,16 @@ use Rattle.imap_world.specs.declared.effect.Effect.{Effect}
 use Rattle.imap_world.specs.Effects.{after_all}
 use Rattle.imap_world.specs.Kept.{AreKept}
 use Rattle.imap_world.specs.World.{World}
-use Rattle.imap_print.specs.declared.enabled.EnabledCapabilities.{EnabledCapabilities}
-use Rattle.imap_session.specs.State.{SessionState, new_session, with_enabled}
+use Rattle.imap_session.specs.State.{SessionState, new_session}
 use Rattle.imap_core.specs.declared.sessions.SessionEffect.{SessionEffect}
 use Rattle.imap_core.specs.declared.sessions.SessionEffect.TheVariants as session
-use Rattle.imap_core.specs.Laws.{EffectsAreMade, IsMadeIfAsked, NeverUnavailable, OtherSessionsStay, OtherUsersStay, RefusalsChangeNothing, StepsAreAlike}
+use Rattle.imap_core.specs.Laws.{EffectsAreMade, IsMadeIfAsked, NeverUnavailable, OtherSessionsStay, OtherUsersStay, RefusalsChangeNothing, StepsAreAlike, selects, unselected}
 use Rattle.imap_answer.proofs.Alike.{viewed}
 use Rattle.imap_answer.specs.Alike.{effects_of}
 use Rattle.imap_answer.specs.Fit.{MayBeAsked}
 use Rattle.imap_core.specs.Machine.{accounts_after, next, outcome, outcome_for, own_in, view_in}
-use Rattle.imap_core.specs.Sessions.{Own, enabled_if_open}
-use Rattle.imap_core.proofs.Fitting.{outcome_fits}
+use Rattle.imap_core.specs.Sessions.{Own, edited, edited_if_open}
+use Rattle.imap_core.proofs.Fitting.{IsRefused, outcome_fits}
 use Rattle.imap_core.proofs.Numbered.{at_number}
 use Rattle.imap_core.proofs.Steps.{kept_next, own_after, own_after_change, own_in-next, own_in-other, view_in-next, view_next}
 
@@ -56,15 +55,16 @@ put_elsewhere : (own : Own) (changed number : ℕ) (fresh : SessionState) → eq
 put_elsewhere own changed number fresh apart =
     get-insert nat_cmp_total own changed fresh number ∙ ap (λ b. cond b (Some fresh) (map.get own number)) (apart_from changed number apart)
 
-enabled_elsewhere : (own : Own) (changed number : ℕ) (more : EnabledCapabilities) (session : Option SessionState) → eqb changed number ≡ false → map.get (enabled_if_open changed more own session) number ≡ map.get own number
-enabled_elsewhere own changed number more None apart = refl
-enabled_elsewhere own changed number more (Some session) apart = put_elsewhere own changed number (with_enabled more session) apart
+edited_elsewhere : (own : Own) (changed number : ℕ) (change : SessionEffect) (state : Option SessionState) → eqb changed number ≡ false → map.get (edited_if_open changed change own state) number ≡ map.get own number
+edited_elsewhere own changed number change None apart = refl
+edited_elsewhere own changed number change (Some state) apart = put_elsewhere own changed number (edited change state) apart
 
 other_number : (own : Option Own) (changed number : ℕ) (change : SessionEffect) → eqb changed number ≡ false → of_number number (own_after_change own changed change) ≡ of_number number own
 other_number None changed number change apart = refl
 other_number (Some own) changed number session.Keep apart = refl
 other_number (Some own) changed number session.Open apart = put_elsewhere own changed number new_session apart
-other_number (Some own) changed number (session.Enable more) apart = enabled_elsewhere own changed number more (map.get own changed) apart
+other_number (Some own) changed number (session.Enable more) apart = edited_elsewhere own changed number (session.Enable more) (map.get own changed) apart
+other_number (Some own) changed number (session.Select selection) apart = edited_elsewhere own changed number (session.Select selection) (map.get own changed) apart
 other_number (Some own) changed number session.End apart =
     get-remove nat_cmp_total own changed number ∙ ap (λ b. cond b None (map.get own number)) (apart_from changed number apart)
 
@@ -103,13 +103,22 @@ effects_made state step kept =
 -- ---- refusals
 
 pub refusals_change : RefusalsChangeNothing
-refusals_change state step refused =
-    let idle = (outcome_fits (view_in state step.who.user) (own_in state step.who.user) step).refused refused in
-    λ i. record {
+refusals_change state step refused = by fits.session
+  where
+    fits : IsRefused step.act (outcome state step)
+    fits = (outcome_fits (view_in state step.who.user) (own_in state step.who.user) step).refused refused
+
+    made : (change : SessionEffect) → (outcome state step).session ≡ change → next state step ≡ record { site = state.site; world = state.world; accounts = accounts_after state.accounts step.who change }
+    made change is = λ i. record {
       site = state.site;
-      world = after_all (effects_of (idle.effect i)) state.world;
-      accounts = accounts_after state.accounts step.who (idle.session i);
+      world = after_all (effects_of (fits.effect i)) state.world;
+      accounts = accounts_after state.accounts step.who (is i);
     }
+
+    by : ((outcome state step).session ≡ session.Keep) ⊎ ((selects step.act ≡ true) × ((outcome state step).session ≡ session.Select None))
+        → (next state step ≡ state) ⊎ ((selects step.act ≡ true) × (next state step ≡ unselected state step.who))
+    by (inl is) = inl (made session.Keep is)
+    by (inr closed) = inr (closed.0, made (session.Select None) closed.1)
 
 pub available : NeverUnavailable
 available state step = (outcome_fits (view_in state step.who.user) (own_in state step.who.user) step).available

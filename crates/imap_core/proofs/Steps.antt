@@ -77,6 +77,7 @@ accounts_after_here : (accounts : Accounts) (who : SessionId) (effect : SessionE
 accounts_after_here accounts who session.Keep own is = kept_here accounts who own is
 accounts_after_here accounts who session.Open own is = accounts_with_here accounts who session.Open own is
 accounts_after_here accounts who (session.Enable more) own is = accounts_with_here accounts who (session.Enable more) own is
+accounts_after_here accounts who (session.Select selection) own is = accounts_with_here accounts who (session.Select selection) own is
 accounts_after_here accounts who session.End own is = accounts_with_here accounts who session.End own is
 
 accounts_with_there : (accounts : Accounts) (who : SessionId) (other : List ℕ) (effect : SessionEffect) → bytes_eq other who.user ≡ false → map.get (accounts_with accounts who effect) other ≡ map.get accounts other
@@ -86,6 +87,7 @@ accounts_after_there : (accounts : Accounts) (who : SessionId) (other : List ℕ
 accounts_after_there accounts who other session.Keep apart = refl
 accounts_after_there accounts who other session.Open apart = accounts_with_there accounts who other session.Open apart
 accounts_after_there accounts who other (session.Enable more) apart = accounts_with_there accounts who other (session.Enable more) apart
+accounts_after_there accounts who other (session.Select selection) apart = accounts_with_there accounts who other (session.Select selection) apart
 accounts_after_there accounts who other session.End apart = accounts_with_there accounts who other session.End apart
 
 -- the acting user's sessions after a step are a function of those before, the view and the step

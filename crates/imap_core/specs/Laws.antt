@@ -1,16 +1,24 @@
 -- What holds of every step.
-use Rattle.std.specs.Prelude.{◌≡◌, ℕ, true, false, ◌==◌, ◌&&◌, List, Option, Some, None}
+use Rattle.std.specs.Prelude.{◌≡◌, ◌⊎◌, ℕ, Bool, true, false, ◌==◌, ◌&&◌, List, Option, Some, None}
 use Rattle.std.specs.Prelude.{bytes_eq, option_and_then}
 use Rattle.std.specs.List.{list_any}
 use Rattle.std.specs.FinMap as map
 use Rattle.imap_answer.specs.Fit.{is_refusal, is_unavailable}
 use Rattle.imap_session.specs.State.{SessionState}
+use Rattle.imap_grammar.specs.declared.command.Command.{Command}
+use Rattle.imap_grammar.specs.declared.command.Command.TheVariants as command
+use Rattle.imap_grammar.specs.declared.request.Request.{Request}
+use Rattle.imap_grammar.specs.declared.request.Request.TheVariants as request
+use Rattle.imap_core.specs.declared.session_id.SessionId.{SessionId}
+use Rattle.imap_core.specs.declared.sessions.SessionEffect.TheVariants as session
+use Rattle.imap_core.specs.declared.step.Act.{Act}
+use Rattle.imap_core.specs.declared.step.Act.TheVariants as act
 use Rattle.imap_core.specs.declared.step.Step.{Step}
 use Rattle.imap_view.specs.After.{DifferInHidden, IsMade}
 use Rattle.imap_world.specs.declared.effect.Effect.{Effect}
 use Rattle.imap_world.specs.Kept.{AreKept}
 use Rattle.imap_world.specs.World.{World}
-use Rattle.imap_core.specs.Machine.{State, answer, next, outcome, own_in}
+use Rattle.imap_core.specs.Machine.{State, accounts_with, answer, next, outcome, own_in}
 use Rattle.imap_core.specs.Trace.{Alike}
 
 -- A step in two states that are alike to its user is answered alike, and leaves them alike to that user.
@@ -44,10 +52,34 @@ abbrev pub EffectsAreMade : Type 0
 EffectsAreMade = (state : State) (step : Step)
     → AreKept state.world.mailboxes → IsMadeIfAsked (outcome state step).effect state.world
 
--- A step that is answered by a refusal changes nothing.
+-- SELECT or EXAMINE
+abbrev pub is_select : Command → Bool
+is_select (command.Select mailbox parameters) = true
+is_select (command.Examine mailbox parameters) = true
+is_select _ = false
+
+abbrev pub requests_select : Request → Bool
+requests_select (request.Command tag command) = is_select command
+requests_select _ = false
+
+abbrev pub selects : Act → Bool
+selects (act.Do request) = requests_select request
+selects _ = false
+
+-- a session has no mailbox selected
+abbrev pub unselected : State → SessionId → State
+unselected state who = record {
+  site = state.site;
+  world = state.world;
+  accounts = accounts_with state.accounts who (session.Select None);
+}
+
+-- A step that is answered by a refusal changes nothing; but a refused SELECT or EXAMINE leaves no mailbox
+-- selected in its session (RFC 9051, section 6.3.2).
 abbrev pub RefusalsChangeNothing : Type 0
-RefusalsChangeNothing = (state : State) (step : Step)
-    → list_any is_refusal (answer state step) ≡ true → next state step ≡ state
+RefusalsChangeNothing = (state : State) (step : Step) → list_any is_refusal (answer state step) ≡ true
+    → (next state step ≡ state)
+    ⊎ ((selects step.act ≡ true) × (next state step ≡ unselected state step.who))
 
 -- UNAVAILABLE (RFC 5530) is for a host to say, when it can't save a change.
 abbrev pub NeverUnavailable : Type 0

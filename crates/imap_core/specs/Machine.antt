@@ -72,6 +72,8 @@ abbrev pub accounts_after : Accounts → SessionId → SessionEffect → Account
 accounts_after accounts who session.Keep = accounts
 accounts_after accounts who session.Open = accounts_with accounts who session.Open
 accounts_after accounts who (session.Enable more) = accounts_with accounts who (session.Enable more)
+accounts_after accounts who (session.Select selection) =
+    accounts_with accounts who (session.Select selection)
 accounts_after accounts who session.End = accounts_with accounts who session.End
 
 abbrev pub next : State → Step → State

@@ -48,12 +48,14 @@ abbrev pub is_open : SessionEffect → Bool
 is_open session.Keep = false
 is_open session.Open = true
 is_open (session.Enable more) = false
+is_open (session.Select selection) = false
 is_open session.End = false
 
 abbrev pub is_end : SessionEffect → Bool
 is_end session.Keep = false
 is_end session.Open = false
 is_end (session.Enable more) = false
+is_end (session.Select selection) = false
 is_end session.End = true
 
 -- if a session is opened, fewer are open than may be, or it is one of them
@@ -61,6 +63,7 @@ abbrev pub HasRoom : Option Own → ℕ → SessionEffect → Type 0
 HasRoom None number change = Unit {0}
 HasRoom (Some own) number session.Keep = Unit {0}
 HasRoom (Some own) number (session.Enable more) = Unit {0}
+HasRoom (Some own) number (session.Select selection) = Unit {0}
 HasRoom (Some own) number session.Open =
     (map.len own < max_sessions) ⊎ (map.contains_key own number ≡ true)
 HasRoom (Some own) number session.End = Unit {0}

@@ -1,23 +1,29 @@
 -- What a step is answered, what becomes of its session, and what it asks of the mailboxes: by what the
 -- user sees, and the user's own sessions, alone.
-use Rattle.std.specs.Prelude.{ℕ, Bool, not, ◌||◌, nat_le, List, [], ◌∷◌, Option, Some, None, if◌then◌else◌}
+use Rattle.std.specs.Prelude.{ℕ, Bool, true, false, not, ◌&&◌, ◌||◌, nat_le, is_some, List, [], ◌∷◌}
+use Rattle.std.specs.Prelude.{Option, Some, None, if◌then◌else◌}
 use Rattle.std.specs.FinMap as map
-use Rattle.imap_answer.specs.Answer.{Answer, refusal}
+use Rattle.imap_answer.specs.Answer.{Answer, done, preceded_by, refusal}
 use Rattle.imap_grammar.specs.declared.request.Request.{Request}
 use Rattle.imap_grammar.specs.declared.request.Request.TheVariants as request
 use Rattle.imap_grammar.specs.declared.command.Command.{Command}
+use Rattle.imap_grammar.specs.declared.commands.select.SelectParameters.{SelectParameters}
 use Rattle.imap_grammar.specs.declared.command.Command.TheVariants as command
 use Rattle.imap_list.specs.ListCommand.{list_answer, namespace_answer}
 use Rattle.imap_list.specs.Status.{status_answer}
 use Rattle.imap_list.specs.Subscriptions.{subscribe_answer, unsubscribe_answer}
 use Rattle.imap_syntax.specs.Moments.{Moment}
+use Rattle.imap_print.specs.declared.response.Response.{Response}
 use Rattle.imap_print.specs.declared.response.Response.TheVariants as response
 use Rattle.imap_messages.specs.Append.{append_answer}
-use Rattle.imap_print.specs.declared.response.Farewell.TheVariants.{LimitReached}
+use Rattle.imap_print.specs.declared.response.Farewell.TheVariants.{LimitReached, MailboxUnavailable}
 use Rattle.imap_print.specs.declared.enabled.EnabledCapabilities.{EnabledCapabilities}
 use Rattle.imap_print.specs.declared.response.Refusal.{Refusal}
-use Rattle.imap_print.specs.declared.response.Refusal.TheVariants.{Cannot, Limit, Malformed}
-use Rattle.imap_session.specs.State.{SessionState, selected_name}
+use Rattle.imap_print.specs.declared.response.Refusal.TheVariants.{Cannot, Limit, Malformed, WrongState}
+use Rattle.imap_session.specs.declared.select.Selecting.{Selecting}
+use Rattle.imap_session.specs.Lost.{is_lost}
+use Rattle.imap_session.specs.Select.{refused_selecting, select_answer}
+use Rattle.imap_session.specs.State.{Selection, SessionState, selected_name}
 use Rattle.imap_tree.specs.Create.{create_answer}
 use Rattle.imap_tree.specs.Delete.{delete_answer}
 use Rattle.imap_tree.specs.GetAcl.{get_acl_answer}
@@ -25,6 +31,8 @@ use Rattle.imap_tree.specs.ListRights.{list_rights_answer}
 use Rattle.imap_tree.specs.MyRights.{my_rights_answer}
 use Rattle.imap_tree.specs.Rename.{rename_answer}
 use Rattle.imap_tree.specs.SetAcl.{delete_acl_answer, set_acl_answer}
+use Rattle.imap_view.specs.declared.readable.Readable.{Readable}
+use Rattle.imap_view.specs.Readable.{readable_in}
 use Rattle.imap_view.specs.View.{View}
 use Rattle.imap_core.specs.declared.sessions.SessionEffect.{SessionEffect}
 use Rattle.imap_core.specs.declared.sessions.SessionEffect.TheVariants as session
@@ -40,7 +48,6 @@ use Rattle.imap_core.specs.Sessions.{Own, max_sessions}
 abbrev pub command_answer : View → SessionState → (tag : List ℕ) → (at : Moment) → Command → Answer
 command_answer view own tag at command.Capability = capability_answer tag
 command_answer view own tag at command.Noop = noop_answer tag
-command_answer view own tag at command.Logout = logout_answer tag
 command_answer view own tag at command.Authenticate = authenticate_answer tag
 command_answer view own tag at command.Namespace = namespace_answer tag
 command_answer view own tag at (command.List selection reference patterns returns) =
@@ -76,22 +83,83 @@ command_answer view own tag at (command.ListRights mailbox identifier) =
 command_answer view own tag at (command.MyRights mailbox) = my_rights_answer view tag mailbox
 command_answer view own tag at _ = refusal tag Cannot
 
+-- ---- commands, with what becomes of the session
+
 abbrev pub enables_nothing : EnabledCapabilities → Bool
 enables_nothing enables = not (enables.condstore || (enables.imap4rev2 || enables.qresync))
 
 abbrev pub effect_of_enabling : EnabledCapabilities → SessionEffect
 effect_of_enabling enables = if enables_nothing enables then session.Keep else session.Enable enables
 
--- LOGOUT ends the session
-abbrev pub session_effect : Command → EnabledCapabilities → SessionEffect
-session_effect command.Logout enables = session.End
-session_effect _ enables = effect_of_enabling enables
+abbrev pub newly_enables_condstore : SessionState → Answer → Bool
+newly_enables_condstore own answer = answer.enables.condstore && not own.enabled.condstore
 
-abbrev pub outcome_of_answer : Command → Answer → Outcome
-outcome_of_answer command answer = answered answer (session_effect command answer.enables)
+abbrev pub selected_mailbox : View → Option Selection → Option Readable
+selected_mailbox view None = None
+selected_mailbox view (Some s) = readable_in view s.name
+
+abbrev pub highest_line : Option Readable → List Response
+highest_line None = []
+highest_line (Some mailbox) = response.HighestModSeq mailbox.highest ∷ []
+
+-- who newly enables CONDSTORE is told HIGHESTMODSEQ of the selected mailbox, as it is before the command (RFC
+-- 7162, section 3.1)
+abbrev pub with_highest : View → SessionState → Answer → Answer
+with_highest view own answer =
+    if newly_enables_condstore own answer
+    then preceded_by (highest_line (selected_mailbox view own.selected)) answer
+    else answer
+
+abbrev pub outcome_of_answer : View → SessionState → Answer → Outcome
+outcome_of_answer view own answer =
+    answered (with_highest view own answer) (effect_of_enabling answer.enables)
+
+-- a command that leaves its session as it is
+abbrev pub kept : Answer → Outcome
+kept answer = answered answer session.Keep
+
+abbrev pub outcome_of_selecting : Selecting → Outcome
+outcome_of_selecting selecting = answered selecting.answer (session.Select selecting.selection)
+
+abbrev pub has_parameters : SelectParameters → Bool
+has_parameters parameters = parameters.condstore || is_some parameters.qresync
+
+-- SELECT and EXAMINE with parameters aren't built yet
+abbrev pub select_outcome : View → SessionState → (tag : List ℕ) → (read_only : Bool) →
+    (mailbox : List ℕ) → SelectParameters → Outcome
+select_outcome view own tag read_only mailbox parameters = outcome_of_selecting
+    (if has_parameters parameters then refused_selecting own tag Cannot
+    else select_answer view own tag read_only mailbox)
+
+-- a command that needs a mailbox selected (RFC 9051, section 3)
+abbrev pub if_selected : Option Selection → (tag : List ℕ) → Outcome → Outcome
+if_selected None tag outcome = kept (refusal tag WrongState)
+if_selected (Some s) tag outcome = outcome
+
+abbrev pub unselect_outcome : SessionState → (tag : List ℕ) → Outcome
+unselect_outcome own tag = if_selected own.selected tag (answered (done tag) (session.Select None))
+
+abbrev pub unbuilt_outcome : SessionState → (tag : List ℕ) → Outcome
+unbuilt_outcome own tag = if_selected own.selected tag (kept (refusal tag Cannot))
 
 abbrev pub command_outcome : View → SessionState → (tag : List ℕ) → (at : Moment) → Command → Outcome
-command_outcome view own tag at command = outcome_of_answer command (command_answer view own tag at command)
+command_outcome view own tag at command.Logout = answered (logout_answer tag) session.End
+command_outcome view own tag at (command.Select mailbox parameters) =
+    select_outcome view own tag false mailbox parameters
+command_outcome view own tag at (command.Examine mailbox parameters) =
+    select_outcome view own tag true mailbox parameters
+command_outcome view own tag at command.Unselect = unselect_outcome own tag
+command_outcome view own tag at command.Close = unbuilt_outcome own tag
+command_outcome view own tag at command.Expunge = unbuilt_outcome own tag
+command_outcome view own tag at (command.UidExpunge messages) = unbuilt_outcome own tag
+command_outcome view own tag at (command.Search numbering returns charset keys) = unbuilt_outcome own tag
+command_outcome view own tag at (command.Fetch numbering messages items since vanished) =
+    unbuilt_outcome own tag
+command_outcome view own tag at (command.Store numbering messages store) = unbuilt_outcome own tag
+command_outcome view own tag at (command.Copy numbering messages mailbox) = unbuilt_outcome own tag
+command_outcome view own tag at (command.Move numbering messages mailbox) = unbuilt_outcome own tag
+command_outcome view own tag at command =
+    outcome_of_answer view own (command_answer view own tag at command)
 
 -- the line that refuses a request, with its tag if it has one
 abbrev pub refused : Option (List ℕ) → Refusal → Outcome
@@ -106,13 +174,28 @@ request_outcome view own at (request.TooBig tag) = refused (Some tag) Limit
 abbrev pub opened : Outcome
 opened = said (response.Greeting ∷ []) session.Open
 
--- a session that is open begins anew; DONE where no IDLE runs (RFC 2177) is malformed, and has no tag
+-- a poll brings nothing; DONE where no IDLE runs (RFC 2177) is malformed, and has no tag
+abbrev pub reply_of_act : View → SessionState → (at : Moment) → Act → Outcome
+reply_of_act view own at (act.Do request) = request_outcome view own at request
+reply_of_act view own at act.Done = refused None Malformed
+reply_of_act view own at _ = silence
+
+-- a session that has lost its mailbox ends, whatever its client asks
+abbrev pub lost : Outcome
+lost = said (response.Bye MailboxUnavailable ∷ []) session.End
+
+abbrev pub unless_lost : Bool → Outcome → Outcome
+unless_lost true outcome = lost
+unless_lost false outcome = outcome
+
+-- a session that is open begins anew
 abbrev pub reply_when_open : View → SessionState → (at : Moment) → Act → Outcome
 reply_when_open view own at act.Open = opened
-reply_when_open view own at (act.Do request) = request_outcome view own at request
-reply_when_open view own at act.Poll = silence
-reply_when_open view own at act.Done = refused None Malformed
 reply_when_open view own at act.Leave = said [] session.End
+reply_when_open view own at (act.Do request) =
+    unless_lost (is_lost view own) (reply_of_act view own at (act.Do request))
+reply_when_open view own at act.Poll = unless_lost (is_lost view own) (reply_of_act view own at act.Poll)
+reply_when_open view own at act.Done = unless_lost (is_lost view own) (reply_of_act view own at act.Done)
 
 -- of one user no more than the limit are open
 abbrev pub open_outcome : Own → Outcome

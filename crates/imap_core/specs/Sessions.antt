@@ -8,10 +8,9 @@ use Rattle.std.specs.FinMap as map
 use Rattle.std.specs.FinMap.{FinMap}
 use Rattle.std.specs.Coded.{Coded, coded_ℕ}
 use Rattle.std.specs.declared.vec.Vec.{Vec}
-use Rattle.imap_print.specs.declared.enabled.EnabledCapabilities.{EnabledCapabilities}
 use Rattle.imap_session.specs.declared.session.Session.{Session}
 use Rattle.imap_session.specs.State.{SessionState, new_session, session_code, state_of}
-use Rattle.imap_session.specs.State.{with_enabled as enabled_in_session}
+use Rattle.imap_session.specs.State.{with_enabled, with_selection}
 use Rattle.imap_core.specs.declared.sessions.SessionEffect.{SessionEffect}
 use Rattle.imap_core.specs.declared.sessions.SessionEffect.TheVariants as session
 
@@ -26,19 +25,26 @@ Own = FinMap {K = ℕ} nat_cmp SessionState
 abbrev pub states_of : List (ℕ × Session) → List (ℕ × SessionState)
 states_of entries = map_list (λ e. (e.0, state_of e.1)) entries
 
-abbrev pub enabled_if_open : (number : ℕ) → EnabledCapabilities → Own → Option SessionState → Own
-enabled_if_open number more own None = own
-enabled_if_open number more own (Some session) = map.insert own number (enabled_in_session more session)
+-- a session that stays open, after what a step asks of it
+abbrev pub edited : SessionEffect → SessionState → SessionState
+edited (session.Enable more) state = with_enabled more state
+edited (session.Select selection) state = with_selection selection state
+edited _ state = state
 
--- with further capabilities enabled in a session, if it is open
-abbrev pub with_enabled : (number : ℕ) → EnabledCapabilities → Own → Own
-with_enabled number more own = enabled_if_open number more own (map.get own number)
+abbrev pub edited_if_open : (number : ℕ) → SessionEffect → Own → Option SessionState → Own
+edited_if_open number effect own None = own
+edited_if_open number effect own (Some state) = map.insert own number (edited effect state)
+
+-- with one session edited, if it is open
+abbrev pub with_edit : (number : ℕ) → SessionEffect → Own → Own
+with_edit number effect own = edited_if_open number effect own (map.get own number)
 
 -- after what a step asks of the session with the number
 abbrev pub own_with : (number : ℕ) → SessionEffect → Own → Own
 own_with number session.Keep own = own
 own_with number session.Open own = map.insert own number new_session
-own_with number (session.Enable more) own = with_enabled number more own
+own_with number (session.Enable more) own = with_edit number (session.Enable more) own
+own_with number (session.Select selection) own = with_edit number (session.Select selection) own
 own_with number session.End own = map.remove own number
 
 abbrev pub own_code : Coded Own

@@ -22,6 +22,9 @@ pub(crate) fn change_session(
         SessionEffect::Keep => {}
         SessionEffect::Open => change_own(accounts, who, SessionEffect::Open),
         SessionEffect::Enable(more) => change_own(accounts, who, SessionEffect::Enable(more)),
+        SessionEffect::Select(selection) => {
+            change_own(accounts, who, SessionEffect::Select(selection));
+        }
         SessionEffect::End => change_own(accounts, who, SessionEffect::End),
     }
 }

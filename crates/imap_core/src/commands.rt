@@ -1,8 +1,10 @@
 //! What each command is answered.
 
 ghost use Rattle.std.specs.Prelude.{◌≡◌, IfOk};
-ghost use Rattle.imap_core.specs.Reply.{command_answer, command_outcome, effect_of_enabling};
-ghost use Rattle.imap_core.specs.Reply.{outcome_of_answer, session_effect};
+ghost use Rattle.imap_answer.specs.Answer.{refusal};
+ghost use Rattle.imap_core.specs.Reply as specs;
+ghost use Rattle.imap_core.specs.Reply.{command_answer, command_outcome};
+ghost use Rattle.imap_print.specs.declared.response.Refusal.TheVariants.{WrongState};
 ghost use Rattle.imap_session.specs.State.{state_of};
 
 mod session;
@@ -10,17 +12,19 @@ mod session;
 use crate::outcome::Outcome;
 use crate::sessions::SessionEffect;
 use imap_answer::{Answer, Call};
-use imap_grammar::Command;
+use imap_grammar::{Command, SelectParameters};
+use imap_lex::Octets;
 use imap_list::{
     Query, list_answer, namespace_answer, status_answer, subscribe_answer, unsubscribe_answer,
 };
 use imap_messages::{Append, append_answer};
-use imap_print::{EnabledCapabilities, Refusal};
-use imap_session::Session;
+use imap_print::{EnabledCapabilities, Refusal, Response};
+use imap_session::{NewSelection, Selecting, Session, refuse_selecting, select_answer};
 use imap_tree::{
     create_answer, delete_acl_answer, delete_answer, get_acl_answer, list_rights_answer,
     my_rights_answer, rename_answer, set_acl_answer,
 };
+use imap_view::{Readable, View};
 use session::{capability_answer, enable_answer, logout_answer};
 use std::alloc::AllocError;
 
@@ -32,28 +36,117 @@ pub(crate) fn command_outcome(
     ensures { let outcome = command_outcome call.now.view (state_of session.now) call.now.tag call.now.at in
         IfOk result (λ given. given ≡ outcome command.now) }
 {
-    outcome_of_answer(command, command_answer(call, session, command)?)
-}
-
-fn outcome_of_answer(command: &Command, answer: Answer) -> Result<Outcome, AllocError>
-    ensures { IfOk result (λ outcome. outcome ≡ outcome_of_answer command.now answer) }
-{
-    let effect = session_effect(command, answer.enables());
-    Outcome::answered(answer, effect)
-}
-
-/// LOGOUT ends the session. Other commands may enable capabilities in it.
-fn session_effect(command: &Command, enables: EnabledCapabilities) -> SessionEffect
-    ensures { result ≡ session_effect command.now enables }
-{
     match command {
-        Command::Logout => SessionEffect::End,
-        _ => effect_of_enabling(enables),
+        Command::Logout => Outcome::answered(logout_answer(call)?, SessionEffect::End),
+        Command::Select {
+            mailbox,
+            parameters,
+        } => select_outcome(call, session, false, mailbox, parameters),
+        Command::Examine {
+            mailbox,
+            parameters,
+        } => select_outcome(call, session, true, mailbox, parameters),
+        Command::Unselect => unselect_outcome(call, session),
+        Command::Close
+        | Command::Expunge
+        | Command::UidExpunge { .. }
+        | Command::Search { .. }
+        | Command::Fetch { .. }
+        | Command::Store { .. }
+        | Command::Copy { .. }
+        | Command::Move { .. } => unbuilt_outcome(call, session),
+        _ => outcome_of_answer(call, session, command_answer(call, session, command)?),
+    }
+}
+
+fn outcome_of_answer(
+    call: &Call<'_>,
+    session: &Session,
+    answer: Answer,
+) -> Result<Outcome, AllocError>
+    ensures { let outcome = specs.outcome_of_answer call.now.view (state_of session.now) answer in
+        IfOk result (λ given. given ≡ outcome) }
+{
+    let effect = effect_of_enabling(answer.enables());
+    Outcome::answered(with_highest(call, session, answer)?, effect)
+}
+
+/// Who newly enables CONDSTORE is told HIGHESTMODSEQ of the selected mailbox (RFC 7162, section 3.1).
+fn with_highest(call: &Call<'_>, session: &Session, answer: Answer) -> Result<Answer, AllocError>
+    ensures { let meant = specs.with_highest call.now.view (state_of session.now) answer in
+        IfOk result (λ given. given ≡ meant) }
+{
+    if !answer.enables().condstore || session.enabled.condstore {
+        return Ok(answer);
+    }
+    match selected_mailbox(call.view(), session) {
+        Some(mailbox) => {
+            let line = Response::HighestModSeq(mailbox.highest);
+            answer.preceded_by(vec![in call.alloc(); line]?)
+        }
+        None => Ok(answer),
+    }
+}
+
+/// The selected mailbox, if the user may read it.
+fn selected_mailbox<'a>(view: &View<'a>, session: &Session) -> Option<Readable<'a>>
+    ensures { result ≡ specs.selected_mailbox view.now (state_of session.now).selected }
+{
+    match &session.selected {
+        Some(selected) => view.readable(&selected.name.as_ref()),
+        None => None,
+    }
+}
+
+fn select_outcome(
+    call: &Call<'_>,
+    session: &Session,
+    read_only: bool,
+    mailbox: &Octets,
+    parameters: &SelectParameters,
+) -> Result<Outcome, AllocError>
+    ensures { let own = state_of session.now in
+        let outcome = specs.select_outcome call.now.view own call.now.tag read_only in
+        IfOk result (λ given. given ≡ outcome mailbox.now parameters.now) }
+{
+    let Selecting { answer, selection } = if parameters.condstore || parameters.qresync.is_some() {
+        refuse_selecting(call, session, Refusal::Cannot)?
+    } else {
+        select_answer(call, session, read_only, mailbox)?
+    };
+    Outcome::answered(answer, SessionEffect::Select(selection))
+}
+
+fn unselect_outcome(call: &Call<'_>, session: &Session) -> Result<Outcome, AllocError>
+    ensures { let outcome = specs.unselect_outcome (state_of session.now) call.now.tag in
+        IfOk result (λ given. given ≡ outcome) }
+{
+    match &session.selected {
+        Some(_) => Outcome::answered(call.done()?, SessionEffect::Select(NewSelection::none())),
+        None => wrong_state(call),
+    }
+}
+
+/// Refuses a command that needs a mailbox selected.
+fn wrong_state(call: &Call<'_>) -> Result<Outcome, AllocError>
+    ensures { IfOk result (λ given. given ≡ specs.kept (refusal call.now.tag WrongState)) }
+{
+    Outcome::answered(call.refuse(Refusal::WrongState)?, SessionEffect::Keep)
+}
+
+/// What isn't built yet can't be done, if a mailbox is selected.
+fn unbuilt_outcome(call: &Call<'_>, session: &Session) -> Result<Outcome, AllocError>
+    ensures { let outcome = specs.unbuilt_outcome (state_of session.now) call.now.tag in
+        IfOk result (λ given. given ≡ outcome) }
+{
+    match &session.selected {
+        Some(_) => Outcome::answered(call.refuse(Refusal::Cannot)?, SessionEffect::Keep),
+        None => wrong_state(call),
     }
 }
 
 fn effect_of_enabling(enables: EnabledCapabilities) -> SessionEffect
-    ensures { result ≡ effect_of_enabling enables }
+    ensures { result ≡ specs.effect_of_enabling enables }
 {
     if enables.condstore || enables.imap4rev2 || enables.qresync {
         SessionEffect::Enable(enables)
@@ -73,7 +166,6 @@ fn command_answer(
     match command {
         Command::Capability => capability_answer(call),
         Command::Noop => call.done(),
-        Command::Logout => logout_answer(call),
         Command::Authenticate => call.refuse(Refusal::WrongState),
         Command::Namespace => namespace_answer(call),
         Command::List {

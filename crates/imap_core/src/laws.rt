@@ -52,7 +52,8 @@ pub fn messages_are_kept(core: &Core)
     core.keep_messages();
 }
 
-/// A step that is answered by a refusal leaves all mailboxes, subscriptions and sessions as they were.
+/// A step that is answered by a refusal leaves all mailboxes, subscriptions and sessions as they were; but a
+/// refused SELECT or EXAMINE leaves no mailbox selected in its session.
 pub fn refusals_change_nothing()
     ensures { RefusalsChangeNothing }
 {}

@@ -43,10 +43,39 @@ fn outcome_when_open(
 {
     match &step.act {
         Act::Open => greeting(alloc),
-        Act::Do(request) => request_outcome(alloc, view, session, step.at, request),
-        Act::Poll => Ok(Outcome::silence(alloc)),
-        Act::Done => refused(alloc, &None, Refusal::Malformed),
         Act::Leave => Ok(Outcome::said(Vec::new(alloc), SessionEffect::End)),
+        act => {
+            if session.is_lost(view) {
+                lost_outcome(alloc)
+            } else {
+                outcome_of_act(alloc, view, session, step.at, act)
+            }
+        }
+    }
+}
+
+/// A session that has lost its mailbox ends, whatever its client asks.
+fn lost_outcome(alloc: Global) -> Result<Outcome, AllocError>
+    ensures { IfOk result (λ outcome. outcome ≡ specs.lost) }
+{
+    let bye = vec![in alloc; Response::Bye(Farewell::MailboxUnavailable)]?;
+    Ok(Outcome::said(bye, SessionEffect::End))
+}
+
+fn outcome_of_act(
+    alloc: Global,
+    view: &View<'_>,
+    session: &Session,
+    at: Moment,
+    act: &Act,
+) -> Result<Outcome, AllocError>
+    ensures { let meant = specs.reply_of_act view.now (state_of session.now) at act.now in
+        IfOk result (λ outcome. outcome ≡ meant) }
+{
+    match act {
+        Act::Do(request) => request_outcome(alloc, view, session, at, request),
+        Act::Done => refused(alloc, &None, Refusal::Malformed),
+        Act::Open | Act::Poll | Act::Leave => Ok(Outcome::silence(alloc)),
     }
 }
 

@@ -7,12 +7,12 @@ ghost use Rattle.std.specs.Vec.{vec_capacity};
 ghost use Rattle.std.specs.FinMap as map;
 ghost use Rattle.imap_core.specs.Planned.{HasRoom};
 ghost use Rattle.imap_core.specs.Sessions as specs;
-ghost use Rattle.imap_core.specs.Sessions.{max_sessions, states_of};
-ghost use Rattle.imap_session.specs.State.{new_session, state_of, with_enabled};
+ghost use Rattle.imap_core.specs.Sessions.{edited, max_sessions, states_of};
+ghost use Rattle.imap_session.specs.State.{new_session, state_of};
 
 use crate::session_id::SessionNumber;
 use imap_print::EnabledCapabilities;
-use imap_session::Session;
+use imap_session::{NewSelection, Session};
 use imap_values::TryCopy;
 use std::alloc::{AllocError, Global};
 use std::marker::Model;
@@ -21,13 +21,15 @@ use std::marker::Model;
 pub const MAX_SESSIONS: usize = 16;
 
 /// What a step asks of its session.
-#[derive(Clone, Copy)]
+#[derive(Drop)]
 pub enum SessionEffect {
     Keep,
     /// It is opened, or begins anew.
     Open,
     /// Its client enables these.
     Enable(EnabledCapabilities),
+    /// Its client selects another mailbox, or none.
+    Select(NewSelection),
     End,
 }
 
@@ -92,7 +94,8 @@ impl OwnSessions {
         match effect {
             SessionEffect::Keep => {}
             SessionEffect::Open => self.open(number),
-            SessionEffect::Enable(more) => self.enable(number, more),
+            SessionEffect::Enable(more) => self.edit(number, SessionEffect::Enable(more)),
+            SessionEffect::Select(selection) => self.edit(number, SessionEffect::Select(selection)),
             SessionEffect::End => self.remove(number),
         }
     }
@@ -106,12 +109,12 @@ impl OwnSessions {
         self.entries.push_reserved((number, Session::new()));
     }
 
-    /// Enables further capabilities in a session, if it is open.
-    fn enable(&mut self, number: SessionNumber, more: EnabledCapabilities)
-        ensures { self.new ≡ specs.with_enabled number more self.old }
+    /// Makes what a step asks of a session that stays open, if it is open.
+    fn edit(&mut self, number: SessionNumber, effect: SessionEffect)
+        ensures { self.new ≡ specs.with_edit number effect self.old }
     {
         match place_of(&self.entries, number) {
-            Some(place) => enable_in(&mut self.entries[place], more),
+            Some(place) => edit_in(&mut self.entries[place], effect),
             None => {}
         }
     }
@@ -146,11 +149,15 @@ fn copy_entries(
     Ok(copy)
 }
 
-fn enable_in(entry: &mut (SessionNumber, Session), more: EnabledCapabilities)
+fn edit_in(entry: &mut (SessionNumber, Session), effect: SessionEffect)
     ensures number { entry.new.0 ≡ entry.old.0 }
-    ensures state { state_of entry.new.1 ≡ with_enabled more (state_of entry.old.1) }
+    ensures state { state_of entry.new.1 ≡ edited effect (state_of entry.old.1) }
 {
-    entry.1.enable(more);
+    match effect {
+        SessionEffect::Enable(more) => entry.1.enable(more),
+        SessionEffect::Select(selection) => entry.1.select(selection),
+        SessionEffect::Keep | SessionEffect::Open | SessionEffect::End => {}
+    }
 }
 
 fn place_of(entries: &[(SessionNumber, Session)], number: SessionNumber) -> Option<usize>

@@ -10,3 +10,4 @@ pub mod Listing
 pub mod Finding
 pub mod Walking
 pub mod Telling
+pub mod RowsRise

@@ -29,7 +29,7 @@ use Rattle.imap_session.proofs.Quieting.{knows_all, none_gone, no_places, no_cha
 
 -- ---- numbers that fit
 
-rises_length : (low high : ℕ) (ns : List ℕ) → Rises low high ns → low + length ns ≤ high
+pub rises_length : (low high : ℕ) (ns : List ℕ) → Rises low high ns → low + length ns ≤ high
 rises_length low high [] h = omega (arith, h)
 rises_length low high (n ∷ ns) h = let first : low ≤ n = h.0 in let rest = rises_length (n + 1) high ns h.1 in omega (arith, rest)
 

@@ -1,4 +1,5 @@
 pub mod Compared
+pub mod Lost
 pub mod Notices
 pub mod Retold
 pub mod Delta
@@ -8,4 +9,5 @@ pub mod InStep
 pub mod Following
 pub mod Walked
 pub mod Laws
+pub mod Select
 pub mod State

@@ -9,10 +9,7 @@ use Rattle.imap_names.specs.Name.{Name}
 use Rattle.imap_print.specs.declared.enabled.EnabledCapabilities.{EnabledCapabilities}
 use Rattle.imap_session.specs.declared.delta.Delta.{Delta}
 use Rattle.imap_session.specs.declared.session.Selected.{Selected}
-use Rattle.imap_session.specs.declared.session.SelectionChange.{SelectionChange}
-use Rattle.imap_session.specs.declared.session.SelectionChange.TheVariants as selection
 use Rattle.imap_session.specs.declared.session.Session.{Session}
-use Rattle.imap_session.specs.declared.session.SessionChange.{SessionChange}
 use Rattle.imap_session.specs.Delta.{IsChangeOf, list_after}
 
 -- ---- a session as definitions see it: without room, and without the mod-sequence up to which all was told
@@ -76,35 +73,23 @@ with_enabled more state = record {
   idle = state.idle;
 }
 
--- ---- a change
+-- with another mailbox selected, or none
+abbrev pub with_selection : Option Selection → SessionState → SessionState
+with_selection selection state = record {
+  selected = selection;
+  enabled = state.enabled;
+  idle = state.idle;
+}
+
+-- ---- what the session is told of its mailbox
 
 abbrev pub with_delta : Delta → Selection → Selection
 with_delta delta s = record s { known = list_after delta s.known }
 
-abbrev pub change_of_selection : SelectionChange → Option Selection → Option Selection
-change_of_selection selection.Keep selected = selected
-change_of_selection (selection.Tell delta up_to) selected = option_map (with_delta delta) selected
-change_of_selection (selection.Select new) selected = Some (selection_of new)
-change_of_selection selection.Close selected = None
+abbrev pub with_told : Delta → SessionState → SessionState
+with_told delta state = with_selection (option_map (with_delta delta) state.selected) state
 
-abbrev pub state_after : SessionChange → SessionState → SessionState
-state_after change state = record {
-  selected = change_of_selection change.selection state.selected;
-  enabled = change.enabled;
-  idle = change.idle;
-}
-
--- ---- what it needs, so that it takes no memory
-
+-- it takes no memory
 abbrev pub IsDeltaReady : Delta → Option Selected → Type 0
 IsDeltaReady delta None = Unit {0}
 IsDeltaReady delta (Some s) = IsChangeOf s.known.list delta × (length delta.added.items ≤ s.known.room)
-
-abbrev pub IsSelectionReady : SelectionChange → Option Selected → Type 0
-IsSelectionReady selection.Keep selected = Unit {0}
-IsSelectionReady (selection.Tell delta up_to) selected = IsDeltaReady delta selected
-IsSelectionReady (selection.Select new) selected = Unit {0}
-IsSelectionReady selection.Close selected = Unit {0}
-
-abbrev pub IsReady : SessionChange → Session → Type 0
-IsReady change session = IsSelectionReady change.selection session.selected

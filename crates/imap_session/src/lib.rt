@@ -1,6 +1,6 @@
 //! What a session knows of its mailbox, and what it is told of it.
 //!
-//! A [`Session`] has what it selected and enabled; [`Session::commit`] makes a change of it without memory.
+//! A [`Session`] has what it selected and enabled; [`Session::tell`] notes without memory what it was told.
 //! A [`KnownList`] holds the messages of the selected mailbox as the session was told of them last.
 //! [`KnownList::notices`] finds the difference to the messages that are there: untagged lines, and a
 //! [`Delta`] of the known list, which [`KnownList::apply`] makes without memory. The messages come from a
@@ -13,10 +13,13 @@ mod entry;
 mod known_list;
 pub mod laws;
 mod lines;
+mod lost;
 mod mailbox_rows;
 mod notices;
 mod options;
 mod row_cursor;
+mod select;
+mod selection;
 mod session;
 mod walk;
 
@@ -26,4 +29,6 @@ pub use mailbox_rows::MailboxRows;
 pub use notices::Notices;
 pub use options::NoticeOptions;
 pub use row_cursor::RowCursor;
-pub use session::{Selected, SelectionChange, Session, SessionChange};
+pub use select::{Selecting, refuse_selecting, select_answer};
+pub use selection::NewSelection;
+pub use session::{Selected, Session};

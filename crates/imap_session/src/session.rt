@@ -1,13 +1,12 @@
 //! Sessions, and what becomes of them.
 
 ghost use Rattle.std.specs.Prelude.{◌≡◌, Some, IfOk, option_copied, option_map};
-ghost use Rattle.imap_session.specs.State.{change_of_selection, selection_of, state_of, state_after};
-ghost use Rattle.imap_session.specs.State.{with_delta};
-ghost use Rattle.imap_session.specs.State.{IsDeltaReady, IsReady, IsSelectionReady};
+ghost use Rattle.imap_session.specs.State.{selection_of, state_of, with_delta, IsDeltaReady};
 ghost use Rattle.imap_session.specs.State as specs;
 
 use crate::delta::Delta;
 use crate::known_list::KnownList;
+use crate::selection::NewSelection;
 use imap_lex::Tag;
 use imap_names::Name;
 use imap_print::EnabledCapabilities;
@@ -34,25 +33,6 @@ pub struct Session {
     /// What the client enabled (RFC 9051, section 6.3.1).
     pub enabled: EnabledCapabilities,
     /// The tag of an IDLE that runs (RFC 2177).
-    pub idle: Option<Tag>,
-}
-
-/// What becomes of the selection of a session.
-#[derive(Drop)]
-pub enum SelectionChange {
-    Keep,
-    /// The session is told what changed in its mailbox, up to the mod-sequence `up_to`.
-    Tell { delta: Delta, up_to: u64 },
-    Select(Selected),
-    /// No mailbox is selected any more.
-    Close,
-}
-
-/// What becomes of an open session.
-#[derive(Drop)]
-pub struct SessionChange {
-    pub selection: SelectionChange,
-    pub enabled: EnabledCapabilities,
     pub idle: Option<Tag>,
 }
 
@@ -106,19 +86,19 @@ impl Session {
         };
     }
 
-    /// Makes a change that was prepared, without memory.
-    pub fn commit(&mut self, change: SessionChange)
-        requires { IsReady change self.old }
-        ensures { state_of self.new ≡ state_after change (state_of self.old) }
+    /// Selects another mailbox, or none.
+    pub fn select(&mut self, selection: NewSelection)
+        ensures { state_of self.new ≡ specs.with_selection selection (state_of self.old) }
     {
-        let SessionChange {
-            selection,
-            enabled,
-            idle,
-        } = change;
-        self.enabled = enabled;
-        self.idle = idle;
-        change_selection(&mut self.selected, selection);
+        self.selected = selection.into_selected();
+    }
+
+    /// Notes what the session was told of its mailbox, up to the mod-sequence `up_to`, without memory.
+    pub fn tell(&mut self, delta: Delta, up_to: u64)
+        requires { IsDeltaReady delta self.old.selected }
+        ensures { state_of self.new ≡ specs.with_told delta (state_of self.old) }
+    {
+        tell(&mut self.selected, delta, up_to);
     }
 }
 
@@ -143,19 +123,6 @@ fn copy_one(alloc: Global, selected: &Selected) -> Result<Selected, AllocError>
         known,
         up_to: selected.up_to,
     })
-}
-
-fn change_selection(selected: &mut Option<Selected>, change: SelectionChange)
-    requires { IsSelectionReady change selected.old }
-    ensures { option_map selection_of selected.new
-        ≡ change_of_selection change (option_map selection_of selected.old) }
-{
-    match change {
-        SelectionChange::Keep => {}
-        SelectionChange::Tell { delta, up_to } => tell(selected, delta, up_to),
-        SelectionChange::Select(new) => *selected = Some(new),
-        SelectionChange::Close => *selected = None,
-    }
 }
 
 fn tell(selected: &mut Option<Selected>, delta: Delta, up_to: u64)

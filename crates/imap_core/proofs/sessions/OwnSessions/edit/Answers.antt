@@ -2,9 +2,9 @@ use Rattle.std.proofs.Common.{◌≡◌, Some, None, sym, ap, ◌∙◌, arith, 
 use Rattle.std.specs.List.{position}
 use Rattle.std.specs.FinMap as map
 use Rattle.std.proofs.lemmas.List.Quantifiers.{position-Some}
-use Rattle.imap_core.specs.Sessions.{Own, enabled_if_open, states_of, with_enabled}
+use Rattle.imap_core.specs.Sessions.{Own, edited_if_open, states_of, with_edit}
 use Rattle.imap_core.proofs.Opened.{apart_set, get_at, get_nowhere, has_number, own_set}
-use Rattle.imap_core.proofs.sessions.OwnSessions.enable.Goals as goal
+use Rattle.imap_core.proofs.sessions.OwnSessions.edit.Goals as goal
 
 pub invariant_of-self : goal.invariant_of-self
 invariant_of-self c =
@@ -12,11 +12,11 @@ invariant_of-self c =
     let es = c.self.inside.entries.items in
     let i = c.in-Some.place in
     let e = c.index_mut.result.now in
-    let f = c.enable_in.new.entry in
+    let f = c.edit_in.new.entry in
     let at : position (has_number k) es ≡ Some i = ap (position (has_number k)) (sym c.deref.ensures.value) ∙ sym c.place_of.ensures ∙ c.in-Some.is in
     let first = position-Some (has_number k) es i e at in
     record {
-      apart = apart_set es i e f first.0 c.index_mut.ensures.value c.enable_in.ensures.number ∙ c.self.invariant.apart;
+      apart = apart_set es i e f first.0 c.index_mut.ensures.value c.edit_in.ensures.number ∙ c.self.invariant.apart;
       few = omega (arith, length-set es i f, c.self.invariant.few);
       room = c.self.invariant.room;
     }
@@ -27,13 +27,13 @@ returns-in-Some c =
     let es = c.self.inside.entries.items in
     let i = c.in-Some.place in
     let e = c.index_mut.result.now in
-    let f = c.enable_in.new.entry in
+    let f = c.edit_in.new.entry in
     let own : Own = map.from_entries (states_of es) in
     let at : position (has_number k) es ≡ Some i = ap (position (has_number k)) (sym c.deref.ensures.value) ∙ sym c.place_of.ensures ∙ c.in-Some.is in
-    own_set k es i e f at c.index_mut.ensures.value c.enable_in.ensures.number
-    ∙ ap (map.insert own k) c.enable_in.ensures.state
-    ∙ ap (enabled_if_open k c.args.more own) (sym (get_at k es i e at c.index_mut.ensures.value))
-    ∙ ap (with_enabled k c.args.more) c.self.view_is
+    own_set k es i e f at c.index_mut.ensures.value c.edit_in.ensures.number
+    ∙ ap (map.insert own k) c.edit_in.ensures.state
+    ∙ ap (edited_if_open k c.args.effect own) (sym (get_at k es i e at c.index_mut.ensures.value))
+    ∙ ap (with_edit k c.args.effect) c.self.view_is
 
 pub returns-in-None : goal.returns-in-None
 returns-in-None c =
@@ -41,4 +41,4 @@ returns-in-None c =
     let es = c.self.inside.entries.items in
     let own : Own = map.from_entries (states_of es) in
     let at : position (has_number k) es ≡ None = ap (position (has_number k)) (sym c.deref.ensures.value) ∙ sym c.place_of.ensures ∙ c.in-None.is in
-    sym c.self.view_is ∙ ap (enabled_if_open k c.args.more own) (sym (get_nowhere k es at)) ∙ ap (with_enabled k c.args.more) c.self.view_is
+    sym c.self.view_is ∙ ap (edited_if_open k c.args.effect own) (sym (get_nowhere k es at)) ∙ ap (with_edit k c.args.effect) c.self.view_is

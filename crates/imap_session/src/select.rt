@@ -1,0 +1,241 @@
+//! SELECT and EXAMINE (RFC 9051, sections 6.3.2 and 6.3.3).
+
+ghost use Rattle.std.specs.Prelude.{◌≡◌, length, map, Some, IfOk};
+ghost use Rattle.std.specs.List.{AllByRecursion};
+ghost use Rattle.imap_answer.specs.Answer.{preceded_by};
+ghost use Rattle.imap_mailbox.specs.Brought.{told_of};
+ghost use Rattle.imap_mailbox.specs.Lent.{row_uids};
+ghost use Rattle.imap_mailbox.specs.Order.{AreRowsInOrder};
+ghost use Rattle.imap_mailbox.specs.Rows.{first_uid};
+ghost use Rattle.imap_mailbox.specs.Summary.{Rises};
+ghost use Rattle.imap_print.specs.Lines.{IsPrintable};
+ghost use Rattle.imap_rights.specs.Rights.{bits};
+ghost use Rattle.imap_session.specs.Select as specs;
+ghost use Rattle.imap_session.specs.State.{state_of};
+ghost use Rattle.imap_view.specs.Readable.{readable_in};
+
+use crate::known_list::KnownList;
+use crate::mailbox_rows::MailboxRows;
+use crate::selection::NewSelection;
+use crate::session::{Selected, Session};
+use bitflags::Flags;
+use imap_answer::{Answer, Call, missing_right_refusal};
+use imap_lex::Octets;
+use imap_list::mailbox_line;
+use imap_mailbox::Rows;
+use imap_names::Name;
+use imap_print::{
+    Code, FlagSet, Refusal, Response, flags_are_printable, permanent_flags_are_printable,
+};
+use imap_rights::Rights;
+use imap_syntax::Keywords;
+use imap_values::TryCopy;
+use imap_view::Readable;
+use std::alloc::{AllocError, Global};
+
+/// What a command that selects a mailbox is answered, and what is selected afterwards.
+#[derive(Drop)]
+pub struct Selecting {
+    pub answer: Answer,
+    pub selection: NewSelection,
+}
+
+/// Answers SELECT, or EXAMINE if `read_only`, of a mailbox, as it is named in the command.
+pub fn select_answer(
+    call: &Call<'_>,
+    session: &Session,
+    read_only: bool,
+    mailbox: &Octets,
+) -> Result<Selecting, AllocError>
+    ensures { let answer = specs.select_answer call.now.view (state_of session.now) call.now.tag in
+        IfOk result (λ given. given ≡ answer read_only mailbox.now) }
+{
+    match call.name(mailbox)? {
+        Some(name) => select_of_name(call, session, read_only, name),
+        None => refuse_selecting(call, session, Refusal::NonExistent),
+    }
+}
+
+fn select_of_name(
+    call: &Call<'_>,
+    session: &Session,
+    read_only: bool,
+    name: Name,
+) -> Result<Selecting, AllocError>
+    ensures { let view = call.now.view in
+        let answer = specs.select_if_readable view (state_of session.now) call.now.tag read_only name in
+        IfOk result (λ given. given ≡ answer (readable_in view name)) }
+{
+    match call.view().readable(&name.as_ref()) {
+        Some(mailbox) => select_readable(call, session, read_only, name, &mailbox),
+        None => {
+            let rights = call.view().rights(&name.as_ref());
+            refuse_selecting(call, session, missing_right_refusal(rights))
+        }
+    }
+}
+
+fn select_readable(
+    call: &Call<'_>,
+    session: &Session,
+    read_only: bool,
+    name: Name,
+    mailbox: &Readable<'_>,
+) -> Result<Selecting, AllocError>
+    requires { AreRowsInOrder mailbox.now.next_uid mailbox.now.highest mailbox.now.rows }
+    ensures { let answer = specs.selecting call.now.view (state_of session.now) call.now.tag in
+        IfOk result (λ given. given ≡ answer read_only name mailbox.now) }
+{
+    let rights = call.view().rights(&name.as_ref());
+    let lines = mailbox_lines(call, &name, rights_to_change(read_only, rights), mailbox)?;
+    let answer = call.carried_out(lines, Some(mode(read_only, rights)), None)?;
+    Ok(Selecting {
+        answer: closing(call, session, answer)?,
+        selection: selection_of(call.alloc(), name, read_only, mailbox)?,
+    })
+}
+
+/// Refuses SELECT or EXAMINE: then no mailbox is selected any more.
+pub fn refuse_selecting(
+    call: &Call<'_>,
+    session: &Session,
+    refusal: Refusal,
+) -> Result<Selecting, AllocError>
+    ensures { let meant = specs.refused_selecting (state_of session.now) call.now.tag refusal in
+        IfOk result (λ given. given ≡ meant) }
+{
+    let answer = call.refuse(refusal)?;
+    Ok(Selecting {
+        answer: closing(call, session, answer)?,
+        selection: NewSelection::none(),
+    })
+}
+
+/// The answer after the line that closes the mailbox which was selected, if one was.
+fn closing(call: &Call<'_>, session: &Session, answer: Answer) -> Result<Answer, AllocError>
+    ensures { let closed = specs.closed_line (state_of session.now).selected in
+        IfOk result (λ given. given ≡ preceded_by closed answer) }
+{
+    match &session.selected {
+        Some(_) => answer.preceded_by(vec![in call.alloc(); Response::Closed]?),
+        None => Ok(answer),
+    }
+}
+
+/// The mailbox as it is selected: the session is told of all its messages.
+fn selection_of(
+    alloc: Global,
+    name: Name,
+    read_only: bool,
+    mailbox: &Readable<'_>,
+) -> Result<NewSelection, AllocError>
+    requires { AreRowsInOrder mailbox.now.next_uid mailbox.now.highest mailbox.now.rows }
+    ensures { let meant = specs.selected_as name read_only mailbox.now in
+        IfOk result (λ selection. selection ≡ Some meant) }
+{
+    Ok(NewSelection::of(Selected {
+        name,
+        validity: mailbox.validity,
+        read_only,
+        known: known_list(alloc, &mailbox.rows, mailbox.next_uid)?,
+        up_to: mailbox.highest,
+    }))
+}
+
+/// The untagged lines that tell of the mailbox.
+fn mailbox_lines(
+    call: &Call<'_>,
+    name: &Name,
+    rights: Rights,
+    mailbox: &Readable<'_>,
+) -> Result<Vec<Response>, AllocError>
+    requires { AreRowsInOrder mailbox.now.next_uid mailbox.now.highest mailbox.now.rows }
+    ensures lines { let meant = specs.mailbox_lines call.now.view name.now (bits rights) mailbox.now in
+        IfOk result (λ lines. lines.items ≡ meant) }
+    ensures printable { IfOk result (λ lines. AllByRecursion IsPrintable lines.items) }
+{
+    let keywords = keywords_of(call.alloc(), &mailbox.rows)?;
+    let flags = permanent_flags(call.alloc(), rights, &keywords)?;
+    let any = rights.has_any(Rights::WRITE);
+    flags_are_printable(&keywords);
+    permanent_flags_are_printable(&flags, any);
+    Ok(vec![in call.alloc();
+        Response::Flags { keywords },
+        Response::Exists(count(&mailbox.rows, mailbox.next_uid)),
+        mailbox_line(call, name)?,
+        Response::PermanentFlags { flags, any },
+        Response::UidValidity(mailbox.validity),
+        Response::UidNext(mailbox.next_uid),
+        Response::HighestModSeq(mailbox.highest),
+    ]?)
+}
+
+/// The number of messages. Each has a UID below UIDNEXT.
+fn count(rows: &Rows<'_>, next_uid: u32) -> u32
+    requires { Rises first_uid next_uid (row_uids rows.now) }
+    ensures { result ≡ length rows.now }
+{
+    rows.len() as u32
+}
+
+/// The messages as a session knows them that was told of all.
+fn known_list(alloc: Global, rows: &Rows<'_>, next_uid: u32) -> Result<KnownList, AllocError>
+    requires { Rises first_uid next_uid (row_uids rows.now) }
+    ensures { IfOk result (λ known. known.list ≡ map told_of rows.now) }
+{
+    KnownList::of_rows(alloc, &mut MailboxRows::new(rows))
+}
+
+/// The keywords that messages of the mailbox have.
+fn keywords_of(alloc: Global, rows: &Rows<'_>) -> Result<Keywords, AllocError>
+    ensures { IfOk result (λ keywords. keywords ≡ specs.keywords_of rows.now) }
+{
+    let mut keywords = Keywords::new(alloc);
+    for place in 0..rows.len() {
+        keywords.insert_all(alloc, &rows.get(place).flags.keywords)?;
+    }
+    Ok(keywords)
+}
+
+/// The flags that a user with these rights may change.
+fn permanent_flags(
+    alloc: Global,
+    rights: Rights,
+    keywords: &Keywords,
+) -> Result<FlagSet, AllocError>
+    ensures { IfOk result (λ flags. flags ≡ specs.permanent_flags (bits rights) keywords.now) }
+{
+    let may_write = rights.has_any(Rights::WRITE);
+    Ok(FlagSet {
+        answered: may_write,
+        deleted: rights.has_any(Rights::DELETE_MESSAGES),
+        draft: may_write,
+        flagged: may_write,
+        seen: rights.has_any(Rights::SEEN),
+        keywords: if may_write {
+            keywords.try_copy(alloc)?
+        } else {
+            Keywords::new(alloc)
+        },
+    })
+}
+
+/// A mailbox is READ-WRITE to one who selects it and may change it for all.
+fn mode(read_only: bool, rights: Rights) -> Code
+    ensures { result ≡ specs.mode read_only (bits rights) }
+{
+    let may_change = rights.has_any(Rights::INSERT)
+        || (rights.has_any(Rights::EXPUNGE)
+            || (rights.has_any(Rights::DELETE_MESSAGES) || rights.has_any(Rights::WRITE)));
+    if !read_only && may_change {
+        Code::ReadWrite
+    } else {
+        Code::ReadOnly
+    }
+}
+
+fn rights_to_change(read_only: bool, rights: Rights) -> Rights
+    ensures { bits result ≡ specs.rights_to_change read_only (bits rights) }
+{
+    if read_only { Rights::empty() } else { rights }
+}
