@@ -209,6 +209,8 @@ module _ (view : View) where
   command_fits active tag at (command.Status mailbox items) = list.status_fits view tag mailbox items
   command_fits active tag at (command.Append mailbox flags date message) =
       messages.append_fits view tag at (record { mailbox = mailbox; flags = flags; date = date; message = message })
+  command_fits active tag at (command.Fetch numbering named items since vanished) =
+      messages.fetch_fits view tag active (record { numbering = numbering; messages = named; items = items; changed_since = since; vanished = vanished })
   command_fits active tag at (command.SetAcl mailbox identifier rights) = tree.set_acl_fits view tag mailbox identifier rights
   command_fits active tag at (command.DeleteAcl mailbox identifier) = tree.delete_acl_fits view tag mailbox identifier
   command_fits active tag at (command.GetAcl mailbox) = tree.get_acl_fits view tag mailbox
@@ -232,7 +234,6 @@ module _ (view : View) (own : Option Own) (number : ℕ) where
   outcome_of_command_fits active tag at command.Expunge = unbuilt_fits _ tag active
   outcome_of_command_fits active tag at (command.UidExpunge messages) = unbuilt_fits _ tag active
   outcome_of_command_fits active tag at (command.Search numbering returns charset keys) = unbuilt_fits _ tag active
-  outcome_of_command_fits active tag at (command.Fetch numbering messages items since vanished) = unbuilt_fits _ tag active
   outcome_of_command_fits active tag at (command.Store numbering messages store) = unbuilt_fits _ tag active
   outcome_of_command_fits active tag at (command.Copy numbering messages mailbox) = unbuilt_fits _ tag active
   outcome_of_command_fits active tag at (command.Move numbering messages mailbox) = unbuilt_fits _ tag active

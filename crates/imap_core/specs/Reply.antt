@@ -16,6 +16,7 @@ use Rattle.imap_syntax.specs.Moments.{Moment}
 use Rattle.imap_print.specs.declared.response.Response.{Response}
 use Rattle.imap_print.specs.declared.response.Response.TheVariants as response
 use Rattle.imap_messages.specs.Append.{append_answer}
+use Rattle.imap_messages.specs.Fetch.{fetch_answer}
 use Rattle.imap_print.specs.declared.response.Farewell.TheVariants.{LimitReached, MailboxUnavailable}
 use Rattle.imap_print.specs.declared.enabled.EnabledCapabilities.{EnabledCapabilities}
 use Rattle.imap_print.specs.declared.response.Refusal.{Refusal}
@@ -72,6 +73,14 @@ command_answer view own tag at (command.Append mailbox flags date message) =
       flags = flags;
       date = date;
       message = message;
+    })
+command_answer view own tag at (command.Fetch numbering messages items since vanished) =
+    fetch_answer view own tag (record {
+      numbering = numbering;
+      messages = messages;
+      items = items;
+      changed_since = since;
+      vanished = vanished;
     })
 command_answer view own tag at (command.SetAcl mailbox identifier rights) =
     set_acl_answer view tag mailbox identifier rights
@@ -153,8 +162,6 @@ command_outcome view own tag at command.Close = unbuilt_outcome own tag
 command_outcome view own tag at command.Expunge = unbuilt_outcome own tag
 command_outcome view own tag at (command.UidExpunge messages) = unbuilt_outcome own tag
 command_outcome view own tag at (command.Search numbering returns charset keys) = unbuilt_outcome own tag
-command_outcome view own tag at (command.Fetch numbering messages items since vanished) =
-    unbuilt_outcome own tag
 command_outcome view own tag at (command.Store numbering messages store) = unbuilt_outcome own tag
 command_outcome view own tag at (command.Copy numbering messages mailbox) = unbuilt_outcome own tag
 command_outcome view own tag at (command.Move numbering messages mailbox) = unbuilt_outcome own tag

@@ -17,7 +17,7 @@ use imap_lex::Octets;
 use imap_list::{
     Query, list_answer, namespace_answer, status_answer, subscribe_answer, unsubscribe_answer,
 };
-use imap_messages::{Append, append_answer};
+use imap_messages::{Append, Fetch, append_answer, fetch_answer};
 use imap_print::{EnabledCapabilities, Refusal, Response};
 use imap_session::{NewSelection, Selecting, Session, refuse_selecting, select_answer};
 use imap_tree::{
@@ -51,7 +51,6 @@ pub(crate) fn command_outcome(
         | Command::Expunge
         | Command::UidExpunge { .. }
         | Command::Search { .. }
-        | Command::Fetch { .. }
         | Command::Store { .. }
         | Command::Copy { .. }
         | Command::Move { .. } => unbuilt_outcome(call, session),
@@ -204,6 +203,22 @@ fn command_answer(
                 message,
             };
             append_answer(call, &asked)
+        }
+        Command::Fetch {
+            numbering,
+            messages,
+            items,
+            changed_since,
+            vanished,
+        } => {
+            let asked = Fetch {
+                numbering: *numbering,
+                messages,
+                items,
+                changed_since: *changed_since,
+                vanished: *vanished,
+            };
+            fetch_answer(call, session, &asked)
         }
         Command::SetAcl {
             mailbox,

@@ -1,24 +1,39 @@
 -- Each answer is fit.
-use Rattle.std.proofs.Common.{◌≡◌, ℕ, Bool, true, false, cond, not, List, Option, Some, None, refl, sym, subst}
+use Rattle.std.proofs.Common.{◌≡◌, ℕ, Bool, true, false, cond, not, ◌||◌, ◌&&◌, List, [], ◌∷◌, ◌++◌, append_assoc, length, Option, Some, None, refl, sym, ap, subst, ◌∙◌, true≢false}
+use Rattle.std.specs.List.{list_any}
 use Rattle.std.specs.FinMap as map
 use Rattle.imap_answer.specs.Alike.{AnswersAlike}
-use Rattle.imap_answer.specs.Answer.{done_with_code, refusal}
-use Rattle.imap_answer.specs.Fit.{IsFit}
+use Rattle.imap_answer.specs.Answer.{carried_out, done_line, done_with_code, enabling, refusal}
+use Rattle.imap_answer.specs.Fit.{IsFit, is_refusal, is_unavailable}
 use Rattle.imap_answer.proofs.Alike.{answers_alike}
-use Rattle.imap_answer.proofs.Fits.{fits_alone, fits_asking_there, fits_if_named}
+use Rattle.imap_answer.proofs.Fits.{fits_alone, fits_asking_there, fits_enabling, fits_if_named}
 use Rattle.imap_batch.specs.declared.batch.NewMessage.{NewMessage}
+use Rattle.imap_mailbox.specs.declared.known.KnownMessage.{KnownMessage}
 use Rattle.imap_mailbox.specs.Flags.{has_too_many}
+use Rattle.imap_mailbox.specs.Rows.{Row}
 use Rattle.imap_names.specs.Name.{Name}
-use Rattle.imap_print.specs.declared.response.Refusal.TheVariants.{Cannot, Limit, NonExistent, NoPerm, OverQuota, TryCreate}
+use Rattle.imap_print.specs.declared.response.Refusal.TheVariants.{Cannot, ExpungeIssued, Limit, Malformed, NonExistent, NoPerm, OverQuota, TryCreate}
+use Rattle.imap_print.specs.declared.enabled.EnabledCapabilities.{EnabledCapabilities}
+use Rattle.imap_print.specs.declared.fetch.FetchedItems.{FetchedItems}
+use Rattle.imap_print.specs.declared.response.Response.{Response}
+use Rattle.imap_print.specs.declared.response.Response.TheVariants as response
 use Rattle.imap_rights.specs.Rights.{has_any, insert, lookup}
+use Rattle.imap_session.specs.State.{Selection, SessionState}
 use Rattle.imap_syntax.specs.Lexical.{has_nul}
 use Rattle.imap_syntax.specs.Moments.{Moment}
 use Rattle.imap_view.specs.MessagesAfter.{IsPossibleAt}
+use Rattle.imap_view.specs.declared.readable.Readable.{Readable}
+use Rattle.imap_view.specs.Readable.{readable_in}
 use Rattle.imap_view.specs.Seen.{Seen}
 use Rattle.imap_view.specs.View.{View, rights_in}
 use Rattle.imap_messages.specs.Append.{Append, append_answer, append_code, append_message, append_to_name, append_to_seen, appends, batch_of, is_full, message_of}
+use Rattle.imap_messages.specs.Fetch.{Fetch, enabled_by, fetch_answer, fetch_if_readable, fetch_if_selected, fetched_lines, is_by_uid, is_impossible, is_malformed, is_refused, messages_of, sets_seen}
+use Rattle.imap_messages.specs.Fetched.{Wanted, wanted_of}
+use Rattle.imap_messages.specs.MessageNumbers.{Numbered, row_with}
+use Rattle.imap_messages.specs.Reading.{counted, line_if_there, lines_from, reading}
 use Rattle.imap_messages.specs.Target.{holds_create_above, target_refusal}
 use Rattle.imap_messages.proofs.Possible.{possible}
+use Rattle.imap_messages.proofs.ReadPossible.{may_read}
 
 module _ (view : View) (tag : List ℕ) where
   target_fits : (name : Name) → IsFit view (refusal tag (target_refusal view name))
@@ -53,5 +68,63 @@ module _ (view : View) (tag : List ℕ) where
   append_fits at asked =
       fits_if_named view tag asked.mailbox (append_to_name view tag at asked) (λ name. append_seen at asked name (map.get view.seen name) refl)
 
+-- ---- FETCH
+
+-- lines of FETCH don't pass a test that none of these lines passes
+module _ (test : Response → Bool) (fetch : (number : ℕ) (items : FetchedItems) → test (response.Fetch number items) ≡ false) (wanted : Wanted) (sets : Bool) (rows : List Row) where
+  line_passes : (highest own number : ℕ) (rest : List Response) (row : Option Row) → list_any test (line_if_there wanted sets highest own number row ++ rest) ≡ list_any test rest
+  line_passes highest own number rest None = refl
+  line_passes highest own number rest (Some row) = ap (λ b. b || list_any test rest) (fetch number _)
+
+  lines_pass : (highest own : ℕ) (messages : List Numbered) (rest : List Response) → list_any test (lines_from wanted sets rows highest own messages ++ rest) ≡ list_any test rest
+  lines_pass highest own [] rest = refl
+  lines_pass highest own (m ∷ messages) rest =
+      let row = row_with m.uid rows in
+      let h = counted sets own row highest in
+      let o = counted sets own row own in
+      ap (list_any test) (append_assoc (line_if_there wanted sets highest own m.number row) (lines_from wanted sets rows h o messages) rest)
+      ∙ line_passes highest own m.number (lines_from wanted sets rows h o messages ++ rest) row
+      ∙ lines_pass h o messages rest
+
+module _ (view : View) (tag : List ℕ) (enabled : EnabledCapabilities) (asked : Fetch) (s : Selection) where
+  messages_fit : (mailbox : Readable) (messages : List Numbered) → readable_in view s.name ≡ Some mailbox → (refused : Bool)
+      → IsFit view (cond refused (refusal tag ExpungeIssued) (enabling (enabled_by asked.items)
+      (carried_out (fetched_lines enabled asked (sets_seen view s asked) mailbox messages) tag None (reading (sets_seen view s asked) view.user s.name messages mailbox.rows))))
+  messages_fit mailbox messages is true = fits_alone view _ _ refl
+  messages_fit mailbox messages is false =
+      let sets = sets_seen view s asked in
+      let wanted = wanted_of (is_by_uid asked.numbering) enabled.condstore asked.items in
+      let answer = carried_out (fetched_lines enabled asked sets mailbox messages) tag None (reading sets view.user s.name messages mailbox.rows) in
+      let carried = lines_pass is_refusal (λ number items. refl) wanted sets mailbox.rows mailbox.highest mailbox.own messages (done_line tag ∷ []) in
+      fits_enabling view (enabled_by asked.items) answer carried (record {
+        asks = λ viewed. may_read view s.name messages mailbox viewed sets is;
+        refused = λ e. absurd (true≢false (sym e ∙ carried));
+        available = lines_pass is_unavailable (λ number items. refl) wanted sets mailbox.rows mailbox.highest mailbox.own messages (done_line tag ∷ []);
+      })
+
+  readable_fits : (mailbox : Option Readable) → readable_in view s.name ≡ mailbox → IsFit view (fetch_if_readable view enabled tag asked s mailbox)
+  readable_fits None is = fits_alone view _ _ refl
+  readable_fits (Some mailbox) is =
+      let messages = messages_of asked s.known mailbox in
+      messages_fit mailbox messages is (is_refused (is_by_uid asked.numbering) mailbox.rows messages)
+
+  selected_by : (malformed impossible : Bool)
+      → IsFit view (cond malformed (refusal tag Malformed) (cond impossible (refusal tag Cannot) (fetch_if_readable view enabled tag asked s (readable_in view s.name))))
+  selected_by true impossible = fits_alone view _ _ refl
+  selected_by false true = fits_alone view _ _ refl
+  selected_by false false = readable_fits (readable_in view s.name) refl
+
+pub fetch_fits : (view : View) (tag : List ℕ) (own : SessionState) (asked : Fetch) → IsFit view (fetch_answer view own tag asked)
+fetch_fits view tag own asked = by own.selected
+  where
+    by : (s : Option Selection) → IsFit view (fetch_if_selected view own.enabled tag asked s)
+    by None = fits_alone view _ _ refl
+    by (Some s) = selected_by view tag own.enabled asked s (is_malformed own.enabled (length s.known) asked) (is_impossible asked)
+
+-- ---- alike
+
 pub append_alike : (tag : List ℕ) (at : Moment) (asked : Append) → AnswersAlike (λ view. append_answer view tag at asked)
 append_alike tag at asked = answers_alike (λ view. append_answer view tag at asked) (λ view. append_fits view tag at asked)
+
+pub fetch_alike : (own : SessionState) (tag : List ℕ) (asked : Fetch) → AnswersAlike (λ view. fetch_answer view own tag asked)
+fetch_alike own tag asked = answers_alike (λ view. fetch_answer view own tag asked) (λ view. fetch_fits view tag own asked)

@@ -1,11 +1,18 @@
-//! Commands on messages: APPEND (RFC 9051, section 6.3.12).
+//! Commands on messages: APPEND and FETCH (RFC 9051, sections 6.3.12, 6.4.5 and 6.4.9).
 //!
-//! Each command is a function from what its user may see to an answer.
+//! Each command is a function from what its user may see, and for FETCH from what the session knows of its
+//! mailbox, to an answer.
 #![tactic(auto)]
 
 mod append;
+mod body_sections;
+mod fetch;
 pub mod laws;
+mod message_numbers;
 mod new_flags;
+mod reading;
 mod target;
+mod wanted;
 
 pub use append::{Append, append_answer};
+pub use fetch::{Fetch, fetch_answer};

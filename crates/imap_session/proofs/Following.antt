@@ -35,7 +35,7 @@ put_at : (n : ℕ) (c : Bool) (r : Row) (front : List ClientMessage) (h : Client
 put_at n c r [] h back e = ap (λ b. cond b (client_message (told_of r) ∷ back) (h ∷ after_fetch n (notice_items c (told_of r)) back)) (eq-eqb n 0 (sym e))
 put_at zero c r (y ∷ front) h back e = absurd (omega arith)
 put_at (suc m) c r (y ∷ front) h back e =
-    ap (λ b. cond b (record { uid = Some r.uid; flags = Some (flag_set (told_of r)) } ∷ front ++ h ∷ back) (y ∷ after_fetch (suc m) (notice_items c (told_of r)) (front ++ h ∷ back))) (ne_eqb (suc m) 0 (λ z. omega arith))
+    ap (λ b. cond b (record { uid = Some r.uid; flags = Some (flag_set r.flags r.seen) } ∷ front ++ h ∷ back) (y ∷ after_fetch (suc m) (notice_items c (told_of r)) (front ++ h ∷ back))) (ne_eqb (suc m) 0 (λ z. omega arith))
     ∙ ap (λ l. y ∷ l) (put_at m c r front h back (omega arith))
 
 shifted : {A : Type 0} (front : List A) (k : A) (rest : List A) → front ++ k ∷ rest ≡ (front ++ k ∷ []) ++ rest

@@ -69,7 +69,7 @@ after_lines (line ∷ lines) held = after_lines lines (after_line line held)
 -- ---- what is told is enough
 
 abbrev pub client_message : KnownMessage → ClientMessage
-client_message k = record { uid = Some k.uid; flags = Some (flag_set k) }
+client_message k = record { uid = Some k.uid; flags = Some (flag_set k.flags k.seen) }
 
 -- a client that held what the session knew holds what the session knows now, and of new messages that they
 -- exist

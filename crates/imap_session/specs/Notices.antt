@@ -5,6 +5,7 @@ use Rattle.imap_print.specs.declared.response.Response.{Response}
 use Rattle.imap_print.specs.declared.response.Response.TheVariants as response
 use Rattle.imap_print.specs.declared.fetch.FetchedItems.{FetchedItems}
 use Rattle.imap_print.specs.declared.flag.FlagSet.{FlagSet}
+use Rattle.imap_mailbox.specs.declared.flags.SharedFlags.{SharedFlags}
 use Rattle.imap_mailbox.specs.declared.known.KnownMessage.{KnownMessage}
 use Rattle.imap_mailbox.specs.Rows.{Row}
 use Rattle.imap_mailbox.specs.Brought.{told_of}
@@ -12,21 +13,22 @@ use Rattle.imap_session.specs.declared.options.NoticeOptions.{NoticeOptions}
 use Rattle.imap_session.specs.Compared.{Comparison, Expunged, Present, comparisons, new_rows, is_known}
 use Rattle.imap_session.specs.Compared.{known_after}
 
-abbrev pub flag_set : KnownMessage → FlagSet
-flag_set k = record {
-  answered = k.flags.answered;
-  deleted = k.flags.deleted;
-  draft = k.flags.draft;
-  flagged = k.flags.flagged;
-  seen = k.seen;
-  keywords = k.flags.keywords;
+-- the flags that all users share, and the user's own \Seen
+abbrev pub flag_set : SharedFlags → (seen : Bool) → FlagSet
+flag_set flags seen = record {
+  answered = flags.answered;
+  deleted = flags.deleted;
+  draft = flags.draft;
+  flagged = flags.flagged;
+  seen = seen;
+  keywords = flags.keywords;
 }
 
 -- UID and FLAGS, and MODSEQ if CONDSTORE is enabled (RFC 7162, section 3.2)
 abbrev pub notice_items : (condstore : Bool) → KnownMessage → FetchedItems
 notice_items condstore k = record {
   uid = Some k.uid;
-  flags = Some (flag_set k);
+  flags = Some (flag_set k.flags k.seen);
   internal_date = None;
   size = None;
   mod_seq = if condstore then Some k.number else None;

@@ -6,22 +6,24 @@ ghost use Rattle.imap_print.specs.Sets.{rise_above};
 ghost use Rattle.imap_session.specs.Notices.{notice_items, vanished_line};
 ghost use Rattle.imap_session.specs.Notices as specs;
 
-use imap_mailbox::KnownMessage;
+use imap_mailbox::{KnownMessage, SharedFlags};
 use imap_print::{FetchedItems, FlagSet, NumberSet, Response};
 use imap_syntax::Items;
 use imap_values::TryCopy;
 use std::alloc::{AllocError, Global};
 
-fn flag_set(alloc: Global, message: &KnownMessage) -> Result<FlagSet, AllocError>
-    ensures { IfOk result (λ flags. flags ≡ specs.flag_set message.now) }
+/// Returns the flags of a message as FETCH gives them: those that all users share, and the user's own
+/// `\Seen`. Shares the keywords.
+pub fn flag_set(alloc: Global, flags: &SharedFlags, seen: bool) -> Result<FlagSet, AllocError>
+    ensures { IfOk result (λ set. set ≡ specs.flag_set flags.now seen) }
 {
-    let keywords = message.flags.keywords.try_copy(alloc)?;
+    let keywords = flags.keywords.try_copy(alloc)?;
     Ok(FlagSet {
-        answered: message.flags.answered,
-        deleted: message.flags.deleted,
-        draft: message.flags.draft,
-        flagged: message.flags.flagged,
-        seen: message.seen,
+        answered: flags.answered,
+        deleted: flags.deleted,
+        draft: flags.draft,
+        flagged: flags.flagged,
+        seen,
         keywords,
     })
 }
@@ -35,7 +37,7 @@ pub(crate) fn fetch_line(
 ) -> Result<Response, AllocError>
     ensures { IfOk result (λ line. line ≡ response.Fetch number (notice_items condstore message.now)) }
 {
-    let flags = flag_set(alloc, message)?;
+    let flags = flag_set(alloc, &message.flags, message.seen)?;
     Ok(Response::Fetch {
         number,
         items: FetchedItems {

@@ -15,6 +15,7 @@ readable_by (Some validity) (Some content) = Some (record {
   validity = validity;
   next_uid = content.next;
   highest = highest_in content;
+  own = content.own;
   rows = content.rows;
 })
 readable_by _ _ = None

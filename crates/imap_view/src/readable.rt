@@ -1,7 +1,8 @@
 //! A mailbox that a user may read.
 
-ghost use Rattle.std.specs.Prelude.{◌≡◌, IfSome};
+ghost use Rattle.std.specs.Prelude.{◌≡◌, ◌≤◌, IfSome};
 ghost use Rattle.imap_mailbox.specs.Order.{AreRowsInOrder};
+ghost use Rattle.imap_modseq.specs.Numbers.{max_events, max_number};
 ghost use Rattle.imap_view.specs.Readable as specs;
 ghost use Rattle.imap_view.specs.Seen.{shown};
 
@@ -20,6 +21,8 @@ pub struct Readable<'a> {
     pub next_uid: u32,
     /// HIGHESTMODSEQ for the user (RFC 7162, section 3.1.2.1).
     pub highest: u64,
+    /// The number of changes of the user's own `\Seen`.
+    pub own: u64,
     /// The messages as the user has them.
     pub rows: Rows<'a>,
 }
@@ -29,6 +32,8 @@ impl<'a> Seen<'a> {
     pub fn readable(&self) -> Option<Readable<'a>>
         ensures readable { result ≡ specs.readable_of (shown self.now) }
         ensures valid { IfSome result (λ r. AreRowsInOrder r.next_uid r.highest r.rows) }
+        ensures few { IfSome result (λ r. r.own ≤ max_events) }
+        ensures bounded { IfSome result (λ r. r.highest ≤ max_number) }
     {
         if !self.rights.has_any(Rights::READ) {
             return None;
@@ -39,6 +44,7 @@ impl<'a> Seen<'a> {
             validity: self.mailbox.validity,
             next_uid: messages.next_uid(),
             highest: messages.highest(user),
+            own: messages.own_len(user),
             rows: messages.rows(user),
         })
     }
@@ -49,6 +55,8 @@ impl<'a> View<'a> {
     pub fn readable(&self, name: &NameRef<'_>) -> Option<Readable<'a>>
         ensures readable { result ≡ specs.readable_in self.now name.now }
         ensures valid { IfSome result (λ r. AreRowsInOrder r.next_uid r.highest r.rows) }
+        ensures few { IfSome result (λ r. r.own ≤ max_events) }
+        ensures bounded { IfSome result (λ r. r.highest ≤ max_number) }
     {
         match self.seen(name) {
             Some(seen) => seen.readable(),

@@ -1,0 +1,60 @@
+#!/usr/bin/env python3
+"""Times commands on the messages of one mailbox, by their number.
+
+    python3 bench/commands.py PROGRAM
+
+PROGRAM is the program as `rt run` or `rt ci` leaves it, `crates/imapd/out/imapd`. Each time is of one command in
+microseconds: the difference of a script with a hundred of them, or ten, and one with none, the best of five runs.
+"""
+
+import sys
+
+from worlds import seconds
+
+SIZES = (200, 2_000, 20_000)
+MESSAGE = "x" * 2_046
+
+
+def head(count):
+    """An INBOX with so many messages of 2 KB, each seen by ann, selected."""
+    lines = ["admin root", "user ann", "limit max_messages 100000", "ann.1 open"]
+    for number in range(count):
+        lines += [f"ann.1 < p{number} APPEND INBOX (\\Seen) {{2046+}}", f"ann.1 < {MESSAGE}"]
+    return [*lines, "ann.1 < s SELECT INBOX"]
+
+
+def microseconds(program, lines, commands, times):
+    steps = [f"ann.1 < {line}" for number in range(times) for line in commands(number)]
+    return max(0.0, seconds(program, lines + steps) - seconds(program, lines)) / times * 1e6
+
+
+def commands(count):
+    """The commands, with how often each is made."""
+    middle = count // 2
+    return (
+        ("APPEND of 2 KB", lambda n: [f"a{n} APPEND INBOX {{2046+}}", MESSAGE], 100),
+        ("NOOP", lambda n: [f"a{n} NOOP"], 100),
+        ("FETCH n FLAGS", lambda n: [f"a{n} FETCH {middle + n} FLAGS"], 100),
+        ("UID FETCH n BODY.PEEK[TEXT]", lambda n: [f"a{n} UID FETCH {middle + n} BODY.PEEK[TEXT]"], 100),
+        ("FETCH n BODY[]", lambda n: [f"a{n} FETCH {middle + n} BODY[]"], 100),
+        ("STATUS (MESSAGES UNSEEN)", lambda n: [f"a{n} STATUS INBOX (MESSAGES UNSEEN)"], 100),
+        ("SELECT", lambda n: [f"a{n} SELECT INBOX"], 10),
+        ("FETCH 1:* FLAGS", lambda n: [f"a{n} FETCH 1:* FLAGS"], 10),
+    )
+
+
+def main():
+    if len(sys.argv) != 2:
+        raise SystemExit(__doc__)
+    program = sys.argv[1]
+    print("| Command | " + " | ".join(f"{count:,} messages" for count in SIZES) + " |\n|---|" + "---|" * len(SIZES))
+    heads = {count: head(count) for count in SIZES}
+    for place, (name, _, _) in enumerate(commands(0)):
+        times = []
+        for count in SIZES:
+            _, lines, repeated = commands(count)[place]
+            times.append(microseconds(program, heads[count], lines, repeated))
+        print(f"| `{name}` | " + " | ".join(f"{it:,.1f}" for it in times) + " |", flush=True)
+
+
+main()

@@ -1,0 +1,140 @@
+-- Marks of messages that are read, in the order of UIDs.
+use Rattle.std.proofs.Common.{◌≡◌, ℕ, ◌+◌, ◌<◌, ◌≤◌, Bool, true, false, cond, ◌||◌, ◌&&◌, not, List, [], ◌∷◌, ◌++◌, filter, map, eqb, Option, Some, None, refl, sym, ap, ◌∙◌, arith}
+use Rattle.std.specs.List.{list_any}
+use Rattle.std.proofs.lemmas.Bool.{ne_eqb, eqb-true, eq-eqb}
+use Rattle.imap_batch.specs.declared.batch.Mark.{Mark}
+use Rattle.imap_mailbox.specs.declared.known.KnownMessage.{KnownMessage}
+use Rattle.imap_mailbox.specs.Brought.{known_uids}
+use Rattle.imap_mailbox.specs.Lent.{row_uids}
+use Rattle.imap_mailbox.specs.Rows.{Row}
+use Rattle.imap_mailbox.specs.Summary.{Rises}
+use Rattle.imap_mailbox.proofs.Rising.{rises_lower}
+use Rattle.imap_names.specs.Name.{Name}
+use Rattle.imap_syntax.specs.declared.set.Numbering.{Numbering}
+use Rattle.imap_syntax.specs.declared.set.SeqRange.{SeqRange}
+use Rattle.imap_messages.specs.Found.{marks_named}
+use Rattle.imap_messages.specs.MessageNumbers.{Numbered, in_set, messages_from, named_by, row_with}
+use Rattle.imap_messages.specs.Reading.{is_unread, marking, marks_if_there, reading, seen_mark, seen_marks}
+
+abbrev pub uids_of : List Numbered → List ℕ
+uids_of messages = map (λ (m : Numbered). m.uid) messages
+
+-- ---- the messages of a set rise, as those that are known do
+
+pub named_rise : (by : Numbering) (last : ℕ) (ranges : List SeqRange) (low high n : ℕ) (known : List KnownMessage) → Rises low high (known_uids known) → Rises low high (uids_of (messages_from by last ranges n known))
+named_rise by last ranges low high n [] h = h
+named_rise by last ranges low high n (k ∷ known) h =
+    either (in_set last ranges (named_by by (record { number = n; uid = k.uid }))) (named_rise by last ranges (k.uid + 1) high (n + 1) known h.1)
+  where
+    either : (b : Bool) → Rises (k.uid + 1) high (uids_of (messages_from by last ranges (n + 1) known))
+        → Rises low high (uids_of (cond b (record { number = n; uid = k.uid } ∷ messages_from by last ranges (n + 1) known) (messages_from by last ranges (n + 1) known)))
+    either true rest = (h.0, rest)
+    either false rest = let at : low ≤ k.uid = h.0 in rises_lower (k.uid + 1) low high (uids_of (messages_from by last ranges (n + 1) known)) (omega arith) rest
+
+-- ---- one message that is named before others, whose UIDs are greater
+
+turned : (a b : ℕ) → eqb a b ≡ eqb b a
+turned a b = by (eqb b a) refl
+  where
+    by : (x : Bool) → eqb b a ≡ x → eqb a b ≡ x
+    by true e = eq-eqb a b (sym (eqb-true b a e))
+    by false e = ne_eqb a b (λ same. absurd (cc (sym e ∙ eq-eqb b a (sym same))))
+
+nowhere : (uid low high : ℕ) (rows : List Row) → uid < low → Rises low high (row_uids rows) → row_with uid rows ≡ None
+nowhere uid low high [] lt h = refl
+nowhere uid low high (r ∷ rows) lt h =
+    let at : low ≤ r.uid = h.0 in
+    ap (λ b. cond b (Some r) (row_with uid rows)) (ne_eqb r.uid uid (λ e. omega (arith, e, at, lt)))
+    ∙ nowhere uid (r.uid + 1) high rows (omega (arith, at, lt)) h.1
+
+abbrev names_uid : ℕ → List Numbered → Bool
+names_uid uid messages = list_any (λ (m : Numbered). eqb m.uid uid) messages
+
+above : (uid low high : ℕ) (messages : List Numbered) → Rises low high (uids_of messages) → names_uid uid messages ≡ true → low ≤ uid
+above uid low high [] h e = absurd (cc e)
+above uid low high (m ∷ messages) h e = by (eqb m.uid uid) refl e (above uid (m.uid + 1) high messages h.1)
+  where
+    by : (x : Bool) → eqb m.uid uid ≡ x → x || names_uid uid messages ≡ true → (names_uid uid messages ≡ true → m.uid + 1 ≤ uid) → low ≤ uid
+    by true is e later = let at : low ≤ m.uid = h.0 in let same = eqb-true m.uid uid is in omega (arith, at, same)
+    by false is e later = let at : low ≤ m.uid = h.0 in let rest = later e in omega (arith, at, rest)
+
+second : (seen x : Bool) → (not seen && x) ≡ true → x ≡ true
+second true x e = absurd (cc e)
+second false x e = e
+
+module _ (m : Numbered) (messages : List Numbered) where
+  -- a row that isn't the message
+  other : (r : Row) → eqb m.uid r.uid ≡ false → is_unread (m ∷ messages) r ≡ is_unread messages r
+  other r e = ap (λ b. not r.seen && (b || names_uid r.uid messages)) e
+
+  others : (low high : ℕ) (rows : List Row) → m.uid < low → Rises low high (row_uids rows) → filter (is_unread (m ∷ messages)) rows ≡ filter (is_unread messages) rows
+  others low high [] lt h = refl
+  others low high (r ∷ rows) lt h =
+      let at : low ≤ r.uid = h.0 in
+      let rest = others (r.uid + 1) high rows (omega (arith, at, lt)) h.1 in
+      let same = other r (ne_eqb m.uid r.uid (λ e. omega (arith, e, at, lt))) in
+      λ j. cond (same j) (r ∷ rest j) (rest j)
+
+  module _ (top high : ℕ) (up : Rises (m.uid + 1) top (uids_of messages)) (r : Row) (rows : List Row) (h : Rises (r.uid + 1) high (row_uids rows)) where
+    abbrev marks : Bool → List Numbered → List Mark
+    marks b ms = map seen_mark (cond b (r ∷ filter (is_unread ms) rows) (filter (is_unread ms) rows))
+
+    unnamed : m.uid ≡ r.uid → (x : Bool) → names_uid r.uid messages ≡ x → x ≡ false
+    unnamed same true e = let le = above r.uid (m.uid + 1) top messages up e in absurd (omega (arith, same, le))
+    unnamed same false e = refl
+
+    here : (seen x : Bool) → x ≡ false → marks (not seen && true) messages ≡ cond (not seen) (seen_mark r ∷ []) [] ++ marks (not seen && x) messages
+    here true x none = refl
+    here false true none = absurd (cc none)
+    here false false none = refl
+
+    there : (b : Bool) → is_unread messages r ≡ b → seen_marks (m ∷ messages) rows ≡ marks_if_there true (row_with m.uid rows) ++ seen_marks messages rows
+        → marks b (m ∷ messages) ≡ marks_if_there true (row_with m.uid rows) ++ marks b messages
+    there false e later = later
+    there true e later =
+        let le = above r.uid (m.uid + 1) top messages up (second r.seen (names_uid r.uid messages) e) in
+        let none : marks_if_there true (row_with m.uid rows) ≡ [] = ap (marks_if_there true) (nowhere m.uid (r.uid + 1) high rows (omega (arith, le)) h) in
+        ap (λ ms. seen_mark r ∷ ms) (later ∙ ap (λ ms. ms ++ seen_marks messages rows) none) ∙ ap (λ ms. ms ++ (seen_mark r ∷ seen_marks messages rows)) (sym none)
+
+    by_row : (b : Bool) → eqb r.uid m.uid ≡ b → seen_marks (m ∷ messages) rows ≡ marks_if_there true (row_with m.uid rows) ++ seen_marks messages rows
+        → seen_marks (m ∷ messages) (r ∷ rows) ≡ marks_if_there true (cond b (Some r) (row_with m.uid rows)) ++ seen_marks messages (r ∷ rows)
+    by_row true e later =
+        let same : m.uid ≡ r.uid = sym (eqb-true r.uid m.uid e) in
+        let rest = others (r.uid + 1) high rows (omega (arith, same)) h in
+        (λ j. map seen_mark (cond (not r.seen && (eq-eqb m.uid r.uid same j || names_uid r.uid messages)) (r ∷ rest j) (rest j)))
+        ∙ here r.seen (names_uid r.uid messages) (unnamed same (names_uid r.uid messages) refl)
+    by_row false e later =
+        ap (λ b. marks b (m ∷ messages)) (other r (turned m.uid r.uid ∙ e)) ∙ there (is_unread messages r) refl later
+
+  one_first : (top low high : ℕ) (rows : List Row) → Rises (m.uid + 1) top (uids_of messages) → Rises low high (row_uids rows)
+      → seen_marks (m ∷ messages) rows ≡ marks_if_there true (row_with m.uid rows) ++ seen_marks messages rows
+  one_first top low high [] up h = refl
+  one_first top low high (r ∷ rows) up h = by_row top high up r rows h.1 (eqb r.uid m.uid) refl (one_first top (r.uid + 1) high rows up h.1)
+
+-- ---- all messages
+
+none_unread : (rows : List Row) → seen_marks [] rows ≡ []
+none_unread [] = refl
+none_unread (r ∷ rows) = by r.seen (none_unread rows)
+  where
+    by : (b : Bool) → seen_marks [] rows ≡ [] → map seen_mark (cond (not b && false) (r ∷ filter (is_unread []) rows) (filter (is_unread []) rows)) ≡ []
+    by true e = e
+    by false e = e
+
+pub marks_are : (top low high less : ℕ) (messages : List Numbered) (rows : List Row) → Rises less top (uids_of messages) → Rises low high (row_uids rows) → marks_named true rows messages ≡ seen_marks messages rows
+marks_are top low high less [] rows up h = sym (none_unread rows)
+marks_are top low high less (m ∷ messages) rows up h =
+    ap (λ ms. marks_if_there true (row_with m.uid rows) ++ ms) (marks_are top low high (m.uid + 1) messages rows up.1 h) ∙ sym (one_first m messages top low high rows up.1 h)
+
+no_marks : (rows : List Row) (messages : List Numbered) → marks_named false rows messages ≡ []
+no_marks rows [] = refl
+no_marks rows (m ∷ messages) = ap (λ ms. ms ++ marks_named false rows messages) (by (row_with m.uid rows)) ∙ no_marks rows messages
+  where
+    by : (row : Option Row) → marks_if_there false row ≡ []
+    by None = refl
+    by (Some r) = refl
+
+pub reading_is : (sets : Bool) (user : List ℕ) (name : Name) (top low high less : ℕ) (messages : List Numbered) (rows : List Row) → Rises less top (uids_of messages) → Rises low high (row_uids rows)
+    → marking user name (marks_named sets rows messages) ≡ reading sets user name messages rows
+reading_is true user name top low high less messages rows up h = ap (marking user name) (marks_are top low high less messages rows up h)
+reading_is false user name top low high less messages rows up h = ap (marking user name) (no_marks rows messages)

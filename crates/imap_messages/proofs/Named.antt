@@ -1,0 +1,200 @@
+-- The messages that a command names.
+use Rattle.std.proofs.Common.{◌≡◌, ℕ, suc, ◌+◌, ◌-◌, ◌<◌, ◌≤◌, Bool, true, false, cond, ◌||◌, ◌&&◌, not, List, [], ◌∷◌, ◌++◌, append_assoc, length, get_or, drop, drop-cons, add-one, eqb, Option, Some, None, option_map, is_some, refl, sym, ap, subst, ◌∙◌, arith}
+use Rattle.std.specs.Prelude.{nat_lt}
+use Rattle.std.specs.List.{AllByRecursion, list_any}
+use Rattle.std.proofs.lemmas.Bool.{ltb-true}
+use Rattle.std.proofs.lemmas.List.{append-nil, length-map}
+use Rattle.imap_mailbox.specs.declared.known.KnownMessage.{KnownMessage}
+use Rattle.imap_mailbox.specs.Lent.{place_in, row_uids}
+use Rattle.imap_mailbox.specs.Rows.{Row}
+use Rattle.imap_mailbox.proofs.Finding.{inside}
+use Rattle.imap_session.specs.Held.{UidsRise, uid_limit}
+use Rattle.imap_session.proofs.Telling.{length_fits}
+use Rattle.imap_syntax.specs.declared.set.Numbering.{Numbering}
+use Rattle.imap_syntax.specs.declared.set.SeqRange.{SeqRange}
+use Rattle.imap_messages.specs.declared.reading.Reading.{Reading}
+use Rattle.imap_messages.specs.Fetch.{is_gone, is_refused}
+use Rattle.imap_messages.specs.Fetched.{Wanted}
+use Rattle.imap_messages.specs.Found.{IsReading, marks_named}
+use Rattle.imap_messages.specs.MessageNumbers.{Numbered, in_set, last_uid, messages_from, named_by, row_with}
+use Rattle.imap_messages.specs.Reading.{IsAdded, counted, is_set, line_if_there, lines_from, marks_if_there}
+use Rattle.imap_modseq.specs.Numbers.{max_events}
+use Rattle.imap_print.specs.Lines.{IsPrintable}
+use Rattle.imap_view.specs.declared.readable.Readable.{Readable}
+
+-- ---- the last UID
+
+pub none_is_last : (next : ℕ) (known : List KnownMessage) → length known ≡ 0 → next ≡ last_uid next known
+none_is_last next [] e = refl
+none_is_last next (k ∷ known) e = absurd (omega (arith, e))
+
+pub last_is_last : (next : ℕ) (known : List KnownMessage) (d : KnownMessage) → 0 < length known → (get_or known (length known - 1) d).uid ≡ last_uid next known
+last_is_last next [] d some = absurd (omega (arith, some))
+last_is_last next (k ∷ []) d some = refl
+last_is_last next (k ∷ l ∷ known) d some =
+    let here : length (k ∷ l ∷ known) - 1 ≡ suc (length known) = omega arith in
+    let there : length known ≡ length (l ∷ known) - 1 = omega arith in
+    ap (λ n. (get_or (k ∷ l ∷ known) n d).uid) here ∙ ap (λ n. (get_or (l ∷ known) n d).uid) there ∙ last_is_last k.uid (l ∷ known) d (omega arith)
+
+-- so few that each has a number
+pub known_fit : (known : List KnownMessage) → UidsRise known → length known + 1 ≤ uid_limit
+known_fit known rise = length_fits known uid_limit rise
+
+-- ---- a row by its UID
+
+row_by : (uid : ℕ) (b : Bool) (r d : Row) (rows : List Row) (o : Option ℕ) (i : ℕ) → cond b (Some 0) (option_map (λ n. n + 1) o) ≡ Some i
+    → ((j : ℕ) → o ≡ Some j → row_with uid rows ≡ Some (get_or rows j d)) → cond b (Some r) (row_with uid rows) ≡ Some (get_or (r ∷ rows) i d)
+row_by uid true r d rows o i e later = let z : 0 ≡ i = cc e in ap (λ n. Some (get_or (r ∷ rows) n d)) z
+row_by uid false r d rows None i e later = absurd (cc e)
+row_by uid false r d rows (Some j) i e later =
+    let z : j + 1 ≡ i = cc e in let y : suc j ≡ i = omega (arith, z) in later j refl ∙ ap (λ n. Some (get_or (r ∷ rows) n d)) y
+
+pub row_at : (uid : ℕ) (rows : List Row) (i : ℕ) (d : Row) → place_in uid (row_uids rows) ≡ Some i → row_with uid rows ≡ Some (get_or rows i d)
+row_at uid [] i d e = absurd (cc e)
+row_at uid (r ∷ rows) i d e = row_by uid (eqb r.uid uid) r d rows (place_in uid (row_uids rows)) i e (λ j. row_at uid rows j d)
+
+none_by : (uid : ℕ) (b : Bool) (r : Row) (rows : List Row) (o : Option ℕ) → cond b (Some 0) (option_map (λ n. n + 1) o) ≡ None
+    → (o ≡ None → row_with uid rows ≡ None) → cond b (Some r) (row_with uid rows) ≡ None
+none_by uid true r rows o e later = absurd (cc e)
+none_by uid false r rows None e later = later refl
+none_by uid false r rows (Some j) e later = absurd (cc e)
+
+pub row_nowhere : (uid : ℕ) (rows : List Row) → place_in uid (row_uids rows) ≡ None → row_with uid rows ≡ None
+row_nowhere uid [] e = refl
+row_nowhere uid (r ∷ rows) e = none_by uid (eqb r.uid uid) r rows (place_in uid (row_uids rows)) e (row_nowhere uid rows)
+
+pub row_within : (uid : ℕ) (rows : List Row) (i : ℕ) → place_in uid (row_uids rows) ≡ Some i → i < length rows
+row_within uid rows i e = omega (arith, inside uid (row_uids rows) i e, length-map rows (λ (r : Row). r.uid))
+
+-- ---- along the known list
+
+distribute : (a b c : Bool) → (a && b) ≡ false → (a && c) ≡ (a && (b || c))
+distribute true b c e = ap (λ t. t || c) (sym e)
+distribute false b c e = refl
+
+both : (a b c : Bool) → (a && b) ≡ true → (a && (b || c)) ≡ true
+both true b c e = ap (λ t. t || c) e
+both false b c e = absurd (cc e)
+
+-- one more change is one more mod-sequence
+counted_both : (sets : Bool) (own a b h : ℕ) (row : Option Row) → h + a ≡ b + own → counted sets own row h + a ≡ b + counted sets own row own
+counted_both sets own a b h None e = e
+counted_both sets own a b h (Some row) e = by (is_set sets own row)
+  where
+    by : (x : Bool) → cond x (h + 1) h + a ≡ b + cond x (own + 1) own
+    by true = omega (arith, e)
+    by false = e
+
+counted_few : (sets : Bool) (own : ℕ) (row : Option Row) → own ≤ max_events → counted sets own row own ≤ max_events
+counted_few sets own None few = few
+counted_few sets own (Some row) few = by sets row.seen (nat_lt own max_events) refl
+  where
+    by : (s seen left : Bool) → nat_lt own max_events ≡ left → cond (s && (not seen && left)) (own + 1) own ≤ max_events
+    by true false true e = let lt = ltb-true own max_events e in omega (arith, lt)
+    by true false false e = few
+    by true true left e = few
+    by false seen left e = few
+
+module _ (by_uid : Bool) (wanted : Wanted) (sets : Bool) (mailbox : Readable) (by : Numbering) (last : ℕ) (ranges : List SeqRange) (known : List KnownMessage) where
+  -- what is found of the messages before the place i, of which none refuses the command
+  pub record IsSoFar (i : ℕ) (found : Reading) : Type 0 where
+    pub setting : found.sets ≡ sets
+    pub numbers : found.highest + mailbox.own ≡ mailbox.highest + found.own
+    pub few : found.own ≤ max_events
+    pub lines : found.lines.items ++ lines_from wanted sets mailbox.rows found.highest found.own (messages_from by last ranges (i + 1) (drop i known))
+        ≡ lines_from wanted sets mailbox.rows mailbox.highest mailbox.own (messages_from by last ranges 1 known)
+    pub marks : found.marks.items ++ marks_named sets mailbox.rows (messages_from by last ranges (i + 1) (drop i known)) ≡ marks_named sets mailbox.rows (messages_from by last ranges 1 known)
+    pub refused : is_refused by_uid mailbox.rows (messages_from by last ranges (i + 1) (drop i known)) ≡ is_refused by_uid mailbox.rows (messages_from by last ranges 1 known)
+    pub printable : AllByRecursion IsPrintable found.lines.items
+
+  -- before the first message that may be named nothing is found
+  pub at_first : (start : ℕ) (found : Reading) → messages_from by last ranges (start + 1) (drop start known) ≡ messages_from by last ranges 1 known → mailbox.own ≤ max_events
+      → found.sets ≡ sets → found.highest ≡ mailbox.highest → found.own ≡ mailbox.own → found.lines.items ≡ [] → found.marks.items ≡ [] → IsSoFar start found
+  at_first start found all few sets_is highest own lines marks = record {
+    setting = sets_is;
+    numbers = (λ j. highest j + mailbox.own) ∙ ap (λ o. mailbox.highest + o) (sym own);
+    few = subst (λ o. o ≤ max_events) (sym own) few;
+    lines = (λ j. lines j ++ lines_from wanted sets mailbox.rows (highest j) (own j) (all j));
+    marks = (λ j. marks j ++ marks_named sets mailbox.rows (all j));
+    refused = ap (λ ms. is_refused by_uid mailbox.rows ms) all;
+    printable = subst (AllByRecursion IsPrintable) (sym lines) tt;
+  }
+
+  -- after the last one all is found
+  pub at_last : (end : ℕ) (found : Reading) → messages_from by last ranges (end + 1) (drop end known) ≡ [] → IsSoFar end found → IsReading wanted sets mailbox (messages_from by last ranges 1 known) found
+  at_last end found none before = record {
+    lines = sym (append-nil found.lines.items) ∙ ap (λ ms. found.lines.items ++ lines_from wanted sets mailbox.rows found.highest found.own ms) (sym none) ∙ before.lines;
+    marks = sym (append-nil found.marks.items) ∙ ap (λ ms. found.marks.items ++ marks_named sets mailbox.rows ms) (sym none) ∙ before.marks;
+    printable = before.printable;
+  }
+
+  pub none_refuses : (end : ℕ) (found : Reading) → messages_from by last ranges (end + 1) (drop end known) ≡ [] → IsSoFar end found → false ≡ is_refused by_uid mailbox.rows (messages_from by last ranges 1 known)
+  none_refuses end found none before = no_more (not by_uid) ∙ ap (λ ms. is_refused by_uid mailbox.rows ms) (sym none) ∙ before.refused
+    where
+      no_more : (b : Bool) → false ≡ (b && false)
+      no_more true = refl
+      no_more false = refl
+
+  -- the message at the place i
+  module _ (i n uid : ℕ) (d : KnownMessage) (within : i < length known) (number : n ≡ i + 1) (is : uid ≡ (get_or known i d).uid) where
+    abbrev message : Numbered
+    message = record { number = n; uid = uid }
+
+    abbrev later : List Numbered
+    later = messages_from by last ranges (i + 1 + 1) (drop (i + 1) known)
+
+    abbrev front : ℕ → ℕ → List KnownMessage → List Numbered
+    front n uid known = let m : Numbered = record { number = n; uid = uid } in
+        cond (in_set last ranges (named_by by m)) (m ∷ messages_from by last ranges (i + 1 + 1) known) (messages_from by last ranges (i + 1 + 1) known)
+
+    ahead : messages_from by last ranges (i + 1) (drop i known) ≡ front n uid (drop (i + 1) known)
+    ahead = ap (messages_from by last ranges (i + 1)) (drop-cons known i d within) ∙ λ j. front (sym number j) (sym is j) (drop (sym (add-one i) j) known)
+
+    pub skipped : (found : Reading) → in_set last ranges (named_by by message) ≡ false → IsSoFar i found → IsSoFar (i + 1) found
+    skipped found unnamed before =
+        let next = ahead ∙ ap (λ b. cond b (message ∷ later) later) unnamed in
+        record {
+          setting = before.setting;
+          numbers = before.numbers;
+          few = before.few;
+          lines = ap (λ ms. found.lines.items ++ lines_from wanted sets mailbox.rows found.highest found.own ms) (sym next) ∙ before.lines;
+          marks = ap (λ ms. found.marks.items ++ marks_named sets mailbox.rows ms) (sym next) ∙ before.marks;
+          refused = ap (λ ms. is_refused by_uid mailbox.rows ms) (sym next) ∙ before.refused;
+          printable = before.printable;
+        }
+
+    -- it is one of those that are named
+    module _ (named : in_set last ranges (named_by by message) ≡ true) (row : Option Row) (there : row ≡ row_with uid mailbox.rows) where
+      next : messages_from by last ranges (i + 1) (drop i known) ≡ message ∷ later
+      next = ahead ∙ ap (λ b. cond b (message ∷ later) later) named
+
+      gone : not (is_some row) ≡ is_gone mailbox.rows message
+      gone = ap (λ o. not (is_some o)) there
+
+      pub added : (old new : Reading) → (not by_uid && not (is_some row)) ≡ false → IsAdded wanted n row old new → IsSoFar i old → IsSoFar (i + 1) new
+      added old new kept made before = record {
+        setting = made.sets ∙ before.setting;
+        numbers = (λ j. made.highest j + mailbox.own) ∙ counted_both old.sets old.own mailbox.own mailbox.highest old.highest row before.numbers ∙ ap (λ o. mailbox.highest + o) (sym made.own);
+        few = subst (λ o. o ≤ max_events) (sym made.own) (counted_few old.sets old.own row before.few);
+        lines =
+            (λ j. made.lines j ++ lines_from wanted sets mailbox.rows (made.highest j) (made.own j) later)
+            ∙ (λ j. (old.lines.items ++ line_if_there wanted (before.setting j) old.highest old.own n (there j))
+            ++ lines_from wanted sets mailbox.rows (counted (before.setting j) old.own (there j) old.highest) (counted (before.setting j) old.own (there j) old.own) later)
+            ∙ append_assoc old.lines.items (line_if_there wanted sets old.highest old.own n (row_with uid mailbox.rows))
+            (lines_from wanted sets mailbox.rows (counted sets old.own (row_with uid mailbox.rows) old.highest) (counted sets old.own (row_with uid mailbox.rows) old.own) later)
+            ∙ ap (λ ms. old.lines.items ++ lines_from wanted sets mailbox.rows old.highest old.own ms) (sym next) ∙ before.lines;
+        marks =
+            (λ j. made.marks j ++ marks_named sets mailbox.rows later)
+            ∙ (λ j. (old.marks.items ++ marks_if_there (before.setting j) (there j)) ++ marks_named sets mailbox.rows later)
+            ∙ append_assoc old.marks.items (marks_if_there sets (row_with uid mailbox.rows)) (marks_named sets mailbox.rows later)
+            ∙ ap (λ ms. old.marks.items ++ marks_named sets mailbox.rows ms) (sym next) ∙ before.marks;
+        refused =
+            distribute (not by_uid) (is_gone mailbox.rows message) (list_any (is_gone mailbox.rows) later) (ap (λ b. not by_uid && b) (sym gone) ∙ kept)
+            ∙ ap (λ ms. is_refused by_uid mailbox.rows ms) (sym next) ∙ before.refused;
+        printable = made.printable before.printable;
+      }
+
+      pub missed : (found : Reading) → (not by_uid && not (is_some row)) ≡ true → IsSoFar i found → true ≡ is_refused by_uid mailbox.rows (messages_from by last ranges 1 known)
+      missed found refuses before =
+          sym (both (not by_uid) (is_gone mailbox.rows message) (list_any (is_gone mailbox.rows) later) (ap (λ b. not by_uid && b) (sym gone) ∙ refuses))
+          ∙ ap (λ ms. is_refused by_uid mailbox.rows ms) (sym next) ∙ before.refused

@@ -1,0 +1,308 @@
+//! FETCH and UID FETCH (RFC 9051, sections 6.4.5 and 6.4.9).
+
+ghost use Rattle.std.specs.Prelude.{◌≡◌, ◌≤◌, ◌&&◌, not, is_none, is_some, option_map, None, IfOk, IfSome};
+ghost use Rattle.std.specs.List.{AllByRecursion, list_any};
+ghost use Rattle.imap_answer.specs.Answer.{carried_out, enabling};
+ghost use Rattle.imap_mailbox.specs.Lent.{row_shown};
+ghost use Rattle.imap_mailbox.specs.Order.{AreRowsInOrder};
+ghost use Rattle.imap_messages.specs.Fetch as specs;
+ghost use Rattle.imap_messages.specs.Found.{IsReading, named_in};
+ghost use Rattle.imap_messages.specs.Reading.{marking};
+ghost use Rattle.imap_modseq.specs.Numbers.{max_events, max_number};
+ghost use Rattle.imap_print.specs.Lines.{IsPrintable};
+ghost use Rattle.imap_rights.specs.Rights.{has_any, seen};
+ghost use Rattle.imap_session.specs.Held.{UidsRise};
+ghost use Rattle.imap_session.specs.State.{selection_of, state_of};
+ghost use Rattle.imap_view.specs.View.{rights_in};
+
+use crate::message_numbers::{
+    MessageNumbers, are_numbers, is_by_uid, known_count, last_of, number_at, row_with,
+};
+use crate::reading::{Reading, marking};
+use crate::wanted::Wanted;
+use imap_answer::{Answer, Call};
+use imap_mailbox::Row;
+use imap_names::Name;
+use imap_print::{EnabledCapabilities, Refusal};
+use imap_query::FetchItem;
+use imap_rights::Rights;
+use imap_session::{KnownList, Selected, Session};
+use imap_syntax::{Items, MessageSet, Numbering, SeqRange};
+use imap_view::{Readable, View};
+use std::alloc::{AllocError, Global};
+use std::marker::Model;
+
+/// The arguments of FETCH, as they stand in the command.
+#[derive(Drop)]
+pub struct Fetch<'a> {
+    pub numbering: Numbering,
+    pub messages: &'a MessageSet,
+    pub items: &'a Items<FetchItem>,
+    /// CHANGEDSINCE (RFC 7162, section 3.1.4.1).
+    pub changed_since: Option<u64>,
+    /// VANISHED (RFC 7162, section 3.2.6).
+    pub vanished: bool,
+}
+
+impl<'a> Model for Fetch<'a> {
+    ghost use Rattle.std.specs.Prelude.{ℕ, Bool, List, Option, refl};
+    ghost use Rattle.std.specs.Coded.{code_by, codes};
+    ghost use Rattle.imap_messages.specs.Fetch as specs;
+    ghost use Rattle.imap_query.specs.contracts.fetch.FetchItem.{the_row as item_row};
+    ghost use Rattle.imap_query.specs.declared.fetch.FetchItem.{FetchItem};
+    ghost use Rattle.imap_syntax.specs.contracts.set.MessageSet.{the_row as messages_row};
+    ghost use Rattle.imap_syntax.specs.contracts.set.Numbering.{the_row as numbering_row};
+    ghost use Rattle.imap_syntax.specs.declared.set.MessageSet.{MessageSet};
+    ghost use Rattle.imap_syntax.specs.declared.set.Numbering.{Numbering};
+
+    ghost Value = { specs.Fetch };
+
+    ghost coded = { code_by (Numbering × (MessageSet × (List FetchItem × (Option ℕ × Bool))))
+        (Prim.hlevel (codes, numbering_row.coded, messages_row.coded, item_row.coded))
+        (λ f. (f.numbering, (f.messages, (f.items, (f.changed_since, f.vanished)))))
+        (λ p. record {
+          numbering = p.0;
+          messages = p.1.0;
+          items = p.1.1.0;
+          changed_since = p.1.1.1.0;
+          vanished = p.1.1.1.1;
+        }) (λ _. refl) };
+
+    ghost view = { λ f. record {
+      numbering = f.numbering;
+      messages = f.messages.now;
+      items = f.items.now;
+      changed_since = f.changed_since;
+      vanished = f.vanished;
+    } };
+}
+
+/// Answers FETCH, or UID FETCH, of messages of the selected mailbox. Messages have the numbers by which the
+/// session knows them. One that is named by its number and is gone refuses the command; UIDs of messages that
+/// are gone are passed over.
+pub fn fetch_answer(
+    call: &Call<'_>,
+    session: &Session,
+    asked: &Fetch<'_>,
+) -> Result<Answer, AllocError>
+    ensures { let meant = specs.fetch_answer call.now.view (state_of session.now) call.now.tag asked.now in
+        IfOk result (λ answer. answer ≡ meant) }
+{
+    match &session.selected {
+        Some(selected) => fetch_selected(call, session.enabled, asked, selected),
+        None => call.refuse(Refusal::WrongState),
+    }
+}
+
+fn fetch_selected(
+    call: &Call<'_>,
+    enabled: EnabledCapabilities,
+    asked: &Fetch<'_>,
+    selected: &Selected,
+) -> Result<Answer, AllocError>
+    ensures { let answer = specs.fetch_selected call.now.view enabled call.now.tag asked.now in
+        IfOk result (λ given. given ≡ answer (selection_of selected.now)) }
+{
+    if is_malformed(enabled, known_count(&selected.known), asked) {
+        return call.refuse(Refusal::Malformed);
+    }
+    if is_impossible(asked) {
+        return call.refuse(Refusal::Cannot);
+    }
+    match call.view().readable(&selected.name.as_ref()) {
+        Some(mailbox) => fetch_readable(call, enabled, asked, selected, &mailbox),
+        None => call.refuse(Refusal::NonExistent),
+    }
+}
+
+fn ranges_of(messages: &MessageSet) -> &[SeqRange]
+    ensures { result.now ≡ specs.ranges_of messages.now }
+{
+    match messages {
+        MessageSet::Saved => &[],
+        MessageSet::Numbers(ranges) => ranges.as_slice(),
+    }
+}
+
+/// Whether a number is that of no message, or VANISHED may not be asked for.
+fn is_malformed(enabled: EnabledCapabilities, count: u32, asked: &Fetch<'_>) -> bool
+    ensures { result ≡ specs.is_malformed enabled count asked.now }
+{
+    (asked.vanished && !may_ask_vanished(enabled, asked)) || !has_known_numbers(count, asked)
+}
+
+fn may_ask_vanished(enabled: EnabledCapabilities, asked: &Fetch<'_>) -> bool
+    ensures { result ≡ specs.may_ask_vanished enabled asked.now }
+{
+    enabled.qresync && (is_by_uid(asked.numbering) && asked.changed_since.is_some())
+}
+
+fn has_known_numbers(count: u32, asked: &Fetch<'_>) -> bool
+    ensures { result ≡ specs.has_known_numbers count asked.now }
+{
+    is_by_uid(asked.numbering) || are_numbers(count, ranges_of(asked.messages))
+}
+
+/// Whether an item isn't served, or a modifier not built yet.
+fn is_impossible(asked: &Fetch<'_>) -> bool
+    ensures { result ≡ specs.is_impossible asked.now }
+{
+    has_unserved(asked.items.as_slice())
+        || (is_saved(asked.messages) || asked.changed_since.is_some())
+}
+
+fn is_saved(messages: &MessageSet) -> bool
+    ensures { result ≡ specs.is_saved messages.now }
+{
+    match messages {
+        MessageSet::Saved => true,
+        MessageSet::Numbers(_) => false,
+    }
+}
+
+fn has_unserved(items: &[FetchItem]) -> bool
+    ensures { result ≡ list_any specs.is_unserved items.now }
+{
+    items.iter().any(|item| matches!(item, FetchItem::Unserved))
+}
+
+/// Whether an item is read, and not only peeked at.
+fn is_reading(items: &[FetchItem]) -> bool
+    ensures { result ≡ list_any specs.is_reading items.now }
+{
+    items.iter().any(|item| matches!(item, FetchItem::Section(body) if !body.peek))
+}
+
+/// Whether the command sets `\Seen` of the messages.
+fn sets_seen(view: &View<'_>, selected: &Selected, asked: &Fetch<'_>) -> bool
+    ensures { result ≡ specs.sets_seen view.now (selection_of selected.now) asked.now }
+{
+    is_reading(asked.items.as_slice()) && may_set_seen(view, selected)
+}
+
+/// Whether the user may set `\Seen` of messages of the selected mailbox.
+fn may_set_seen(view: &View<'_>, selected: &Selected) -> bool
+    ensures { let rights = rights_in view.now selected.now.name in
+        result ≡ (not selected.now.read_only && has_any rights seen) }
+{
+    !selected.read_only && view.rights(&selected.name.as_ref()).has_any(Rights::SEEN)
+}
+
+fn fetch_readable(
+    call: &Call<'_>,
+    enabled: EnabledCapabilities,
+    asked: &Fetch<'_>,
+    selected: &Selected,
+    mailbox: &Readable<'_>,
+) -> Result<Answer, AllocError>
+    requires order { AreRowsInOrder mailbox.now.next_uid mailbox.now.highest mailbox.now.rows }
+    requires few { mailbox.now.own ≤ max_events }
+    requires bounded { mailbox.now.highest ≤ max_number }
+    ensures { let s = selection_of selected.now in
+        let answer = specs.fetch_messages call.now.view enabled call.now.tag asked.now s mailbox.now in
+        IfOk result (λ given. given ≡ answer (specs.messages_of asked.now s.known mailbox.now)) }
+{
+    let by_uid = is_by_uid(asked.numbering);
+    let wanted = Wanted::of_items(
+        call.alloc(),
+        by_uid,
+        enabled.condstore,
+        asked.items.as_slice(),
+    )?;
+    let messages = MessageNumbers {
+        numbering: asked.numbering,
+        last: last_of(asked.numbering, mailbox.next_uid, &selected.known),
+        ranges: ranges_of(asked.messages),
+    };
+    let sets = sets_seen(call.view(), selected, asked);
+    match read_messages(
+        call.alloc(),
+        &messages,
+        &wanted,
+        &selected.known,
+        mailbox,
+        sets,
+    )? {
+        Some(reading) => answer_of_reading(call, asked, &selected.name, reading),
+        None => call.refuse(Refusal::ExpungeIssued),
+    }
+}
+
+fn answer_of_reading(
+    call: &Call<'_>,
+    asked: &Fetch<'_>,
+    name: &Name,
+    reading: Reading,
+) -> Result<Answer, AllocError>
+    requires { AllByRecursion IsPrintable reading.lines.items }
+    ensures { let asks = marking call.now.view.user name.now reading.marks.items in
+        let answer = carried_out reading.lines.items call.now.tag None asks in
+        IfOk result (λ given. given ≡ enabling (specs.enabled_by asked.now.items) answer) }
+{
+    let Reading { lines, marks, .. } = reading;
+    let effect = marking(call.alloc(), call.view().user(), name, marks)?;
+    let answer = call.carried_out(lines, None, effect)?;
+    Ok(answer.enabling(enabled_by(asked.items.as_slice())))
+}
+
+/// The capabilities that are enabled by asking for these items: CONDSTORE by MODSEQ (RFC 7162, section 3.1).
+fn enabled_by(items: &[FetchItem]) -> EnabledCapabilities
+    ensures { result ≡ specs.enabled_by items.now }
+{
+    EnabledCapabilities {
+        condstore: has_mod_seq(items),
+        imap4rev2: false,
+        qresync: false,
+    }
+}
+
+fn has_mod_seq(items: &[FetchItem]) -> bool
+    ensures { result ≡ list_any specs.is_mod_seq items.now }
+{
+    items.iter().any(|item| matches!(item, FetchItem::ModSeq))
+}
+
+/// Reads the messages, or returns `None` if one that is named by its number is gone. Tests each known message
+/// between the first and the last of the set.
+fn read_messages(
+    alloc: Global,
+    messages: &MessageNumbers<'_>,
+    wanted: &Wanted,
+    known: &KnownList,
+    mailbox: &Readable<'_>,
+    sets: bool,
+) -> Result<Option<Reading>, AllocError>
+    requires few { mailbox.now.own ≤ max_events }
+    requires bounded { mailbox.now.highest ≤ max_number }
+    ensures refused { let rows = mailbox.now.rows in
+        let refused = specs.is_refused (specs.is_by_uid messages.now.numbering) rows in
+        IfOk result (λ r. is_none r ≡ refused (named_in messages.now known.now.list)) }
+    ensures known { UidsRise known.now.list }
+    ensures read { let mailbox = mailbox.now in
+        let named = named_in messages.now known.now.list in
+        IfOk result (λ r. IfSome r (IsReading wanted.now sets mailbox named)) }
+{
+    let by_uid = is_by_uid(messages.numbering);
+    let mut reading = Reading::new(alloc, sets, mailbox.highest, mailbox.own);
+    let (start, end) = messages.span(known);
+    for place in start..end {
+        let number = number_at(known, place);
+        let uid = known.get(place).uid;
+        if !messages.has(number, uid) {
+            continue;
+        }
+        let row = row_with(&mailbox.rows, uid);
+        if refuses(by_uid, &row) {
+            return Ok(None);
+        }
+        reading.add_if_there(alloc, wanted, number, &row)?;
+    }
+    Ok(Some(reading))
+}
+
+/// Whether the message is gone, and is named by its number.
+fn refuses(by_uid: bool, row: &Option<Row<'_>>) -> bool
+    ensures { result ≡ (not by_uid && not (is_some (option_map row_shown row.now))) }
+{
+    !by_uid && row.is_none()
+}
