@@ -4,7 +4,8 @@
     python3 bench/commands.py PROGRAM
 
 PROGRAM is the program as `rt run` or `rt ci` leaves it, `crates/imapd/out/imapd`. Each time is of one command in
-microseconds: the difference of a script with a hundred of them, or ten, and one with none, the best of five runs.
+microseconds: the difference of a script with some thousands of them, or of some tens of those that grow, and one with
+none, the best of five runs each.
 """
 
 import sys
@@ -30,16 +31,18 @@ def microseconds(program, lines, commands, times):
 
 def commands(count):
     """The commands, with how often each is made."""
-    middle = count // 2
+    def one(n):
+        return count // 2 + n % (count // 4)
+
     return (
-        ("APPEND of 2 KB", lambda n: [f"a{n} APPEND INBOX {{2046+}}", MESSAGE], 100),
-        ("NOOP", lambda n: [f"a{n} NOOP"], 100),
-        ("FETCH n FLAGS", lambda n: [f"a{n} FETCH {middle + n} FLAGS"], 100),
-        ("UID FETCH n BODY.PEEK[TEXT]", lambda n: [f"a{n} UID FETCH {middle + n} BODY.PEEK[TEXT]"], 100),
-        ("FETCH n BODY[]", lambda n: [f"a{n} FETCH {middle + n} BODY[]"], 100),
+        ("APPEND of 2 KB", lambda n: [f"a{n} APPEND INBOX {{2046+}}", MESSAGE], 2_000),
+        ("NOOP", lambda n: [f"a{n} NOOP"], 5_000),
+        ("FETCH n FLAGS", lambda n: [f"a{n} FETCH {one(n)} FLAGS"], 5_000),
+        ("UID FETCH n BODY.PEEK[TEXT]", lambda n: [f"a{n} UID FETCH {one(n)} BODY.PEEK[TEXT]"], 2_000),
+        ("FETCH n BODY[]", lambda n: [f"a{n} FETCH {one(n)} BODY[]"], 2_000),
         ("STATUS (MESSAGES UNSEEN)", lambda n: [f"a{n} STATUS INBOX (MESSAGES UNSEEN)"], 100),
-        ("SELECT", lambda n: [f"a{n} SELECT INBOX"], 10),
-        ("FETCH 1:* FLAGS", lambda n: [f"a{n} FETCH 1:* FLAGS"], 10),
+        ("SELECT", lambda n: [f"a{n} SELECT INBOX"], 20),
+        ("FETCH 1:* FLAGS", lambda n: [f"a{n} FETCH 1:* FLAGS"], 20),
     )
 
 
