@@ -20,6 +20,6 @@ mod writing;
 pub use batch::{Batch, Mark, NewMessage};
 pub use error::BatchError;
 pub use planned::Planned;
-pub use resolving::{refusal, resolve};
+pub use resolving::{flag_count, refusal, resolve};
 pub use write::BatchWrite;
-pub use writing::{make_room, write_batch};
+pub use writing::{added_seen_count, make_room, mark_seen_count, write_batch};

@@ -95,8 +95,9 @@ fn has_few_keywords(batch: &Batch) -> bool
 }
 
 /// Returns the number of shared events of marks.
-fn flag_count(marks: &[Mark]) -> usize
-    ensures { result ≡ flag_count marks.now }
+pub fn flag_count(marks: &[Mark]) -> usize
+    ensures count { result ≡ flag_count marks.now }
+    ensures most { result ≤ length marks.now }
 {
     let mut count = 0;
     for mark in marks {

@@ -19,7 +19,7 @@ use std::alloc::{AllocError, Global};
 use std::collections::VecDeque;
 
 /// Returns the number of added messages that the user has seen.
-pub(crate) fn added_seen_count(added: &[NewMessage]) -> usize
+pub fn added_seen_count(added: &[NewMessage]) -> usize
     ensures count { result ≡ added_seen_count added.now }
     ensures most { result ≤ length added.now }
 {
@@ -31,7 +31,7 @@ pub(crate) fn added_seen_count(added: &[NewMessage]) -> usize
 }
 
 /// Returns the number of marks that change the user's own `\Seen`.
-fn mark_seen_count(marks: &[Mark]) -> usize
+pub fn mark_seen_count(marks: &[Mark]) -> usize
     ensures count { result ≡ mark_seen_count marks.now }
     ensures most { result ≤ length marks.now }
 {

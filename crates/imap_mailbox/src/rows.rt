@@ -6,6 +6,7 @@ ghost use Rattle.imap_mailbox.specs.Rows as specs;
 ghost use Rattle.imap_mailbox.specs.Lent.{row_shown, place_in, row_uids};
 ghost use Rattle.imap_mailbox.specs.Status.{deleted_in, unseen_in, size_in, max_size};
 
+use crate::flags::SharedFlags;
 use crate::message::{Message, count_lower, find_message};
 use crate::own::OwnSeen;
 use crate::row::{Row, own_is_above, own_row, plain_row};
@@ -53,6 +54,14 @@ impl<'a> Rows<'a> {
             Some(own) => own_row(message, own),
             None => plain_row(message),
         }
+    }
+
+    /// The flags that all users share of the message at `place`, without a look-up of the user's own changes.
+    pub fn flags(&self, place: usize) -> &'a SharedFlags
+        requires { place < length self.now }
+        ensures { (row : specs.Row) → row ≡ slice_index_or self.now place row → result.now ≡ row.flags }
+    {
+        &self.messages[place].flags
     }
 
     /// Whether the mod-sequence of the message at `place` is above `number`. It takes no look-up of the

@@ -1,0 +1,5 @@
+pub mod Counted
+pub mod Ordered
+pub mod Reading
+pub mod Staying
+pub mod Turned

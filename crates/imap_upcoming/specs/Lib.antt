@@ -1,0 +1,7 @@
+pub mod Asked
+pub mod Changed
+pub mod InStep
+pub mod Left
+pub mod Readable
+pub mod Rows
+pub mod Sources

@@ -1,0 +1,90 @@
+//! The messages as a batch will leave them.
+
+ghost use Rattle.std.specs.Prelude.{◌≡◌};
+ghost use Rattle.imap_batch.specs.Written.{with_batch, MayWrite};
+ghost use Rattle.imap_mailbox.specs.Held.{summary_in};
+ghost use Rattle.imap_mailbox.specs.Summary.{rows_of};
+
+use crate::counts::len_after;
+use imap_batch::{BatchWrite, Planned};
+use imap_mailbox::{KnownMessage, Mailbox, Row};
+use imap_session::RowCursor;
+use std::alloc::{AllocError, Global};
+use std::marker::Model;
+
+/// A cursor over the messages as a batch will leave them to its user. Contracts see those from the next one
+/// on.
+#[derive(Drop)]
+pub struct PlannedRows<'a> {
+    next: Option<Row<'a>>,
+    /// Those after the next one.
+    later: Planned<'a>,
+    /// The number of messages from the next one on.
+    len: usize,
+}
+
+impl<'a> Model for PlannedRows<'a> {
+    ghost use Rattle.std.specs.Prelude.{◌≡◌, List, length};
+    ghost use Rattle.std.specs.Coded.{coded_list};
+    ghost use Rattle.imap_mailbox.specs.Lent.{row_code};
+    ghost use Rattle.imap_mailbox.specs.Rows.{Row};
+    ghost use Rattle.imap_upcoming.specs.Rows.{rows_from};
+
+    ghost Value = { List Row };
+
+    ghost coded = { coded_list row_code };
+
+    ghost view = { λ c. rows_from c.next c.later };
+
+    ghost invariant = { λ c. c.len ≡ length (rows_from c.next c.later) };
+}
+
+impl<'a> PlannedRows<'a> {
+    /// Returns a cursor at the first message.
+    pub(crate) fn new(mailbox: &'a Mailbox, write: &'a BatchWrite) -> PlannedRows<'a>
+        requires { MayWrite write.now (summary_in mailbox.now) }
+        ensures { let batch = write.now.batch in
+            result ≡ rows_of (with_batch batch (summary_in mailbox.now)) batch.user }
+    {
+        let len = len_after(mailbox, write);
+        let mut later = Planned::new(mailbox, write);
+        let next = later.next();
+        PlannedRows { next, later, len }
+    }
+}
+
+impl<'a> RowCursor for PlannedRows<'a> {
+    ghost rest = { λ rows. rows };
+
+    fn len(&self) -> usize {
+        self.len
+    }
+
+    fn is_next(&self, uid: u32) -> bool {
+        match &self.next {
+            Some(row) => row.uid == uid,
+            None => false,
+        }
+    }
+
+    fn is_above(&self, number: u64) -> bool {
+        match &self.next {
+            Some(row) => row.number > number,
+            None => unreachable!(),
+        }
+    }
+
+    fn message(&self, alloc: Global) -> Result<KnownMessage, AllocError> {
+        match &self.next {
+            Some(row) => KnownMessage::of_row(alloc, row),
+            None => unreachable!(),
+        }
+    }
+
+    fn skip(&mut self) {
+        if self.len > 0 {
+            self.next = self.later.next();
+            self.len -= 1;
+        }
+    }
+}
