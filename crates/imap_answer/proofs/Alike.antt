@@ -1,21 +1,15 @@
 -- The view after a command, and worlds that are alike.
 use Rattle.std.proofs.Common.{◌≡◌, ℕ, List, Option, Some, None, refl, sym, ap, ◌∙◌}
 use Rattle.imap_view.proofs.Asked.{own_effects}
-use Rattle.imap_view.specs.After.{view_after}
 use Rattle.imap_view.specs.View.{View, view_of}
 use Rattle.imap_world.specs.declared.site.Site.{Site}
 use Rattle.imap_world.specs.declared.effect.Effect.{Effect}
 use Rattle.imap_world.specs.Effects.{after_all}
 use Rattle.imap_world.specs.Kept.{AreKept}
 use Rattle.imap_world.specs.World.{World}
-use Rattle.imap_answer.specs.Alike.{AnswersAlike, effects_of}
+use Rattle.imap_answer.specs.Alike.{AnswersAlike, effects_of, view_after_asking}
 use Rattle.imap_answer.specs.Answer.{Answer}
 use Rattle.imap_answer.specs.Fit.{IsFit, IsViewed, MayBeAsked}
-
--- what a command of the user's makes of the view
-abbrev pub view_after_asking : Option Effect → View → View
-view_after_asking None view = view
-view_after_asking (Some effect) view = view_after effect view
 
 pub after_asking : (site : Site) (user : List ℕ) (world : World) (asked : Option Effect) → AreKept world.mailboxes → MayBeAsked (view_of site user world) asked
     → view_of site user (after_all (effects_of asked) world) ≡ view_after_asking asked (view_of site user world)

@@ -12,18 +12,22 @@ use Rattle.imap_view.specs.After.{MayAsk}
 use Rattle.imap_view.specs.View.{View}
 use Rattle.imap_world.specs.declared.effect.Effect.{Effect}
 use Rattle.imap_answer.specs.Access.{missing_right_refusal}
-use Rattle.imap_answer.specs.Answer.{Answer, done_with, done_with_code, enabling, lines_of, nothing_enabled, preceded_by, refusal}
+use Rattle.imap_answer.specs.Answer.{Answer, done_with, done_with_code, enabling, followed_by, lines_of, nothing_enabled, preceded_by, refusal, telling}
 use Rattle.imap_answer.specs.Fit.{IsFit, IsViewed, is_refusal, is_unavailable}
 use Rattle.imap_answer.specs.Name.{answer_of_name, if_named, name_of_text}
 
 -- nothing is asked for
 pub fits_alone : (view : View) (untagged : List Response) (last : Response) → list_any is_unavailable (untagged ++ last ∷ []) ≡ false
-    → IsFit view (record { untagged = untagged; last = last; effect = None; enables = nothing_enabled })
+    → IsFit view (record { untagged = untagged; last = last; effect = None; enables = nothing_enabled; told = [] })
 fits_alone view untagged last available = record { asks = λ _. tt; refused = λ e. (refl, refl); available = available }
 
 -- what is carried out may enable capabilities
 pub fits_enabling : (view : View) (enables : EnabledCapabilities) (answer : Answer) → list_any is_refusal (lines_of answer) ≡ false → IsFit view answer → IsFit view (enabling enables answer)
 fits_enabling view enables answer done fit = record { asks = fit.asks; refused = λ e. absurd (true≢false (sym e ∙ done)); available = fit.available }
+
+-- what is told by lines makes no difference
+pub fits_telling : (view : View) (uids : List ℕ) (answer : Answer) → IsFit view answer → IsFit view (telling uids answer)
+fits_telling view uids answer fit = record { asks = fit.asks; refused = fit.refused; available = fit.available }
 
 -- lines in front that refuse nothing
 pub fits_preceded : (view : View) (front : List Response) (answer : Answer) → list_any is_refusal front ≡ false → list_any is_unavailable front ≡ false → IsFit view answer → IsFit view (preceded_by front answer)
@@ -37,6 +41,21 @@ fits_preceded view front answer none available fit = record {
     behind test absent =
         ap (list_any test) (append_assoc front answer.untagged (answer.last ∷ []))
         ∙ list_any-append test front (lines_of answer) ∙ ap (λ b. b || list_any test (lines_of answer)) absent
+
+-- lines behind that refuse nothing
+pub fits_followed : (view : View) (back : List Response) (answer : Answer) → list_any is_refusal back ≡ false → list_any is_unavailable back ≡ false → IsFit view answer → IsFit view (followed_by back answer)
+fits_followed view back answer none available fit = record {
+  asks = fit.asks;
+  refused = λ e. fit.refused (sym (between is_refusal none) ∙ e);
+  available = between is_unavailable available ∙ fit.available;
+}
+  where
+    between : (test : Response → Bool) → list_any test back ≡ false → list_any test (lines_of (followed_by back answer)) ≡ list_any test (lines_of answer)
+    between test absent =
+        ap (list_any test) (append_assoc answer.untagged back (answer.last ∷ []))
+        ∙ list_any-append test answer.untagged (back ++ answer.last ∷ [])
+        ∙ ap (λ b. list_any test answer.untagged || b) (list_any-append test back (answer.last ∷ []) ∙ ap (λ b. b || list_any test (answer.last ∷ [])) absent)
+        ∙ sym (list_any-append test answer.untagged (answer.last ∷ []))
 
 -- what is asked for may be asked for in each view of a world
 pub fits_asking_there : (view : View) (tag : List ℕ) (code : Option Code) (effect : Effect) → (IsViewed view → MayAsk view effect) → IsFit view (done_with_code tag code effect)

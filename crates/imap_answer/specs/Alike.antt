@@ -1,5 +1,6 @@
 -- A command in two worlds that are alike to its user.
 use Rattle.std.specs.Prelude.{◌≡◌, ℕ, List, [], ◌∷◌, Option, Some, None}
+use Rattle.imap_view.specs.After.{view_after}
 use Rattle.imap_view.specs.View.{View, view_of}
 use Rattle.imap_world.specs.declared.site.Site.{Site}
 use Rattle.imap_world.specs.declared.effect.Effect.{Effect}
@@ -11,6 +12,11 @@ use Rattle.imap_answer.specs.Answer.{Answer}
 abbrev pub effects_of : Option Effect → List Effect
 effects_of None = []
 effects_of (Some effect) = effect ∷ []
+
+-- the view of the user who asks for it, once it is made
+abbrev pub view_after_asking : Option Effect → View → View
+view_after_asking None view = view
+view_after_asking (Some effect) view = view_after effect view
 
 -- A command with this answer is answered alike in two worlds that are alike to its user, and leaves them
 -- alike to that user. What the type of a mailbox keeps holds of the messages of each in both worlds.

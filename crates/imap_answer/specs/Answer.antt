@@ -12,6 +12,8 @@ pub record Answer : Type 0 where
   pub last : Response
   pub effect : Option Effect
   pub enables : EnabledCapabilities
+  -- the UIDs of messages of which its FETCH lines tell the flags and the mod-sequence
+  pub told : List ℕ
 
 abbrev pub nothing_enabled : EnabledCapabilities
 nothing_enabled = record { condstore = false; imap4rev2 = false; qresync = false }
@@ -27,8 +29,13 @@ done_line tag = response.Done tag None
 -- a command that is carried out by the effect, if it has one, after these responses. It may have a response
 -- code
 abbrev pub carried_out : (untagged : List Response) → (tag : List ℕ) → Option Code → Option Effect → Answer
-carried_out untagged tag code effect =
-    record { untagged = untagged; last = response.Done tag code; effect = effect; enables = nothing_enabled }
+carried_out untagged tag code effect = record {
+  untagged = untagged;
+  last = response.Done tag code;
+  effect = effect;
+  enables = nothing_enabled;
+  told = [];
+}
 
 -- a command that was carried out, after these responses
 abbrev pub done_after : (untagged : List Response) → (tag : List ℕ) → Answer
@@ -41,6 +48,17 @@ preceded_by front answer = record {
   last = answer.last;
   effect = answer.effect;
   enables = answer.enables;
+  told = answer.told;
+}
+
+-- an answer with these responses before its last line
+abbrev pub followed_by : List Response → Answer → Answer
+followed_by back answer = record {
+  untagged = answer.untagged ++ back;
+  last = answer.last;
+  effect = answer.effect;
+  enables = answer.enables;
+  told = answer.told;
 }
 
 -- a command that enables capabilities
@@ -50,6 +68,17 @@ enabling enables answer = record {
   last = answer.last;
   effect = answer.effect;
   enables = enables;
+  told = answer.told;
+}
+
+-- a command whose FETCH lines tell of messages with these UIDs (RFC 9051, section 7.5.2)
+abbrev pub telling : (uids : List ℕ) → Answer → Answer
+telling uids answer = record {
+  untagged = answer.untagged;
+  last = answer.last;
+  effect = answer.effect;
+  enables = answer.enables;
+  told = uids;
 }
 
 -- a command that was carried out and has no other response
@@ -69,5 +98,10 @@ refused_line tag refusal = response.Refused (Some tag) refusal
 
 -- a command that was not carried out
 abbrev pub refusal : (tag : List ℕ) → Refusal → Answer
-refusal tag reason =
-    record { untagged = []; last = refused_line tag reason; effect = None; enables = nothing_enabled }
+refusal tag reason = record {
+  untagged = [];
+  last = refused_line tag reason;
+  effect = None;
+  enables = nothing_enabled;
+  told = [];
+}

@@ -1,29 +1,33 @@
 //! The answer to a command.
 
-ghost use Rattle.std.specs.Prelude.{◌≡◌, IfOk};
+ghost use Rattle.std.specs.Prelude.{◌≡◌, [], IfOk};
 ghost use Rattle.std.specs.List.{AllByRecursion};
 ghost use Rattle.imap_print.specs.Lines.{IsPrintable};
-ghost use Rattle.imap_answer.specs.Answer.{enabling, nothing_enabled, preceded_by};
+ghost use Rattle.imap_answer.specs.Answer.{enabling, followed_by, nothing_enabled, preceded_by, telling};
+ghost use Rattle.imap_mailbox.specs.Summary.{AreRising};
 
 use imap_print::{EnabledCapabilities, Response};
 use imap_world::Effect;
-use std::alloc::AllocError;
+use std::alloc::{AllocError, Global};
 use std::marker::Model;
 
 /// The untagged responses to a command, its last line, what it asks of the mailboxes, and what it enables in
-/// its session. A client reads each response as one line, whatever names and tags are in it.
+/// its session. A client reads each response as one line, whatever names and tags are in it. The UIDs of
+/// messages of which its lines tell the flags and the mod-sequence rise.
 #[derive(Drop)]
 pub struct Answer {
     untagged: Vec<Response>,
     last: Response,
     effect: Option<Effect>,
     enables: EnabledCapabilities,
+    told: Vec<u32>,
 }
 
 impl Model for Answer {
-    ghost use Rattle.std.specs.Prelude.{List, Option, refl};
+    ghost use Rattle.std.specs.Prelude.{ℕ, List, Option, refl};
     ghost use Rattle.std.specs.Coded.{code_by, coded×, codes};
     ghost use Rattle.std.specs.List.{AllByRecursion};
+    ghost use Rattle.imap_mailbox.specs.Summary.{AreRising};
     ghost use Rattle.imap_print.specs.Lines.{IsPrintable};
     ghost use Rattle.imap_print.specs.contracts.enabled.EnabledCapabilities.{the_row as enabled_row};
     ghost use Rattle.imap_print.specs.contracts.response.Response.{the_row as response_row};
@@ -35,26 +39,39 @@ impl Model for Answer {
 
     ghost Value = { specs.Answer };
 
-    ghost coded = { code_by (List Response × (Response × (Option Effect × EnabledCapabilities)))
+    ghost coded = { code_by
+        (List Response × (Response × (Option Effect × (EnabledCapabilities × List ℕ))))
         (Prim.hlevel (codes, response_row.coded, effect_row.coded, enabled_row.coded))
-        (λ answer. (answer.untagged, (answer.last, (answer.effect, answer.enables))))
-        (λ p. record { untagged = p.0; last = p.1.0; effect = p.1.1.0; enables = p.1.1.1 }) (λ _. refl) };
+        (λ answer. (answer.untagged, (answer.last, (answer.effect, (answer.enables, answer.told)))))
+        (λ p. record {
+          untagged = p.0;
+          last = p.1.0;
+          effect = p.1.1.0;
+          enables = p.1.1.1.0;
+          told = p.1.1.1.1;
+        }) (λ _. refl) };
 
     ghost view = { λ answer. record {
       untagged = answer.untagged.items;
       last = answer.last;
       effect = answer.effect;
       enables = answer.enables;
+      told = answer.told.items;
     } };
 
     ghost invariant = { λ answer. AllByRecursion IsPrintable answer.untagged.items
-        × IsPrintable answer.last };
+        × IsPrintable answer.last × AreRising answer.told.items };
 }
 
 impl Answer {
     /// The responses `untagged` and then the line `last`, and what the command asks of the mailboxes. It
-    /// enables nothing.
-    pub fn new(untagged: Vec<Response>, last: Response, effect: Option<Effect>) -> Answer
+    /// enables nothing, and tells of no message.
+    pub fn new(
+        alloc: Global,
+        untagged: Vec<Response>,
+        last: Response,
+        effect: Option<Effect>,
+    ) -> Answer
         requires untagged { AllByRecursion IsPrintable untagged.items }
         requires last { IsPrintable last }
         ensures { result ≡ record {
@@ -62,6 +79,7 @@ impl Answer {
           last = last;
           effect = effect;
           enables = nothing_enabled;
+          told = [];
         } }
     {
         Answer {
@@ -73,6 +91,7 @@ impl Answer {
                 imap4rev2: false,
                 qresync: false,
             },
+            told: Vec::new(alloc),
         }
     }
 
@@ -85,6 +104,21 @@ impl Answer {
             last: self.last,
             effect: self.effect,
             enables,
+            told: self.told,
+        }
+    }
+
+    /// The same answer, whose FETCH lines tell of messages with these UIDs.
+    pub fn telling(self, uids: Vec<u32>) -> Answer
+        requires { AreRising uids.items }
+        ensures { result ≡ telling uids.items self }
+    {
+        Answer {
+            untagged: self.untagged,
+            last: self.last,
+            effect: self.effect,
+            enables: self.enables,
+            told: uids,
         }
     }
 
@@ -101,7 +135,39 @@ impl Answer {
             last: self.last,
             effect: self.effect,
             enables: self.enables,
+            told: self.told,
         })
+    }
+
+    /// The same answer, with these responses before its last line.
+    pub fn followed_by(self, back: Vec<Response>) -> Result<Answer, AllocError>
+        requires { AllByRecursion IsPrintable back.items }
+        ensures { IfOk result (λ answer. answer ≡ followed_by back.items self) }
+    {
+        let mut untagged = self.untagged;
+        let mut back = back;
+        untagged.append(&mut back)?;
+        Ok(Answer {
+            untagged,
+            last: self.last,
+            effect: self.effect,
+            enables: self.enables,
+            told: self.told,
+        })
+    }
+
+    /// The last line.
+    pub fn last(&self) -> &Response
+        ensures { result.now ≡ self.now.last }
+    {
+        &self.last
+    }
+
+    /// What the command asks of the mailboxes.
+    pub fn effect(&self) -> &Option<Effect>
+        ensures { result.now ≡ self.now.effect }
+    {
+        &self.effect
     }
 
     /// What the command enables in its session.
@@ -109,6 +175,14 @@ impl Answer {
         ensures { result ≡ self.now.enables }
     {
         self.enables
+    }
+
+    /// The UIDs of messages of which the answer's lines tell the flags and the mod-sequence.
+    pub fn told(&self) -> &[u32]
+        ensures told { result.now ≡ self.now.told }
+        ensures valid { AreRising result.now }
+    {
+        self.told.as_slice()
     }
 
     /// Returns the untagged responses, the last line and the effect.
@@ -123,6 +197,7 @@ impl Answer {
             last,
             effect,
             enables: _,
+            told: _,
         } = self;
         (untagged, last, effect)
     }

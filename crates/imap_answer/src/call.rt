@@ -142,7 +142,7 @@ impl<'a> Call<'a> {
             IfOk result (λ given. given ≡ answer) }
     {
         let line = done_line(self.alloc, self.tag, code)?;
-        Ok(Answer::new(untagged, line, effect))
+        Ok(Answer::new(self.alloc, untagged, line, effect))
     }
 
     /// The command was not carried out.
@@ -150,7 +150,7 @@ impl<'a> Call<'a> {
         ensures { IfOk result (λ answer. answer ≡ specs.refusal self.now.tag refusal) }
     {
         let line = refused_line(self.alloc, self.tag, refusal)?;
-        Ok(Answer::new(Vec::new(self.alloc), line, None))
+        Ok(Answer::new(self.alloc, Vec::new(self.alloc), line, None))
     }
 }
 

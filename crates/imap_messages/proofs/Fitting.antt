@@ -3,10 +3,10 @@ use Rattle.std.proofs.Common.{◌≡◌, ℕ, Bool, true, false, cond, not, ◌|
 use Rattle.std.specs.List.{list_any}
 use Rattle.std.specs.FinMap as map
 use Rattle.imap_answer.specs.Alike.{AnswersAlike}
-use Rattle.imap_answer.specs.Answer.{carried_out, done_line, done_with_code, enabling, refusal}
+use Rattle.imap_answer.specs.Answer.{carried_out, done_line, done_with_code, enabling, refusal, telling}
 use Rattle.imap_answer.specs.Fit.{IsFit, is_refusal, is_unavailable}
 use Rattle.imap_answer.proofs.Alike.{answers_alike}
-use Rattle.imap_answer.proofs.Fits.{fits_alone, fits_asking_there, fits_enabling, fits_if_named}
+use Rattle.imap_answer.proofs.Fits.{fits_alone, fits_asking_there, fits_enabling, fits_if_named, fits_telling}
 use Rattle.imap_batch.specs.declared.batch.NewMessage.{NewMessage}
 use Rattle.imap_mailbox.specs.declared.known.KnownMessage.{KnownMessage}
 use Rattle.imap_mailbox.specs.Flags.{has_too_many}
@@ -27,10 +27,10 @@ use Rattle.imap_view.specs.Readable.{readable_in}
 use Rattle.imap_view.specs.Seen.{Seen}
 use Rattle.imap_view.specs.View.{View, rights_in}
 use Rattle.imap_messages.specs.Append.{Append, append_answer, append_code, append_message, append_to_name, append_to_seen, appends, batch_of, is_full, message_of}
-use Rattle.imap_messages.specs.Fetch.{Fetch, enabled_by, fetch_answer, fetch_if_readable, fetch_if_selected, fetched_lines, is_by_uid, is_impossible, is_malformed, is_refused, messages_of, sets_seen}
+use Rattle.imap_messages.specs.Fetch.{Fetch, enabled_by, fetch_answer, fetch_if_readable, fetch_if_selected, fetched_lines, fetched_uids, is_by_uid, is_impossible, is_malformed, is_refused, messages_of, sets_seen}
 use Rattle.imap_messages.specs.Fetched.{Wanted, wanted_of}
 use Rattle.imap_messages.specs.MessageNumbers.{Numbered, row_with}
-use Rattle.imap_messages.specs.Reading.{counted, line_if_there, lines_from, reading}
+use Rattle.imap_messages.specs.Reading.{count_after, line_if_there, lines_from, read_effect}
 use Rattle.imap_messages.specs.Target.{holds_create_above, target_refusal}
 use Rattle.imap_messages.proofs.Possible.{possible}
 use Rattle.imap_messages.proofs.ReadPossible.{may_read}
@@ -80,27 +80,28 @@ module _ (test : Response → Bool) (fetch : (number : ℕ) (items : FetchedItem
   lines_pass highest own [] rest = refl
   lines_pass highest own (m ∷ messages) rest =
       let row = row_with m.uid rows in
-      let h = counted sets own row highest in
-      let o = counted sets own row own in
+      let h = count_after sets own row highest in
+      let o = count_after sets own row own in
       ap (list_any test) (append_assoc (line_if_there wanted sets highest own m.number row) (lines_from wanted sets rows h o messages) rest)
       ∙ line_passes highest own m.number (lines_from wanted sets rows h o messages ++ rest) row
       ∙ lines_pass h o messages rest
 
 module _ (view : View) (tag : List ℕ) (enabled : EnabledCapabilities) (asked : Fetch) (s : Selection) where
   messages_fit : (mailbox : Readable) (messages : List Numbered) → readable_in view s.name ≡ Some mailbox → (refused : Bool)
-      → IsFit view (cond refused (refusal tag ExpungeIssued) (enabling (enabled_by asked.items)
-      (carried_out (fetched_lines enabled asked (sets_seen view s asked) mailbox messages) tag None (reading (sets_seen view s asked) view.user s.name messages mailbox.rows))))
+      → IsFit view (cond refused (refusal tag ExpungeIssued) (telling (fetched_uids enabled asked (sets_seen view s asked) mailbox messages) (enabling (enabled_by asked.items)
+      (carried_out (fetched_lines enabled asked (sets_seen view s asked) mailbox messages) tag None (read_effect (sets_seen view s asked) view.user s.name messages mailbox.rows)))))
   messages_fit mailbox messages is true = fits_alone view _ _ refl
   messages_fit mailbox messages is false =
       let sets = sets_seen view s asked in
       let wanted = wanted_of (is_by_uid asked.numbering) enabled.condstore asked.items in
-      let answer = carried_out (fetched_lines enabled asked sets mailbox messages) tag None (reading sets view.user s.name messages mailbox.rows) in
+      let answer = carried_out (fetched_lines enabled asked sets mailbox messages) tag None (read_effect sets view.user s.name messages mailbox.rows) in
       let carried = lines_pass is_refusal (λ number items. refl) wanted sets mailbox.rows mailbox.highest mailbox.own messages (done_line tag ∷ []) in
-      fits_enabling view (enabled_by asked.items) answer carried (record {
+      fits_telling view (fetched_uids enabled asked sets mailbox messages) (enabling (enabled_by asked.items) answer)
+      (fits_enabling view (enabled_by asked.items) answer carried (record {
         asks = λ viewed. may_read view s.name messages mailbox viewed sets is;
         refused = λ e. absurd (true≢false (sym e ∙ carried));
         available = lines_pass is_unavailable (λ number items. refl) wanted sets mailbox.rows mailbox.highest mailbox.own messages (done_line tag ∷ []);
-      })
+      }))
 
   readable_fits : (mailbox : Option Readable) → readable_in view s.name ≡ mailbox → IsFit view (fetch_if_readable view enabled tag asked s mailbox)
   readable_fits None is = fits_alone view _ _ refl

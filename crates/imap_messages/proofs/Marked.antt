@@ -1,5 +1,5 @@
 -- Marks of messages that are read, in the order of UIDs.
-use Rattle.std.proofs.Common.{◌≡◌, ℕ, ◌+◌, ◌<◌, ◌≤◌, Bool, true, false, cond, ◌||◌, ◌&&◌, not, List, [], ◌∷◌, ◌++◌, filter, map, eqb, Option, Some, None, refl, sym, ap, ◌∙◌, arith}
+use Rattle.std.proofs.Common.{◌≡◌, ℕ, ◌+◌, ◌<◌, ◌≤◌, Bool, true, false, cond, ◌||◌, ◌&&◌, not, List, [], ◌∷◌, ◌++◌, filter, map, eqb, Option, Some, None, refl, sym, ap, subst, ◌∙◌, arith}
 use Rattle.std.specs.List.{list_any}
 use Rattle.std.proofs.lemmas.Bool.{ne_eqb, eqb-true, eq-eqb}
 use Rattle.imap_batch.specs.declared.batch.Mark.{Mark}
@@ -12,9 +12,10 @@ use Rattle.imap_mailbox.proofs.Rising.{rises_lower}
 use Rattle.imap_names.specs.Name.{Name}
 use Rattle.imap_syntax.specs.declared.set.Numbering.{Numbering}
 use Rattle.imap_syntax.specs.declared.set.SeqRange.{SeqRange}
+use Rattle.imap_messages.specs.Fetched.{Wanted}
 use Rattle.imap_messages.specs.Found.{marks_named}
-use Rattle.imap_messages.specs.MessageNumbers.{Numbered, in_set, messages_from, named_by, row_with}
-use Rattle.imap_messages.specs.Reading.{is_unread, marking, marks_if_there, reading, seen_mark, seen_marks}
+use Rattle.imap_messages.specs.MessageNumbers.{Numbered, in_set, messages_from, number_by, row_with}
+use Rattle.imap_messages.specs.Reading.{count_after, is_set, is_unread, mark_effect, marks_if_there, read_effect, seen_mark, seen_marks, uid_told, uids_told}
 
 abbrev pub uids_of : List Numbered → List ℕ
 uids_of messages = map (λ (m : Numbered). m.uid) messages
@@ -24,7 +25,7 @@ uids_of messages = map (λ (m : Numbered). m.uid) messages
 pub named_rise : (by : Numbering) (last : ℕ) (ranges : List SeqRange) (low high n : ℕ) (known : List KnownMessage) → Rises low high (known_uids known) → Rises low high (uids_of (messages_from by last ranges n known))
 named_rise by last ranges low high n [] h = h
 named_rise by last ranges low high n (k ∷ known) h =
-    either (in_set last ranges (named_by by (record { number = n; uid = k.uid }))) (named_rise by last ranges (k.uid + 1) high (n + 1) known h.1)
+    either (in_set last ranges (number_by by (record { number = n; uid = k.uid }))) (named_rise by last ranges (k.uid + 1) high (n + 1) known h.1)
   where
     either : (b : Bool) → Rises (k.uid + 1) high (uids_of (messages_from by last ranges (n + 1) known))
         → Rises low high (uids_of (cond b (record { number = n; uid = k.uid } ∷ messages_from by last ranges (n + 1) known) (messages_from by last ranges (n + 1) known)))
@@ -135,6 +136,33 @@ no_marks rows (m ∷ messages) = ap (λ ms. ms ++ marks_named false rows message
     by (Some r) = refl
 
 pub reading_is : (sets : Bool) (user : List ℕ) (name : Name) (top low high less : ℕ) (messages : List Numbered) (rows : List Row) → Rises less top (uids_of messages) → Rises low high (row_uids rows)
-    → marking user name (marks_named sets rows messages) ≡ reading sets user name messages rows
-reading_is true user name top low high less messages rows up h = ap (marking user name) (marks_are top low high less messages rows up h)
-reading_is false user name top low high less messages rows up h = ap (marking user name) (no_marks rows messages)
+    → mark_effect user name (marks_named sets rows messages) ≡ read_effect sets user name messages rows
+reading_is true user name top low high less messages rows up h = ap (mark_effect user name) (marks_are top low high less messages rows up h)
+reading_is false user name top low high less messages rows up h = ap (mark_effect user name) (no_marks rows messages)
+
+-- ---- UIDs that are told
+
+uid_there : (uid : ℕ) (rows : List Row) (r : Row) → row_with uid rows ≡ Some r → r.uid ≡ uid
+uid_there uid [] r e = absurd (cc e)
+uid_there uid (x ∷ rows) r e = by (eqb x.uid uid) refl e (uid_there uid rows r)
+  where
+    by : (b : Bool) → eqb x.uid uid ≡ b → cond b (Some x) (row_with uid rows) ≡ Some r → (row_with uid rows ≡ Some r → r.uid ≡ uid) → r.uid ≡ uid
+    by true is e later = let same : x ≡ r = cc e in ap (λ (k : Row). k.uid) (sym same) ∙ eqb-true x.uid uid is
+    by false is e later = later e
+
+pub uids_rise : (wanted : Wanted) (sets : Bool) (rows : List Row) (own low high : ℕ) (messages : List Numbered) → Rises low high (uids_of messages) → Rises low high (uids_told wanted sets rows own messages)
+uids_rise wanted sets rows own low high [] h = h
+uids_rise wanted sets rows own low high (m ∷ messages) h =
+    by (row_with m.uid rows) refl (λ o. uids_rise wanted sets rows o (m.uid + 1) high messages h.1)
+  where
+    at : low ≤ m.uid
+    at = h.0
+
+    one : (r : Row) (b : Bool) (later : List ℕ) → r.uid ≡ m.uid → Rises (m.uid + 1) high later → Rises low high (cond b (r.uid ∷ []) [] ++ later)
+    one r true later same rest = (subst (λ u. low ≤ u) (sym same) at, subst (λ u. Rises (u + 1) high later) (sym same) rest)
+    one r false later same rest = rises_lower (m.uid + 1) low high later (omega (arith, at)) rest
+
+    by : (row : Option Row) → row_with m.uid rows ≡ row → ((o : ℕ) → Rises (m.uid + 1) high (uids_told wanted sets rows o messages))
+        → Rises low high (uid_told wanted sets own row ++ uids_told wanted sets rows (count_after sets own row own) messages)
+    by None is rest = rises_lower (m.uid + 1) low high (uids_told wanted sets rows own messages) (omega (arith, at)) (rest own)
+    by (Some r) is rest = one r (wanted.flags || is_set sets own r) (uids_told wanted sets rows (count_after sets own (Some r) own) messages) (uid_there m.uid rows r is) (rest (count_after sets own (Some r) own))

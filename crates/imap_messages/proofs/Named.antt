@@ -16,8 +16,8 @@ use Rattle.imap_messages.specs.declared.reading.Reading.{Reading}
 use Rattle.imap_messages.specs.Fetch.{is_gone, is_refused}
 use Rattle.imap_messages.specs.Fetched.{Wanted}
 use Rattle.imap_messages.specs.Found.{IsReading, marks_named}
-use Rattle.imap_messages.specs.MessageNumbers.{Numbered, in_set, last_uid, messages_from, named_by, row_with}
-use Rattle.imap_messages.specs.Reading.{IsAdded, counted, is_set, line_if_there, lines_from, marks_if_there}
+use Rattle.imap_messages.specs.MessageNumbers.{Numbered, in_set, last_uid, messages_from, number_by, row_with}
+use Rattle.imap_messages.specs.Reading.{IsAdded, count_after, is_set, line_if_there, lines_from, marks_if_there, uid_told, uids_told}
 use Rattle.imap_modseq.specs.Numbers.{max_events}
 use Rattle.imap_print.specs.Lines.{IsPrintable}
 use Rattle.imap_view.specs.declared.readable.Readable.{Readable}
@@ -77,17 +77,17 @@ both true b c e = ap (λ t. t || c) e
 both false b c e = absurd (cc e)
 
 -- one more change is one more mod-sequence
-counted_both : (sets : Bool) (own a b h : ℕ) (row : Option Row) → h + a ≡ b + own → counted sets own row h + a ≡ b + counted sets own row own
-counted_both sets own a b h None e = e
-counted_both sets own a b h (Some row) e = by (is_set sets own row)
+counts_both : (sets : Bool) (own a b h : ℕ) (row : Option Row) → h + a ≡ b + own → count_after sets own row h + a ≡ b + count_after sets own row own
+counts_both sets own a b h None e = e
+counts_both sets own a b h (Some row) e = by (is_set sets own row)
   where
     by : (x : Bool) → cond x (h + 1) h + a ≡ b + cond x (own + 1) own
     by true = omega (arith, e)
     by false = e
 
-counted_few : (sets : Bool) (own : ℕ) (row : Option Row) → own ≤ max_events → counted sets own row own ≤ max_events
-counted_few sets own None few = few
-counted_few sets own (Some row) few = by sets row.seen (nat_lt own max_events) refl
+counts_few : (sets : Bool) (own : ℕ) (row : Option Row) → own ≤ max_events → count_after sets own row own ≤ max_events
+counts_few sets own None few = few
+counts_few sets own (Some row) few = by sets row.seen (nat_lt own max_events) refl
   where
     by : (s seen left : Bool) → nat_lt own max_events ≡ left → cond (s && (not seen && left)) (own + 1) own ≤ max_events
     by true false true e = let lt = ltb-true own max_events e in omega (arith, lt)
@@ -104,18 +104,20 @@ module _ (by_uid : Bool) (wanted : Wanted) (sets : Bool) (mailbox : Readable) (b
     pub lines : found.lines.items ++ lines_from wanted sets mailbox.rows found.highest found.own (messages_from by last ranges (i + 1) (drop i known))
         ≡ lines_from wanted sets mailbox.rows mailbox.highest mailbox.own (messages_from by last ranges 1 known)
     pub marks : found.marks.items ++ marks_named sets mailbox.rows (messages_from by last ranges (i + 1) (drop i known)) ≡ marks_named sets mailbox.rows (messages_from by last ranges 1 known)
+    pub told : found.told.items ++ uids_told wanted sets mailbox.rows found.own (messages_from by last ranges (i + 1) (drop i known)) ≡ uids_told wanted sets mailbox.rows mailbox.own (messages_from by last ranges 1 known)
     pub refused : is_refused by_uid mailbox.rows (messages_from by last ranges (i + 1) (drop i known)) ≡ is_refused by_uid mailbox.rows (messages_from by last ranges 1 known)
     pub printable : AllByRecursion IsPrintable found.lines.items
 
   -- before the first message that may be named nothing is found
   pub at_first : (start : ℕ) (found : Reading) → messages_from by last ranges (start + 1) (drop start known) ≡ messages_from by last ranges 1 known → mailbox.own ≤ max_events
-      → found.sets ≡ sets → found.highest ≡ mailbox.highest → found.own ≡ mailbox.own → found.lines.items ≡ [] → found.marks.items ≡ [] → IsSoFar start found
-  at_first start found all few sets_is highest own lines marks = record {
+      → found.sets ≡ sets → found.highest ≡ mailbox.highest → found.own ≡ mailbox.own → found.lines.items ≡ [] → found.marks.items ≡ [] → found.told.items ≡ [] → IsSoFar start found
+  at_first start found all few sets_is highest own lines marks told = record {
     setting = sets_is;
     numbers = (λ j. highest j + mailbox.own) ∙ ap (λ o. mailbox.highest + o) (sym own);
     few = subst (λ o. o ≤ max_events) (sym own) few;
     lines = (λ j. lines j ++ lines_from wanted sets mailbox.rows (highest j) (own j) (all j));
     marks = (λ j. marks j ++ marks_named sets mailbox.rows (all j));
+    told = (λ j. told j ++ uids_told wanted sets mailbox.rows (own j) (all j));
     refused = ap (λ ms. is_refused by_uid mailbox.rows ms) all;
     printable = subst (AllByRecursion IsPrintable) (sym lines) tt;
   }
@@ -125,6 +127,7 @@ module _ (by_uid : Bool) (wanted : Wanted) (sets : Bool) (mailbox : Readable) (b
   at_last end found none before = record {
     lines = sym (append-nil found.lines.items) ∙ ap (λ ms. found.lines.items ++ lines_from wanted sets mailbox.rows found.highest found.own ms) (sym none) ∙ before.lines;
     marks = sym (append-nil found.marks.items) ∙ ap (λ ms. found.marks.items ++ marks_named sets mailbox.rows ms) (sym none) ∙ before.marks;
+    told = sym (append-nil found.told.items) ∙ ap (λ ms. found.told.items ++ uids_told wanted sets mailbox.rows found.own ms) (sym none) ∙ before.told;
     printable = before.printable;
   }
 
@@ -145,12 +148,12 @@ module _ (by_uid : Bool) (wanted : Wanted) (sets : Bool) (mailbox : Readable) (b
 
     abbrev front : ℕ → ℕ → List KnownMessage → List Numbered
     front n uid known = let m : Numbered = record { number = n; uid = uid } in
-        cond (in_set last ranges (named_by by m)) (m ∷ messages_from by last ranges (i + 1 + 1) known) (messages_from by last ranges (i + 1 + 1) known)
+        cond (in_set last ranges (number_by by m)) (m ∷ messages_from by last ranges (i + 1 + 1) known) (messages_from by last ranges (i + 1 + 1) known)
 
     ahead : messages_from by last ranges (i + 1) (drop i known) ≡ front n uid (drop (i + 1) known)
     ahead = ap (messages_from by last ranges (i + 1)) (drop-cons known i d within) ∙ λ j. front (sym number j) (sym is j) (drop (sym (add-one i) j) known)
 
-    pub skipped : (found : Reading) → in_set last ranges (named_by by message) ≡ false → IsSoFar i found → IsSoFar (i + 1) found
+    pub skipped : (found : Reading) → in_set last ranges (number_by by message) ≡ false → IsSoFar i found → IsSoFar (i + 1) found
     skipped found unnamed before =
         let next = ahead ∙ ap (λ b. cond b (message ∷ later) later) unnamed in
         record {
@@ -159,12 +162,13 @@ module _ (by_uid : Bool) (wanted : Wanted) (sets : Bool) (mailbox : Readable) (b
           few = before.few;
           lines = ap (λ ms. found.lines.items ++ lines_from wanted sets mailbox.rows found.highest found.own ms) (sym next) ∙ before.lines;
           marks = ap (λ ms. found.marks.items ++ marks_named sets mailbox.rows ms) (sym next) ∙ before.marks;
+          told = ap (λ ms. found.told.items ++ uids_told wanted sets mailbox.rows found.own ms) (sym next) ∙ before.told;
           refused = ap (λ ms. is_refused by_uid mailbox.rows ms) (sym next) ∙ before.refused;
           printable = before.printable;
         }
 
     -- it is one of those that are named
-    module _ (named : in_set last ranges (named_by by message) ≡ true) (row : Option Row) (there : row ≡ row_with uid mailbox.rows) where
+    module _ (named : in_set last ranges (number_by by message) ≡ true) (row : Option Row) (there : row ≡ row_with uid mailbox.rows) where
       next : messages_from by last ranges (i + 1) (drop i known) ≡ message ∷ later
       next = ahead ∙ ap (λ b. cond b (message ∷ later) later) named
 
@@ -174,20 +178,25 @@ module _ (by_uid : Bool) (wanted : Wanted) (sets : Bool) (mailbox : Readable) (b
       pub added : (old new : Reading) → (not by_uid && not (is_some row)) ≡ false → IsAdded wanted n row old new → IsSoFar i old → IsSoFar (i + 1) new
       added old new kept made before = record {
         setting = made.sets ∙ before.setting;
-        numbers = (λ j. made.highest j + mailbox.own) ∙ counted_both old.sets old.own mailbox.own mailbox.highest old.highest row before.numbers ∙ ap (λ o. mailbox.highest + o) (sym made.own);
-        few = subst (λ o. o ≤ max_events) (sym made.own) (counted_few old.sets old.own row before.few);
+        numbers = (λ j. made.highest j + mailbox.own) ∙ counts_both old.sets old.own mailbox.own mailbox.highest old.highest row before.numbers ∙ ap (λ o. mailbox.highest + o) (sym made.own);
+        few = subst (λ o. o ≤ max_events) (sym made.own) (counts_few old.sets old.own row before.few);
         lines =
             (λ j. made.lines j ++ lines_from wanted sets mailbox.rows (made.highest j) (made.own j) later)
             ∙ (λ j. (old.lines.items ++ line_if_there wanted (before.setting j) old.highest old.own n (there j))
-            ++ lines_from wanted sets mailbox.rows (counted (before.setting j) old.own (there j) old.highest) (counted (before.setting j) old.own (there j) old.own) later)
+            ++ lines_from wanted sets mailbox.rows (count_after (before.setting j) old.own (there j) old.highest) (count_after (before.setting j) old.own (there j) old.own) later)
             ∙ append_assoc old.lines.items (line_if_there wanted sets old.highest old.own n (row_with uid mailbox.rows))
-            (lines_from wanted sets mailbox.rows (counted sets old.own (row_with uid mailbox.rows) old.highest) (counted sets old.own (row_with uid mailbox.rows) old.own) later)
+            (lines_from wanted sets mailbox.rows (count_after sets old.own (row_with uid mailbox.rows) old.highest) (count_after sets old.own (row_with uid mailbox.rows) old.own) later)
             ∙ ap (λ ms. old.lines.items ++ lines_from wanted sets mailbox.rows old.highest old.own ms) (sym next) ∙ before.lines;
         marks =
             (λ j. made.marks j ++ marks_named sets mailbox.rows later)
             ∙ (λ j. (old.marks.items ++ marks_if_there (before.setting j) (there j)) ++ marks_named sets mailbox.rows later)
             ∙ append_assoc old.marks.items (marks_if_there sets (row_with uid mailbox.rows)) (marks_named sets mailbox.rows later)
             ∙ ap (λ ms. old.marks.items ++ marks_named sets mailbox.rows ms) (sym next) ∙ before.marks;
+        told =
+            (λ j. made.told j ++ uids_told wanted sets mailbox.rows (made.own j) later)
+            ∙ (λ j. (old.told.items ++ uid_told wanted (before.setting j) old.own (there j)) ++ uids_told wanted sets mailbox.rows (count_after (before.setting j) old.own (there j) old.own) later)
+            ∙ append_assoc old.told.items (uid_told wanted sets old.own (row_with uid mailbox.rows)) (uids_told wanted sets mailbox.rows (count_after sets old.own (row_with uid mailbox.rows) old.own) later)
+            ∙ ap (λ ms. old.told.items ++ uids_told wanted sets mailbox.rows old.own ms) (sym next) ∙ before.told;
         refused =
             distribute (not by_uid) (is_gone mailbox.rows message) (list_any (is_gone mailbox.rows) later) (ap (λ b. not by_uid && b) (sym gone) ∙ kept)
             ∙ ap (λ ms. is_refused by_uid mailbox.rows ms) (sym next) ∙ before.refused;

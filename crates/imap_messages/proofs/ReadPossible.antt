@@ -27,7 +27,7 @@ use Rattle.imap_view.specs.Seen.{Seen, is_root, owner_of, rights_shown, seen_at,
 use Rattle.imap_view.specs.View.{View}
 use Rattle.imap_view.proofs.Views.{get_seen}
 use Rattle.imap_messages.specs.MessageNumbers.{Numbered}
-use Rattle.imap_messages.specs.Reading.{is_unread, marking, reading, seen_mark, seen_marks}
+use Rattle.imap_messages.specs.Reading.{is_unread, mark_effect, read_effect, seen_mark, seen_marks}
 
 -- ---- marks of rows
 
@@ -153,7 +153,7 @@ module _ (view : View) (name : Name) (messages : List Numbered) (mailbox : Reada
     content = by_content seen is (has_any seen.rights read) seen.validity seen.messages.content refl e;
   }
 
-  by_marks : readable_in view name ≡ Some mailbox → (marks : List Mark) → seen_marks messages mailbox.rows ≡ marks → MayBeAsked view (marking view.user name marks)
+  by_marks : readable_in view name ≡ Some mailbox → (marks : List Mark) → seen_marks messages mailbox.rows ≡ marks → MayBeAsked view (mark_effect view.user name marks)
   by_marks e [] is = tt
   by_marks e (k ∷ marks) is = (
     record {
@@ -163,6 +163,6 @@ module _ (view : View) (name : Name) (messages : List Numbered) (mailbox : Reada
     tt,
   )
 
-  pub may_read : (sets : Bool) → readable_in view name ≡ Some mailbox → MayBeAsked view (reading sets view.user name messages mailbox.rows)
+  pub may_read : (sets : Bool) → readable_in view name ≡ Some mailbox → MayBeAsked view (read_effect sets view.user name messages mailbox.rows)
   may_read true e = by_marks e (seen_marks messages mailbox.rows) refl
   may_read false e = tt

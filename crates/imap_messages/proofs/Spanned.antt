@@ -12,7 +12,7 @@ use Rattle.imap_syntax.specs.declared.set.Numbering.{Numbering}
 use Rattle.imap_syntax.specs.declared.set.SeqRange.{SeqRange}
 use Rattle.imap_messages.specs.declared.message_numbers.MessageNumbers.{MessageNumbers}
 use Rattle.imap_messages.specs.Found.{AreBounds, IsSpan, IsWithin, name_at}
-use Rattle.imap_messages.specs.MessageNumbers.{Numbered, end_of, in_range, in_set, is_between, messages_from, named_by}
+use Rattle.imap_messages.specs.MessageNumbers.{Numbered, end_of, in_range, in_set, is_between, messages_from, number_by}
 
 -- ---- a set between its bounds
 
@@ -82,14 +82,14 @@ module _ (by : Numbering) (last : ℕ) (ranges : List SeqRange) (known : List Kn
 
 -- none of the messages is named
 none_named : (by : Numbering) (last : ℕ) (ranges : List SeqRange) (n : ℕ) (known : List KnownMessage) (d : KnownMessage)
-    → ((k : ℕ) → k < length known → in_set last ranges (named_by by (record { number = n + k; uid = (get_or known k d).uid })) ≡ false) → messages_from by last ranges n known ≡ []
+    → ((k : ℕ) → k < length known → in_set last ranges (number_by by (record { number = n + k; uid = (get_or known k d).uid })) ≡ false) → messages_from by last ranges n known ≡ []
 none_named by last ranges n [] d none = refl
 none_named by last ranges n (k ∷ known) d none =
     let m : Numbered = record { number = n; uid = k.uid } in
-    let first : in_set last ranges (named_by by m) ≡ false = ap (λ i. in_set last ranges (named_by by (record { number = i; uid = k.uid }))) (let z : n ≡ n + 0 = omega arith in z) ∙ none 0 (omega arith) in
+    let first : in_set last ranges (number_by by m) ≡ false = ap (λ i. in_set last ranges (number_by by (record { number = i; uid = k.uid }))) (let z : n ≡ n + 0 = omega arith in z) ∙ none 0 (omega arith) in
     ap (λ b. cond b (m ∷ messages_from by last ranges (n + 1) known) (messages_from by last ranges (n + 1) known)) first
     ∙ none_named by last ranges (n + 1) known d (λ j lt.
-    ap (λ i. in_set last ranges (named_by by (record { number = i; uid = (get_or known j d).uid }))) (let z : (n + 1) + j ≡ n + suc j = omega arith in z) ∙ none (suc j) (omega (arith, lt)))
+    ap (λ i. in_set last ranges (number_by by (record { number = i; uid = (get_or known j d).uid }))) (let z : (n + 1) + j ≡ n + suc j = omega arith in z) ∙ none (suc j) (omega (arith, lt)))
 
 module _ (m : MessageNumbers) (low high : ℕ) (bounds : AreBounds m.last m.ranges.now low high) where
   with_one : (known : List KnownMessage) (d : KnownMessage) (start end : ℕ) → UidsRise known → IsWithin m.numbering low high known start end → IsSpan m known start end
@@ -100,7 +100,7 @@ module _ (m : MessageNumbers) (low high : ℕ) (bounds : AreBounds m.last m.rang
     before = skipped_to m.numbering m.last m.ranges.now known start d (omega (arith, is.order, is.within)) (λ k lt.
         unnamed m.last low high (name_at m.numbering known k d) m.ranges.now bounds (λ h. let x = h.0 in let y = is.less k d lt in omega (arith, x, y)));
     after = none_named m.numbering m.last m.ranges.now (end + 1) (drop end known) d (λ k lt.
-        ap (in_set m.last m.ranges.now) (λ j. named_by m.numbering (record { number = turn k j; uid = (get_or-drop end known k d j).uid }))
+        ap (in_set m.last m.ranges.now) (λ j. number_by m.numbering (record { number = turn k j; uid = (get_or-drop end known k d j).uid }))
         ∙ unnamed m.last low high (name_at m.numbering known (end + k) d) m.ranges.now bounds
         (λ h. let x = h.1 in let y = is.more (end + k) d (omega arith) (omega (arith, lt, length-drop end known)) in omega (arith, x, y)));
   }

@@ -2,7 +2,7 @@
 use Rattle.std.specs.Prelude.{ℕ, Bool, true, false, not, ◌&&◌, ◌||◌, List, [], length}
 use Rattle.std.specs.Prelude.{Option, Some, None, is_some, if◌then◌else◌}
 use Rattle.std.specs.List.{list_any}
-use Rattle.imap_answer.specs.Answer.{Answer, carried_out, enabling, refusal}
+use Rattle.imap_answer.specs.Answer.{Answer, carried_out, enabling, refusal, telling}
 use Rattle.imap_mailbox.specs.declared.known.KnownMessage.{KnownMessage}
 use Rattle.imap_mailbox.specs.Rows.{Row}
 use Rattle.imap_print.specs.declared.enabled.EnabledCapabilities.{EnabledCapabilities}
@@ -22,7 +22,7 @@ use Rattle.imap_view.specs.Readable.{readable_in}
 use Rattle.imap_view.specs.View.{View, rights_in}
 use Rattle.imap_messages.specs.Fetched.{wanted_of}
 use Rattle.imap_messages.specs.MessageNumbers.{Numbered, are_numbers, messages_named, row_with}
-use Rattle.imap_messages.specs.Reading.{lines_from, reading}
+use Rattle.imap_messages.specs.Reading.{lines_from, read_effect, uids_told}
 
 -- the arguments of FETCH
 pub record Fetch : Type 0 where
@@ -110,14 +110,20 @@ fetched_lines enabled asked sets mailbox messages =
     let wanted = wanted_of (is_by_uid asked.numbering) enabled.condstore asked.items in
     lines_from wanted sets mailbox.rows mailbox.highest mailbox.own messages
 
+abbrev pub fetched_uids : EnabledCapabilities → Fetch → (sets : Bool) → Readable → List Numbered → List ℕ
+fetched_uids enabled asked sets mailbox messages =
+    let wanted = wanted_of (is_by_uid asked.numbering) enabled.condstore asked.items in
+    uids_told wanted sets mailbox.rows mailbox.own messages
+
 abbrev pub fetch_messages : View → EnabledCapabilities → (tag : List ℕ) → Fetch → Selection → Readable →
     List Numbered → Answer
 fetch_messages view enabled tag asked s mailbox messages =
     let sets = sets_seen view s asked in
     if is_refused (is_by_uid asked.numbering) mailbox.rows messages then refusal tag ExpungeIssued
-    else enabling (enabled_by asked.items)
+    else telling (fetched_uids enabled asked sets mailbox messages)
+    (enabling (enabled_by asked.items)
     (carried_out (fetched_lines enabled asked sets mailbox messages) tag None
-    (reading sets view.user s.name messages mailbox.rows))
+    (read_effect sets view.user s.name messages mailbox.rows)))
 
 abbrev pub fetch_if_readable : View → EnabledCapabilities → (tag : List ℕ) → Fetch → Selection →
     Option Readable → Answer

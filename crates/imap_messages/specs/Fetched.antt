@@ -75,8 +75,8 @@ abbrev pub size_shown : Row → ℕ
 size_shown row = length row.octets
 
 -- FLAGS is sent too if the command has set `\Seen`
-abbrev pub fetched : Wanted → (set : Bool) → Row → FetchedItems
-fetched wanted set row = record {
+abbrev pub fetched_items : Wanted → (set : Bool) → Row → FetchedItems
+fetched_items wanted set row = record {
   uid = if_wanted wanted.uid row.uid;
   flags = if_wanted (wanted.flags || set) (flags_shown row);
   internal_date = if_wanted wanted.internal_date row.date;
@@ -86,4 +86,4 @@ fetched wanted set row = record {
 }
 
 abbrev pub fetch_line : Wanted → (set : Bool) → (number : ℕ) → Row → Response
-fetch_line wanted set number row = response.Fetch number (fetched wanted set row)
+fetch_line wanted set number row = response.Fetch number (fetched_items wanted set row)

@@ -10,10 +10,10 @@ use Rattle.imap_view.specs.declared.readable.Readable.{Readable}
 use Rattle.imap_messages.specs.declared.message_numbers.MessageNumbers.{MessageNumbers}
 use Rattle.imap_messages.specs.declared.reading.Reading.{Reading}
 use Rattle.imap_messages.specs.Fetched.{Wanted}
-use Rattle.imap_messages.specs.MessageNumbers.{Numbered, in_set, messages_from, named_by, row_with}
+use Rattle.imap_messages.specs.MessageNumbers.{Numbered, in_set, messages_from, number_by, row_with}
 use Rattle.imap_syntax.specs.declared.set.Numbering.{Numbering}
 use Rattle.imap_syntax.specs.declared.set.SeqRange.{SeqRange}
-use Rattle.imap_messages.specs.Reading.{lines_from, marks_if_there}
+use Rattle.imap_messages.specs.Reading.{lines_from, marks_if_there, uids_told}
 
 -- the known messages of the set
 abbrev pub named_in : MessageNumbers → List KnownMessage → List Numbered
@@ -28,7 +28,7 @@ AreBounds last ranges low high =
 
 abbrev pub name_at : Numbering → List KnownMessage → (place : ℕ) → KnownMessage → ℕ
 name_at by known place d =
-    named_by by (record { number = place + 1; uid = (slice_index_or known place d).uid })
+    number_by by (record { number = place + 1; uid = (slice_index_or known place d).uid })
 
 -- before the place `start` they are named by less than `low`, and from the place `end` on by more than `high`
 pub record IsWithin (by : Numbering) (low high : ℕ) (known : List KnownMessage) (start end : ℕ) : Type 0 where
@@ -57,4 +57,5 @@ pub record IsReading (wanted : Wanted) (sets : Bool) (mailbox : Readable) (messa
   pub lines : found.lines.items
       ≡ lines_from wanted sets mailbox.rows mailbox.highest mailbox.own messages
   pub marks : found.marks.items ≡ marks_named sets mailbox.rows messages
+  pub told : found.told.items ≡ uids_told wanted sets mailbox.rows mailbox.own messages
   pub printable : AllByRecursion IsPrintable found.lines.items

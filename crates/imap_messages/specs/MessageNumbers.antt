@@ -57,9 +57,9 @@ last_of numbering.Sequence next_uid known = length known
 last_of numbering.Uid next_uid known = last_uid next_uid known
 
 -- the number by which a command names a message
-abbrev pub named_by : Numbering → Numbered → ℕ
-named_by numbering.Sequence m = m.number
-named_by numbering.Uid m = m.uid
+abbrev pub number_by : Numbering → Numbered → ℕ
+number_by numbering.Sequence m = m.number
+number_by numbering.Uid m = m.uid
 
 -- those of the set. The first message has the number n
 abbrev pub messages_from : Numbering → (last : ℕ) → List SeqRange → (n : ℕ) → List KnownMessage →
@@ -67,7 +67,7 @@ abbrev pub messages_from : Numbering → (last : ℕ) → List SeqRange → (n :
 messages_from by last ranges n [] = []
 messages_from by last ranges n (k ∷ known) =
     let m : Numbered = record { number = n; uid = k.uid } in
-    if in_set last ranges (named_by by m)
+    if in_set last ranges (number_by by m)
     then m ∷ messages_from by last ranges (n + 1) known
     else messages_from by last ranges (n + 1) known
 

@@ -1,5 +1,5 @@
 -- `\Seen`, which FETCH sets of the messages whose texts it sends (RFC 9051, section 6.4.5).
-use Rattle.std.specs.Prelude.{◌≡◌, ℕ, ◌+◌, ◌==◌, Bool, true, false, not, ◌&&◌, nat_lt, List, [], ◌∷◌, ◌++◌, filter, map}
+use Rattle.std.specs.Prelude.{◌≡◌, ℕ, ◌+◌, ◌==◌, Bool, true, false, not, ◌&&◌, ◌||◌, nat_lt, List, [], ◌∷◌, ◌++◌, filter, map}
 use Rattle.std.specs.Prelude.{Option, Some, None, if◌then◌else◌}
 use Rattle.std.specs.List.{AllByRecursion, list_any}
 use Rattle.imap_batch.specs.declared.batch.Mark.{Mark}
@@ -36,16 +36,27 @@ line_if_there wanted sets highest own number (Some row) =
     line_read wanted sets highest own number row ∷ []
 
 -- one more, if `\Seen` of the message is set
-abbrev pub counted : (sets : Bool) → (own : ℕ) → Option Row → ℕ → ℕ
-counted sets own None n = n
-counted sets own (Some row) n = if is_set sets own row then n + 1 else n
+abbrev pub count_after : (sets : Bool) → (own : ℕ) → Option Row → ℕ → ℕ
+count_after sets own None n = n
+count_after sets own (Some row) n = if is_set sets own row then n + 1 else n
 
 abbrev pub lines_from : Wanted → (sets : Bool) → List Row → (highest own : ℕ) → List Numbered → List Response
 lines_from wanted sets rows highest own [] = []
 lines_from wanted sets rows highest own (m ∷ messages) =
     let row = row_with m.uid rows in
     line_if_there wanted sets highest own m.number row
-    ++ lines_from wanted sets rows (counted sets own row highest) (counted sets own row own) messages
+    ++ lines_from wanted sets rows (count_after sets own row highest) (count_after sets own row own) messages
+
+-- the UID of a message of which the line tells FLAGS
+abbrev pub uid_told : Wanted → (sets : Bool) → (own : ℕ) → Option Row → List ℕ
+uid_told wanted sets own None = []
+uid_told wanted sets own (Some row) = if wanted.flags || is_set sets own row then row.uid ∷ [] else []
+
+abbrev pub uids_told : Wanted → (sets : Bool) → List Row → (own : ℕ) → List Numbered → List ℕ
+uids_told wanted sets rows own [] = []
+uids_told wanted sets rows own (m ∷ messages) =
+    let row = row_with m.uid rows in
+    uid_told wanted sets own row ++ uids_told wanted sets rows (count_after sets own row own) messages
 
 -- ---- what is found on the way
 
@@ -63,11 +74,12 @@ marks_if_there sets (Some row) = marks_of sets row
 -- a message was added to what was found, if it is there
 pub record IsAdded (wanted : Wanted) (number : ℕ) (row : Option Row) (old new : Reading) : Type 0 where
   pub sets : new.sets ≡ old.sets
-  pub highest : new.highest ≡ counted old.sets old.own row old.highest
-  pub own : new.own ≡ counted old.sets old.own row old.own
+  pub highest : new.highest ≡ count_after old.sets old.own row old.highest
+  pub own : new.own ≡ count_after old.sets old.own row old.own
   pub lines : new.lines.items
       ≡ old.lines.items ++ line_if_there wanted old.sets old.highest old.own number row
   pub marks : new.marks.items ≡ old.marks.items ++ marks_if_there old.sets row
+  pub told : new.told.items ≡ old.told.items ++ uid_told wanted old.sets old.own row
   pub printable : AllByRecursion IsPrintable old.lines.items → AllByRecursion IsPrintable new.lines.items
 
 -- ---- what is asked of the mailbox
@@ -79,12 +91,13 @@ is_unread messages row = not row.seen && list_any (λ m. m.uid == row.uid) messa
 abbrev pub seen_marks : List Numbered → List Row → List Mark
 seen_marks messages rows = map seen_mark (filter (is_unread messages) rows)
 
-abbrev pub marking : (user : List ℕ) → Name → List Mark → Option Effect
-marking user name [] = None
-marking user name (k ∷ marks) = Some (effect.Messages (record {
+abbrev pub mark_effect : (user : List ℕ) → Name → List Mark → Option Effect
+mark_effect user name [] = None
+mark_effect user name (k ∷ marks) = Some (effect.Messages (record {
   name = name;
   batch = record { user = user; added = []; marks = k ∷ marks; expunged = [] };
 }) None)
 
-abbrev pub reading : (sets : Bool) → (user : List ℕ) → Name → List Numbered → List Row → Option Effect
-reading sets user name messages rows = if sets then marking user name (seen_marks messages rows) else None
+abbrev pub read_effect : (sets : Bool) → (user : List ℕ) → Name → List Numbered → List Row → Option Effect
+read_effect sets user name messages rows =
+    if sets then mark_effect user name (seen_marks messages rows) else None

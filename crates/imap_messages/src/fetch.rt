@@ -2,12 +2,13 @@
 
 ghost use Rattle.std.specs.Prelude.{◌≡◌, ◌≤◌, ◌&&◌, not, is_none, is_some, option_map, None, IfOk, IfSome};
 ghost use Rattle.std.specs.List.{AllByRecursion, list_any};
-ghost use Rattle.imap_answer.specs.Answer.{carried_out, enabling};
+ghost use Rattle.imap_answer.specs.Answer.{carried_out, enabling, telling};
+ghost use Rattle.imap_mailbox.specs.Summary.{AreRising};
 ghost use Rattle.imap_mailbox.specs.Lent.{row_shown};
 ghost use Rattle.imap_mailbox.specs.Order.{AreRowsInOrder};
 ghost use Rattle.imap_messages.specs.Fetch as specs;
 ghost use Rattle.imap_messages.specs.Found.{IsReading, named_in};
-ghost use Rattle.imap_messages.specs.Reading.{marking};
+ghost use Rattle.imap_messages.specs.Reading.{mark_effect};
 ghost use Rattle.imap_modseq.specs.Numbers.{max_events, max_number};
 ghost use Rattle.imap_print.specs.Lines.{IsPrintable};
 ghost use Rattle.imap_rights.specs.Rights.{has_any, seen};
@@ -18,7 +19,7 @@ ghost use Rattle.imap_view.specs.View.{rights_in};
 use crate::message_numbers::{
     MessageNumbers, are_numbers, is_by_uid, known_count, last_of, number_at, row_with,
 };
-use crate::reading::{Reading, marking};
+use crate::reading::{Reading, mark_effect};
 use crate::wanted::Wanted;
 use imap_answer::{Answer, Call};
 use imap_mailbox::Row;
@@ -234,15 +235,23 @@ fn answer_of_reading(
     name: &Name,
     reading: Reading,
 ) -> Result<Answer, AllocError>
-    requires { AllByRecursion IsPrintable reading.lines.items }
-    ensures { let asks = marking call.now.view.user name.now reading.marks.items in
+    requires lines { AllByRecursion IsPrintable reading.lines.items }
+    requires told { AreRising reading.told.items }
+    ensures { let asks = mark_effect call.now.view.user name.now reading.marks.items in
         let answer = carried_out reading.lines.items call.now.tag None asks in
-        IfOk result (λ given. given ≡ enabling (specs.enabled_by asked.now.items) answer) }
+        let enabled = enabling (specs.enabled_by asked.now.items) answer in
+        IfOk result (λ given. given ≡ telling reading.told.items enabled) }
 {
-    let Reading { lines, marks, .. } = reading;
-    let effect = marking(call.alloc(), call.view().user(), name, marks)?;
+    let Reading {
+        lines,
+        marks,
+        told,
+        ..
+    } = reading;
+    let effect = mark_effect(call.alloc(), call.view().user(), name, marks)?;
     let answer = call.carried_out(lines, None, effect)?;
-    Ok(answer.enabling(enabled_by(asked.items.as_slice())))
+    let answer = answer.enabling(enabled_by(asked.items.as_slice()));
+    Ok(answer.telling(told))
 }
 
 /// The capabilities that are enabled by asking for these items: CONDSTORE by MODSEQ (RFC 7162, section 3.1).

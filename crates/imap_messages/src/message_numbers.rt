@@ -25,7 +25,7 @@ impl MessageNumbers<'_> {
     /// Whether the set has the message with this number and this UID.
     pub(crate) fn has(&self, number: u32, uid: u32) -> bool
         ensures { let m : specs.Numbered = record { number = number; uid = uid } in
-            result ≡ specs.in_set self.now.last self.now.ranges.now (specs.named_by self.now.numbering m) }
+            result ≡ specs.in_set self.now.last self.now.ranges.now (specs.number_by self.now.numbering m) }
     {
         match self.numbering {
             Numbering::Sequence => in_set(self.last, self.ranges, number),

@@ -1,6 +1,6 @@
 //! Messages that FETCH reads, and of which it sets `\Seen` (RFC 9051, section 6.4.5).
 
-ghost use Rattle.std.specs.Prelude.{◌≡◌, ◌<◌, ◌^◌, ◌++◌, ◌-◌, [], Some, IfOk, OnOk, option_map};
+ghost use Rattle.std.specs.Prelude.{◌≡◌, ◌<◌, ◌^◌, ◌++◌, ◌-◌, [], ◌∷◌, Some, IfOk, OnOk, option_map, if◌then◌else◌};
 ghost use Rattle.imap_mailbox.specs.Lent.{row_shown};
 ghost use Rattle.imap_messages.specs.Reading as specs;
 
@@ -14,7 +14,8 @@ use imap_syntax::Items;
 use imap_world::{Effect, NamedBatch};
 use std::alloc::{AllocError, Global};
 
-/// What FETCH has found so far: lines of messages, and marks of those of which it sets `\Seen`.
+/// What FETCH has found so far: lines of messages, marks of those of which it sets `\Seen`, and UIDs of those
+/// of which it tells FLAGS.
 #[derive(Drop)]
 pub(crate) struct Reading {
     /// Whether the command sets `\Seen`.
@@ -25,6 +26,7 @@ pub(crate) struct Reading {
     pub(crate) own: u64,
     pub(crate) lines: Vec<Response>,
     pub(crate) marks: Vec<Mark>,
+    pub(crate) told: Vec<u32>,
 }
 
 impl Reading {
@@ -35,6 +37,7 @@ impl Reading {
         ensures own { result.own ≡ own }
         ensures lines { result.lines.items ≡ [] }
         ensures marks { result.marks.items ≡ [] }
+        ensures told { result.told.items ≡ [] }
     {
         Reading {
             sets,
@@ -42,6 +45,7 @@ impl Reading {
             own,
             lines: Vec::new(alloc),
             marks: Vec::new(alloc),
+            told: Vec::new(alloc),
         }
     }
 
@@ -78,6 +82,7 @@ impl Reading {
         let line = wanted.line(alloc, set, number, &row_read(set, self.highest, row))?;
         self.lines.push(line)?;
         push_mark(&mut self.marks, self.sets, row)?;
+        push_told(&mut self.told, wanted.has_flags() || set, row.uid)?;
         if set {
             self.highest += 1;
             self.own += 1;
@@ -122,14 +127,23 @@ fn push_mark(marks: &mut Vec<Mark>, sets: bool, row: &Row<'_>) -> Result<(), All
     Ok(())
 }
 
+fn push_told(told: &mut Vec<u32>, tells: bool, uid: u32) -> Result<(), AllocError>
+    ensures { OnOk result (told.new.items ≡ told.old.items ++ (if tells then uid ∷ [] else [])) }
+{
+    if tells {
+        told.push(uid)?;
+    }
+    Ok(())
+}
+
 /// Asks for the marks, if there are any.
-pub(crate) fn marking(
+pub(crate) fn mark_effect(
     alloc: Global,
     user: &UserName,
     name: &Name,
     marks: Vec<Mark>,
 ) -> Result<Option<Effect>, AllocError>
-    ensures { IfOk result (λ asked. asked ≡ specs.marking user.now name.now marks.items) }
+    ensures { IfOk result (λ asked. asked ≡ specs.mark_effect user.now name.now marks.items) }
 {
     if marks.is_empty() {
         return Ok(None);

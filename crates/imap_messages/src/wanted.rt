@@ -81,6 +81,13 @@ impl Wanted {
         Ok(())
     }
 
+    /// Whether FLAGS is wanted of each message.
+    pub(crate) fn has_flags(&self) -> bool
+        ensures { result ≡ self.now.flags }
+    {
+        self.flags
+    }
+
     /// Returns the line of a message, of which the command has set `\Seen` or not (RFC 9051, section 7.5.2).
     pub(crate) fn line(
         &self,
@@ -93,13 +100,18 @@ impl Wanted {
             IfOk result (λ line. line ≡ meant) }
         ensures printable { IfOk result IsPrintable }
     {
-        let items = self.fetched(alloc, set, row)?;
+        let items = self.fetched_items(alloc, set, row)?;
         fetch_is_printable(number, &items);
         Ok(Response::Fetch { number, items })
     }
 
-    fn fetched(&self, alloc: Global, set: bool, row: &Row<'_>) -> Result<FetchedItems, AllocError>
-        ensures { IfOk result (λ items. items ≡ specs.fetched self.now set (row_shown row.now)) }
+    fn fetched_items(
+        &self,
+        alloc: Global,
+        set: bool,
+        row: &Row<'_>,
+    ) -> Result<FetchedItems, AllocError>
+        ensures { IfOk result (λ items. items ≡ specs.fetched_items self.now set (row_shown row.now)) }
     {
         let flags = flags_if(self.flags || set, alloc, row)?;
         let sections = fetched_sections(alloc, row.octets, self.sections.as_slice())?;

@@ -8,8 +8,27 @@ use Rattle.imap_messages.specs.Fetch.{Fetch, is_by_uid, ranges_of, sets_seen}
 use Rattle.imap_messages.specs.Fetched.{wanted_of}
 use Rattle.imap_messages.specs.Found.{IsReading, named_in}
 use Rattle.imap_messages.specs.MessageNumbers.{last_of}
-use Rattle.imap_messages.proofs.Answering.{answer_is}
+use Rattle.imap_messages.proofs.Answering.{answer_is, told_rise}
 use Rattle.imap_messages.proofs.fetch.fetch_readable.Goals as goal
+
+pub answer_of_reading-requires-clause-told : goal.answer_of_reading-requires-clause-told
+answer_of_reading-requires-clause-told c =
+    let s = selection_of c.args.selected.now in
+    let known = c.args.selected.now.known.list in
+    let mailbox = c.args.mailbox.now in
+    let condstore = c.args.enabled.condstore in
+    let by_is = ap (λ (f : Fetch). f.numbering) c.asked.view_is in
+    let last_is = c.last_of.ensures ∙ ap (λ (f : Fetch). last_of f.numbering mailbox.next_uid known) c.asked.view_is in
+    let ranges_is = c.ranges_of.ensures ∙ ap (λ (f : Fetch). ranges_of f.messages) c.asked.view_is in
+    let wanted_is =
+    c.in_ok-wanted.ensures ∙ (λ j. wanted_of (c.is_by_uid-by_uid.ensures j) condstore (c.as_slice.ensures j))
+    ∙ ap (λ (f : Fetch). wanted_of (is_by_uid f.numbering) condstore f.items) c.asked.view_is in
+    let sets_is = c.sets_seen-sets.ensures ∙ ap (λ (view : View). sets_seen view s c.args.asked.now) c.view.ensures in
+    let read = subst (λ (o : Option Reading). IfSome o (IsReading c.in_ok-wanted.wanted c.sets_seen-sets.result mailbox
+    (named_in (record { numbering = c.asked.inside.numbering; last = c.last_of.result; ranges = c.ranges_of.result }) known))) c.in-Some.is c.in_ok-reading.ensures.read in
+    told_rise c.args.call.now.view c.args.enabled c.args.call.now.tag c.args.asked.now s mailbox c.requires.order c.in_ok-reading.ensures.known
+    c.asked.inside.numbering c.last_of.result c.ranges_of.result.now c.in_ok-wanted.wanted c.sets_seen-sets.result by_is last_is ranges_is wanted_is sets_is
+    c.in-Some.reading read
 
 pub returns-in-Some : goal.returns-in-Some
 returns-in-Some c =
