@@ -149,16 +149,20 @@ all_stay (k ∷ known) (r ∷ rows) e = by (eqb k.uid r.uid) (all_stay known row
     by true there gone e = (cc e, there (cc e))
     by false there gone e = gone (cc e)
 
+-- if the known list stays, each message that is there is known as it is
+pub all_known_if : (may : Bool) (known : List KnownMessage) (rows : List Row) → known_after may known rows ≡ known → AreKnown (comparisons known rows)
+all_known_if true known rows e = subst (λ l. AreKnown (comparisons l rows)) (sym (told_is_there known rows) ∙ e) (is_there rows).known
+all_known_if false known rows e =
+    let new = no_new known rows e in
+    all_stay known rows (sym (append-nil (messages_after false (comparisons known rows))) ∙ (λ i. messages_after false (comparisons known rows) ++ map told_of (sym new i)) ∙ e)
+
 none_differs : (o : NoticeOptions) (known : List KnownMessage) (rows : List Row) → known_after o.expunges known rows ≡ known → notices o known rows ≡ []
 none_differs o known rows e = by o.expunges refl e
   where
     by : (b : Bool) → o.expunges ≡ b → known_after b known rows ≡ known → notices o known rows ≡ []
     by true is e = subst (λ l. notices o l rows ≡ []) (sym (told_is_there known rows) ∙ e) (all_known_is_quiet o rows)
     by false is e =
-        let new = no_new known rows e in
-        let stay : messages_after false (comparisons known rows) ≡ known =
-        sym (append-nil (messages_after false (comparisons known rows))) ∙ (λ i. messages_after false (comparisons known rows) ++ map told_of (sym new i)) ∙ e in
-        quiet_lines o known rows new (all_stay known rows stay) (λ may. absurd (true≢false (sym may ∙ is)))
+        quiet_lines o known rows (no_new known rows e) (all_known_if false known rows e) (λ may. absurd (true≢false (sym may ∙ is)))
 
 pub told_if_different : ToldIfDifferent
 told_if_different o known rows = ((λ e. none_told o known rows e), (λ e. none_differs o known rows e))

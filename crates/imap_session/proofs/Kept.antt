@@ -84,7 +84,7 @@ told_all (k ∷ known) (r ∷ rows) = by (eqb k.uid r.uid) (told_all known rows)
 pub told_is_there : ToldIsThere
 told_is_there known rows = told_all known rows
 
-told_is_brought : (c : Content) (expunges : Bool) (up_to : ℕ) (known : List KnownMessage) → IsOrdered c → IsBrought up_to known c → IsBrought (highest_in c) (known_after expunges known c.rows) c
+pub told_is_brought : (c : Content) (expunges : Bool) (up_to : ℕ) (known : List KnownMessage) → IsOrdered c → IsBrought up_to known c → IsBrought (highest_in c) (known_after expunges known c.rows) c
 told_is_brought c expunges up_to known ordered h = by expunges
   where
     by : (b : Bool) → IsBrought (highest_in c) (known_after b known c.rows) c

@@ -9,5 +9,8 @@ pub mod Alike
 pub mod Listing
 pub mod Finding
 pub mod Walking
+pub mod OneLines
 pub mod Telling
 pub mod RowsRise
+pub mod AfterNotices
+pub mod Worded

@@ -1,5 +1,5 @@
 -- Rows in the order of UIDs, as a session knows them that is told of all.
-use Rattle.std.proofs.Common.{◌≡◌, ℕ, ◌+◌, ◌<◌, ◌≤◌, List, [], ◌∷◌, length, map, refl, sym, ap, subst, arith}
+use Rattle.std.proofs.Common.{◌≡◌, ℕ, ◌<◌, ◌≤◌, List, [], ◌∷◌, length, map, refl, sym, ap, subst, arith}
 use Rattle.std.proofs.lemmas.List.{length-map}
 use Rattle.imap_mailbox.specs.Rows.{Row, first_uid}
 use Rattle.imap_mailbox.specs.Lent.{row_uids}

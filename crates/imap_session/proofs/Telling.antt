@@ -4,6 +4,8 @@ use Rattle.std.proofs.lemmas.Bool.{lt-ltb}
 use Rattle.std.proofs.lemmas.List.{length-append, length-map, append_assoc}
 use Rattle.imap_print.specs.declared.response.Response.{Response}
 use Rattle.imap_print.specs.declared.response.Response.TheVariants as response
+use Rattle.std.specs.List.{AllByRecursion}
+use Rattle.imap_print.specs.Lines.{IsPrintable}
 use Rattle.imap_print.specs.Sets.{rise_above}
 use Rattle.imap_mailbox.specs.declared.known.KnownMessage.{KnownMessage}
 use Rattle.imap_mailbox.specs.Rows.{Row, first_uid}
@@ -23,6 +25,7 @@ use Rattle.imap_session.specs.InStep.{IsInStep, NoneHeldBack}
 use Rattle.imap_session.specs.Walked.{Findings, collected, by_uid, by_number, findings, found}
 use Rattle.imap_session.proofs.Applying.{changes_are_applied, places_are_below}
 use Rattle.imap_session.proofs.Kept.{notices_keep_in_step}
+use Rattle.imap_session.proofs.OneLines.{lines_are_printable}
 use Rattle.imap_session.proofs.Following.{known_in, known_is}
 use Rattle.imap_session.proofs.Retelling.{retold_notices}
 use Rattle.imap_session.proofs.Quieting.{knows_all, none_gone, no_places, no_changes, quiet_lines, retold_known}
@@ -51,7 +54,9 @@ pub record IsTold (told : List ℕ) (o : NoticeOptions) (known : List KnownMessa
   pub first : 0 < w.number
   pub rising : rise_above 0 w.vanished.items ≡ true
   pub count : (w.number - 1) + length new < 2 ^ 32
-  pub lines : cond o.qresync (vanished_line w.vanished.items) w.expunges.items ++ (exists_line ((w.number - 1) + length new) new ++ w.fetches.items) ≡ notices o (retold told known rows) rows
+  pub lines : cond o.qresync (vanished_line w.vanished.items) w.expunges.items ++ (exists_line ((w.number - 1) + length new) new ++ w.fetches) ≡ notices o (retold told known rows) rows
+  pub printable : AllByRecursion IsPrintable w.fetches
+      → AllByRecursion IsPrintable (cond o.qresync (vanished_line w.vanished.items) w.expunges.items ++ (exists_line ((w.number - 1) + length new) new ++ w.fetches))
 
 gone_chosen : (o : NoticeOptions) (cs : List Comparison)
     → cond o.qresync (vanished_line (collected (by_uid o) (expunged_uids cs))) (collected (by_number o) (expunge_lines 1 cs)) ≡ expunge_notices o cs
@@ -75,6 +80,7 @@ it_is_told told o up_to highest known rows c w new h is = record {
       (λ j. cond o.qresync (vanished_line (vanished j)) (expunges j) ++ (exists_line (count_is j) (are_new j) ++ fetches j))
       ∙ (λ j. gone_chosen o (comparisons known rows) j ++ (exists_line (length (known_after o.expunges known rows)) (new_rows known rows) ++ other_lines told o 1 (comparisons known rows)))
       ∙ sym (retold_notices told o known rows);
+  printable = lines_are_printable o.qresync (by_number o) w.vanished.items w.expunges.items (comparisons known rows) ((w.number - 1) + length new) new w.fetches expunges;
 }
   where
     number : w.number ≡ 1 + length (messages_after o.expunges (comparisons known rows))
@@ -86,7 +92,7 @@ it_is_told told o up_to highest known rows c w new h is = record {
     expunges : w.expunges.items ≡ collected (by_number o) (expunge_lines 1 (comparisons known rows))
     expunges = ap (λ (f : Findings). f.expunges) is
 
-    fetches : w.fetches.items ≡ other_lines told o 1 (comparisons known rows)
+    fetches : w.fetches ≡ other_lines told o 1 (comparisons known rows)
     fetches = ap (λ (f : Findings). f.fetches) is
 
     are_new : new ≡ new_rows known rows
@@ -113,8 +119,8 @@ pub delta_brings : (o : NoticeOptions) (up_to highest : ℕ) (known : List Known
     → IsInStep up_to highest known rows c → IsDeltaOf o known rows d → Brings o known rows d
 delta_brings o up_to highest known rows c d h is = record {
   change = record {
-    changed = subst (AreChangedBelow (length known)) (sym is.changed) (places_are_below known rows).0;
-    gone = subst (ArePlacesBelow (length known)) (sym is.gone) (by o.expunges);
+    changes = subst (AreChangedBelow (length known)) (sym is.changed) (places_are_below known rows).0;
+    leavers = subst (ArePlacesBelow (length known)) (sym is.gone) (by o.expunges);
     uids = subst UidsRise (sym list) rises;
   };
   list = list;

@@ -120,8 +120,8 @@ pub passes_expunged : (told : List ℕ) (o : NoticeOptions) (n p : ℕ) (k : Kno
 passes_expunged told o n p k rows old new is h = record {
   finds = λ known.
       (λ j. out told o (p + 1) (h.number j) (h.gone j) (h.expunges j) (h.vanished j) (h.changed j) (h.fetches j) (comparisons known rows) (new_rows known rows))
-      ∙ expunged_out told o p old.number old.gone.items old.expunges.items old.vanished.items old.changed.items old.fetches.items k (comparisons known rows) (new_rows known rows)
-      ∙ (λ j. out told o p old.number old.gone.items old.expunges.items old.vanished.items old.changed.items old.fetches.items (sym (gone.fate known) j) (sym (gone.new known) j));
+      ∙ expunged_out told o p old.number old.gone.items old.expunges.items old.vanished.items old.changed.items old.fetches k (comparisons known rows) (new_rows known rows)
+      ∙ (λ j. out told o p old.number old.gone.items old.expunges.items old.vanished.items old.changed.items old.fetches (sym (gone.fate known) j) (sym (gone.new known) j));
   agree = λ known a. gone.agree n known a;
   number = omega (arith, h.number, number_chosen o.expunges old.number);
 }
@@ -134,10 +134,10 @@ pub passes_present : (told : List ℕ) (o : NoticeOptions) (n p : ℕ) (k : Know
 passes_present told o n p k rows left r later old mid is is_left same h = record {
   finds = λ known.
       (λ j. out told o (p + 1) (h.number j + 1) (h.gone j) (h.expunges j) (h.vanished j) (h.changed j) (h.fetches j) (comparisons known (is_left j)) (new_rows known (is_left j)))
-      ∙ present_out told o p old.number old.gone.items old.expunges.items old.vanished.items old.changed.items old.fetches.items k r (comparisons known later) (new_rows known later)
-      ∙ (λ j. out told o p old.number old.gone.items old.expunges.items old.vanished.items old.changed.items old.fetches.items
+      ∙ present_out told o p old.number old.gone.items old.expunges.items old.vanished.items old.changed.items old.fetches k r (comparisons known later) (new_rows known later)
+      ∙ (λ j. out told o p old.number old.gone.items old.expunges.items old.vanished.items old.changed.items old.fetches
       (cond (sym test j) (Present k r ∷ comparisons known later) (Expunged k ∷ comparisons known (r ∷ later))) (cond (sym test j) (new_rows known later) (new_rows known (r ∷ later))))
-      ∙ (λ j. out told o p old.number old.gone.items old.expunges.items old.vanished.items old.changed.items old.fetches.items (comparisons (k ∷ known) (sym is j)) (new_rows (k ∷ known) (sym is j)));
+      ∙ (λ j. out told o p old.number old.gone.items old.expunges.items old.vanished.items old.changed.items old.fetches (comparisons (k ∷ known) (sym is j)) (new_rows (k ∷ known) (sym is j)));
   agree = λ known a. subst (Agree n known) (sym is_left)
       (subst (λ b. MatchBool b ((r.number ≤ n → told_of r ≡ k) × Agree n known later) ((k.uid < r.uid) × Agree n known (r ∷ later))) test (subst (Agree n (k ∷ known)) is a)).1;
   number = omega (arith, h.number);
@@ -191,7 +191,7 @@ ended told o p w rows = λ j. record {
   expunges = collected_none (by_number o) w.expunges.items j;
   vanished = collected_none (by_uid o) w.vanished.items j;
   changed = append-nil w.changed.items j;
-  fetches = append-nil w.fetches.items j;
+  fetches = append-nil w.fetches j;
   new = rows;
   number = zero_more w.number j;
 }
@@ -205,7 +205,7 @@ none_changed told o p k r w is = record {
   expunges = refl;
   vanished = refl;
   changed = sym (ap (λ b. w.changed.items ++ collected (not b) (record { place = p; message = told_of r } ∷ [])) is ∙ append-nil w.changed.items);
-  fetches = sym ((λ j. w.fetches.items ++ none (is_among r.uid told) (is_known k r) is j) ∙ append-nil w.fetches.items);
+  fetches = sym ((λ j. w.fetches ++ none (is_among r.uid told) (is_known k r) is j) ∙ append-nil w.fetches);
   number = refl;
 }
   where
@@ -218,15 +218,15 @@ none_changed told o p k r w is = record {
 pub one_changed : (told : List ℕ) (o : NoticeOptions) (p : ℕ) (k : KnownMessage) (r : Row) (old new : Walk) (m : KnownMessage) (t : Bool) → is_known k r ≡ false → m ≡ told_of r → t ≡ is_among r.uid told
     → new.gone.items ≡ old.gone.items → new.expunges.items ≡ old.expunges.items → new.vanished.items ≡ old.vanished.items
     → new.changed.items ≡ old.changed.items ++ record { place = p; message = m } ∷ []
-    → new.fetches.items ≡ old.fetches.items ++ collected (not t) (fetch_line o old.number m ∷ []) → new.number ≡ old.number
+    → new.fetches ≡ old.fetches ++ collected (not t) (fetch_line o old.number m ∷ []) → new.number ≡ old.number
     → FindsPresent told o p k r old new
 one_changed told o p k r old new m t is is_m is_t gone expunges vanished changed fetches number = record {
   gone = gone;
   expunges = expunges;
   vanished = vanished;
   changed = changed ∙ (λ j. old.changed.items ++ collected (not (sym is j)) (record { place = p; message = is_m j } ∷ []));
-  fetches = fetches ∙ (λ j. old.fetches.items ++ collected (not (is_t j)) (fetch_line o old.number (is_m j) ∷ []))
-      ∙ (λ j. old.fetches.items ++ collected (both (is_among r.uid told) (is_known k r) is j) (fetch_line o old.number (told_of r) ∷ []));
+  fetches = fetches ∙ (λ j. old.fetches ++ collected (not (is_t j)) (fetch_line o old.number (is_m j) ∷ []))
+      ∙ (λ j. old.fetches ++ collected (both (is_among r.uid told) (is_known k r) is j) (fetch_line o old.number (told_of r) ∷ []));
   number = number;
 }
   where

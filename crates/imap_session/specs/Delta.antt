@@ -41,10 +41,14 @@ ArePlacesBelow n [] = Unit {0}
 ArePlacesBelow n (p ∷ places) = (p < n) × ArePlacesBelow n places
 
 -- its places are those of messages, and the UIDs rise afterwards
-pub record IsChangeOf (known : List KnownMessage) (d : Delta) : Type 0 where
-  pub changed : AreChangedBelow (length known) d.changed.items
-  pub gone : ArePlacesBelow (length known) d.gone.items
-  pub uids : UidsRise (list_after d known)
+pub record IsChange (known : List KnownMessage) (changed : List ChangedMessage) (gone : List ℕ)
+    (added : List KnownMessage) : Type 0 where
+  pub changes : AreChangedBelow (length known) changed
+  pub leavers : ArePlacesBelow (length known) gone
+  pub uids : UidsRise (applied changed gone added known)
+
+abbrev pub IsChangeOf : List KnownMessage → Delta → Type 0
+IsChangeOf known d = IsChange known d.changed.items d.gone.items d.added.items
 
 -- ---- the change that notices make. The first comparison is of the message at the place p
 

@@ -11,3 +11,5 @@ pub mod Walked
 pub mod Laws
 pub mod Select
 pub mod State
+pub mod Telling
+pub mod Told

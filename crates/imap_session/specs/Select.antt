@@ -84,6 +84,7 @@ selected_as name read_only mailbox = record {
   validity = mailbox.validity;
   read_only = read_only;
   known = map_list told_of mailbox.rows;
+  up_to = mailbox.highest;
 }
 
 abbrev pub selecting : View → SessionState → (tag : List ℕ) → (read_only : Bool) → Name → Readable → Selecting

@@ -7,19 +7,20 @@ use Rattle.imap_answer.specs.Answer.{nothing_enabled}
 use Rattle.imap_mailbox.specs.declared.known.KnownMessage.{KnownMessage}
 use Rattle.imap_names.specs.Name.{Name}
 use Rattle.imap_print.specs.declared.enabled.EnabledCapabilities.{EnabledCapabilities}
-use Rattle.imap_session.specs.declared.delta.Delta.{Delta}
 use Rattle.imap_session.specs.declared.session.Selected.{Selected}
 use Rattle.imap_session.specs.declared.session.Session.{Session}
-use Rattle.imap_session.specs.Delta.{IsChangeOf, list_after}
+use Rattle.imap_session.specs.Telling.{Telling, IsTellingOf, known_with}
 
--- ---- a session as definitions see it: without room, and without the mod-sequence up to which all was told
+-- ---- a session as definitions see it: without room
 
--- the selected mailbox, with the UIDVALIDITY that it had, and its messages as the session knows them
+-- the selected mailbox, with the UIDVALIDITY that it had, and its messages as the session knows them. The
+-- session was told all up to the mod-sequence `up_to`, but for expunges that were held back
 pub record Selection : Type 0 where
   pub name : Name
   pub validity : ℕ
   pub read_only : Bool
   pub known : List KnownMessage
+  pub up_to : ℕ
 
 pub record SessionState : Type 0 where
   pub selected : Option Selection
@@ -28,11 +29,17 @@ pub record SessionState : Type 0 where
 
 abbrev pub selection_code : Coded Selection
 selection_code =
-    code_by (Name × (ℕ × (Bool × List KnownMessage)))
+    code_by (Name × (ℕ × (Bool × (List KnownMessage × ℕ))))
     (coded× (coded_list (coded_list coded_ℕ)) (coded× coded_ℕ
-    (coded× coded_bool (coded_list known_message.the_row.coded))))
-    (λ s. (s.name, (s.validity, (s.read_only, s.known))))
-    (λ p. record { name = p.0; validity = p.1.0; read_only = p.1.1.0; known = p.1.1.1 }) (λ _. refl)
+    (coded× coded_bool (coded× (coded_list known_message.the_row.coded) coded_ℕ))))
+    (λ s. (s.name, (s.validity, (s.read_only, (s.known, s.up_to)))))
+    (λ p. record {
+      name = p.0;
+      validity = p.1.0;
+      read_only = p.1.1.0;
+      known = p.1.1.1.0;
+      up_to = p.1.1.1.1;
+    }) (λ _. refl)
 
 abbrev pub session_code : Coded SessionState
 session_code =
@@ -47,6 +54,7 @@ selection_of s = record {
   validity = s.validity;
   read_only = s.read_only;
   known = s.known.list;
+  up_to = s.up_to;
 }
 
 abbrev pub state_of : Session → SessionState
@@ -83,13 +91,33 @@ with_selection selection state = record {
 
 -- ---- what the session is told of its mailbox
 
-abbrev pub with_delta : Delta → Selection → Selection
-with_delta delta s = record s { known = list_after delta s.known }
+abbrev pub with_telling : Telling → Selection → Selection
+with_telling t s = record s { known = known_with t s.known; up_to = t.up_to }
 
-abbrev pub with_told : Delta → SessionState → SessionState
-with_told delta state = with_selection (option_map (with_delta delta) state.selected) state
+abbrev pub with_told : Telling → SessionState → SessionState
+with_told t state = with_selection (option_map (with_telling t) state.selected) state
 
--- it takes no memory
-abbrev pub IsDeltaReady : Delta → Option Selected → Type 0
-IsDeltaReady delta None = Unit {0}
-IsDeltaReady delta (Some s) = IsChangeOf s.known.list delta × (length delta.added.items ≤ s.known.room)
+-- it is a change of the known list, if a mailbox is selected
+abbrev pub IsTellingFor : Telling → Option Selection → Type 0
+IsTellingFor t None = Unit {0}
+IsTellingFor t (Some s) = IsTellingOf s.known t
+
+-- ---- room
+
+-- the number of messages that may be added to the known list without memory
+abbrev pub room_in : Option Selected → ℕ
+room_in None = 0
+room_in (Some s) = s.known.room
+
+abbrev pub room_of : Session → ℕ
+room_of session = room_in session.selected
+
+-- if no mailbox is selected, none are added
+abbrev pub HasRoomFor : (more room : ℕ) → Option Selection → Type 0
+HasRoomFor more room None = Unit {0}
+HasRoomFor more room (Some s) = more ≤ room
+
+-- it takes no memory in this room
+pub record IsTellingReady (t : Telling) (room : ℕ) (selected : Option Selection) : Type 0 where
+  pub change : IsTellingFor t selected
+  pub fits : HasRoomFor (length t.added) room selected

@@ -55,7 +55,7 @@ finished told o p w known rows =
       expunges = w.expunges.items ++ rest.expunges;
       vanished = w.vanished.items ++ rest.vanished;
       changed = w.changed.items ++ rest.changed;
-      fetches = w.fetches.items ++ rest.fetches;
+      fetches = w.fetches ++ rest.fetches;
       new = rest.new;
       number = rest.number;
     }
@@ -66,7 +66,7 @@ found w new = record {
   expunges = w.expunges.items;
   vanished = w.vanished.items;
   changed = w.changed.items;
-  fetches = w.fetches.items;
+  fetches = w.fetches;
   new = new;
   number = w.number;
 }
@@ -79,7 +79,7 @@ pub record PassesExpunged (o : NoticeOptions) (p : ℕ) (k : KnownMessage) (old 
       ≡ old.expunges.items ++ collected (by_number o) (response.Expunge old.number ∷ [])
   pub vanished : new.vanished.items ≡ old.vanished.items ++ collected (by_uid o) (k.uid ∷ [])
   pub changed : new.changed.items ≡ old.changed.items
-  pub fetches : new.fetches.items ≡ old.fetches.items
+  pub fetches : new.fetches ≡ old.fetches
   pub number : new.number ≡ (if o.expunges then old.number else old.number + 1)
 
 pub record FindsPresent (told : List ℕ) (o : NoticeOptions) (p : ℕ) (k : KnownMessage) (r : Row)
@@ -89,8 +89,8 @@ pub record FindsPresent (told : List ℕ) (o : NoticeOptions) (p : ℕ) (k : Kno
   pub vanished : new.vanished.items ≡ old.vanished.items
   pub changed : new.changed.items
       ≡ old.changed.items ++ collected (not (is_known k r)) (record { place = p; message = told_of r } ∷ [])
-  pub fetches : new.fetches.items
-      ≡ old.fetches.items
+  pub fetches : new.fetches
+      ≡ old.fetches
       ++ collected (not (is_among r.uid told) && not (is_known k r))
       (fetch_line o old.number (told_of r) ∷ [])
   pub number : new.number ≡ old.number

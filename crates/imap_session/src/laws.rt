@@ -3,6 +3,8 @@ ghost use Rattle.imap_session.specs.Laws.{ToldIsThere, ToldIfDifferent, AllKnown
 ghost use Rattle.imap_session.specs.Laws.{ChangesAreApplied, ToldOnce, NoneIsRetold};
 ghost use Rattle.imap_session.specs.InStep.{InStepIsQuiet, NoticesKeepInStep};
 ghost use Rattle.imap_session.specs.Following.{ClientFollows, ClientHoldsMailbox};
+ghost use Rattle.imap_session.specs.Told.{NotesWhatIsTold, NoticesKeepSelectionInStep, NoticesTellSelection};
+ghost use Rattle.imap_session.specs.Told.{UntoldIsSilent, SelectingIsInStep};
 
 /// If expunges may be told, the session knows the messages of the mailbox after notices.
 pub fn told_is_there()
@@ -58,4 +60,30 @@ pub fn told_once()
 /// Without lines of its own a command tells all.
 pub fn none_is_retold()
     ensures { NoneIsRetold }
+{}
+
+/// [`crate::Session::tell`] notes what the session is told of the selected mailbox.
+pub fn session_notes_what_is_told()
+    ensures { NotesWhatIsTold }
+{}
+
+/// A session that was in step with its mailbox is so after [`crate::Session::notices`]: up to HIGHESTMODSEQ
+/// if it was told anything, and else as before.
+pub fn session_stays_in_step()
+    ensures { NoticesKeepSelectionInStep }
+{}
+
+/// If expunges may be told, a session knows the messages of its mailbox after [`crate::Session::notices`].
+pub fn session_knows_mailbox()
+    ensures { NoticesTellSelection }
+{}
+
+/// A session whose known list stays is given no line.
+pub fn untold_session_is_silent()
+    ensures { UntoldIsSilent }
+{}
+
+/// A session that selects a mailbox is in step with it.
+pub fn selecting_is_in_step()
+    ensures { SelectingIsInStep }
 {}

@@ -1,6 +1,7 @@
 //! What a session knows of its mailbox, and what it is told of it.
 //!
-//! A [`Session`] has what it selected and enabled; [`Session::tell`] notes without memory what it was told.
+//! A [`Session`] has what it selected and enabled. [`Session::notices`] finds what it is told at the end of a
+//! command, and [`Session::tell`] notes that without memory.
 //! A [`KnownList`] holds the messages of the selected mailbox as the session was told of them last.
 //! [`KnownList::notices`] finds the difference to the messages that are there: untagged lines, and a
 //! [`Delta`] of the known list, which [`KnownList::apply`] makes without memory. The messages come from a
@@ -10,6 +11,7 @@
 
 mod delta;
 mod entry;
+mod fetch_lines;
 mod known_list;
 pub mod laws;
 mod lines;
@@ -21,6 +23,8 @@ mod row_cursor;
 mod select;
 mod selection;
 mod session;
+mod session_notices;
+mod told;
 mod walk;
 
 pub use delta::{ChangedMessage, Delta};
@@ -33,3 +37,5 @@ pub use row_cursor::RowCursor;
 pub use select::{Selecting, refuse_selecting, select_answer};
 pub use selection::NewSelection;
 pub use session::{Selected, Session};
+pub use session_notices::SessionNotices;
+pub use told::Told;

@@ -2,12 +2,13 @@
 
 ghost use Rattle.std.specs.Prelude.{◌≡◌, ◌+◌, ◌^◌, ◌<◌, [], ◌∷◌, ◌++◌, true, nat_lt, IfOk, if◌then◌else◌};
 ghost use Rattle.imap_print.specs.declared.response.Response.TheVariants as response;
+ghost use Rattle.imap_print.specs.Lines.{IsPrintable};
 ghost use Rattle.imap_print.specs.Sets.{rise_above};
 ghost use Rattle.imap_session.specs.Notices.{notice_items, vanished_line};
 ghost use Rattle.imap_session.specs.Notices as specs;
 
 use imap_mailbox::{KnownMessage, SharedFlags};
-use imap_print::{FetchedItems, FlagSet, NumberSet, Response};
+use imap_print::{FetchedItems, FlagSet, NumberSet, Response, fetch_is_printable};
 use imap_syntax::Items;
 use imap_values::TryCopy;
 use std::alloc::{AllocError, Global};
@@ -35,23 +36,33 @@ pub(crate) fn fetch_line(
     message: &KnownMessage,
     condstore: bool,
 ) -> Result<Response, AllocError>
-    ensures { IfOk result (λ line. line ≡ response.Fetch number (notice_items condstore message.now)) }
+    ensures line { IfOk result (λ line. line ≡ response.Fetch number (notice_items condstore message.now)) }
+    ensures printable { IfOk result IsPrintable }
+{
+    let items = notice_items(alloc, message, condstore)?;
+    fetch_is_printable(number, &items);
+    Ok(Response::Fetch { number, items })
+}
+
+fn notice_items(
+    alloc: Global,
+    message: &KnownMessage,
+    condstore: bool,
+) -> Result<FetchedItems, AllocError>
+    ensures { IfOk result (λ items. items ≡ specs.notice_items condstore message.now) }
 {
     let flags = flag_set(alloc, &message.flags, message.seen)?;
-    Ok(Response::Fetch {
-        number,
-        items: FetchedItems {
-            uid: Some(message.uid),
-            flags: Some(flags),
-            internal_date: None,
-            size: None,
-            mod_seq: if condstore {
-                Some(message.number)
-            } else {
-                None
-            },
-            sections: Items::from_vec(Vec::new(alloc)),
+    Ok(FetchedItems {
+        uid: Some(message.uid),
+        flags: Some(flags),
+        internal_date: None,
+        size: None,
+        mod_seq: if condstore {
+            Some(message.number)
+        } else {
+            None
         },
+        sections: Items::from_vec(Vec::new(alloc)),
     })
 }
 

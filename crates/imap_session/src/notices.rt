@@ -2,6 +2,8 @@
 
 ghost use Rattle.std.specs.Prelude.{◌≡◌, ℕ, [], ◌++◌, true, IfOk, if◌then◌else◌};
 ghost use Rattle.imap_print.specs.declared.response.Response.TheVariants as response;
+ghost use Rattle.std.specs.List.{AllByRecursion};
+ghost use Rattle.imap_print.specs.Lines.{IsPrintable};
 ghost use Rattle.imap_print.specs.Sets.{rise_above};
 ghost use Rattle.imap_mailbox.specs.Shown.{Content};
 ghost use Rattle.imap_mailbox.specs.Summary.{AreRising};
@@ -52,6 +54,7 @@ impl KnownList {
             ≡ notices options.now (retold told.now self.now.list (C.rest rows.old)) (C.rest rows.old)) }
         ensures delta { IfOk result (λ n. IsDeltaOf options.now self.now.list (C.rest rows.old) n.delta) }
         ensures brings { IfOk result (λ n. Brings options.now self.now.list (C.rest rows.old) n.delta) }
+        ensures printable { IfOk result (λ n. AllByRecursion IsPrintable n.lines.items) }
     {
         if highest <= up_to && (!options.expunges || self.len() == rows.len()) {
             return Ok(no_notices(alloc));
@@ -92,6 +95,7 @@ fn find_notices<C: RowCursor>(
         ≡ notices options.now (retold told.now (list_in known.now) (C.rest rows.old)) (C.rest rows.old)) }
     ensures delta { IfOk result (λ n. IsDeltaOf options.now (list_in known.now) (C.rest rows.old) n.delta) }
     ensures brings { IfOk result (λ n. Brings options.now (list_in known.now) (C.rest rows.old) n.delta) }
+    ensures printable { IfOk result (λ n. AllByRecursion IsPrintable n.lines.items) }
 {
     let walk = compare(alloc, known, rows, up_to, options, told)?;
     let added = messages_left(alloc, rows)?;
@@ -105,7 +109,7 @@ fn find_notices<C: RowCursor>(
     } = walk;
     let lines = expunge_lines(alloc, expunges, vanished, options.qresync)?;
     let lines = with_exists(lines, number - 1, added.len())?;
-    let lines = joined(lines, fetches)?;
+    let lines = joined(lines, fetches.into_vec())?;
     Ok(Notices {
         lines,
         delta: Delta {

@@ -192,7 +192,7 @@ fn keywords_of(alloc: Global, rows: &Rows<'_>) -> Result<Keywords, AllocError>
 {
     let mut keywords = Keywords::new(alloc);
     for place in 0..rows.len() {
-        keywords.insert_all(alloc, &rows.get(place).flags.keywords)?;
+        keywords.insert_all(alloc, &rows.flags(place).keywords)?;
     }
     Ok(keywords)
 }

@@ -1,12 +1,13 @@
 //! Sessions, and what becomes of them.
 
-ghost use Rattle.std.specs.Prelude.{◌≡◌, Some, IfOk, option_copied, option_map};
-ghost use Rattle.imap_session.specs.State.{selection_of, state_of, with_delta, IsDeltaReady};
+ghost use Rattle.std.specs.Prelude.{◌≡◌, ◌≤◌, ◌+◌, length, Some, IfOk, OnOk, option_copied, option_map};
+ghost use Rattle.imap_session.specs.State.{selection_of, state_of, with_telling, IsTellingReady};
+ghost use Rattle.imap_session.specs.State.{HasRoomFor, room_in, room_of};
 ghost use Rattle.imap_session.specs.State as specs;
 
-use crate::delta::Delta;
 use crate::known_list::KnownList;
 use crate::selection::NewSelection;
+use crate::told::Told;
 use imap_lex::Tag;
 use imap_names::Name;
 use imap_print::EnabledCapabilities;
@@ -93,12 +94,22 @@ impl Session {
         self.selected = selection.into_selected();
     }
 
-    /// Notes what the session was told of its mailbox, up to the mod-sequence `up_to`, without memory.
-    pub fn tell(&mut self, delta: Delta, up_to: u64)
-        requires { IsDeltaReady delta self.old.selected }
-        ensures { state_of self.new ≡ specs.with_told delta (state_of self.old) }
+    /// Makes room for `more` messages in the known list, if a mailbox is selected.
+    pub fn reserve(&mut self, more: usize) -> Result<(), AllocError>
+        ensures state { state_of self.new ≡ state_of self.old }
+        ensures ok { OnOk result (HasRoomFor more (room_of self.new) (state_of self.new).selected) }
+        ensures room { room_of self.old ≤ room_of self.new }
     {
-        tell(&mut self.selected, delta, up_to);
+        reserve(&mut self.selected, more)
+    }
+
+    /// Notes what the session is told of its mailbox, in room that is there.
+    pub fn tell(&mut self, told: Told)
+        requires { IsTellingReady told (room_of self.old) (state_of self.old).selected }
+        ensures state { state_of self.new ≡ specs.with_told told (state_of self.old) }
+        ensures room { room_of self.old ≤ room_of self.new + length told.added }
+    {
+        tell(&mut self.selected, told);
     }
 }
 
@@ -125,21 +136,43 @@ fn copy_one(alloc: Global, selected: &Selected) -> Result<Selected, AllocError>
     })
 }
 
-fn tell(selected: &mut Option<Selected>, delta: Delta, up_to: u64)
-    requires { IsDeltaReady delta selected.old }
-    ensures { option_map selection_of selected.new
-        ≡ option_map (with_delta delta) (option_map selection_of selected.old) }
+fn reserve(selected: &mut Option<Selected>, more: usize) -> Result<(), AllocError>
+    ensures state { option_map selection_of selected.new ≡ option_map selection_of selected.old }
+    ensures ok { let selection = option_map selection_of selected.new in
+        OnOk result (HasRoomFor more (room_in selected.new) selection) }
+    ensures room { room_in selected.old ≤ room_in selected.new }
 {
     match selected {
-        Some(selected) => tell_selected(selected, delta, up_to),
+        Some(selected) => reserve_in(selected, more),
+        None => Ok(()),
+    }
+}
+
+fn reserve_in(selected: &mut Selected, more: usize) -> Result<(), AllocError>
+    ensures state { selection_of selected.new ≡ selection_of selected.old }
+    ensures ok { OnOk result (more ≤ selected.new.known.room) }
+    ensures room { selected.old.known.room ≤ selected.new.known.room }
+{
+    selected.known.reserve(more)
+}
+
+fn tell(selected: &mut Option<Selected>, told: Told)
+    requires { IsTellingReady told (room_in selected.old) (option_map selection_of selected.old) }
+    ensures state { option_map selection_of selected.new
+        ≡ option_map (with_telling told) (option_map selection_of selected.old) }
+    ensures room { room_in selected.old ≤ room_in selected.new + length told.added }
+{
+    match selected {
+        Some(selected) => tell_selected(selected, told),
         None => {}
     }
 }
 
-fn tell_selected(selected: &mut Selected, delta: Delta, up_to: u64)
-    requires { IsDeltaReady delta (Some selected.old) }
-    ensures { selection_of selected.new ≡ with_delta delta (selection_of selected.old) }
+fn tell_selected(selected: &mut Selected, told: Told)
+    requires { IsTellingReady told selected.old.known.room (Some (selection_of selected.old)) }
+    ensures state { selection_of selected.new ≡ with_telling told (selection_of selected.old) }
+    ensures room { selected.old.known.room ≤ selected.new.known.room + length told.added }
 {
-    selected.known.apply(delta);
+    let up_to = told.apply(&mut selected.known);
     selected.up_to = up_to;
 }

@@ -14,6 +14,7 @@ ghost use Rattle.imap_session.specs.Walked.{Passes, PassesExpunged, FindsPresent
 
 use crate::delta::ChangedMessage;
 use crate::entry::Entry;
+use crate::fetch_lines::FetchLines;
 use crate::lines::fetch_line;
 use crate::options::NoticeOptions;
 use crate::row_cursor::RowCursor;
@@ -35,7 +36,7 @@ pub(crate) struct Walk {
     /// Messages that changed.
     pub(crate) changed: Vec<ChangedMessage>,
     /// Their lines, but for those that were told before.
-    pub(crate) fetches: Vec<Response>,
+    pub(crate) fetches: FetchLines,
 }
 
 /// Whether the UID is one of these, by a search that halves.
@@ -56,7 +57,7 @@ impl Walk {
         told: bool,
     ) -> Result<(), AllocError>
         ensures changed { OnOk result (self.new.changed.items ≡ self.old.changed.items ++ change ∷ []) }
-        ensures fetches { OnOk result (self.new.fetches.items ≡ self.old.fetches.items
+        ensures fetches { OnOk result (self.new.fetches ≡ self.old.fetches
             ++ collected (not told) (specs.fetch_line options.now self.old.number change.message ∷ [])) }
         ensures gone { OnOk result (self.new.gone.items ≡ self.old.gone.items) }
         ensures expunges { OnOk result (self.new.expunges.items ≡ self.old.expunges.items) }
@@ -79,7 +80,7 @@ impl Walk {
         ensures vanished { OnOk result (self.new.vanished.items ≡ self.old.vanished.items
             ++ collected qresync (uid ∷ [])) }
         ensures changed { OnOk result (self.new.changed.items ≡ self.old.changed.items) }
-        ensures fetches { OnOk result (self.new.fetches.items ≡ self.old.fetches.items) }
+        ensures fetches { OnOk result (self.new.fetches ≡ self.old.fetches) }
         ensures number { OnOk result (self.new.number ≡ self.old.number) }
     {
         if qresync {
@@ -212,7 +213,7 @@ pub(crate) fn compare<C: RowCursor>(
         expunges: Vec::new(alloc),
         vanished: Vec::new(alloc),
         changed: Vec::new(alloc),
-        fetches: Vec::new(alloc),
+        fetches: FetchLines::new(alloc),
     };
     for (place, entry) in known.iter().enumerate() {
         if let Err(error) = walk.pass(alloc, place, &entry.message, rows, up_to, options, told) {

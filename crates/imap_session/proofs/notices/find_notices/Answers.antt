@@ -1,6 +1,8 @@
-use Rattle.std.proofs.Common.{◌≡◌, ◌-◌, ◌+◌, ◌++◌, length, map, ap, ◌∙◌, arith}
+use Rattle.std.proofs.Common.{◌≡◌, ◌-◌, ◌+◌, ◌++◌, length, map, sym, ap, subst, ◌∙◌, arith}
 use Rattle.std.proofs.lemmas.List.{length-map}
+use Rattle.std.specs.List.{AllByRecursion}
 use Rattle.imap_mailbox.specs.Brought.{told_of}
+use Rattle.imap_print.specs.Lines.{IsPrintable}
 use Rattle.imap_session.specs.declared.entry.Entry.{Entry}
 use Rattle.imap_session.specs.Held.{list_in}
 use Rattle.imap_session.specs.Notices.{exists_line}
@@ -39,10 +41,18 @@ returns-clause-lines g c =
     let len = length-map new told_of in
     let same : c.len.result ≡ length new = omega (arith, news, len, c.len.ensures, c.in_ok-added.added.ok) in
     c.in_ok-lines-3.ensures
-    ∙ ap (λ l. l ++ w.fetches.items) c.in_ok-lines-2.ensures
-    ∙ lines_joined w.fetches.items c.in_ok-lines.ensures
+    ∙ ap (λ l. c.in_ok-lines-2.lines.items ++ l) c.into_vec.ensures.items
+    ∙ ap (λ l. l ++ w.fetches) c.in_ok-lines-2.ensures
+    ∙ lines_joined w.fetches c.in_ok-lines.ensures
     (exists_is ((w.number - 1) + c.len.result) c.len.result new same ∙ ap (λ n. exists_line ((w.number - 1) + n) new) same)
     ∙ told.lines
+
+pub returns-clause-printable : goal.returns-clause-printable
+returns-clause-printable g c =
+    let told = it_is_told c.args.told.now c.args.options.now c.args.up_to c.requires.step.0 (list_in c.args.known.now) (g.C.RowCursor.rest c.args.rows.now) c.requires.step.1.0 c.in_ok-walk.walk
+    (g.C.RowCursor.rest c.compare.new.rows) c.requires.step.1.1 c.in_ok-walk.ensures in
+    subst (AllByRecursion IsPrintable) (told.lines ∙ sym (returns-clause-lines g c))
+    (told.printable (subst (AllByRecursion IsPrintable) c.into_vec.ensures.items c.into_vec.ensures.printable))
 
 pub returns-clause-brings : goal.returns-clause-brings
 returns-clause-brings g c =

@@ -1,4 +1,4 @@
-use Rattle.std.proofs.Common.{◌≡◌, List, subst, sym, arith, map}
+use Rattle.std.proofs.Common.{List, subst, sym, arith, map}
 use Rattle.imap_mailbox.specs.Rows.{Row}
 use Rattle.imap_mailbox.specs.Brought.{told_of}
 use Rattle.imap_session.specs.Held.{UidsRise}

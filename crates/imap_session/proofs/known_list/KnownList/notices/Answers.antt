@@ -1,4 +1,6 @@
-use Rattle.std.proofs.Common.{inl, inr, sym, ◌∙◌}
+use Rattle.std.proofs.Common.{inl, inr, sym, subst, ◌∙◌}
+use Rattle.std.specs.List.{AllByRecursion}
+use Rattle.imap_print.specs.Lines.{IsPrintable}
 use Rattle.std.proofs.lemmas.Bool.{eqb-true}
 use Rattle.imap_session.specs.InStep.{NoneHeldBack}
 use Rattle.imap_session.proofs.Telling.{nothing_is, delta_brings}
@@ -32,3 +34,6 @@ pub returns-then-len-clause-brings : goal.returns-then-len-clause-brings
 returns-then-len-clause-brings g c =
     delta_brings c.args.options.now c.args.up_to c.args.highest c.args.self.now.list (g.C.RowCursor.rest c.args.rows.now) c.requires.step.0 c.no_notices.result.delta c.requires.step.1
     (returns-then-len-clause-delta g c)
+
+pub returns-then-len-clause-printable : goal.returns-then-len-clause-printable
+returns-then-len-clause-printable g c = subst (AllByRecursion IsPrintable) (sym c.no_notices.ensures.lines) tt
