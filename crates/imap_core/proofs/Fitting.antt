@@ -1,13 +1,13 @@
 -- What holds of what comes of a step: what it asks for may be asked for by its user, there is room for the session that
 -- it opens, a refusal changes nothing, and none is UNAVAILABLE.
-use Rattle.std.proofs.Common.{◌≡◌, ℕ, Bool, true, false, cond, List, [], ◌∷◌, ◌++◌, ◌⊎◌, ◌||◌, Option, Some, None, is_some, inl, inr, refl, sym, ap, ◌∙◌, true≢false}
+use Rattle.std.proofs.Common.{◌≡◌, ℕ, Bool, true, false, cond, List, [], ◌∷◌, ◌⊎◌, ◌||◌, Option, Some, None, is_some, inl, inr, refl, sym, ap, ◌∙◌, true≢false}
 use Rattle.std.specs.Prelude.{nat_le}
 use Rattle.std.proofs.lemmas.Bool.{leb-false}
 use Rattle.std.specs.List.{list_any}
 use Rattle.std.specs.FinMap as map
-use Rattle.imap_answer.specs.Answer.{Answer, carried_out, done, lines_of, preceded_by, refusal, refused_line}
+use Rattle.imap_answer.specs.Answer.{Answer, carried_out, done, followed_by, lines_of, nothing_enabled, preceded_by, refusal, refused_line}
 use Rattle.imap_answer.specs.Fit.{IsFit, IsViewed, MayBeAsked, is_refusal, is_unavailable}
-use Rattle.imap_answer.proofs.Fits.{fits_alone, fits_enabling, fits_preceded}
+use Rattle.imap_answer.proofs.Fits.{fits_alone, fits_enabling, fits_followed, fits_preceded}
 use Rattle.imap_answer.specs.Name.{name_of_text}
 use Rattle.imap_answer.specs.Access.{missing_right_refusal}
 use Rattle.imap_grammar.specs.declared.request.Request.{Request}
@@ -33,17 +33,21 @@ use Rattle.imap_grammar.specs.declared.commands.select.SelectParameters.{SelectP
 use Rattle.imap_view.specs.declared.readable.Readable.{Readable}
 use Rattle.imap_view.specs.Readable.{readable_in}
 use Rattle.imap_view.specs.View.{View, rights_in}
+use Rattle.imap_core.specs.declared.sessions.SessionEffect.{SessionEffect}
 use Rattle.imap_core.specs.declared.sessions.SessionEffect.TheVariants as session
 use Rattle.imap_core.specs.declared.step.Act.{Act}
 use Rattle.imap_core.specs.declared.step.Act.TheVariants as act
 use Rattle.imap_core.specs.declared.step.Step.{Step}
 use Rattle.imap_core.specs.Machine.{outcome_for}
 use Rattle.imap_core.specs.Outcome.{Outcome, answered, said}
-use Rattle.imap_core.specs.Planned.{HasRoom}
+use Rattle.imap_core.specs.Planned.{MayOpen}
 use Rattle.imap_core.specs.Commands.Session.{enabled_by_names, named_by}
 use Rattle.imap_core.specs.Laws.{selects}
-use Rattle.imap_core.specs.Reply.{command_answer, command_outcome, effect_of_enabling, enables_nothing, has_parameters, highest_line, if_selected, kept, newly_enables_condstore, opened, outcome_of_answer, outcome_of_selecting, reply_by_session, reply_when_closed, reply_when_open, request_outcome}
-use Rattle.imap_core.specs.Reply.{select_outcome, selected_mailbox, unbuilt_outcome, unless_lost, unselect_outcome}
+use Rattle.imap_core.specs.Notices.{mailbox_after, may_tell_expunges, notice_lines, notice_telling, options_after, selected_mailbox}
+use Rattle.imap_core.specs.Reply.{command_answer, command_outcome, enables_nothing, has_parameters, highest_line, if_selected, kept, newly_enables_condstore, noting, opened, outcome_of_answer, outcome_of_selecting, reply_by_session, reply_when_closed, reply_when_open, request_outcome}
+use Rattle.imap_core.specs.Reply.{select_outcome, unbuilt_answer, unbuilt_refusal, unless_lost, unselect_outcome, with_notices}
+use Rattle.imap_core.proofs.Noticed.{no_line_refuses}
+use Rattle.imap_session.specs.Telling.{Telling}
 use Rattle.imap_core.specs.Sessions.{Own, max_sessions}
 
 -- nothing is asked for, and the session stays
@@ -51,70 +55,95 @@ pub record IsIdle (outcome : Outcome) : Type 0 where
   pub session : outcome.session ≡ session.Keep
   pub effect : outcome.effect ≡ None
 
--- nothing is asked for; and the session stays, or has no mailbox selected after SELECT or EXAMINE
+-- a session that is told of its mailbox, and notes nothing else
+pub record OnlyNotes (effect : SessionEffect) : Type 0 where
+  pub told : Option Telling
+  pub is : effect ≡ noting nothing_enabled told
+
+-- nothing is asked for; and the session notes what it is told, or has no mailbox selected after SELECT or EXAMINE
 pub record IsRefused (what : Act) (outcome : Outcome) : Type 0 where
-  pub session : (outcome.session ≡ session.Keep) ⊎ ((selects what ≡ true) × (outcome.session ≡ session.Select None))
+  pub session : OnlyNotes outcome.session ⊎ ((selects what ≡ true) × (outcome.session ≡ session.Select None))
   pub effect : outcome.effect ≡ None
 
 pub record Fits (view : View) (own : Option Own) (number : ℕ) (what : Act) (outcome : Outcome) : Type 0 where
   pub asks : IsViewed view → MayBeAsked view outcome.effect
-  pub room : HasRoom own number outcome.session
+  pub room : MayOpen own number outcome.session
   pub refused : list_any is_refusal outcome.replies ≡ true → IsRefused what outcome
   pub available : list_any is_unavailable outcome.replies ≡ false
 
-room_to_keep : (own : Option Own) (number : ℕ) → HasRoom own number session.Keep
+room_to_keep : (own : Option Own) (number : ℕ) → MayOpen own number session.Keep
 room_to_keep None number = tt
 room_to_keep (Some own) number = tt
 
-room_to_enable : (own : Option Own) (number : ℕ) (more : EnabledCapabilities) → HasRoom own number (session.Enable more)
-room_to_enable None number more = tt
-room_to_enable (Some own) number more = tt
+room_to_note : (own : Option Own) (number : ℕ) (more : EnabledCapabilities) (told : Option Telling) → MayOpen own number (session.Note more told)
+room_to_note None number more told = tt
+room_to_note (Some own) number more told = tt
 
-room_to_select : (own : Option Own) (number : ℕ) (selection : Option Selection) → HasRoom own number (session.Select selection)
+room_to_select : (own : Option Own) (number : ℕ) (selection : Option Selection) → MayOpen own number (session.Select selection)
 room_to_select None number selection = tt
 room_to_select (Some own) number selection = tt
 
-room_to_end : (own : Option Own) (number : ℕ) → HasRoom own number session.End
+room_to_end : (own : Option Own) (number : ℕ) → MayOpen own number session.End
 room_to_end None number = tt
 room_to_end (Some own) number = tt
 
 module _ (view : View) (own : Option Own) (number : ℕ) (what : Act) where
-  room_enabling : (nothing : Bool) (enables : EnabledCapabilities) → HasRoom own number (cond nothing session.Keep (session.Enable enables))
-  room_enabling true enables = room_to_keep own number
-  room_enabling false enables = room_to_enable own number enables
+  room_noting : (enables : EnabledCapabilities) (told : Option Telling) → MayOpen own number (noting enables told)
+  room_noting enables None = by (enables_nothing enables)
+    where
+      by : (nothing : Bool) → MayOpen own number (cond nothing session.Keep (session.Note enables None))
+      by true = room_to_keep own number
+      by false = room_to_note own number enables None
+  room_noting enables (Some told) = room_to_note own number enables (Some told)
 
-  enabling_fits : (answer : Answer) → IsFit view answer → Fits view own number what (answered answer (effect_of_enabling answer.enables))
-  enabling_fits answer fit = record {
-    asks = fit.asks;
-    room = room_enabling (enables_nothing answer.enables) answer.enables;
-    refused = λ e. record { session = inl (ap effect_of_enabling (fit.refused e).1); effect = (fit.refused e).0 };
-    available = fit.available;
-  }
+  stays : OnlyNotes session.Keep
+  stays = record { told = None; is = refl }
+
+  -- an answer, with lines before its last one and what its session notes of it
+  noted_fits : (answer : Answer) (lines : List Response) (told : Option Telling) → list_any is_refusal lines ≡ false → list_any is_unavailable lines ≡ false → IsFit view answer
+      → Fits view own number what (answered (followed_by lines answer) (noting answer.enables told))
+  noted_fits answer lines told refuses unavailable fit =
+      let more = fits_followed view lines answer refuses unavailable fit in
+      record {
+        asks = more.asks;
+        room = room_noting answer.enables told;
+        refused = λ e. record { session = inl (record { told = told; is = ap (λ enables. noting enables told) (more.refused e).1 }); effect = (more.refused e).0 };
+        available = more.available;
+      }
 
   kept_fits : (answer : Answer) → IsFit view answer → Fits view own number what (kept answer)
   kept_fits answer fit = record {
     asks = fit.asks;
     room = room_to_keep own number;
-    refused = λ e. record { session = inl refl; effect = (fit.refused e).0 };
+    refused = λ e. record { session = inl stays; effect = (fit.refused e).0 };
     available = fit.available;
   }
 
-  highest_fits : (answer : Answer) → IsFit view answer → (mailbox : Option Readable) → IsFit view (preceded_by (highest_line mailbox) answer)
+  pub highest_fits : (answer : Answer) → IsFit view answer → (mailbox : Option Readable) → IsFit view (preceded_by (highest_line mailbox) answer)
   highest_fits answer fit None = fits_preceded view [] answer refl refl fit
   highest_fits answer fit (Some mailbox) = fits_preceded view (response.HighestModSeq mailbox.highest ∷ []) answer refl refl fit
 
-  answer_fits : (active : SessionState) (answer : Answer) → IsFit view answer → Fits view own number what (outcome_of_answer view active answer)
-  answer_fits active answer fit = by (newly_enables_condstore active answer)
+  notices_fit : (active : SessionState) (expunges : Bool) (answer : Answer) → IsFit view answer → Fits view own number what (with_notices view active expunges answer)
+  notices_fit active expunges answer fit =
+      let o = options_after expunges active answer in
+      let mailbox = mailbox_after view active answer in
+      noted_fits answer (notice_lines o answer.told active.selected mailbox) (notice_telling o active.selected mailbox)
+      (no_line_refuses is_refusal (λ n. refl) (λ e uids. refl) (λ n. refl) (λ n items. refl) o answer.told active.selected mailbox)
+      (no_line_refuses is_unavailable (λ n. refl) (λ e uids. refl) (λ n. refl) (λ n items. refl) o answer.told active.selected mailbox)
+      fit
+
+  answer_fits : (active : SessionState) (expunges : Bool) (answer : Answer) → IsFit view answer → Fits view own number what (outcome_of_answer view active expunges answer)
+  answer_fits active expunges answer fit = by (newly_enables_condstore active answer)
     where
-      by : (b : Bool) → Fits view own number what (answered (cond b (preceded_by (highest_line (selected_mailbox view active.selected)) answer) answer) (effect_of_enabling answer.enables))
-      by true = enabling_fits (preceded_by (highest_line (selected_mailbox view active.selected)) answer) (highest_fits answer fit (selected_mailbox view active.selected))
-      by false = enabling_fits answer fit
+      by : (b : Bool) → Fits view own number what (with_notices view active expunges (cond b (preceded_by (highest_line (selected_mailbox view active.selected)) answer) answer))
+      by true = notices_fit active expunges (preceded_by (highest_line (selected_mailbox view active.selected)) answer) (highest_fits answer fit (selected_mailbox view active.selected))
+      by false = notices_fit active expunges answer fit
 
   says : (replies : List Response) → list_any is_unavailable replies ≡ false → Fits view own number what (said replies session.Keep)
   says replies available = record {
     asks = λ _. tt;
     room = room_to_keep own number;
-    refused = λ e. record { session = inl refl; effect = refl };
+    refused = λ e. record { session = inl stays; effect = refl };
     available = available;
   }
 
@@ -193,7 +222,14 @@ module _ (view : View) (own : Option Own) (number : ℕ) (what : Act) where
 -- ---- commands
 
 module _ (view : View) where
-  command_fits : (active : SessionState) (tag : List ℕ) (at : Moment) (what : Command) → IsFit view (command_answer view active tag at what)
+  unbuilt_fits : (active : SessionState) (tag : List ℕ) → IsFit view (unbuilt_answer active tag)
+  unbuilt_fits active tag = by active.selected
+    where
+      by : (selected : Option Selection) → IsFit view (refusal tag (unbuilt_refusal selected))
+      by None = fits_alone view [] _ refl
+      by (Some s) = fits_alone view [] _ refl
+
+  pub command_fits : (active : SessionState) (tag : List ℕ) (at : Moment) (what : Command) → IsFit view (command_answer view active tag at what)
   command_fits active tag at command.Capability = fits_alone view _ _ refl
   command_fits active tag at command.Noop = fits_alone view _ _ refl
   command_fits active tag at command.Authenticate = fits_alone view _ _ refl
@@ -216,28 +252,25 @@ module _ (view : View) where
   command_fits active tag at (command.GetAcl mailbox) = tree.get_acl_fits view tag mailbox
   command_fits active tag at (command.ListRights mailbox identifier) = tree.list_rights_fits view tag mailbox identifier
   command_fits active tag at (command.MyRights mailbox) = tree.my_rights_fits view tag mailbox
+  command_fits active tag at command.Close = unbuilt_fits active tag
+  command_fits active tag at command.Expunge = unbuilt_fits active tag
+  command_fits active tag at (command.UidExpunge named) = unbuilt_fits active tag
+  command_fits active tag at (command.Search numbering returns charset keys) = unbuilt_fits active tag
+  command_fits active tag at (command.Store numbering named store) = unbuilt_fits active tag
+  command_fits active tag at (command.Copy numbering named mailbox) = unbuilt_fits active tag
+  command_fits active tag at (command.Move numbering named mailbox) = unbuilt_fits active tag
   command_fits active tag at _ = fits_alone view _ _ refl
 
 module _ (view : View) (own : Option Own) (number : ℕ) where
   unselect_fits : (what : Act) (tag : List ℕ) (active : SessionState) → Fits view own number what (unselect_outcome active tag)
   unselect_fits what tag active = selected_fits view own number what active tag _ (selects_nothing view own number what (done tag) (fits_alone view _ _ refl) refl) active.selected
 
-  unbuilt_fits : (what : Act) (tag : List ℕ) (active : SessionState) → Fits view own number what (unbuilt_outcome active tag)
-  unbuilt_fits what tag active = selected_fits view own number what active tag _ (kept_fits view own number what (refusal tag Cannot) (fits_alone view _ _ refl)) active.selected
-
   outcome_of_command_fits : (active : SessionState) (tag : List ℕ) (at : Moment) (asked : Command) → Fits view own number (act.Do (request.Command tag asked)) (command_outcome view active tag at asked)
   outcome_of_command_fits active tag at command.Logout = ends view own number _ _ refl refl
   outcome_of_command_fits active tag at (command.Select mailbox parameters) = select_fits view own number _ refl active tag false mailbox parameters
   outcome_of_command_fits active tag at (command.Examine mailbox parameters) = select_fits view own number _ refl active tag true mailbox parameters
   outcome_of_command_fits active tag at command.Unselect = unselect_fits _ tag active
-  outcome_of_command_fits active tag at command.Close = unbuilt_fits _ tag active
-  outcome_of_command_fits active tag at command.Expunge = unbuilt_fits _ tag active
-  outcome_of_command_fits active tag at (command.UidExpunge messages) = unbuilt_fits _ tag active
-  outcome_of_command_fits active tag at (command.Search numbering returns charset keys) = unbuilt_fits _ tag active
-  outcome_of_command_fits active tag at (command.Store numbering messages store) = unbuilt_fits _ tag active
-  outcome_of_command_fits active tag at (command.Copy numbering messages mailbox) = unbuilt_fits _ tag active
-  outcome_of_command_fits active tag at (command.Move numbering messages mailbox) = unbuilt_fits _ tag active
-  outcome_of_command_fits active tag at asked = answer_fits view own number _ active (command_answer view active tag at asked) (command_fits view active tag at asked)
+  outcome_of_command_fits active tag at asked = answer_fits view own number _ active (may_tell_expunges asked) (command_answer view active tag at asked) (command_fits view active tag at asked)
 
   request_fits : (active : SessionState) (at : Moment) (asked : Request) → Fits view own number (act.Do asked) (request_outcome view active at asked)
   request_fits active at (request.Command tag asked) = outcome_of_command_fits active tag at asked
@@ -247,7 +280,7 @@ module _ (view : View) (own : Option Own) (number : ℕ) where
 -- ---- sessions
 
 module _ (view : View) (own : Own) (number : ℕ) where
-  opening : (what : Act) → HasRoom (Some own) number session.Open → Fits view (Some own) number what opened
+  opening : (what : Act) → MayOpen (Some own) number session.Open → Fits view (Some own) number what opened
   opening what room = record {
     asks = λ _. tt;
     room = room;

@@ -1,9 +1,14 @@
 pub mod Admitted
 pub mod Fitting
+pub mod InStep
 pub mod Lent
+pub mod MailboxLeft
+pub mod Noticed
 pub mod Numbered
 pub mod Opened
+pub mod Preparing
 pub mod Replay
+pub mod Roomless
 pub mod Runs
 pub mod Sameness
 pub mod Starting

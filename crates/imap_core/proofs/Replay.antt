@@ -19,7 +19,7 @@ use Rattle.imap_view.specs.View.{View, view_code}
 use Rattle.imap_world.specs.Kept.{AreKept}
 use Rattle.imap_core.proofs.Fitting.{IsIdle}
 use Rattle.imap_core.proofs.Sameness.{equal_from_same, same_from_itself}
-use Rattle.imap_answer.proofs.Alike.{view_after_asking}
+use Rattle.imap_answer.specs.Alike.{view_after_asking}
 use Rattle.imap_core.proofs.Steps.{kept_next, own_after, own_after_change, own_in-next, own_in-other, view_in-next, view_next}
 
 abbrev replay : View → Option Own → List Event → List (ℕ × List ℕ)

@@ -8,6 +8,7 @@ use Rattle.std.proofs.lemmas.Slice.Eq.{bytes_eq-Decides}
 use Rattle.std.specs.FinMap as map
 use Rattle.std.specs.FinMap.{get-insert, get-remove}
 use Rattle.std.specs.Cmp.{nat_cmp_total}
+use Rattle.std.specs.Cmp.Lexicographic.{nat_list_eq_equiv}
 use Rattle.imap_view.proofs.Asked.{own_effects_made}
 use Rattle.imap_view.specs.View.{view_of}
 use Rattle.imap_world.specs.declared.site.Site.{Site}
@@ -15,18 +16,24 @@ use Rattle.imap_world.specs.declared.effect.Effect.{Effect}
 use Rattle.imap_world.specs.Effects.{after_all}
 use Rattle.imap_world.specs.Kept.{AreKept}
 use Rattle.imap_world.specs.World.{World}
+use Rattle.imap_answer.specs.Answer.{nothing_enabled}
 use Rattle.imap_session.specs.State.{SessionState, new_session}
+use Rattle.imap_session.specs.Telling.{Telling}
+use Rattle.imap_core.specs.Accounts.{Accounts}
+use Rattle.imap_core.specs.declared.session_id.SessionId.{SessionId}
+use Rattle.imap_core.specs.InStep.{session_at}
+use Rattle.imap_core.specs.Reply.{noting}
 use Rattle.imap_core.specs.declared.sessions.SessionEffect.{SessionEffect}
 use Rattle.imap_core.specs.declared.sessions.SessionEffect.TheVariants as session
-use Rattle.imap_core.specs.Laws.{EffectsAreMade, IsMadeIfAsked, NeverUnavailable, OtherSessionsStay, OtherUsersStay, RefusalsChangeNothing, StepsAreAlike, selects, unselected}
+use Rattle.imap_core.specs.Laws.{EffectsAreMade, IsMadeIfAsked, IsOnlyTold, NeverUnavailable, OtherSessionsStay, OtherUsersStay, RefusalsChangeNothing, StepsAreAlike, selects, unselected}
 use Rattle.imap_answer.proofs.Alike.{viewed}
 use Rattle.imap_answer.specs.Alike.{effects_of}
 use Rattle.imap_answer.specs.Fit.{MayBeAsked}
 use Rattle.imap_core.specs.Machine.{accounts_after, next, outcome, outcome_for, own_in, view_in}
 use Rattle.imap_core.specs.Sessions.{Own, edited, edited_if_open}
-use Rattle.imap_core.proofs.Fitting.{IsRefused, outcome_fits}
+use Rattle.imap_core.proofs.Fitting.{IsRefused, OnlyNotes, outcome_fits}
 use Rattle.imap_core.proofs.Numbered.{at_number}
-use Rattle.imap_core.proofs.Steps.{kept_next, own_after, own_after_change, own_in-next, own_in-other, view_in-next, view_next}
+use Rattle.imap_core.proofs.Steps.{accounts_after_here, accounts_after_there, kept_next, own_after, own_after_change, own_in-next, own_in-other, view_in-next, view_next}
 
 pub alike_on : StepsAreAlike
 alike_on s t step alike = (
@@ -63,28 +70,33 @@ other_number : (own : Option Own) (changed number : ℕ) (change : SessionEffect
 other_number None changed number change apart = refl
 other_number (Some own) changed number session.Keep apart = refl
 other_number (Some own) changed number session.Open apart = put_elsewhere own changed number new_session apart
-other_number (Some own) changed number (session.Enable more) apart = edited_elsewhere own changed number (session.Enable more) (map.get own changed) apart
+other_number (Some own) changed number (session.Note more told) apart = edited_elsewhere own changed number (session.Note more told) (map.get own changed) apart
 other_number (Some own) changed number (session.Select selection) apart = edited_elsewhere own changed number (session.Select selection) (map.get own changed) apart
 other_number (Some own) changed number session.End apart =
     get-remove nat_cmp_total own changed number ∙ ap (λ b. cond b None (map.get own number)) (apart_from changed number apart)
 
-pub others_stay : OtherSessionsStay
-others_stay state step user number apart = by (bytes_eq step.who.user user) refl
+-- a change of one session leaves the others as they are
+pub sessions_apart : (accounts : Accounts) (who : SessionId) (change : SessionEffect) (user : List ℕ) (number : ℕ) → (bytes_eq who.user user && eqb who.number number) ≡ false
+    → session_at (accounts_after accounts who change) user number ≡ session_at accounts user number
+sessions_apart accounts who change user number apart = by (bytes_eq who.user user) refl
   where
     Stays : List ℕ → Type 0
-    Stays user = of_number number (own_in (next state step) user) ≡ of_number number (own_in state user)
+    Stays user = of_number number (map.get (accounts_after accounts who change) user) ≡ of_number number (map.get accounts user)
 
-    of_same : (b : Bool) → b ≡ true → (b && eqb step.who.number number) ≡ false → eqb step.who.number number ≡ false
+    of_same : (b : Bool) → b ≡ true → (b && eqb who.number number) ≡ false → eqb who.number number ≡ false
     of_same true e h = h
     of_same false e h = absurd (cc e)
 
-    same_user : eqb step.who.number number ≡ false → Stays step.who.user
-    same_user other = ap (of_number number) (own_in-next state step)
-        ∙ other_number (own_in state step.who.user) step.who.number number (outcome state step).session other
+    same_user : eqb who.number number ≡ false → Stays who.user
+    same_user other = ap (of_number number) (accounts_after_here accounts who change (map.get accounts who.user) refl)
+        ∙ other_number (map.get accounts who.user) who.number number change other
 
-    by : (b : Bool) → bytes_eq step.who.user user ≡ b → Stays user
-    by true e = subst Stays ((bytes_eq-Decides step.who.user user).0 e) (same_user (of_same (bytes_eq step.who.user user) e apart))
-    by false e = ap (of_number number) (own_in-other state step user e)
+    by : (b : Bool) → bytes_eq who.user user ≡ b → Stays user
+    by true e = subst Stays ((bytes_eq-Decides who.user user).0 e) (same_user (of_same (bytes_eq who.user user) e apart))
+    by false e = ap (of_number number) (accounts_after_there accounts who user change (nat_list_eq_equiv.symm user who.user ∙ e))
+
+pub others_stay : OtherSessionsStay
+others_stay state step user number apart = sessions_apart state.accounts step.who (outcome state step).session user number apart
 
 pub other_users_stay : OtherUsersStay
 other_users_stay state step user apart = own_in-other state step user apart
@@ -115,10 +127,15 @@ refusals_change state step refused = by fits.session
       accounts = accounts_after state.accounts step.who (is i);
     }
 
-    by : ((outcome state step).session ≡ session.Keep) ⊎ ((selects step.act ≡ true) × ((outcome state step).session ≡ session.Select None))
-        → (next state step ≡ state) ⊎ ((selects step.act ≡ true) × (next state step ≡ unselected state step.who))
-    by (inl is) = inl (made session.Keep is)
-    by (inr closed) = inr (closed.0, made (session.Select None) closed.1)
+    by_told : (told : Option Telling) → (outcome state step).session ≡ noting nothing_enabled told
+        → (next state step ≡ state) ⊎ (IsOnlyTold state step ⊎ ((selects step.act ≡ true) × (next state step ≡ unselected state step.who)))
+    by_told None is = inl (made session.Keep is)
+    by_told (Some told) is = inr (inl (record { told = told; is = made (session.Note nothing_enabled (Some told)) is }))
+
+    by : OnlyNotes (outcome state step).session ⊎ ((selects step.act ≡ true) × ((outcome state step).session ≡ session.Select None))
+        → (next state step ≡ state) ⊎ (IsOnlyTold state step ⊎ ((selects step.act ≡ true) × (next state step ≡ unselected state step.who)))
+    by (inl notes) = by_told notes.told notes.is
+    by (inr closed) = inr (inr (closed.0, made (session.Select None) closed.1))
 
 pub available : NeverUnavailable
 available state step = (outcome_fits (view_in state step.who.user) (own_in state step.who.user) step).available

@@ -6,8 +6,8 @@ use Rattle.std.proofs.lemmas.Map.Text.{is_eq-slice_cmp}
 use Rattle.std.proofs.lemmas.Slice.Eq.{bytes_eq-Decides}
 use Rattle.std.specs.FinMap as map
 use Rattle.std.specs.FinMap.{get-insert}
-use Rattle.imap_answer.proofs.Alike.{after_asking, view_after_asking, viewed}
-use Rattle.imap_answer.specs.Alike.{effects_of}
+use Rattle.imap_answer.proofs.Alike.{after_asking, viewed}
+use Rattle.imap_answer.specs.Alike.{effects_of, view_after_asking}
 use Rattle.imap_view.specs.View.{View}
 use Rattle.imap_world.specs.declared.effect.Effect.{Effect}
 use Rattle.imap_world.specs.Kept.{AreKept}
@@ -33,7 +33,7 @@ view_in-next state step kept =
     after_asking state.site step.who.user state.world (outcome state step).effect kept
     ((outcome_fits (view_in state step.who.user) (own_in state step.who.user) step).asks (viewed state.site step.who.user state.world kept))
 
-one_is_apart : (asked : Option Effect) → AreApart (effects_of asked)
+pub one_is_apart : (asked : Option Effect) → AreApart (effects_of asked)
 one_is_apart None = inl (omega arith)
 one_is_apart (Some effect) = inl (omega arith)
 
@@ -73,20 +73,20 @@ kept_here : (accounts : Accounts) (who : SessionId) (own : Option Own) → map.g
 kept_here accounts who None is = is
 kept_here accounts who (Some own) is = is
 
-accounts_after_here : (accounts : Accounts) (who : SessionId) (effect : SessionEffect) (own : Option Own) → map.get accounts who.user ≡ own → map.get (accounts_after accounts who effect) who.user ≡ own_after_change own who.number effect
+pub accounts_after_here : (accounts : Accounts) (who : SessionId) (effect : SessionEffect) (own : Option Own) → map.get accounts who.user ≡ own → map.get (accounts_after accounts who effect) who.user ≡ own_after_change own who.number effect
 accounts_after_here accounts who session.Keep own is = kept_here accounts who own is
 accounts_after_here accounts who session.Open own is = accounts_with_here accounts who session.Open own is
-accounts_after_here accounts who (session.Enable more) own is = accounts_with_here accounts who (session.Enable more) own is
+accounts_after_here accounts who (session.Note more told) own is = accounts_with_here accounts who (session.Note more told) own is
 accounts_after_here accounts who (session.Select selection) own is = accounts_with_here accounts who (session.Select selection) own is
 accounts_after_here accounts who session.End own is = accounts_with_here accounts who session.End own is
 
 accounts_with_there : (accounts : Accounts) (who : SessionId) (other : List ℕ) (effect : SessionEffect) → bytes_eq other who.user ≡ false → map.get (accounts_with accounts who effect) other ≡ map.get accounts other
 accounts_with_there accounts who other effect apart = with_own_there accounts who.user other (own_with who.number effect) (map.get accounts who.user) apart
 
-accounts_after_there : (accounts : Accounts) (who : SessionId) (other : List ℕ) (effect : SessionEffect) → bytes_eq other who.user ≡ false → map.get (accounts_after accounts who effect) other ≡ map.get accounts other
+pub accounts_after_there : (accounts : Accounts) (who : SessionId) (other : List ℕ) (effect : SessionEffect) → bytes_eq other who.user ≡ false → map.get (accounts_after accounts who effect) other ≡ map.get accounts other
 accounts_after_there accounts who other session.Keep apart = refl
 accounts_after_there accounts who other session.Open apart = accounts_with_there accounts who other session.Open apart
-accounts_after_there accounts who other (session.Enable more) apart = accounts_with_there accounts who other (session.Enable more) apart
+accounts_after_there accounts who other (session.Note more told) apart = accounts_with_there accounts who other (session.Note more told) apart
 accounts_after_there accounts who other (session.Select selection) apart = accounts_with_there accounts who other (session.Select selection) apart
 accounts_after_there accounts who other session.End apart = accounts_with_there accounts who other session.End apart
 

@@ -1,10 +1,12 @@
 -- What holds of every step.
 use Rattle.std.specs.Prelude.{◌≡◌, ◌⊎◌, ℕ, Bool, true, false, ◌==◌, ◌&&◌, List, Option, Some, None}
-use Rattle.std.specs.Prelude.{bytes_eq, option_and_then}
+use Rattle.std.specs.Prelude.{bytes_eq}
 use Rattle.std.specs.List.{list_any}
-use Rattle.std.specs.FinMap as map
 use Rattle.imap_answer.specs.Fit.{is_refusal, is_unavailable}
+use Rattle.imap_answer.specs.Answer.{nothing_enabled}
 use Rattle.imap_session.specs.State.{SessionState}
+use Rattle.imap_session.specs.Telling.{Telling}
+use Rattle.imap_core.specs.InStep.{session_at}
 use Rattle.imap_grammar.specs.declared.command.Command.{Command}
 use Rattle.imap_grammar.specs.declared.command.Command.TheVariants as command
 use Rattle.imap_grammar.specs.declared.request.Request.{Request}
@@ -31,9 +33,8 @@ abbrev pub OtherUsersStay : Type 0
 OtherUsersStay = (state : State) (step : Step) (user : List ℕ)
     → bytes_eq step.who.user user ≡ false → own_in (next state step) user ≡ own_in state user
 
--- a session, if it is open
 abbrev pub session_in : State → (user : List ℕ) → (number : ℕ) → Option SessionState
-session_in state user number = option_and_then (λ own. map.get own number) (own_in state user)
+session_in state user number = session_at state.accounts user number
 
 -- A step changes no session but its own: no other one of its user either.
 abbrev pub OtherSessionsStay : Type 0
@@ -74,12 +75,21 @@ unselected state who = record {
   accounts = accounts_with state.accounts who (session.Select None);
 }
 
--- A step that is answered by a refusal changes nothing; but a refused SELECT or EXAMINE leaves no mailbox
--- selected in its session (RFC 9051, section 6.3.2).
+-- a session was told of its mailbox, and nothing else changed
+pub record IsOnlyTold (state : State) (step : Step) : Type 0 where
+  pub told : Telling
+  pub is : next state step ≡ record {
+    site = state.site;
+    world = state.world;
+    accounts = accounts_with state.accounts step.who (session.Note nothing_enabled (Some told));
+  }
+
+-- A step that is answered by a refusal changes nothing; but its session may be told of its mailbox, and a refused
+-- SELECT or EXAMINE leaves no mailbox selected in it (RFC 9051, section 6.3.2).
 abbrev pub RefusalsChangeNothing : Type 0
 RefusalsChangeNothing = (state : State) (step : Step) → list_any is_refusal (answer state step) ≡ true
     → (next state step ≡ state)
-    ⊎ ((selects step.act ≡ true) × (next state step ≡ unselected state step.who))
+    ⊎ (IsOnlyTold state step ⊎ ((selects step.act ≡ true) × (next state step ≡ unselected state step.who)))
 
 -- UNAVAILABLE (RFC 5530) is for a host to say, when it can't save a change.
 abbrev pub NeverUnavailable : Type 0

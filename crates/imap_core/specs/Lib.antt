@@ -2,10 +2,14 @@
 pub mod Accounts
 pub mod Commands
 pub mod Frames
+pub mod Held
+pub mod InStep
 pub mod Laws
 pub mod Machine
+pub mod Notices
 pub mod Opening
 pub mod Outcome
+pub mod Pending
 pub mod Planned
 pub mod Reply
 pub mod Same

@@ -13,7 +13,7 @@ use Rattle.imap_core.specs.declared.sessions.SessionEffect.{SessionEffect}
 use Rattle.imap_core.specs.declared.sessions.SessionEffect.TheVariants as session
 use Rattle.imap_core.specs.declared.session_id.SessionId.{SessionId}
 use Rattle.imap_core.specs.declared.step.Step.{Step}
-use Rattle.imap_core.specs.Accounts.{Accounts, accounts_code}
+use Rattle.imap_core.specs.Accounts.{Accounts, HeldAccounts, accounts_code, held_accounts_code}
 use Rattle.imap_core.specs.Outcome.{Outcome, silence}
 use Rattle.imap_core.specs.Reply.{reply}
 use Rattle.imap_core.specs.Sessions.{Own, own_with}
@@ -23,10 +23,11 @@ pub record State : Type 0 where
   pub world : World
   pub accounts : Accounts
 
--- a state, and its world with the room that it has for more
+-- a state, and its world and its accounts with the room that they have for more
 pub record Machine : Type 0 where
   pub state : State
   pub stored : Stored
+  pub held : HeldAccounts
 
 abbrev pub state_code : Coded State
 state_code =
@@ -37,8 +38,11 @@ state_code =
 
 abbrev pub machine_code : Coded Machine
 machine_code =
-    code_by (State × Stored) (coded× state_code stored_code)
-    (λ m. (m.state, m.stored)) (λ p. record { state = p.0; stored = p.1 }) (λ _. refl)
+    code_by (State × (Stored × HeldAccounts))
+    (coded× state_code (coded× stored_code held_accounts_code))
+    (λ m. (m.state, (m.stored, m.held)))
+    (λ p. record { state = p.0; stored = p.1.0; held = p.1.1 })
+    (λ _. refl)
 
 -- what a user may see, and the user's own sessions, if the user is known
 abbrev pub view_in : State → List ℕ → View
@@ -71,7 +75,7 @@ accounts_with accounts who effect =
 abbrev pub accounts_after : Accounts → SessionId → SessionEffect → Accounts
 accounts_after accounts who session.Keep = accounts
 accounts_after accounts who session.Open = accounts_with accounts who session.Open
-accounts_after accounts who (session.Enable more) = accounts_with accounts who (session.Enable more)
+accounts_after accounts who (session.Note more told) = accounts_with accounts who (session.Note more told)
 accounts_after accounts who (session.Select selection) =
     accounts_with accounts who (session.Select selection)
 accounts_after accounts who session.End = accounts_with accounts who session.End

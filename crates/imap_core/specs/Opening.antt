@@ -7,7 +7,7 @@ use Rattle.imap_world.specs.declared.site.Limits.{Limits}
 use Rattle.imap_world.specs.Effects.{after_all}
 use Rattle.imap_world.specs.World.{World, epoch, inbox, max_validity}
 use Rattle.imap_core.specs.declared.opening.Opening.{Opening}
-use Rattle.imap_core.specs.Accounts.{Accounts}
+use Rattle.imap_core.specs.Accounts.{Accounts, accounts_of}
 use Rattle.imap_core.specs.Machine.{State}
 
 -- the users who are known so far, and the INBOXes that are to be made for them
@@ -54,4 +54,5 @@ state_at_start world administrator users limits = record {
 
 -- what the code has found so far
 abbrev pub admission_of : Opening → Admission
-admission_of opening = record { accounts = opening.accounts.map; effects = opening.effects.items }
+admission_of opening =
+    record { accounts = accounts_of opening.accounts.map; effects = opening.effects.items }

@@ -1,5 +1,5 @@
 -- What the code has prepared, against what is to be answered.
-use Rattle.std.specs.Prelude.{◌≡◌, ◌⊎◌, ◌<◌, Bool, true, false, ℕ, List, Option, Some, None, map as map_list}
+use Rattle.std.specs.Prelude.{◌≡◌, ◌⊎◌, ◌<◌, Bool, true, false, ℕ, List, Option, Some, None, IfSome, map as map_list}
 use Rattle.std.specs.FinMap as map
 use Rattle.std.specs.List.{AllByRecursion}
 use Rattle.std.specs.declared.vec.Vec.{Vec}
@@ -12,7 +12,11 @@ use Rattle.imap_core.specs.declared.session_id.SessionId.{SessionId}
 use Rattle.imap_core.specs.declared.sessions.SessionEffect.{SessionEffect}
 use Rattle.imap_core.specs.declared.sessions.SessionEffect.TheVariants as session
 use Rattle.imap_core.specs.declared.machine.Prepared.{Prepared}
+use Rattle.imap_core.specs.Accounts.{held_in}
+use Rattle.imap_core.specs.Held.{HasKnownRoom, added_by}
+use Rattle.imap_core.specs.InStep.{IsMachineKept, session_at}
 use Rattle.imap_core.specs.Machine.{State, Machine, accounts_after}
+use Rattle.imap_session.specs.State.{IsTellingFor, SessionState}
 use Rattle.imap_core.specs.Sessions.{Own, max_sessions}
 
 -- A client reads each reply as one line.
@@ -47,29 +51,51 @@ state_after prepared state = record {
 abbrev pub is_open : SessionEffect → Bool
 is_open session.Keep = false
 is_open session.Open = true
-is_open (session.Enable more) = false
+is_open (session.Note more told) = false
 is_open (session.Select selection) = false
 is_open session.End = false
 
 abbrev pub is_end : SessionEffect → Bool
 is_end session.Keep = false
 is_end session.Open = false
-is_end (session.Enable more) = false
+is_end (session.Note more told) = false
 is_end (session.Select selection) = false
 is_end session.End = true
 
 -- if a session is opened, fewer are open than may be, or it is one of them
-abbrev pub HasRoom : Option Own → ℕ → SessionEffect → Type 0
-HasRoom None number change = Unit {0}
-HasRoom (Some own) number session.Keep = Unit {0}
-HasRoom (Some own) number (session.Enable more) = Unit {0}
-HasRoom (Some own) number (session.Select selection) = Unit {0}
-HasRoom (Some own) number session.Open =
+abbrev pub MayOpen : Option Own → ℕ → SessionEffect → Type 0
+MayOpen None number change = Unit {0}
+MayOpen (Some own) number session.Keep = Unit {0}
+MayOpen (Some own) number (session.Note more told) = Unit {0}
+MayOpen (Some own) number (session.Select selection) = Unit {0}
+MayOpen (Some own) number session.Open =
     (map.len own < max_sessions) ⊎ (map.contains_key own number ≡ true)
-HasRoom (Some own) number session.End = Unit {0}
+MayOpen (Some own) number session.End = Unit {0}
 
--- it needs no memory in this machine
+-- what is told changes the known list of the session, if it has one
+abbrev pub MayTell : Option SessionState → SessionEffect → Type 0
+MayTell None change = Unit {0}
+MayTell (Some state) session.Keep = Unit {0}
+MayTell (Some state) (session.Note more told) = IfSome told (λ t. IsTellingFor t state.selected)
+MayTell (Some state) (session.Select selection) = Unit {0}
+MayTell (Some state) session.Open = Unit {0}
+MayTell (Some state) session.End = Unit {0}
+
+-- the number of messages that are added to the known list of the session
+abbrev pub room_needed : SessionEffect → ℕ
+room_needed session.Keep = 0
+room_needed session.Open = 0
+room_needed (session.Note more told) = added_by told
+room_needed (session.Select selection) = 0
+room_needed session.End = 0
+
+-- it needs no memory in this machine, and leaves its sessions in step
 pub record IsReady (prepared : Prepared) (machine : Machine) : Type 0 where
   pub sessions :
-      HasRoom (map.get machine.state.accounts prepared.who.user) prepared.who.number prepared.session
+      MayOpen (map.get machine.state.accounts prepared.who.user) prepared.who.number prepared.session
+  pub told :
+      MayTell (session_at machine.state.accounts prepared.who.user prepared.who.number) prepared.session
+  pub known : HasKnownRoom (room_needed prepared.session) (held_in machine.held prepared.who)
   pub world : world.IsReady (change_of prepared) machine.stored
+  pub step : IsMachineKept (after_writes (change_of prepared) machine.state.world)
+      (accounts_after machine.state.accounts prepared.who prepared.session)

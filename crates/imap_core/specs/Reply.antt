@@ -3,7 +3,7 @@
 use Rattle.std.specs.Prelude.{ℕ, Bool, true, false, not, ◌&&◌, ◌||◌, nat_le, is_some, List, [], ◌∷◌}
 use Rattle.std.specs.Prelude.{Option, Some, None, if◌then◌else◌}
 use Rattle.std.specs.FinMap as map
-use Rattle.imap_answer.specs.Answer.{Answer, done, preceded_by, refusal}
+use Rattle.imap_answer.specs.Answer.{Answer, done, followed_by, preceded_by, refusal}
 use Rattle.imap_grammar.specs.declared.request.Request.{Request}
 use Rattle.imap_grammar.specs.declared.request.Request.TheVariants as request
 use Rattle.imap_grammar.specs.declared.command.Command.{Command}
@@ -25,6 +25,7 @@ use Rattle.imap_session.specs.declared.select.Selecting.{Selecting}
 use Rattle.imap_session.specs.Lost.{is_lost}
 use Rattle.imap_session.specs.Select.{refused_selecting, select_answer}
 use Rattle.imap_session.specs.State.{Selection, SessionState, selected_name}
+use Rattle.imap_session.specs.Telling.{Telling}
 use Rattle.imap_tree.specs.Create.{create_answer}
 use Rattle.imap_tree.specs.Delete.{delete_answer}
 use Rattle.imap_tree.specs.GetAcl.{get_acl_answer}
@@ -33,7 +34,6 @@ use Rattle.imap_tree.specs.MyRights.{my_rights_answer}
 use Rattle.imap_tree.specs.Rename.{rename_answer}
 use Rattle.imap_tree.specs.SetAcl.{delete_acl_answer, set_acl_answer}
 use Rattle.imap_view.specs.declared.readable.Readable.{Readable}
-use Rattle.imap_view.specs.Readable.{readable_in}
 use Rattle.imap_view.specs.View.{View}
 use Rattle.imap_core.specs.declared.sessions.SessionEffect.{SessionEffect}
 use Rattle.imap_core.specs.declared.sessions.SessionEffect.TheVariants as session
@@ -42,8 +42,18 @@ use Rattle.imap_core.specs.declared.step.Act.TheVariants as act
 use Rattle.imap_core.specs.declared.step.Step.{Step}
 use Rattle.imap_core.specs.Commands.Session.{capability_answer, noop_answer, logout_answer}
 use Rattle.imap_core.specs.Commands.Session.{authenticate_answer, enable_answer}
+use Rattle.imap_core.specs.Notices.{may_tell_expunges, mailbox_after, notice_lines, notice_telling}
+use Rattle.imap_core.specs.Notices.{options_after, selected_mailbox}
 use Rattle.imap_core.specs.Outcome.{Outcome, answered, said, silence}
 use Rattle.imap_core.specs.Sessions.{Own, max_sessions}
+
+-- what isn't built yet can't be done, if a mailbox is selected, which it needs (RFC 9051, section 3)
+abbrev pub unbuilt_refusal : Option Selection → Refusal
+unbuilt_refusal None = WrongState
+unbuilt_refusal (Some s) = Cannot
+
+abbrev pub unbuilt_answer : SessionState → (tag : List ℕ) → Answer
+unbuilt_answer own tag = refusal tag (unbuilt_refusal own.selected)
 
 -- a command that isn't built yet can't be done
 abbrev pub command_answer : View → SessionState → (tag : List ℕ) → (at : Moment) → Command → Answer
@@ -90,6 +100,13 @@ command_answer view own tag at (command.GetAcl mailbox) = get_acl_answer view ta
 command_answer view own tag at (command.ListRights mailbox identifier) =
     list_rights_answer view tag mailbox identifier
 command_answer view own tag at (command.MyRights mailbox) = my_rights_answer view tag mailbox
+command_answer view own tag at command.Close = unbuilt_answer own tag
+command_answer view own tag at command.Expunge = unbuilt_answer own tag
+command_answer view own tag at (command.UidExpunge messages) = unbuilt_answer own tag
+command_answer view own tag at (command.Search numbering returns charset keys) = unbuilt_answer own tag
+command_answer view own tag at (command.Store numbering messages store) = unbuilt_answer own tag
+command_answer view own tag at (command.Copy numbering messages mailbox) = unbuilt_answer own tag
+command_answer view own tag at (command.Move numbering messages mailbox) = unbuilt_answer own tag
 command_answer view own tag at _ = refusal tag Cannot
 
 -- ---- commands, with what becomes of the session
@@ -97,15 +114,13 @@ command_answer view own tag at _ = refusal tag Cannot
 abbrev pub enables_nothing : EnabledCapabilities → Bool
 enables_nothing enables = not (enables.condstore || (enables.imap4rev2 || enables.qresync))
 
-abbrev pub effect_of_enabling : EnabledCapabilities → SessionEffect
-effect_of_enabling enables = if enables_nothing enables then session.Keep else session.Enable enables
+-- what a session notes of an answer
+abbrev pub noting : EnabledCapabilities → Option Telling → SessionEffect
+noting enables None = if enables_nothing enables then session.Keep else session.Note enables None
+noting enables (Some told) = session.Note enables (Some told)
 
 abbrev pub newly_enables_condstore : SessionState → Answer → Bool
 newly_enables_condstore own answer = answer.enables.condstore && not own.enabled.condstore
-
-abbrev pub selected_mailbox : View → Option Selection → Option Readable
-selected_mailbox view None = None
-selected_mailbox view (Some s) = readable_in view s.name
 
 abbrev pub highest_line : Option Readable → List Response
 highest_line None = []
@@ -119,9 +134,16 @@ with_highest view own answer =
     then preceded_by (highest_line (selected_mailbox view own.selected)) answer
     else answer
 
-abbrev pub outcome_of_answer : View → SessionState → Answer → Outcome
-outcome_of_answer view own answer =
-    answered (with_highest view own answer) (effect_of_enabling answer.enables)
+-- notices stand before the last line
+abbrev pub with_notices : View → SessionState → (expunges : Bool) → Answer → Outcome
+with_notices view own expunges answer =
+    let o = options_after expunges own answer in
+    let mailbox = mailbox_after view own answer in
+    answered (followed_by (notice_lines o answer.told own.selected mailbox) answer)
+    (noting answer.enables (notice_telling o own.selected mailbox))
+
+abbrev pub outcome_of_answer : View → SessionState → (expunges : Bool) → Answer → Outcome
+outcome_of_answer view own expunges answer = with_notices view own expunges (with_highest view own answer)
 
 -- a command that leaves its session as it is
 abbrev pub kept : Answer → Outcome
@@ -148,9 +170,6 @@ if_selected (Some s) tag outcome = outcome
 abbrev pub unselect_outcome : SessionState → (tag : List ℕ) → Outcome
 unselect_outcome own tag = if_selected own.selected tag (answered (done tag) (session.Select None))
 
-abbrev pub unbuilt_outcome : SessionState → (tag : List ℕ) → Outcome
-unbuilt_outcome own tag = if_selected own.selected tag (kept (refusal tag Cannot))
-
 abbrev pub command_outcome : View → SessionState → (tag : List ℕ) → (at : Moment) → Command → Outcome
 command_outcome view own tag at command.Logout = answered (logout_answer tag) session.End
 command_outcome view own tag at (command.Select mailbox parameters) =
@@ -158,15 +177,8 @@ command_outcome view own tag at (command.Select mailbox parameters) =
 command_outcome view own tag at (command.Examine mailbox parameters) =
     select_outcome view own tag true mailbox parameters
 command_outcome view own tag at command.Unselect = unselect_outcome own tag
-command_outcome view own tag at command.Close = unbuilt_outcome own tag
-command_outcome view own tag at command.Expunge = unbuilt_outcome own tag
-command_outcome view own tag at (command.UidExpunge messages) = unbuilt_outcome own tag
-command_outcome view own tag at (command.Search numbering returns charset keys) = unbuilt_outcome own tag
-command_outcome view own tag at (command.Store numbering messages store) = unbuilt_outcome own tag
-command_outcome view own tag at (command.Copy numbering messages mailbox) = unbuilt_outcome own tag
-command_outcome view own tag at (command.Move numbering messages mailbox) = unbuilt_outcome own tag
 command_outcome view own tag at command =
-    outcome_of_answer view own (command_answer view own tag at command)
+    outcome_of_answer view own (may_tell_expunges command) (command_answer view own tag at command)
 
 -- the line that refuses a request, with its tag if it has one
 abbrev pub refused : Option (List ℕ) → Refusal → Outcome

@@ -1,13 +1,88 @@
-//! The sessions of all users after a step.
+//! The sessions of all users, and what a step makes of them.
 
-ghost use Rattle.std.specs.Prelude.{◌≡◌};
+ghost use Rattle.std.specs.Prelude.{◌≡◌, IfOk, OnOk, option_copied, option_map};
 ghost use Rattle.std.specs.FinMap as map;
+ghost use Rattle.imap_core.specs.Accounts.{accounts_of, held_in};
+ghost use Rattle.imap_core.specs.Held.{HasKnownRoom};
+ghost use Rattle.imap_core.specs.InStep.{session_at};
 ghost use Rattle.imap_core.specs.Machine.{accounts_after, accounts_with};
-ghost use Rattle.imap_core.specs.Planned.{HasRoom};
+ghost use Rattle.imap_core.specs.Planned.{MayOpen, MayTell, room_needed};
+ghost use Rattle.imap_core.specs.Sessions.{own_of};
+ghost use Rattle.imap_session.specs.State.{state_of};
 
 use crate::session_id::SessionId;
 use crate::sessions::{OwnSessions, SessionEffect};
+use imap_names::UserName;
+use imap_session::Session;
 use imap_user_map::UserMap;
+use std::alloc::{AllocError, Global};
+
+/// Nobody is known.
+pub(crate) fn no_accounts(alloc: Global) -> UserMap<OwnSessions>
+    ensures { accounts_of result.map ≡ map.empty }
+{
+    UserMap::new(alloc)
+}
+
+/// Makes a user known, without sessions.
+#[tactic(auto, using(crate::proofs::Roomless::user_added))]
+pub(crate) fn add_account(
+    alloc: Global,
+    accounts: &mut UserMap<OwnSessions>,
+    user: &UserName,
+) -> Result<(), AllocError>
+    ensures { let old = accounts_of accounts.old.map in
+        OnOk result (accounts_of accounts.new.map ≡ map.insert old user.now map.empty) }
+{
+    let key = String::from_str(alloc, user.as_str())?;
+    let own = OwnSessions::new(alloc)?;
+    accounts.reserve(1)?;
+    accounts.insert_reserved(key, own);
+    Ok(())
+}
+
+/// Whether a user is known.
+pub(crate) fn is_known(accounts: &UserMap<OwnSessions>, user: &UserName) -> bool
+    ensures { result ≡ map.contains_key (accounts_of accounts.now.map) user.now }
+{
+    own_sessions(accounts, user).is_some()
+}
+
+/// The sessions of a user, if the user is known.
+pub(crate) fn own_sessions<'a>(
+    accounts: &'a UserMap<OwnSessions>,
+    user: &UserName,
+) -> Option<&'a OwnSessions>
+    ensures { option_map own_of (option_copied result) ≡ map.get (accounts_of accounts.now.map) user.now }
+{
+    accounts.get(user.as_str())
+}
+
+/// A session, if it is open.
+pub(crate) fn open_session<'a>(
+    accounts: &'a UserMap<OwnSessions>,
+    who: &SessionId,
+) -> Option<&'a Session>
+    ensures { let accounts = accounts_of accounts.now.map in
+        option_map state_of (option_copied result) ≡ session_at accounts who.now.user who.now.number }
+{
+    own_sessions(accounts, &who.user)?.get(who.number)
+}
+
+/// Makes room for `more` messages in the known list of a session, if it is open.
+pub(crate) fn reserve_known(
+    accounts: &mut UserMap<OwnSessions>,
+    who: &SessionId,
+    more: usize,
+) -> Result<(), AllocError>
+    ensures unchanged { accounts_of accounts.new.map ≡ accounts_of accounts.old.map }
+    ensures ok { OnOk result (HasKnownRoom more (held_in accounts.new.map who.now)) }
+{
+    match accounts.get_mut(who.user.as_str()) {
+        Some(own) => own.reserve(who.number, more),
+        None => Ok(()),
+    }
+}
 
 /// Makes what a step asks of its session. Nothing happens if nobody knows the user.
 pub(crate) fn change_session(
@@ -15,13 +90,18 @@ pub(crate) fn change_session(
     who: &SessionId,
     effect: SessionEffect,
 )
-    requires { HasRoom (map.get accounts.old.map who.now.user) who.now.number effect }
-    ensures { accounts.new.map ≡ accounts_after accounts.old.map who.now effect }
+    requires open { MayOpen (map.get (accounts_of accounts.old.map) who.now.user) who.now.number effect }
+    requires told { let accounts = accounts_of accounts.old.map in
+        MayTell (session_at accounts who.now.user who.now.number) effect }
+    requires room { HasKnownRoom (room_needed effect) (held_in accounts.old.map who.now) }
+    ensures { accounts_of accounts.new.map ≡ accounts_after (accounts_of accounts.old.map) who.now effect }
 {
     match effect {
         SessionEffect::Keep => {}
         SessionEffect::Open => change_own(accounts, who, SessionEffect::Open),
-        SessionEffect::Enable(more) => change_own(accounts, who, SessionEffect::Enable(more)),
+        SessionEffect::Note(more, told) => {
+            change_own(accounts, who, SessionEffect::Note(more, told));
+        }
         SessionEffect::Select(selection) => {
             change_own(accounts, who, SessionEffect::Select(selection));
         }
@@ -30,8 +110,11 @@ pub(crate) fn change_session(
 }
 
 fn change_own(accounts: &mut UserMap<OwnSessions>, who: &SessionId, effect: SessionEffect)
-    requires { HasRoom (map.get accounts.old.map who.now.user) who.now.number effect }
-    ensures { accounts.new.map ≡ accounts_with accounts.old.map who.now effect }
+    requires open { MayOpen (map.get (accounts_of accounts.old.map) who.now.user) who.now.number effect }
+    requires told { let accounts = accounts_of accounts.old.map in
+        MayTell (session_at accounts who.now.user who.now.number) effect }
+    requires room { HasKnownRoom (room_needed effect) (held_in accounts.old.map who.now) }
+    ensures { accounts_of accounts.new.map ≡ accounts_with (accounts_of accounts.old.map) who.now effect }
 {
     match accounts.get_mut(who.user.as_str()) {
         Some(own) => own.change(who.number, effect),

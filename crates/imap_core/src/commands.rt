@@ -1,15 +1,20 @@
 //! What each command is answered.
 
-ghost use Rattle.std.specs.Prelude.{◌≡◌, IfOk};
-ghost use Rattle.imap_answer.specs.Answer.{refusal};
+ghost use Rattle.std.specs.Prelude.{◌≡◌, false, Some, IfOk};
+ghost use Rattle.imap_core.specs.declared.pending.Pending.TheVariants as pending;
+ghost use Rattle.imap_core.specs.Notices.{may_tell_expunges, selected_mailbox};
+ghost use Rattle.imap_core.specs.Outcome.{answered};
+ghost use Rattle.imap_core.specs.Pending.{IsCompletable, completed};
 ghost use Rattle.imap_core.specs.Reply as specs;
 ghost use Rattle.imap_core.specs.Reply.{command_answer, command_outcome};
-ghost use Rattle.imap_print.specs.declared.response.Refusal.TheVariants.{WrongState};
+ghost use Rattle.imap_session.specs.Lost.{is_lost};
 ghost use Rattle.imap_session.specs.State.{state_of};
 
 mod session;
 
+use crate::notices::may_tell_expunges;
 use crate::outcome::Outcome;
+use crate::pending::Pending;
 use crate::sessions::SessionEffect;
 use imap_answer::{Answer, Call};
 use imap_grammar::{Command, SelectParameters};
@@ -18,7 +23,7 @@ use imap_list::{
     Query, list_answer, namespace_answer, status_answer, subscribe_answer, unsubscribe_answer,
 };
 use imap_messages::{Append, Fetch, append_answer, fetch_answer};
-use imap_print::{EnabledCapabilities, Refusal, Response};
+use imap_print::{Refusal, Response};
 use imap_session::{NewSelection, Selecting, Session, refuse_selecting, select_answer};
 use imap_tree::{
     create_answer, delete_acl_answer, delete_answer, get_acl_answer, list_rights_answer,
@@ -28,46 +33,58 @@ use imap_view::{Readable, View};
 use session::{capability_answer, enable_answer, logout_answer};
 use std::alloc::AllocError;
 
-pub(crate) fn command_outcome(
+/// Finds what comes of a command, but for the notices of its session.
+pub(crate) fn command_pending(
     call: &Call<'_>,
     session: &Session,
     command: &Command,
-) -> Result<Outcome, AllocError>
-    ensures { let outcome = command_outcome call.now.view (state_of session.now) call.now.tag call.now.at in
-        IfOk result (λ given. given ≡ outcome command.now) }
+) -> Result<Pending, AllocError>
+    requires { is_lost call.now.view (state_of session.now) ≡ false }
+    ensures outcome { let own = state_of session.now in
+        let meant = command_outcome call.now.view own call.now.tag call.now.at command.now in
+        IfOk result (λ pending. completed call.now.view (Some own) pending ≡ meant) }
+    ensures completable { let own = state_of session.now in
+        IfOk result (λ pending. IsCompletable call.now.view (Some own) pending) }
 {
     match command {
-        Command::Logout => Outcome::answered(logout_answer(call)?, SessionEffect::End),
+        Command::Logout => whole(logout_answer(call)?, SessionEffect::End),
         Command::Select {
             mailbox,
             parameters,
-        } => select_outcome(call, session, false, mailbox, parameters),
+        } => select_pending(call, session, false, mailbox, parameters),
         Command::Examine {
             mailbox,
             parameters,
-        } => select_outcome(call, session, true, mailbox, parameters),
-        Command::Unselect => unselect_outcome(call, session),
-        Command::Close
-        | Command::Expunge
-        | Command::UidExpunge { .. }
-        | Command::Search { .. }
-        | Command::Store { .. }
-        | Command::Copy { .. }
-        | Command::Move { .. } => unbuilt_outcome(call, session),
-        _ => outcome_of_answer(call, session, command_answer(call, session, command)?),
+        } => select_pending(call, session, true, mailbox, parameters),
+        Command::Unselect => unselect_pending(call, session),
+        _ => answer_pending(call, session, command),
     }
 }
 
-fn outcome_of_answer(
+/// An answer with notices, if there are any.
+fn answer_pending(
     call: &Call<'_>,
     session: &Session,
-    answer: Answer,
-) -> Result<Outcome, AllocError>
-    ensures { let outcome = specs.outcome_of_answer call.now.view (state_of session.now) answer in
-        IfOk result (λ given. given ≡ outcome) }
+    command: &Command,
+) -> Result<Pending, AllocError>
+    requires { is_lost call.now.view (state_of session.now) ≡ false }
+    ensures outcome { let own = state_of session.now in
+        let answer = command_answer call.now.view own call.now.tag call.now.at command.now in
+        let meant = specs.outcome_of_answer call.now.view own (may_tell_expunges command.now) answer in
+        IfOk result (λ pending. completed call.now.view (Some own) pending ≡ meant) }
+    ensures completable { let own = state_of session.now in
+        IfOk result (λ pending. IsCompletable call.now.view (Some own) pending) }
 {
-    let effect = effect_of_enabling(answer.enables());
-    Outcome::answered(with_highest(call, session, answer)?, effect)
+    let answer = command_answer(call, session, command)?;
+    let answer = with_highest(call, session, answer)?;
+    Ok(Pending::Command(answer, may_tell_expunges(command)))
+}
+
+/// An answer after which nothing is told.
+fn whole(answer: Answer, session: SessionEffect) -> Result<Pending, AllocError>
+    ensures { IfOk result (λ given. given ≡ pending.Whole (answered answer session)) }
+{
+    Ok(Pending::Whole(Outcome::answered(answer, session)?))
 }
 
 /// Who newly enables CONDSTORE is told HIGHESTMODSEQ of the selected mailbox (RFC 7162, section 3.1).
@@ -89,7 +106,7 @@ fn with_highest(call: &Call<'_>, session: &Session, answer: Answer) -> Result<An
 
 /// The selected mailbox, if the user may read it.
 fn selected_mailbox<'a>(view: &View<'a>, session: &Session) -> Option<Readable<'a>>
-    ensures { result ≡ specs.selected_mailbox view.now (state_of session.now).selected }
+    ensures { result ≡ selected_mailbox view.now (state_of session.now).selected }
 {
     match &session.selected {
         Some(selected) => view.readable(&selected.name.as_ref()),
@@ -97,60 +114,45 @@ fn selected_mailbox<'a>(view: &View<'a>, session: &Session) -> Option<Readable<'
     }
 }
 
-fn select_outcome(
+fn select_pending(
     call: &Call<'_>,
     session: &Session,
     read_only: bool,
     mailbox: &Octets,
     parameters: &SelectParameters,
-) -> Result<Outcome, AllocError>
+) -> Result<Pending, AllocError>
     ensures { let own = state_of session.now in
         let outcome = specs.select_outcome call.now.view own call.now.tag read_only in
-        IfOk result (λ given. given ≡ outcome mailbox.now parameters.now) }
+        IfOk result (λ given. given ≡ pending.Whole (outcome mailbox.now parameters.now)) }
 {
     let Selecting { answer, selection } = if parameters.condstore || parameters.qresync.is_some() {
         refuse_selecting(call, session, Refusal::Cannot)?
     } else {
         select_answer(call, session, read_only, mailbox)?
     };
-    Outcome::answered(answer, SessionEffect::Select(selection))
+    whole(answer, SessionEffect::Select(selection))
 }
 
-fn unselect_outcome(call: &Call<'_>, session: &Session) -> Result<Outcome, AllocError>
-    ensures { let outcome = specs.unselect_outcome (state_of session.now) call.now.tag in
-        IfOk result (λ given. given ≡ outcome) }
+fn unselect_pending(call: &Call<'_>, session: &Session) -> Result<Pending, AllocError>
+    ensures outcome { let outcome = specs.unselect_outcome (state_of session.now) call.now.tag in
+        IfOk result (λ given. given ≡ pending.Whole outcome) }
+    ensures completable { let own = state_of session.now in
+        IfOk result (λ given. IsCompletable call.now.view (Some own) given) }
 {
     match &session.selected {
-        Some(_) => Outcome::answered(call.done()?, SessionEffect::Select(NewSelection::none())),
-        None => wrong_state(call),
+        Some(_) => whole(call.done()?, SessionEffect::Select(NewSelection::none())),
+        None => whole(call.refuse(Refusal::WrongState)?, SessionEffect::Keep),
     }
 }
 
-/// Refuses a command that needs a mailbox selected.
-fn wrong_state(call: &Call<'_>) -> Result<Outcome, AllocError>
-    ensures { IfOk result (λ given. given ≡ specs.kept (refusal call.now.tag WrongState)) }
-{
-    Outcome::answered(call.refuse(Refusal::WrongState)?, SessionEffect::Keep)
-}
-
-/// What isn't built yet can't be done, if a mailbox is selected.
-fn unbuilt_outcome(call: &Call<'_>, session: &Session) -> Result<Outcome, AllocError>
-    ensures { let outcome = specs.unbuilt_outcome (state_of session.now) call.now.tag in
-        IfOk result (λ given. given ≡ outcome) }
+/// What isn't built yet can't be done, if a mailbox is selected, which it needs.
+fn unbuilt_answer(call: &Call<'_>, session: &Session) -> Result<Answer, AllocError>
+    ensures { let meant = specs.unbuilt_answer (state_of session.now) call.now.tag in
+        IfOk result (λ answer. answer ≡ meant) }
 {
     match &session.selected {
-        Some(_) => Outcome::answered(call.refuse(Refusal::Cannot)?, SessionEffect::Keep),
-        None => wrong_state(call),
-    }
-}
-
-fn effect_of_enabling(enables: EnabledCapabilities) -> SessionEffect
-    ensures { result ≡ specs.effect_of_enabling enables }
-{
-    if enables.condstore || enables.imap4rev2 || enables.qresync {
-        SessionEffect::Enable(enables)
-    } else {
-        SessionEffect::Keep
+        Some(_) => call.refuse(Refusal::Cannot),
+        None => call.refuse(Refusal::WrongState),
     }
 }
 
@@ -235,6 +237,13 @@ fn command_answer(
             identifier,
         } => list_rights_answer(call, mailbox, identifier),
         Command::MyRights { mailbox } => my_rights_answer(call, mailbox),
+        Command::Close
+        | Command::Expunge
+        | Command::UidExpunge { .. }
+        | Command::Search { .. }
+        | Command::Store { .. }
+        | Command::Copy { .. }
+        | Command::Move { .. } => unbuilt_answer(call, session),
         // What isn't built yet can't be done.
         _ => call.refuse(Refusal::Cannot),
     }

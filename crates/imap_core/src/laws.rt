@@ -1,5 +1,6 @@
 //! What holds at the start, of every step and of every run.
 
+ghost use Rattle.imap_core.specs.InStep.{AreInStep, SessionsStayInStep};
 ghost use Rattle.imap_core.specs.Laws.{EffectsAreMade, HiddenIsAlike, NeverUnavailable, OtherSessionsStay};
 ghost use Rattle.imap_core.specs.Laws.{OtherUsersStay, RefusalsChangeNothing, StepsAreAlike};
 ghost use Rattle.imap_core.specs.Starting.{StartsWithInboxes};
@@ -46,14 +47,17 @@ pub fn effects_are_made()
 
 /// In every state of the machine, what the type of a mailbox keeps holds of the messages of each. So the
 /// machine's states meet what [`isolation`], [`steps_are_alike`] and [`effects_are_made`] ask of messages.
+/// All open sessions are in step with their mailboxes.
 pub fn messages_are_kept(core: &Core)
-    ensures { AreKept core.now.state.world.mailboxes }
+    ensures messages { AreKept core.now.state.world.mailboxes }
+    ensures sessions { AreInStep core.now.state.world core.now.state.accounts }
 {
-    core.keep_messages();
+    core.keep();
 }
 
-/// A step that is answered by a refusal leaves all mailboxes, subscriptions and sessions as they were; but a
-/// refused SELECT or EXAMINE leaves no mailbox selected in its session.
+/// A step that is answered by a refusal leaves all mailboxes, subscriptions and sessions as they were, but for
+/// what its session was told of its mailbox; and a refused SELECT or EXAMINE leaves no mailbox selected in its
+/// session.
 pub fn refusals_change_nothing()
     ensures { RefusalsChangeNothing }
 {}
@@ -69,4 +73,11 @@ pub fn never_unavailable()
 /// administrator and the users only.
 pub fn starts_with_inboxes()
     ensures { StartsWithInboxes }
+{}
+
+/// Sessions stay in step with their mailboxes, whosever step is made: each was told all of its mailbox up to a
+/// mod-sequence, but for expunges that were held back. [`messages_are_kept`] says that the machine's type keeps
+/// what it asks.
+pub fn sessions_stay_in_step()
+    ensures { SessionsStayInStep }
 {}

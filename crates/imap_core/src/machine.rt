@@ -3,25 +3,31 @@
 ghost use Rattle.std.specs.Prelude.{◌≡◌, ℕ, Ok, IfOk, OnOk, OnErr, List};
 ghost use Rattle.std.specs.FinMap as map;
 ghost use Rattle.std.specs.List.{AllByRecursion};
-ghost use Rattle.imap_world.specs.Effects.{writes_of};
-ghost use Rattle.imap_world.specs.Kept.{AreKept};
+ghost use Rattle.imap_world.specs.Effects.{after_writes, writes_of};
 ghost use Rattle.imap_world.specs.Ready as world;
 ghost use Rattle.imap_world.specs.Stored.{world_of};
+ghost use Rattle.imap_core.specs.Accounts.{held_in};
+ghost use Rattle.imap_core.specs.Held.{HasKnownRoom};
+ghost use Rattle.imap_core.specs.InStep.{IsMachineKept, session_at};
 ghost use Rattle.imap_core.specs.Machine as specs;
 ghost use Rattle.imap_answer.specs.Alike.{effects_of};
-ghost use Rattle.imap_core.specs.Machine.{IsPartWay, after_steps, answer, answers, next};
+ghost use Rattle.imap_core.specs.Machine.{IsPartWay, accounts_after, after_steps, answer, answers, next};
 ghost use Rattle.imap_core.specs.Opening.{admission, state_at_start};
-ghost use Rattle.imap_core.specs.Planned.{ArePrintable, HasRoom, IsReady, change_of, is_end, is_open};
-ghost use Rattle.imap_core.specs.Planned.{replies_in, replies_of, session_of, state_after, who_of};
+ghost use Rattle.imap_core.specs.Pending.{IsCompletable, completed, effect_in};
+ghost use Rattle.imap_core.specs.Planned.{ArePrintable, IsReady, MayTell, change_of, is_end, is_open};
+ghost use Rattle.imap_core.specs.Planned.{replies_in, replies_of, room_needed, session_of};
+ghost use Rattle.imap_core.specs.Planned.{state_after, who_of};
 ghost use Rattle.imap_core.specs.Trace.{sent_to, transcript};
 
-use crate::accounts::change_session;
+use crate::accounts::{change_session, open_session, own_sessions, reserve_known};
 use crate::effects::{resolve_effects, with_effects};
+use crate::notices::{Asked, with_notices};
 use crate::opening::Opening;
 use crate::outcome::Outcome;
-use crate::reply::step_outcome;
+use crate::pending::Pending;
+use crate::reply::step_pending;
 use crate::session_id::SessionId;
-use crate::sessions::{OwnSessions, SessionEffect};
+use crate::sessions::{OwnSessions, SessionEffect, room_needed};
 use crate::step::Step;
 use imap_names::{UserName, inbox_ref};
 use imap_print::Response;
@@ -31,8 +37,9 @@ use imap_world::{Change, Effect, Limits, Site, World};
 use std::alloc::{AllocError, Global};
 use std::marker::Model;
 
-/// The mailboxes and the open sessions of all users. Contracts see the state of the machine, and its
-/// world with the room for more.
+/// The mailboxes and the open sessions of all users. Each session knows its mailbox up to the mod-sequence up to
+/// which it was told of it. Contracts see the state of the machine, and its world and its accounts with the room
+/// for more.
 #[derive(Drop)]
 pub struct Core {
     site: Site,
@@ -41,6 +48,8 @@ pub struct Core {
 }
 
 impl Model for Core {
+    ghost use Rattle.imap_core.specs.Accounts.{accounts_of};
+    ghost use Rattle.imap_core.specs.InStep.{IsMachineKept};
     ghost use Rattle.imap_core.specs.Machine.{Machine, machine_code};
     ghost use Rattle.imap_world.specs.Stored.{world_of};
 
@@ -49,9 +58,12 @@ impl Model for Core {
     ghost coded = { machine_code };
 
     ghost view = { λ c. record {
-      state = record { site = c.site; world = world_of c.world; accounts = c.accounts.map };
+      state = record { site = c.site; world = world_of c.world; accounts = accounts_of c.accounts.map };
       stored = c.world;
+      held = c.accounts.map;
     } };
+
+    ghost invariant = { λ c. IsMachineKept (world_of c.world) (accounts_of c.accounts.map) };
 }
 
 /// A step that is ready to be made: from here on it takes no memory.
@@ -114,6 +126,8 @@ impl Core {
         opening.admit_all(alloc, &world, users)?;
         let Opening { accounts, effects } = opening;
         let (world, change) = with_effects(alloc, world, effects.as_slice())?;
+        // The contract of a look-up hands on what the type of the world keeps.
+        let _ = world.mailbox(&inbox_ref(&administrator));
         let site = Site {
             administrator,
             limits,
@@ -141,11 +155,11 @@ impl Core {
         })
     }
 
-    /// Does nothing: its contract hands on what the type of the world keeps.
-    pub(crate) fn keep_messages(&self)
-        ensures { AreKept self.now.state.world.mailboxes }
+    /// Does nothing: its contract hands on what the type keeps.
+    pub(crate) fn keep(&self)
+        ensures { IsMachineKept self.now.state.world self.now.state.accounts }
     {
-        let _ = self.world.mailbox(&inbox_ref(&self.site.administrator));
+        let _ = &self.world;
     }
 
     /// Finds what the step is answered and what it changes, and changes nothing yet.
@@ -163,8 +177,11 @@ impl Core {
         ensures printable { IfOk result (λ prepared. ArePrintable prepared.replies) }
     {
         let who = step.who.try_copy()?;
-        let (replies, effect, session) = self.outcome_of(alloc, step)?.into_parts();
-        let change = self.resolve(alloc, &effect)?;
+        let pending = self.pending(alloc, step)?;
+        let change = self.resolve(alloc, pending.effect())?;
+        let outcome = self.complete(alloc, step, pending, &change)?;
+        let (replies, session) = outcome.into_parts();
+        self.make_room(&who, room_needed(&session))?;
         Ok(Prepared {
             who,
             replies,
@@ -208,17 +225,67 @@ impl Core {
         replies
     }
 
-    /// Finds what comes of the step.
-    fn outcome_of(&self, alloc: Global, step: &Step) -> Result<Outcome, AllocError>
-        ensures outcome { IfOk result (λ outcome. outcome ≡ specs.outcome self.now.state step.now) }
-        ensures room { let own = map.get self.now.state.accounts step.now.who.user in
-            IfOk result (λ outcome. HasRoom own step.now.who.number outcome.session) }
+    /// Finds what comes of the step, but for notices.
+    fn pending(&self, alloc: Global, step: &Step) -> Result<Pending, AllocError>
+        ensures outcome { let state = self.now.state in
+            let active = session_at state.accounts step.now.who.user step.now.who.number in
+            let view = specs.view_in state step.now.who.user in
+            IfOk result (λ pending. completed view active pending ≡ specs.outcome state step.now) }
+        ensures completable { let state = self.now.state in
+            let active = session_at state.accounts step.now.who.user step.now.who.number in
+            IfOk result (λ pending. IsCompletable (specs.view_in state step.now.who.user) active pending) }
     {
         let user = &step.who.user;
-        match self.accounts.get(user.as_str()) {
-            Some(own) => step_outcome(alloc, &View::new(&self.world, &self.site, user), own, step),
-            None => Ok(Outcome::silence(alloc)),
+        match own_sessions(&self.accounts, user) {
+            Some(own) => step_pending(alloc, &View::new(&self.world, &self.site, user), own, step),
+            None => Ok(Pending::Whole(Outcome::silence(alloc))),
         }
+    }
+
+    /// Finds what comes of the step, by the change that it makes.
+    fn complete(
+        &self,
+        alloc: Global,
+        step: &Step,
+        pending: Pending,
+        change: &Change,
+    ) -> Result<Outcome, AllocError>
+        requires outcome { let state = self.now.state in
+            let active = session_at state.accounts step.now.who.user step.now.who.number in
+            completed (specs.view_in state step.now.who.user) active pending ≡ specs.outcome state step.now }
+        requires completable { let state = self.now.state in
+            let active = session_at state.accounts step.now.who.user step.now.who.number in
+            IsCompletable (specs.view_in state step.now.who.user) active pending }
+        requires change { writes_of (effects_of (effect_in pending)) self.now.state.world ≡ Ok change.now }
+        ensures outcome { IfOk result (λ outcome. outcome ≡ specs.outcome self.now.state step.now) }
+        ensures told { let state = self.now.state in
+            let active = session_at state.accounts step.now.who.user step.now.who.number in
+            IfOk result (λ outcome. MayTell active outcome.session) }
+        ensures kept { let state = self.now.state in
+            let session = (specs.outcome state step.now).session in
+            let accounts = accounts_after state.accounts step.now.who session in
+            IsMachineKept (after_writes change.now state.world) accounts }
+    {
+        let asked = Asked {
+            world: &self.world,
+            site: &self.site,
+            user: &step.who.user,
+            change,
+        };
+        let session = open_session(&self.accounts, &step.who);
+        with_notices(alloc, &asked, session, pending)
+    }
+
+    /// Makes room for `more` messages in the known list of a session, if it is open.
+    fn make_room(&mut self, who: &SessionId, more: usize) -> Result<(), AllocError>
+        ensures unchanged { self.new.state ≡ self.old.state }
+        ensures stored { self.new.stored ≡ self.old.stored }
+        ensures ok { OnOk result (HasKnownRoom more (held_in self.new.held who.now)) }
+    {
+        if more == 0 {
+            return Ok(());
+        }
+        reserve_known(&mut self.accounts, who, more)
     }
 
     /// Finds the values to be written for what a step asks, and makes room for them.

@@ -3,8 +3,10 @@
 ghost use Rattle.std.specs.Prelude.{◌≡◌, OnOk};
 ghost use Rattle.std.specs.FinMap as map;
 ghost use Rattle.imap_world.specs.Stored.{world_of};
+ghost use Rattle.imap_core.specs.Accounts.{accounts_of};
 ghost use Rattle.imap_core.specs.Opening.{admission_of, needs_inbox, nobody, with_user, with_users};
 
+use crate::accounts::{add_account, is_known, no_accounts};
 use crate::sessions::OwnSessions;
 use imap_names::{UserName, inbox_ref};
 use imap_user_map::UserMap;
@@ -23,7 +25,7 @@ impl Opening {
         ensures { admission_of result ≡ nobody }
     {
         Opening {
-            accounts: UserMap::new(alloc),
+            accounts: no_accounts(alloc),
             effects: Vec::new(alloc),
         }
     }
@@ -53,7 +55,7 @@ impl Opening {
         ensures { let so_far = admission_of self.old in
             OnOk result (admission_of self.new ≡ with_user (world_of world.now) user.now so_far) }
     {
-        if self.accounts.contains(user.as_str()) {
+        if is_known(&self.accounts, user) {
             return Ok(());
         }
         self.add_account(alloc, user)?;
@@ -65,15 +67,11 @@ impl Opening {
 
     /// Makes a user known, without sessions.
     fn add_account(&mut self, alloc: Global, user: &UserName) -> Result<(), AllocError>
-        ensures accounts { let accounts = self.old.accounts.map in
-            OnOk result (self.new.accounts.map ≡ map.insert accounts user.now map.empty) }
+        ensures accounts { let accounts = accounts_of self.old.accounts.map in
+            OnOk result (accounts_of self.new.accounts.map ≡ map.insert accounts user.now map.empty) }
         ensures effects { self.new.effects ≡ self.old.effects }
     {
-        let key = String::from_str(alloc, user.as_str())?;
-        let own = OwnSessions::new(alloc)?;
-        self.accounts.reserve(1)?;
-        self.accounts.insert_reserved(key, own);
-        Ok(())
+        add_account(alloc, &mut self.accounts, user)
     }
 }
 

@@ -83,18 +83,24 @@ impl Outcome {
         Outcome::said(Vec::new(alloc), SessionEffect::Keep)
     }
 
-    /// Returns the replies, the effect and what becomes of the session.
-    pub(crate) fn into_parts(self) -> (Vec<Response>, Option<Effect>, SessionEffect)
+    /// What the step asks of the mailboxes.
+    pub(crate) fn effect(&self) -> &Option<Effect>
+        ensures { result.now ≡ self.now.effect }
+    {
+        &self.effect
+    }
+
+    /// Returns the replies and what becomes of the session.
+    pub(crate) fn into_parts(self) -> (Vec<Response>, SessionEffect)
         ensures replies { result.0.items ≡ self.replies }
-        ensures effect { result.1 ≡ self.effect }
-        ensures session { result.2 ≡ self.session }
+        ensures session { result.1 ≡ self.session }
         ensures printable { AllByRecursion IsPrintable result.0.items }
     {
         let Outcome {
             replies,
-            effect,
+            effect: _,
             session,
         } = self;
-        (replies, effect, session)
+        (replies, session)
     }
 }

@@ -1,13 +1,18 @@
 //! What a step is answered.
 
-ghost use Rattle.std.specs.Prelude.{◌≡◌, IfOk};
+ghost use Rattle.std.specs.Prelude.{◌≡◌, true, false, Some, IfOk};
+ghost use Rattle.std.specs.FinMap as map;
 ghost use Rattle.imap_print.specs.Lines.{IsPrintable};
 ghost use Rattle.imap_print.specs.declared.response.Response.TheVariants as response;
+ghost use Rattle.imap_core.specs.Pending.{IsCompletable, completed, tells_nothing};
 ghost use Rattle.imap_core.specs.Reply as specs;
+ghost use Rattle.imap_core.specs.Sessions.{own_of};
+ghost use Rattle.imap_session.specs.Lost.{is_lost};
 ghost use Rattle.imap_session.specs.State.{state_of};
 
-use crate::commands::command_outcome;
+use crate::commands::command_pending;
 use crate::outcome::Outcome;
+use crate::pending::Pending;
 use crate::sessions::{OwnSessions, SessionEffect};
 use crate::step::{Act, Step};
 use imap_answer::{Call, Moment, refused_line};
@@ -18,37 +23,45 @@ use imap_session::Session;
 use imap_view::View;
 use std::alloc::{AllocError, Global};
 
-pub(crate) fn step_outcome(
+/// Finds what comes of a step, but for the notices of its session.
+pub(crate) fn step_pending(
     alloc: Global,
     view: &View<'_>,
     own: &OwnSessions,
     step: &Step,
-) -> Result<Outcome, AllocError>
-    ensures { IfOk result (λ outcome. outcome ≡ specs.reply view.now own.now step.now) }
+) -> Result<Pending, AllocError>
+    ensures outcome { let active = map.get (own_of own.now) step.now.who.number in
+        let meant = specs.reply view.now (own_of own.now) step.now in
+        IfOk result (λ pending. completed view.now active pending ≡ meant) }
+    ensures completable { let active = map.get (own_of own.now) step.now.who.number in
+        IfOk result (λ pending. IsCompletable view.now active pending) }
 {
     match own.get(step.who.number) {
-        Some(session) => outcome_when_open(alloc, view, session, step),
-        None => outcome_when_closed(alloc, own, &step.act),
+        Some(session) => pending_when_open(alloc, view, session, step),
+        None => Ok(Pending::Whole(outcome_when_closed(alloc, own, &step.act)?)),
     }
 }
 
-fn outcome_when_open(
+fn pending_when_open(
     alloc: Global,
     view: &View<'_>,
     session: &Session,
     step: &Step,
-) -> Result<Outcome, AllocError>
-    ensures { let meant = specs.reply_when_open view.now (state_of session.now) step.now.at step.now.act in
-        IfOk result (λ outcome. outcome ≡ meant) }
+) -> Result<Pending, AllocError>
+    ensures outcome { let active = state_of session.now in
+        let meant = specs.reply_when_open view.now active step.now.at step.now.act in
+        IfOk result (λ pending. completed view.now (Some active) pending ≡ meant) }
+    ensures completable { let own = Some (state_of session.now) in
+        IfOk result (λ pending. IsCompletable view.now own pending) }
 {
     match &step.act {
-        Act::Open => greeting(alloc),
-        Act::Leave => Ok(Outcome::said(Vec::new(alloc), SessionEffect::End)),
+        Act::Open => Ok(Pending::Whole(greeting(alloc)?)),
+        Act::Leave => Ok(Pending::Whole(Outcome::said(Vec::new(alloc), SessionEffect::End))),
         act => {
             if session.is_lost(view) {
-                lost_outcome(alloc)
+                Ok(Pending::Whole(lost_outcome(alloc)?))
             } else {
-                outcome_of_act(alloc, view, session, step.at, act)
+                pending_of_act(alloc, view, session, step.at, act)
             }
         }
     }
@@ -62,26 +75,32 @@ fn lost_outcome(alloc: Global) -> Result<Outcome, AllocError>
     Ok(Outcome::said(bye, SessionEffect::End))
 }
 
-fn outcome_of_act(
+/// The session has not lost its mailbox.
+fn pending_of_act(
     alloc: Global,
     view: &View<'_>,
     session: &Session,
     at: Moment,
     act: &Act,
-) -> Result<Outcome, AllocError>
-    ensures { let meant = specs.reply_of_act view.now (state_of session.now) at act.now in
-        IfOk result (λ outcome. outcome ≡ meant) }
+) -> Result<Pending, AllocError>
+    requires { is_lost view.now (state_of session.now) ≡ false }
+    ensures outcome { let active = state_of session.now in
+        let meant = specs.reply_of_act view.now active at act.now in
+        IfOk result (λ pending. completed view.now (Some active) pending ≡ meant) }
+    ensures completable { let own = Some (state_of session.now) in
+        IfOk result (λ pending. IsCompletable view.now own pending) }
 {
     match act {
-        Act::Do(request) => request_outcome(alloc, view, session, at, request),
-        Act::Done => refused(alloc, &None, Refusal::Malformed),
-        Act::Open | Act::Poll | Act::Leave => Ok(Outcome::silence(alloc)),
+        Act::Do(request) => pending_of_request(alloc, view, session, at, request),
+        Act::Done => Ok(Pending::Whole(refused(alloc, &None, Refusal::Malformed)?)),
+        Act::Open | Act::Poll | Act::Leave => Ok(Pending::Whole(Outcome::silence(alloc))),
     }
 }
 
 /// What a client says to a session that isn't open is lost.
 fn outcome_when_closed(alloc: Global, own: &OwnSessions, act: &Act) -> Result<Outcome, AllocError>
-    ensures { IfOk result (λ outcome. outcome ≡ specs.reply_when_closed own.now act.now) }
+    ensures outcome { IfOk result (λ outcome. outcome ≡ specs.reply_when_closed (own_of own.now) act.now) }
+    ensures silent { IfOk result (λ outcome. tells_nothing outcome.session ≡ true) }
 {
     match act {
         Act::Open => open_outcome(alloc, own),
@@ -90,7 +109,8 @@ fn outcome_when_closed(alloc: Global, own: &OwnSessions, act: &Act) -> Result<Ou
 }
 
 fn open_outcome(alloc: Global, own: &OwnSessions) -> Result<Outcome, AllocError>
-    ensures { IfOk result (λ outcome. outcome ≡ specs.open_outcome own.now) }
+    ensures outcome { IfOk result (λ outcome. outcome ≡ specs.open_outcome (own_of own.now)) }
+    ensures silent { IfOk result (λ outcome. tells_nothing outcome.session ≡ true) }
 {
     if own.is_full() {
         let bye = vec![in alloc; Response::Bye(Farewell::LimitReached)]?;
@@ -106,24 +126,31 @@ fn greeting(alloc: Global) -> Result<Outcome, AllocError>
     Ok(Outcome::said(greeting, SessionEffect::Open))
 }
 
-fn request_outcome(
+fn pending_of_request(
     alloc: Global,
     view: &View<'_>,
     session: &Session,
     at: Moment,
     request: &Request,
-) -> Result<Outcome, AllocError>
-    ensures { let meant = specs.request_outcome view.now (state_of session.now) at request.now in
-        IfOk result (λ outcome. outcome ≡ meant) }
+) -> Result<Pending, AllocError>
+    requires { is_lost view.now (state_of session.now) ≡ false }
+    ensures outcome { let active = state_of session.now in
+        let meant = specs.request_outcome view.now active at request.now in
+        IfOk result (λ pending. completed view.now (Some active) pending ≡ meant) }
+    ensures completable { let own = Some (state_of session.now) in
+        IfOk result (λ pending. IsCompletable view.now own pending) }
 {
     match request {
-        Request::Command { tag, body } => command_outcome(
-            &Call::new(alloc, view, tag, at),
-            session,
-            body,
-        ),
-        Request::Malformed { tag } => refused(alloc, tag, Refusal::Malformed),
-        Request::TooBig { tag } => refused(alloc, &Some(tag.try_copy(alloc)?), Refusal::Limit),
+        Request::Command { tag, body } => {
+            command_pending(&Call::new(alloc, view, tag, at), session, body)
+        }
+        Request::Malformed { tag } => {
+            Ok(Pending::Whole(refused(alloc, tag, Refusal::Malformed)?))
+        }
+        Request::TooBig { tag } => {
+            let tag = Some(tag.try_copy(alloc)?);
+            Ok(Pending::Whole(refused(alloc, &tag, Refusal::Limit)?))
+        }
     }
 }
 

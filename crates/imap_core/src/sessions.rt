@@ -1,18 +1,20 @@
 //! The open sessions of one user.
 
 ghost use Rattle.std.specs.Prelude.{◌≡◌, ◌<◌, ◌≤◌, ◌==◌, ◌⊎◌, not, Some, filter, vec_len, true};
-ghost use Rattle.std.specs.Prelude.{IfOk, nat_le, option_copied, option_map};
+ghost use Rattle.std.specs.Prelude.{ℕ, IfOk, OnOk, nat_le, option_copied, option_map};
 ghost use Rattle.std.specs.List.{position};
 ghost use Rattle.std.specs.Vec.{vec_capacity};
 ghost use Rattle.std.specs.FinMap as map;
-ghost use Rattle.imap_core.specs.Planned.{HasRoom};
+ghost use Rattle.imap_core.specs.Held.{HasKnownRoom, room_in};
+ghost use Rattle.imap_core.specs.Planned.{MayOpen, MayTell, room_needed};
 ghost use Rattle.imap_core.specs.Sessions as specs;
-ghost use Rattle.imap_core.specs.Sessions.{edited, max_sessions, states_of};
+ghost use Rattle.imap_core.specs.Sessions.{edited, max_sessions, own_of};
 ghost use Rattle.imap_session.specs.State.{new_session, state_of};
 
+use crate::open_session::OpenSession;
 use crate::session_id::SessionNumber;
 use imap_print::EnabledCapabilities;
-use imap_session::{NewSelection, Session};
+use imap_session::{NewSelection, Session, Told};
 use imap_values::TryCopy;
 use std::alloc::{AllocError, Global};
 use std::marker::Model;
@@ -26,29 +28,39 @@ pub enum SessionEffect {
     Keep,
     /// It is opened, or begins anew.
     Open,
-    /// Its client enables these.
-    Enable(EnabledCapabilities),
+    /// Its client enables these, and it is told this of its mailbox.
+    Note(EnabledCapabilities, Option<Told>),
     /// Its client selects another mailbox, or none.
     Select(NewSelection),
     End,
 }
 
+/// The number of messages that are added to the known list of the session.
+pub(crate) fn room_needed(effect: &SessionEffect) -> usize
+    ensures { result ≡ room_needed effect.now }
+{
+    match effect {
+        SessionEffect::Note(_, Some(told)) => told.added_len(),
+        _ => 0,
+    }
+}
+
 /// The open sessions of one user, by their numbers, with room for as many as may be open. They are so
-/// few that a plain walk finds one.
+/// few that a plain walk finds one. Contracts see each with the room of its known list.
 #[derive(Drop)]
 pub struct OwnSessions {
-    entries: Vec<(SessionNumber, Session)>,
+    entries: Vec<(SessionNumber, OpenSession)>,
 }
 
 impl Model for OwnSessions {
     ghost use Rattle.std.specs.FinMap as map;
-    ghost use Rattle.imap_core.specs.Sessions.{Own, own_code, states_of, IsKept};
+    ghost use Rattle.imap_core.specs.Sessions.{HeldOwn, held_own_code, IsKept};
 
-    ghost Value = { Own };
+    ghost Value = { HeldOwn };
 
-    ghost coded = { own_code };
+    ghost coded = { held_own_code };
 
-    ghost view = { λ s. map.from_entries (states_of s.entries.items) };
+    ghost view = { λ s. map.from_entries s.entries.items };
 
     ghost invariant = { λ s. IsKept s.entries };
 }
@@ -64,54 +76,73 @@ impl OwnSessions {
 
     /// Whether a session with this number is open.
     pub fn is_open(&self, number: SessionNumber) -> bool
-        ensures { result ≡ map.contains_key self.now number }
+        ensures { result ≡ map.contains_key (own_of self.now) number }
     {
         self.get(number).is_some()
     }
 
     /// The session with this number, if it is open.
     pub fn get(&self, number: SessionNumber) -> Option<&Session>
-        ensures { option_map state_of (option_copied result) ≡ map.get self.now number }
+        ensures { option_map state_of (option_copied result) ≡ map.get (own_of self.now) number }
     {
         match place_of(&self.entries, number) {
-            Some(place) => Some(&self.entries[place].1),
+            Some(place) => Some(self.entries[place].1.session()),
             None => None,
         }
     }
 
     /// Whether as many are open as may be.
     pub fn is_full(&self) -> bool
-        ensures { result ≡ nat_le max_sessions (map.len self.now) }
+        ensures { result ≡ nat_le max_sessions (map.len (own_of self.now)) }
     {
         self.entries.len() >= MAX_SESSIONS
     }
 
     /// Makes what a step asks of the session with the number.
     pub fn change(&mut self, number: SessionNumber, effect: SessionEffect)
-        requires { HasRoom (Some self.old) number effect }
-        ensures { self.new ≡ specs.own_with number effect self.old }
+        requires open { MayOpen (Some (own_of self.old)) number effect }
+        requires told { MayTell (map.get (own_of self.old) number) effect }
+        requires room { HasKnownRoom (room_needed effect) (map.get self.old number) }
+        ensures { own_of self.new ≡ specs.own_with number effect (own_of self.old) }
     {
         match effect {
             SessionEffect::Keep => {}
             SessionEffect::Open => self.open(number),
-            SessionEffect::Enable(more) => self.edit(number, SessionEffect::Enable(more)),
+            SessionEffect::Note(more, told) => {
+                self.edit(number, SessionEffect::Note(more, told));
+            }
             SessionEffect::Select(selection) => self.edit(number, SessionEffect::Select(selection)),
             SessionEffect::End => self.remove(number),
         }
     }
 
+    /// Makes room for `more` messages in the known list of the session with the number, if it is open.
+    pub fn reserve(&mut self, number: SessionNumber, more: usize) -> Result<(), AllocError>
+        ensures unchanged { own_of self.new ≡ own_of self.old }
+        ensures ok { OnOk result (HasKnownRoom more (map.get self.new number)) }
+        ensures room { (other : ℕ) → room_in (map.get self.old other) ≤ room_in (map.get self.new other) }
+    {
+        match place_of(&self.entries, number) {
+            Some(place) => reserve_in(&mut self.entries[place], more),
+            None => Ok(()),
+        }
+    }
+
     /// Opens a session, or begins an open one anew.
     fn open(&mut self, number: SessionNumber)
-        requires { (map.len self.old < max_sessions) ⊎ (map.contains_key self.old number ≡ true) }
-        ensures { self.new ≡ map.insert self.old number new_session }
+        requires { let own = own_of self.old in
+            (map.len own < max_sessions) ⊎ (map.contains_key own number ≡ true) }
+        ensures { own_of self.new ≡ map.insert (own_of self.old) number new_session }
     {
         take_out(&mut self.entries, number);
-        self.entries.push_reserved((number, Session::new()));
+        self.entries.push_reserved((number, OpenSession::new()));
     }
 
     /// Makes what a step asks of a session that stays open, if it is open.
     fn edit(&mut self, number: SessionNumber, effect: SessionEffect)
-        ensures { self.new ≡ specs.with_edit number effect self.old }
+        requires told { MayTell (map.get (own_of self.old) number) effect }
+        requires room { HasKnownRoom (room_needed effect) (map.get self.old number) }
+        ensures { own_of self.new ≡ specs.with_edit number effect (own_of self.old) }
     {
         match place_of(&self.entries, number) {
             Some(place) => edit_in(&mut self.entries[place], effect),
@@ -121,7 +152,7 @@ impl OwnSessions {
 
     /// Closes a session, if it is open.
     fn remove(&mut self, number: SessionNumber)
-        ensures { self.new ≡ map.remove self.old number }
+        ensures { own_of self.new ≡ map.remove (own_of self.old) number }
     {
         take_out(&mut self.entries, number);
     }
@@ -137,9 +168,9 @@ impl TryCopy for OwnSessions {
 /// An equal copy, with room for as many sessions as may be open.
 fn copy_entries(
     alloc: Global,
-    entries: &[(SessionNumber, Session)],
-) -> Result<Vec<(SessionNumber, Session)>, AllocError>
-    ensures items { IfOk result (λ copy. states_of copy.items ≡ states_of entries.now) }
+    entries: &[(SessionNumber, OpenSession)],
+) -> Result<Vec<(SessionNumber, OpenSession)>, AllocError>
+    ensures items { IfOk result (λ copy. copy.items ≡ entries.now) }
     ensures room { IfOk result (λ copy. max_sessions ≤ vec_capacity copy) }
 {
     let mut copy = Vec::with_capacity(alloc, MAX_SESSIONS)?;
@@ -149,24 +180,35 @@ fn copy_entries(
     Ok(copy)
 }
 
-fn edit_in(entry: &mut (SessionNumber, Session), effect: SessionEffect)
+fn edit_in(entry: &mut (SessionNumber, OpenSession), effect: SessionEffect)
+    requires told { MayTell (Some entry.old.1.state) effect }
+    requires room { room_needed effect ≤ entry.old.1.room }
     ensures number { entry.new.0 ≡ entry.old.0 }
-    ensures state { state_of entry.new.1 ≡ edited effect (state_of entry.old.1) }
+    ensures state { entry.new.1.state ≡ edited effect entry.old.1.state }
 {
     match effect {
-        SessionEffect::Enable(more) => entry.1.enable(more),
+        SessionEffect::Note(more, told) => entry.1.note(more, told),
         SessionEffect::Select(selection) => entry.1.select(selection),
         SessionEffect::Keep | SessionEffect::Open | SessionEffect::End => {}
     }
 }
 
-fn place_of(entries: &[(SessionNumber, Session)], number: SessionNumber) -> Option<usize>
+fn reserve_in(entry: &mut (SessionNumber, OpenSession), more: usize) -> Result<(), AllocError>
+    ensures number { entry.new.0 ≡ entry.old.0 }
+    ensures state { entry.new.1.state ≡ entry.old.1.state }
+    ensures ok { OnOk result (more ≤ entry.new.1.room) }
+    ensures room { entry.old.1.room ≤ entry.new.1.room }
+{
+    entry.1.reserve(more)
+}
+
+fn place_of(entries: &[(SessionNumber, OpenSession)], number: SessionNumber) -> Option<usize>
     ensures { result ≡ position (λ e. e.0 == number) entries.now }
 {
     entries.iter().position(|entry| entry.0 == number)
 }
 
-fn take_out(entries: &mut Vec<(SessionNumber, Session)>, number: SessionNumber)
+fn take_out(entries: &mut Vec<(SessionNumber, OpenSession)>, number: SessionNumber)
     ensures items { entries.new.items ≡ filter (λ e. not (e.0 == number)) entries.old.items }
     ensures capacity { vec_capacity entries.new ≡ vec_capacity entries.old }
     ensures bound { vec_len entries.new ≤ vec_len entries.old }

@@ -1,10 +1,10 @@
 use Rattle.std.proofs.Common.{◌≡◌, ◌≤◌, take}
 use Rattle.std.specs.Vec.{vec_capacity}
-use Rattle.imap_core.specs.Sessions.{max_sessions, states_of}
+use Rattle.imap_core.specs.Sessions.{max_sessions}
 use Rattle.imap_core.proofs.sessions.copy_entries.Given as goal
 
 abbrev pub invariant-loop-number : goal.invariant-loop-number
 invariant-loop-number l = record {
-  states : states_of l.copy.items ≡ states_of (take l.number-index l.entries);
+  items : l.copy.items ≡ take l.number-index l.entries;
   room : max_sessions ≤ vec_capacity l.copy;
 }

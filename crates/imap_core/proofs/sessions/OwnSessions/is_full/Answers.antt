@@ -3,10 +3,12 @@ use Rattle.std.specs.FinMap as map
 use Rattle.imap_core.specs.Sessions.{states_of}
 use Rattle.imap_core.proofs.Numbered.{len-numbered}
 use Rattle.imap_core.proofs.Opened.{states_apart, states_length}
+use Rattle.imap_core.proofs.Roomless.{view_own}
 use Rattle.imap_core.proofs.sessions.OwnSessions.is_full.Goals as goal
 
 pub returns : goal.returns
 returns c =
     let es = c.self.inside.entries.items in
     let few : c.len.result ≡ length es = search rules in
-    ap (nat_le 16) (few ∙ sym (states_length es) ∙ sym (len-numbered (states_of es) (states_apart es ∙ c.self.invariant.apart)) ∙ ap map.len c.self.view_is)
+    ap (nat_le 16) (few ∙ sym (states_length es) ∙ sym (len-numbered (states_of es) (states_apart es ∙ c.self.invariant.apart))
+    ∙ ap map.len (view_own es c.args.self.now c.self.view_is))

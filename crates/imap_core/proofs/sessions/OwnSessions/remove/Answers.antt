@@ -1,8 +1,10 @@
-use Rattle.std.proofs.Common.{ap, ◌∙◌, arith, length}
+use Rattle.std.proofs.Common.{ℕ, List, ap, ◌∙◌, arith, length}
 use Rattle.std.specs.FinMap as map
-use Rattle.imap_core.specs.Sessions.{states_of}
-use Rattle.imap_core.proofs.Numbered.{numbered-others, are_apart-others, length-others}
+use Rattle.imap_core.specs.Held.{HeldSession}
+use Rattle.imap_core.specs.Sessions.{Own, own_of, states_of}
+use Rattle.imap_core.proofs.Numbered.{numbered-others, are_apart-others, length-others, others}
 use Rattle.imap_core.proofs.Opened.{states_others}
+use Rattle.imap_core.proofs.Roomless.{held, own_entries, view_own}
 use Rattle.imap_core.proofs.sessions.OwnSessions.remove.Goals as goal
 
 pub invariant_of-self : goal.invariant_of-self
@@ -15,5 +17,7 @@ invariant_of-self c = record {
 pub returns : goal.returns
 returns c =
     let es = c.self.inside.entries.items in
-    ap (λ l. map.from_entries (states_of l)) c.take_out.ensures.items ∙ ap map.from_entries (states_others es c.args.number)
-    ∙ numbered-others (states_of es) c.args.number ∙ ap (λ m. map.remove m c.args.number) c.self.view_is
+    let k = c.args.number in
+    ap (λ (l : List (ℕ × HeldSession)). own_of (held l)) c.take_out.ensures.items ∙ own_entries (others k es)
+    ∙ ap map.from_entries (states_others es k) ∙ numbered-others (states_of es) k
+    ∙ ap (λ (m : Own). map.remove m k) (view_own es c.args.self.now c.self.view_is)

@@ -1,0 +1,33 @@
+use Rattle.std.proofs.Common.{◌≡◌, List, ℕ, Some, IfOk, refl, subst}
+use Rattle.std.specs.Prelude.{◌≢◌}
+use Rattle.imap_grammar.specs.declared.command.Command.{Command}
+use Rattle.imap_grammar.specs.declared.command.Command.TheVariants as command
+use Rattle.imap_grammar.specs.declared.commands.select.SelectParameters.{SelectParameters}
+use Rattle.imap_session.specs.State.{SessionState, state_of}
+use Rattle.imap_syntax.specs.Moments.{Moment}
+use Rattle.imap_view.specs.View.{View}
+use Rattle.imap_core.specs.Notices.{may_tell_expunges}
+use Rattle.imap_core.specs.Outcome.{Outcome}
+use Rattle.imap_core.specs.Pending.{completed}
+use Rattle.imap_core.specs.Reply.{command_answer, command_outcome, outcome_of_answer}
+use Rattle.imap_core.proofs.commands.command_pending.Goals as goal
+
+-- a command that doesn't end its session or select a mailbox, or none
+others : (view : View) (own : SessionState) (tag : List ℕ) (at : Moment) (asked : Command) → asked ≢ command.Logout → asked ≢ command.Unselect
+    → ((mailbox : List ℕ) (parameters : SelectParameters) → asked ≢ command.Select mailbox parameters) → ((mailbox : List ℕ) (parameters : SelectParameters) → asked ≢ command.Examine mailbox parameters)
+    → outcome_of_answer view own (may_tell_expunges asked) (command_answer view own tag at asked) ≡ command_outcome view own tag at asked
+others view own tag at command.Logout logout unselect select examine = absurd (logout refl)
+others view own tag at command.Unselect logout unselect select examine = absurd (unselect refl)
+others view own tag at (command.Select mailbox parameters) logout unselect select examine = absurd (select mailbox parameters refl)
+others view own tag at (command.Examine mailbox parameters) logout unselect select examine = absurd (examine mailbox parameters refl)
+others view own tag at asked logout unselect select examine = refl
+
+pub returns-in_default : goal.returns-in_default
+returns-in_default c =
+    let view = c.args.call.now.view in
+    let own = state_of c.args.session.now in
+    record {
+      outcome = subst (λ (meant : Outcome). IfOk c.answer_pending.result (λ p. completed view (Some own) p ≡ meant))
+          (others view own c.args.call.now.tag c.args.call.now.at c.args.command.now c.in_default.not-Logout c.in_default.not-Unselect (λ m p. c.in_default.not-Select m p) (λ m p. c.in_default.not-Examine m p)) c.answer_pending.ensures.outcome;
+      completable = c.answer_pending.ensures.completable;
+    }

@@ -1,0 +1,245 @@
+//! What a session is told of its mailbox before the last line of a command's answer.
+
+ghost use Rattle.std.specs.Prelude.{◌≡◌, if◌then◌else◌, Some, None, IfOk, IfSome, option_copied, option_map};
+ghost use Rattle.std.specs.List.{AllByRecursion};
+ghost use Rattle.imap_core.specs.Notices as specs;
+ghost use Rattle.imap_core.specs.Pending.{AreFound, IsFoundFor, IsFoundForAnswer, completed};
+ghost use Rattle.imap_core.specs.Planned.{MayTell};
+ghost use Rattle.imap_core.specs.Reply as reply;
+ghost use Rattle.imap_print.specs.Lines.{IsPrintable};
+ghost use Rattle.imap_session.specs.Lost.{has_other_validity};
+ghost use Rattle.imap_session.specs.State.{IsTellingFor, both_enabled, state_of};
+ghost use Rattle.imap_session.specs.Told.{IsInStepIfSelected};
+ghost use Rattle.imap_upcoming.specs.Readable.{readable};
+ghost use Rattle.imap_view.specs.View.{view_of};
+ghost use Rattle.imap_world.specs.Effects.{after_writes};
+ghost use Rattle.imap_world.specs.Stored.{world_of};
+
+use crate::outcome::Outcome;
+use crate::pending::Pending;
+use crate::sessions::SessionEffect;
+use imap_answer::Answer;
+use imap_grammar::Command;
+use imap_names::UserName;
+use imap_print::{EnabledCapabilities, Refusal, Response};
+use imap_session::{NoticeOptions, Session, SessionNotices, Told};
+use imap_syntax::Numbering;
+use imap_upcoming::Upcoming;
+use imap_world::{Change, Site, World};
+use std::alloc::{AllocError, Global};
+
+/// A change that a user asked for, before it is written.
+#[derive(Drop)]
+pub(crate) struct Asked<'a> {
+    pub(crate) world: &'a World,
+    pub(crate) site: &'a Site,
+    pub(crate) user: &'a UserName,
+    pub(crate) change: &'a Change,
+}
+
+/// What comes of a command, with the notices of its session, if it is open.
+pub(crate) fn with_notices(
+    alloc: Global,
+    asked: &Asked<'_>,
+    session: Option<&Session>,
+    pending: Pending,
+) -> Result<Outcome, AllocError>
+    requires { let own = option_map state_of (option_copied session) in
+        let world = world_of asked.now.world.now in
+        AreFound asked.now.site.now asked.now.user.now world asked.now.change.now own pending }
+    ensures outcome { let world = world_of asked.now.world.now in
+        let view = view_of asked.now.site.now asked.now.user.now world in
+        let own = option_map state_of (option_copied session.entry) in
+        IfOk result (λ outcome. outcome ≡ completed view own pending) }
+    ensures told { let own = option_map state_of (option_copied session.entry) in
+        IfOk result (λ outcome. MayTell own outcome.session) }
+{
+    match pending {
+        Pending::Whole(outcome) => Ok(outcome),
+        Pending::Command(answer, expunges) => match session {
+            Some(session) => outcome_of_answer(alloc, asked, session, expunges, answer),
+            None => Outcome::answered(answer, SessionEffect::Keep),
+        },
+    }
+}
+
+fn outcome_of_answer(
+    alloc: Global,
+    asked: &Asked<'_>,
+    session: &Session,
+    expunges: bool,
+    answer: Answer,
+) -> Result<Outcome, AllocError>
+    requires { let world = world_of asked.now.world.now in
+        let own = state_of session.now in
+        IsFoundForAnswer asked.now.site.now asked.now.user.now world asked.now.change.now own answer }
+    ensures outcome { let world = world_of asked.now.world.now in
+        let view = view_of asked.now.site.now asked.now.user.now world in
+        let meant = reply.with_notices view (state_of session.now) expunges answer in
+        IfOk result (λ outcome. outcome ≡ meant) }
+    ensures told { let own = state_of session.now in
+        IfOk result (λ outcome. MayTell (Some own) outcome.session) }
+{
+    let found = notices_of(alloc, asked, session, expunges, &answer)?;
+    let SessionNotices { lines, told } = found;
+    let effect = noting(answer.enables(), told);
+    Outcome::answered(answer.followed_by(lines)?, effect)
+}
+
+/// The lines before the last one, and what the session then knows.
+fn notices_of(
+    alloc: Global,
+    asked: &Asked<'_>,
+    session: &Session,
+    expunges: bool,
+    answer: &Answer,
+) -> Result<SessionNotices, AllocError>
+    requires { let world = world_of asked.now.world.now in
+        let own = state_of session.now in
+        IsFoundForAnswer asked.now.site.now asked.now.user.now world asked.now.change.now own answer.now }
+    ensures lines { let world = world_of asked.now.world.now in
+        let view = view_of asked.now.site.now asked.now.user.now world in
+        let own = state_of session.now in
+        let o = specs.options_after expunges own answer.now in
+        let mailbox = specs.mailbox_after view own answer.now in
+        let meant = specs.notice_lines o answer.now.told own.selected mailbox in
+        IfOk result (λ n. n.lines.items ≡ meant) }
+    ensures told { let world = world_of asked.now.world.now in
+        let view = view_of asked.now.site.now asked.now.user.now world in
+        let own = state_of session.now in
+        let o = specs.options_after expunges own answer.now in
+        let mailbox = specs.mailbox_after view own answer.now in
+        let meant = specs.notice_telling o own.selected mailbox in
+        IfOk result (λ n. n.told ≡ meant) }
+    ensures change { let selected = (state_of session.now).selected in
+        IfOk result (λ n. IfSome n.told (λ t. IsTellingFor t selected)) }
+    ensures printable { IfOk result (λ n. AllByRecursion IsPrintable n.lines.items) }
+{
+    match mailbox_after(asked, session, answer) {
+        Some(mailbox) => {
+            let options = options_after(expunges, session.enabled, answer.enables());
+            let mut rows = mailbox.messages.cursor();
+            session.notices(alloc, &mut rows, &options, answer.told(), mailbox.highest)
+        }
+        None => Ok(SessionNotices {
+            lines: Vec::new(alloc),
+            told: None,
+        }),
+    }
+}
+
+/// The mailbox of which the session is told, as the command leaves it.
+fn mailbox_after<'a>(asked: &Asked<'a>, session: &Session, answer: &Answer) -> Option<Upcoming<'a>>
+    requires { let world = world_of asked.now.world.now in
+        let own = state_of session.now in
+        IsFoundForAnswer asked.now.site.now asked.now.user.now world asked.now.change.now own answer.now }
+    ensures mailbox { let world = world_of asked.now.world.now in
+        let view = view_of asked.now.site.now asked.now.user.now world in
+        option_map readable result ≡ specs.mailbox_after view (state_of session.now) answer.now }
+    ensures step { let selected = (state_of session.now).selected in
+        IfSome result (λ m. IsInStepIfSelected m.highest m.messages selected) }
+{
+    if is_bad(answer.last()) {
+        return None;
+    }
+    mailbox_left(asked, session)
+}
+
+/// The selected mailbox after the change, unless the session has lost it then.
+fn mailbox_left<'a>(asked: &Asked<'a>, session: &Session) -> Option<Upcoming<'a>>
+    requires { let world = world_of asked.now.world.now in
+        let own = state_of session.now in
+        IsFoundFor asked.now.site.now asked.now.user.now world asked.now.change.now own }
+    ensures mailbox { let after = after_writes asked.now.change.now (world_of asked.now.world.now) in
+        let view = view_of asked.now.site.now asked.now.user.now after in
+        option_map readable result ≡ specs.mailbox_left view (state_of session.now) }
+    ensures step { let selected = (state_of session.now).selected in
+        IfSome result (λ m. IsInStepIfSelected m.highest m.messages selected) }
+{
+    match &session.selected {
+        Some(selected) => {
+            let Asked {
+                world,
+                site,
+                user,
+                change,
+            } = asked;
+            let mailbox = Upcoming::after(world, site, user, change, &selected.name);
+            unless_other(mailbox, selected.validity)
+        }
+        None => None,
+    }
+}
+
+/// A mailbox of another UIDVALIDITY is another one.
+fn unless_other(mailbox: Option<Upcoming<'_>>, validity: u32) -> Option<Upcoming<'_>>
+    ensures { let is_other = has_other_validity validity (option_map readable mailbox.entry) in
+        result ≡ (if is_other then None else mailbox.entry) }
+{
+    match mailbox {
+        Some(mailbox) => {
+            if mailbox.validity == validity {
+                Some(mailbox)
+            } else {
+                None
+            }
+        }
+        None => None,
+    }
+}
+
+/// What the command enables is enabled for its notices, too.
+fn options_after(
+    expunges: bool,
+    enabled: EnabledCapabilities,
+    more: EnabledCapabilities,
+) -> NoticeOptions
+    ensures { result ≡ specs.notice_options expunges (both_enabled more enabled) }
+{
+    NoticeOptions {
+        expunges,
+        qresync: more.qresync || enabled.qresync,
+        condstore: more.condstore || enabled.condstore,
+    }
+}
+
+/// What a session notes of an answer.
+fn noting(enables: EnabledCapabilities, told: Option<Told>) -> SessionEffect
+    ensures { result ≡ reply.noting enables told }
+{
+    match told {
+        Some(told) => SessionEffect::Note(enables, Some(told)),
+        None => {
+            if enables.condstore || enables.imap4rev2 || enables.qresync {
+                SessionEffect::Note(enables, None)
+            } else {
+                SessionEffect::Keep
+            }
+        }
+    }
+}
+
+/// Whether it is BAD (RFC 9051, section 7.1.3).
+fn is_bad(last: &Response) -> bool
+    ensures { result ≡ specs.is_bad last.now }
+{
+    match last {
+        Response::Refused { refusal, .. } => {
+            matches!(refusal, Refusal::Malformed | Refusal::WrongState)
+        }
+        _ => false,
+    }
+}
+
+/// Whether the answer to the command may tell expunges: a message's number stays while FETCH, STORE and SEARCH
+/// name messages by their numbers (RFC 9051, section 7.5.1).
+pub(crate) fn may_tell_expunges(command: &Command) -> bool
+    ensures { result ≡ specs.may_tell_expunges command.now }
+{
+    match command {
+        Command::Fetch { numbering, .. }
+        | Command::Search { numbering, .. }
+        | Command::Store { numbering, .. } => matches!(numbering, Numbering::Uid),
+        _ => true,
+    }
+}

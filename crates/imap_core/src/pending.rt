@@ -1,0 +1,30 @@
+//! What comes of a step, but for notices.
+
+ghost use Rattle.std.specs.Prelude.{◌≡◌};
+ghost use Rattle.imap_core.specs.Pending as specs;
+
+use crate::outcome::Outcome;
+use imap_answer::Answer;
+use imap_world::Effect;
+
+/// What a step is answered, before it is known what its session is told of its mailbox: that is found from the
+/// mailbox as the step's change leaves it.
+#[derive(Drop)]
+pub(crate) enum Pending {
+    /// Nothing more is told.
+    Whole(Outcome),
+    /// The answer to a command, in whose last place notices stand, and whether they may tell expunges.
+    Command(Answer, bool),
+}
+
+impl Pending {
+    /// What the step asks of the mailboxes.
+    pub(crate) fn effect(&self) -> &Option<Effect>
+        ensures { result.now ≡ specs.effect_in self.now }
+    {
+        match self {
+            Pending::Whole(outcome) => outcome.effect(),
+            Pending::Command(answer, _) => answer.effect(),
+        }
+    }
+}
