@@ -14,7 +14,7 @@ use crate::batch::NewMessage;
 use crate::marks_left::{MarksLeft, pass};
 use crate::write::BatchWrite;
 use crate::writing::added_seen_count;
-use imap_mailbox::{Mailbox, Row, Rows};
+use imap_mailbox::{Mailbox, Near, Row, Rows};
 use imap_modseq::MAX_EVENTS;
 use std::marker::Model;
 
@@ -24,6 +24,7 @@ use std::marker::Model;
 pub struct Planned<'a> {
     rows: Rows<'a>,
     place: usize,
+    near: Near,
     marks: MarksLeft<'a>,
     expunged: &'a [u32],
     added: AddedLeft<'a>,
@@ -63,6 +64,7 @@ impl<'a> Planned<'a> {
         Planned {
             rows: mailbox.rows(user),
             place: 0,
+            near: Near::start(),
             marks: MarksLeft {
                 marks: batch.marks.as_slice(),
                 shared: shared + added.len() as u64,
@@ -90,7 +92,13 @@ impl<'a> Iterator for Planned<'a> {
     ghost remaining = { item_count (λ rows. rows) };
 
     fn next(&mut self) -> Option<Row<'a>> {
-        match next_left(&self.rows, self.place, &self.marks, self.expunged) {
+        match next_left(
+            &self.rows,
+            self.place,
+            &mut self.near,
+            &self.marks,
+            self.expunged,
+        ) {
             Some((row, place, marks)) => {
                 self.place = place;
                 self.marks = marks;
@@ -130,6 +138,7 @@ fn is_expunged(expunged: &[u32], uid: u32) -> bool
 fn next_left<'a>(
     rows: &Rows<'a>,
     place: usize,
+    near: &mut Near,
     marks: &MarksLeft<'a>,
     expunged: &[u32],
 ) -> Option<(Row<'a>, usize, MarksLeft<'a>)>
@@ -142,7 +151,7 @@ fn next_left<'a>(
 {
     let mut later = *marks;
     for at in place..rows.len() {
-        let (row, next) = pass(&rows.get(at), &later);
+        let (row, next) = pass(&rows.get_near(at, near), &later);
         if !is_expunged(expunged, row.uid) {
             return Some((row, at + 1, next));
         }

@@ -3,6 +3,7 @@ use Rattle.std.proofs.Common.{◌≡◌, ⊎_elim, ℕ, zero, suc, ◌+◌, ◌<
 use Rattle.std.specs.Prelude.{insert}
 use Rattle.std.proofs.lemmas.Bool.{ne_eqb, eq-eqb, eqb-true, ltb-true, ltb-false, cases_lt}
 use Rattle.std.proofs.lemmas.List.{length-map, get_or_default}
+use Rattle.std.proofs.lemmas.List.Sums.{prefix_len_passes, prefix_len_stops}
 use Rattle.std.specs.List.Sorted.{IsNonDecreasingBy}
 use Rattle.imap_mailbox.specs.declared.own.SeenChange.{SeenChange}
 use Rattle.imap_mailbox.specs.declared.latest.LastSeen.{LastSeen}
@@ -25,6 +26,24 @@ uid_at (l ∷ table) (suc i) e d lt = uid_at table i e d (omega arith)
 pub no_decrease : (table : List LastSeen) → AreRising (last_uids table) → IsNonDecreasingBy (λ l. l.uid) table
 no_decrease table h i j d le lt =
     omega (arith, count table, up h.0 h.1 (last_uids table) i j 0 h.2 le (omega (arith, count table, lt)), uid_at table i 0 d (omega arith), uid_at table j 0 d lt)
+
+-- a place that is near is that of the UID, by the entries beside it
+pub ends_low : (uid : ℕ) (table : List LastSeen) (i : ℕ) (d : LastSeen) → AreRising (last_uids table) → i < length table → (get_or table i d).uid < uid → i < before_uid uid table
+ends_low uid table i d h lt less = ⊎_elim (λ (low : i < before_uid uid table). low) (λ (le : before_uid uid table ≤ i). absurd (no le)) (cases_lt i (before_uid uid table))
+  where
+    no : before_uid uid table ≤ i → ⊥
+    no le =
+        let k = before_uid uid table in
+        let stops = ltb-false (get_or table k d).uid uid (prefix_len_stops (λ l. ltb l.uid uid) table d (omega (arith, le, lt))) in
+        omega (arith, stops, no_decrease table h k i d le lt, less)
+
+pub goes_high : (uid : ℕ) (table : List LastSeen) (i : ℕ) (d : LastSeen) → i < length table → uid ≤ (get_or table i d).uid → before_uid uid table ≤ i
+goes_high uid table i d lt le = ⊎_elim (λ (low : i < before_uid uid table). absurd (no low)) (λ (high : before_uid uid table ≤ i). high) (cases_lt i (before_uid uid table))
+  where
+    no : i < before_uid uid table → ⊥
+    no low =
+        let less = ltb-true (get_or table i d).uid uid (prefix_len_passes (λ l. ltb l.uid uid) table i d low) in
+        omega (arith, less, le)
 
 -- ---- what is found there
 

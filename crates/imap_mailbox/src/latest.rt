@@ -1,6 +1,6 @@
 //! The last change of each UID, in the order of UIDs.
 
-ghost use Rattle.std.specs.Prelude.{◌≡◌, ℕ, ◌+◌, ◌<◌, ◌≤◌, ◌==◌, ◌↔◌, nat_lt, length, vec_len, Some, IsTrue};
+ghost use Rattle.std.specs.Prelude.{◌≡◌, ℕ, ◌+◌, ◌<◌, ◌≤◌, ◌==◌, ◌↔◌, true, nat_lt, length, vec_len, Some, IsTrue};
 ghost use Rattle.std.specs.Prelude.{MatchResult, if◌then◌else◌};
 ghost use Rattle.std.specs.Vec.{vec_capacity};
 ghost use Rattle.imap_mailbox.specs.Summary.{AreRising};
@@ -49,6 +49,47 @@ fn find_last(table: &[LastSeen], uid: u32) -> Result<usize, usize>
     }
 }
 
+/// Returns the place of the UID as [`find_last`] does, at once if it is `near`.
+pub(crate) fn find_near(table: &[LastSeen], uid: u32, near: usize) -> Result<usize, usize>
+    requires { AreRising (last_uids table.now) }
+    ensures { MatchResult result (IsPlace uid table.now) (IsGap uid table.now) }
+{
+    if !is_place(table, near, uid) {
+        return find_last(table, uid);
+    }
+    if is_at(table, near, uid) {
+        Ok(near)
+    } else {
+        Err(near)
+    }
+}
+
+/// Whether just so many entries have a lower UID.
+fn is_place(table: &[LastSeen], place: usize, uid: u32) -> bool
+    requires { AreRising (last_uids table.now) }
+    ensures place { result ≡ true → place ≡ before_uid uid table.now }
+    ensures within { result ≡ true → place ≤ length table.now }
+{
+    place <= table.len() && ends_below(table, place, uid) && goes_on_from(table, place, uid)
+}
+
+/// Whether the last of so many entries has a lower UID, if they are any.
+fn ends_below(table: &[LastSeen], place: usize, uid: u32) -> bool
+    requires rising { AreRising (last_uids table.now) }
+    requires within { place ≤ length table.now }
+    ensures { result ≡ true → place ≤ before_uid uid table.now }
+{
+    place == 0 || table[place - 1].uid < uid
+}
+
+/// Whether the entry after so many has no lower UID, if there is one.
+fn goes_on_from(table: &[LastSeen], place: usize, uid: u32) -> bool
+    requires { place ≤ length table.now }
+    ensures { result ≡ true → before_uid uid table.now ≤ place }
+{
+    place == table.len() || uid <= table[place].uid
+}
+
 /// Returns the last change of the UID: its mod-sequence, and whether it set the flag.
 pub(crate) fn last_of(table: &[LastSeen], uid: u32) -> Option<(u64, bool)>
     requires { AreRising (last_uids table.now) }
@@ -60,6 +101,20 @@ pub(crate) fn last_of(table: &[LastSeen], uid: u32) -> Option<(u64, bool)>
             Some((last.number, last.seen))
         }
         Err(_) => None,
+    }
+}
+
+/// As [`last_of`], at once if `near` is the place of the UID. The second is the place of the next UID.
+pub(crate) fn last_near(table: &[LastSeen], uid: u32, near: usize) -> (Option<(u64, bool)>, usize)
+    requires { AreRising (last_uids table.now) }
+    ensures { result.0 ≡ last_in uid table.now }
+{
+    match find_near(table, uid, near) {
+        Ok(place) => {
+            let last = &table[place];
+            (Some((last.number, last.seen)), place + 1)
+        }
+        Err(place) => (None, place),
     }
 }
 

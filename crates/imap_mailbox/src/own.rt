@@ -7,8 +7,8 @@ ghost use Rattle.imap_mailbox.specs.History.{own_entry};
 ghost use Rattle.imap_mailbox.specs.Summary.{latest, latest_number, latest_seen};
 
 use crate::copies::copy_items;
-use crate::latest::{LastSeen, last_of, put_last};
-use imap_modseq::{OwnChange, count_before, number_after};
+use crate::latest::{LastSeen, last_near, last_of, put_last};
+use imap_modseq::{OwnChange, count_before, count_before_near, number_after};
 use imap_values::TryCopy;
 use std::alloc::{AllocError, Global};
 use std::marker::Model;
@@ -123,6 +123,17 @@ impl OwnSeen {
         count_before(&self.changes, place)
     }
 
+    /// As [`OwnSeen::count_before`], at once if the number is `near` or one more. It is then `near`.
+    pub(crate) fn count_before_near(&self, place: u64, near: &mut usize) -> usize
+        requires { AreInOrder 0 max_events (befores (map own_entry self.now.list)) }
+        ensures count { result ≡ own_before (befores (map own_entry self.now.list)) place }
+        ensures most { result ≤ length self.now.list }
+    {
+        let count = count_before_near(&self.changes, place, *near);
+        *near = count;
+        count
+    }
+
     /// The mod-sequence of the last change, or 0 if there is none.
     pub(crate) fn last_number(&self) -> u64
         requires order { AreInOrder 0 max_events (befores (map own_entry self.now.list)) }
@@ -147,6 +158,15 @@ impl OwnSeen {
         ensures { result ≡ latest uid self.now.list }
     {
         last_of(&self.latest, uid)
+    }
+
+    /// As [`OwnSeen::latest`], at once if `near` is the place of the UID. It is then that of the next UID.
+    pub(crate) fn latest_near(&self, uid: u32, near: &mut usize) -> Option<(u64, bool)>
+        ensures { result ≡ latest uid self.now.list }
+    {
+        let (last, next) = last_near(&self.latest, uid, *near);
+        *near = next;
+        last
     }
 }
 

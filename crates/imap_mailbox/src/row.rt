@@ -61,6 +61,46 @@ pub(crate) fn own_row<'a>(message: &'a Message, own: &OwnSeen) -> Row<'a>
     }
 }
 
+/// Where look-ups of a user's own changes ended, so that those of the next message begin there. Rows are right
+/// whatever it says; it makes a walk over them quick.
+#[derive(Clone, Copy)]
+pub struct Near {
+    latest: usize,
+    changes: usize,
+}
+
+impl Near {
+    /// For the first message.
+    pub fn start() -> Near {
+        Near {
+            latest: 0,
+            changes: 0,
+        }
+    }
+}
+
+/// The message for a user with own changes, found from where the last one was.
+pub(crate) fn own_row_near<'a>(message: &'a Message, own: &OwnSeen, near: &mut Near) -> Row<'a>
+    requires place { message.now.place ≤ max_events }
+    requires order { AreInOrder 0 max_events (befores (map own_entry own.now.list)) }
+    requires few { length own.now.list ≤ max_events }
+    ensures { row_shown result ≡ row_in own.now.list message.now }
+{
+    let (latest, seen) = own
+        .latest_near(message.uid, &mut near.latest)
+        .unwrap_or((0, false));
+    let before = own.count_before_near(message.place, &mut near.changes);
+    let shared = number_after(message.place, before as u64);
+    Row {
+        uid: message.uid,
+        date: message.date,
+        octets: &message.octets,
+        flags: &message.flags,
+        seen,
+        number: shared.max(latest),
+    }
+}
+
 /// Whether the mod-sequence of the message is above `number`. Its own changes are looked up only if the last
 /// own change of the user, or the last shared event of the message, may be above `number`.
 pub(crate) fn own_is_above(message: &Message, own: &OwnSeen, number: u64) -> bool

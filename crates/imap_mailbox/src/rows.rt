@@ -9,7 +9,7 @@ ghost use Rattle.imap_mailbox.specs.Status.{deleted_in, unseen_in, size_in, max_
 use crate::flags::SharedFlags;
 use crate::message::{Message, count_lower, find_message};
 use crate::own::OwnSeen;
-use crate::row::{Row, own_is_above, own_row, plain_row};
+use crate::row::{Near, Row, own_is_above, own_row, own_row_near, plain_row};
 use crate::status::{count_deleted, count_unseen, sum_sizes};
 use std::marker::Model;
 
@@ -54,6 +54,26 @@ impl<'a> Rows<'a> {
             Some(own) => own_row(message, own),
             None => plain_row(message),
         }
+    }
+
+    /// The message at `place`, quick where rows are taken one after another.
+    pub fn get_near(&self, place: usize, near: &mut Near) -> Row<'a>
+        requires { place < length self.now }
+        ensures { row_shown result ≡ slice_index_or self.now place (row_shown result) }
+    {
+        let message = &self.messages[place];
+        match self.own {
+            Some(own) => own_row_near(message, own, near),
+            None => plain_row(message),
+        }
+    }
+
+    /// The UID of the message at `place`.
+    pub fn uid(&self, place: usize) -> u32
+        requires { place < length self.now }
+        ensures { (row : specs.Row) → row ≡ slice_index_or self.now place row → result ≡ row.uid }
+    {
+        self.messages[place].uid
     }
 
     /// The flags that all users share of the message at `place`, without a look-up of the user's own changes.

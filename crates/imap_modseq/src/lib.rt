@@ -16,4 +16,4 @@ mod own_changes;
 pub use clocks::Clocks;
 pub use error::ClocksError;
 pub use numbering::{MAX_EVENTS, highest_after, number_after};
-pub use own_change::{OwnChange, count_before};
+pub use own_change::{OwnChange, count_before, count_before_near};

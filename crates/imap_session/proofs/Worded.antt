@@ -6,11 +6,11 @@ use Rattle.imap_mailbox.specs.declared.flags.SharedFlags.{SharedFlags}
 use Rattle.imap_mailbox.specs.Rows.{Row}
 use Rattle.imap_session.specs.Select.{with_keywords}
 
-record IsAt (rows : List Row) (p : ℕ) : Type 0 where
-  row : Row
-  is : row ≡ get_or rows p row
+pub record IsAt (rows : List Row) (p : ℕ) : Type 0 where
+  pub row : Row
+  pub is : row ≡ get_or rows p row
 
-row_at : (rows : List Row) (p : ℕ) → p < length rows → IsAt rows p
+pub row_at : (rows : List Row) (p : ℕ) → p < length rows → IsAt rows p
 row_at [] p lt = absurd (omega arith)
 row_at (r ∷ rows) zero lt = record { row = r; is = refl }
 row_at (r ∷ rows) (suc p) lt = let later = row_at rows p (omega arith) in record { row = later.row; is = later.is }

@@ -1,12 +1,12 @@
 //! The entries of a known list.
 
-ghost use Rattle.std.specs.Prelude.{◌≡◌, ◌≤◌, true, length, nat_lt, IfOk};
+ghost use Rattle.std.specs.Prelude.{◌≡◌, ◌≤◌, true, length, map, nat_lt, IfOk};
 ghost use Rattle.std.specs.List.{prefix_len};
 ghost use Rattle.imap_mailbox.specs.Lent.{place_in};
-ghost use Rattle.imap_mailbox.specs.Brought.{known_uids};
+ghost use Rattle.imap_mailbox.specs.Brought.{known_uids, told_of};
 ghost use Rattle.imap_session.specs.Held.{are_staying, list_in, UidsRise};
 
-use imap_mailbox::KnownMessage;
+use imap_mailbox::{KnownMessage, Near, Rows};
 use imap_values::TryCopy;
 use std::alloc::{AllocError, Global};
 
@@ -23,6 +23,24 @@ pub(crate) fn mark(entry: &mut Entry)
     ensures { entry.new ≡ record { message = entry.old.message; leaving = true } }
 {
     entry.leaving = true;
+}
+
+/// Returns an entry for each message, taken in one walk.
+pub(crate) fn entries_of(alloc: Global, rows: &Rows<'_>) -> Result<Vec<Entry>, AllocError>
+    ensures list { IfOk result (λ entries. list_in entries.items ≡ map told_of rows.now) }
+    ensures staying { IfOk result (λ entries. are_staying entries.items ≡ true) }
+{
+    let mut entries = Vec::with_capacity(alloc, rows.len())?;
+    let mut near = Near::start();
+    for place in 0..rows.len() {
+        let row = rows.get_near(place, &mut near);
+        let message = KnownMessage::of_row(alloc, &row)?;
+        entries.push_reserved(Entry {
+            message,
+            leaving: false,
+        });
+    }
+    Ok(entries)
 }
 
 /// Returns a copy that shares keywords.

@@ -8,10 +8,8 @@ ghost use Rattle.imap_session.specs.Delta.{list_after, IsChangeOf};
 ghost use Rattle.imap_session.specs.Held.{UidsRise};
 
 use crate::delta::{Delta, push_all, put_all, remove_all};
-use crate::entry::{Entry, copy_entries, count_lower, find_entry};
-use crate::row_cursor::RowCursor;
-use crate::walk::messages_left;
-use imap_mailbox::KnownMessage;
+use crate::entry::{Entry, copy_entries, count_lower, entries_of, find_entry};
+use imap_mailbox::{KnownMessage, Rows};
 use std::alloc::{AllocError, Global};
 use std::marker::Model;
 
@@ -50,14 +48,13 @@ impl KnownList {
     }
 
     /// Returns the list of a session that was told of all messages, as by SELECT (RFC 9051, section 6.3.2).
-    pub fn of_rows<C: RowCursor>(alloc: Global, rows: &mut C) -> Result<KnownList, AllocError>
-        requires { UidsRise (map told_of (C.rest rows.old)) }
-        ensures { IfOk result (λ known. known.list ≡ map told_of (C.rest rows.old)) }
+    pub fn of_rows(alloc: Global, rows: &Rows<'_>) -> Result<KnownList, AllocError>
+        requires { UidsRise (map told_of rows.now) }
+        ensures { IfOk result (λ known. known.list ≡ map told_of rows.now) }
     {
-        let messages = messages_left(alloc, rows)?;
-        let mut entries = Vec::with_capacity(alloc, messages.len())?;
-        push_all(&mut entries, messages);
-        Ok(KnownList { entries })
+        Ok(KnownList {
+            entries: entries_of(alloc, rows)?,
+        })
     }
 
     /// Returns a copy that shares keywords. Its room may be another.

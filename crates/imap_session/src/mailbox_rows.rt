@@ -44,7 +44,7 @@ impl<'a> RowCursor for MailboxRows<'a> {
     }
 
     fn is_next(&self, uid: u32) -> bool {
-        self.place < self.rows.len() && self.rows.get(self.place).uid == uid
+        self.place < self.rows.len() && uid == self.rows.uid(self.place)
     }
 
     fn is_above(&self, number: u64) -> bool {

@@ -15,7 +15,6 @@ ghost use Rattle.imap_session.specs.State.{state_of};
 ghost use Rattle.imap_view.specs.Readable.{readable_in};
 
 use crate::known_list::KnownList;
-use crate::mailbox_rows::MailboxRows;
 use crate::selection::NewSelection;
 use crate::session::{Selected, Session};
 use bitflags::Flags;
@@ -183,7 +182,7 @@ fn known_list(alloc: Global, rows: &Rows<'_>, next_uid: u32) -> Result<KnownList
     requires { Rises first_uid next_uid (row_uids rows.now) }
     ensures { IfOk result (λ known. known.list ≡ map told_of rows.now) }
 {
-    KnownList::of_rows(alloc, &mut MailboxRows::new(rows))
+    KnownList::of_rows(alloc, rows)
 }
 
 /// The keywords that messages of the mailbox have.
