@@ -28,3 +28,8 @@ pub mod Since
 pub mod Lawful
 pub mod Admitted
 pub mod CallEvents
+pub mod Reordered
+pub mod Restoring
+pub mod OwnChanges
+pub mod FromParts
+pub mod OneMailbox

@@ -16,3 +16,6 @@ pub mod Client
 pub mod Shown
 pub mod Brought
 pub mod Status
+pub mod UserChange
+pub mod Parts
+pub mod Restored

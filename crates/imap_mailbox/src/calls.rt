@@ -18,7 +18,7 @@ use std::alloc::Global;
 pub const MAX_KEYWORDS: usize = 32;
 
 // Whether a message may not have the flags.
-fn has_too_many(flags: &SharedFlags) -> bool
+pub(crate) fn has_too_many(flags: &SharedFlags) -> bool
     ensures { result ≡ has_too_many flags.now }
 {
     flags.keywords.len() > MAX_KEYWORDS

@@ -12,6 +12,7 @@ ghost use Rattle.imap_mailbox.specs.Bridge.{SummariesAreAdmitted};
 ghost use Rattle.imap_mailbox.specs.Brought.{EventsAreLater, SeenIsLater, ShownIsOrdered, AllToldIsBrought};
 ghost use Rattle.imap_mailbox.specs.Called.{CallsAreEvents, FlagsAreTested};
 ghost use Rattle.imap_mailbox.specs.Client.{ClientIsBroughtUp};
+ghost use Rattle.imap_mailbox.specs.Parts.{StandForOne};
 ghost use Rattle.imap_mailbox.specs.Shown.{AnothersSeenIsHidden, AddIsSeenAsRoom, EventIsSeen};
 ghost use Rattle.imap_mailbox.specs.Shown.{DecidedIsSeen, ExpungesAreSeen, OwnSeenIsSeen};
 
@@ -123,4 +124,9 @@ pub fn shown_is_ordered()
 /// A session that was told of all messages is brought up to HIGHESTMODSEQ.
 pub fn all_told_is_brought()
     ensures { AllToldIsBrought }
+{}
+
+/// What a store keeps of a mailbox stands for one mailbox at most, whatever the order of its parts.
+pub fn parts_stand_for_one()
+    ensures { StandForOne }
 {}

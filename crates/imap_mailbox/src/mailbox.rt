@@ -15,6 +15,7 @@ ghost use Rattle.imap_mailbox.specs.Calls.{message_at, arrival, if_there};
 ghost use Rattle.imap_mailbox.specs.Expunging.{with_expunges};
 ghost use Rattle.imap_mailbox.specs.Lent.{gone_after_number};
 ghost use Rattle.imap_mailbox.specs.Order.{AreRowsInOrder, AreGoneInOrder};
+ghost use Rattle.imap_mailbox.specs.Parts.{Restores};
 
 use crate::copies::{copy_items, copy_messages};
 use crate::expunging::{Rising, push_gone, remove_messages};
@@ -23,6 +24,9 @@ use crate::gone::GoneUids;
 use crate::marks::{mark_own, reserve_own};
 use crate::message::{GoneMessage, Message, find_message, remove_message, set_message_flags};
 use crate::own::{OwnSeen, SeenChange};
+use crate::own_lists::own_lists;
+use crate::parts::{MailboxParts, PartsError};
+use crate::restored::{check_messages, sort_by_place, sort_by_uid};
 use crate::rows::Rows;
 use imap_lex::Octets;
 use imap_modseq::{MAX_EVENTS, highest_after};
@@ -79,6 +83,35 @@ impl Mailbox {
             shared: 0,
             own: UserMap::new(alloc),
         }
+    }
+
+    /// The mailbox for which the parts stand. Fails with `Bad` if they stand for none: if a UID below UIDNEXT
+    /// is missing, or stands twice, among the messages and those that are gone; a UID is UIDNEXT or more; a
+    /// place is that of two messages, or of no shared event; a message has over
+    /// [`MAX_KEYWORDS`](crate::MAX_KEYWORDS) keywords; a user's own changes are not at the places from 0 on,
+    /// are out of order, or are of a UID that was never given; or a number of events is over
+    /// [`MAX_EVENTS`](imap_modseq::MAX_EVENTS).
+    pub fn from_parts(alloc: Global, parts: MailboxParts) -> Result<Mailbox, PartsError>
+        ensures { Restores parts result }
+    {
+        let MailboxParts {
+            next,
+            shared,
+            mut messages,
+            mut gone,
+            own,
+        } = parts;
+        check_messages(alloc, &messages, &gone, next, shared)?;
+        let own = own_lists(alloc, own, next, shared)?;
+        sort_by_uid(&mut messages);
+        sort_by_place(&mut gone);
+        Ok(Mailbox {
+            messages,
+            gone,
+            next,
+            shared,
+            own,
+        })
     }
 
     /// Returns a copy that shares octets and keywords. Its room may be another.

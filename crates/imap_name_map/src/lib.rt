@@ -10,5 +10,6 @@ pub mod name_map;
 mod places;
 mod run_edits;
 mod sameness;
+mod sorting;
 
 pub use name_map::NameMap;

@@ -1,11 +1,12 @@
 //! Maps from names.
 ghost use Rattle.std.specs.Prelude.{◌≡◌, ◌↔◌, ◌+◌, ◌<◌, ◌≤◌, [], true, not, length, drop, take};
-ghost use Rattle.std.specs.Prelude.{slice_index_or, IsTrue, IfOk, OnOk, OnSome, option_copied};
+ghost use Rattle.std.specs.Prelude.{slice_index_or, IsPermutation, IsTrue, IfOk, MatchOption, OnOk, OnSome};
+ghost use Rattle.std.specs.Prelude.{option_copied};
 ghost use Rattle.std.specs.Borrow.{sem, LendsSo};
 ghost use Rattle.std.specs.FinMap as fin;
 ghost use Rattle.std.specs.List.{list_all};
 ghost use Rattle.std.specs.Option.{option_copied_mut};
-ghost use Rattle.imap_names.specs.Order.{is_within};
+ghost use Rattle.imap_names.specs.Order.{Names, is_within};
 ghost use Rattle.imap_name_map.specs.Renaming.{moved_names, renamed, IsRenamed};
 ghost use Rattle.imap_name_map.specs.Rows.{inserted_all, with_value, run_of, below_of, has_below, has_within};
 ghost use Rattle.imap_name_map.specs.contracts.name_map.NameMap.{the_row};
@@ -17,6 +18,7 @@ use crate::moves::rename_in;
 use crate::places::{end_of, ends_below, find_in, part_of, place_near, start_of, without_top};
 use crate::run_edits::put_run;
 use crate::sameness::are_within;
+use crate::sorting::{are_rising, sort_entries};
 use imap_names::{Name, NameRef};
 use imap_user_map::Part;
 use imap_values::TryCopy;
@@ -188,6 +190,19 @@ impl<V: Part> NameMap<V> {
 }
 
 impl<V: Drop> NameMap<V> {
+    /// The map of these entries, which may be in any order. `None` if a name is there twice. It takes no
+    /// memory.
+    pub fn from_entries(mut entries: Vec<(Name, V)>) -> Option<NameMap<V>>
+        ensures { MatchOption result ((map : Names V) → IsPermutation entries.items (fin.entries map) → ⊥)
+            (λ map. IsPermutation entries.items (fin.entries map.map)) }
+    {
+        sort_entries(&mut entries);
+        if !are_rising(&entries) {
+            return None;
+        }
+        Some(NameMap { entries })
+    }
+
     /// Sets the value of `name`, in the room that there is.
     pub fn insert_reserved(&mut self, name: Name, value: V)
         requires { 0 < self.old.spare }

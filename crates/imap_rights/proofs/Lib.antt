@@ -11,3 +11,4 @@ pub mod Changed
 pub mod ReadBack
 pub mod Given
 pub mod AclLaws
+pub mod InOrder

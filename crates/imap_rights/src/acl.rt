@@ -1,9 +1,10 @@
 //! Access control lists, and the rights that a user holds by one (RFC 4314, section 2).
 
 ghost use Rattle.std.specs.Prelude.{◌≡◌, ◌≤◌, ◌↔◌, true, IsTrue, IsErrOf, IfOk, OnOk, OnErr, IsOk, bytes_eq};
+ghost use Rattle.std.specs.Prelude.{IsPermutation, MatchOption};
 ghost use Rattle.std.specs.FinMap as finite;
 ghost use Rattle.imap_rights.specs.Rights.{bits, known, no_rights};
-ghost use Rattle.imap_rights.specs.Acl.{IsAcl, is_some_rights, max_entries, with_entry, is_full_for};
+ghost use Rattle.imap_rights.specs.Acl.{AclMap, IsAcl, is_some_rights, max_entries, with_entry, is_full_for};
 ghost use Rattle.imap_rights.specs.Acl.{owner_acl};
 ghost use Rattle.imap_rights.specs.Effective.{effective, entry, negative};
 ghost use Rattle.imap_rights.specs.Entries.{AreEntries, PutsEntry, pairs_of, rights_where, is_negative_of};
@@ -12,6 +13,7 @@ ghost use Rattle.imap_rights.specs.Entries.{without_pair, has_entry, is_full};
 
 use crate::identifier::Identifier;
 use crate::rights::Rights;
+use crate::sorting::{are_entries, are_rising, sort_entries};
 use bitflags::Flags;
 use std::alloc::{AllocError, AllocFailed, Global};
 use std::cmp::Ordering;
@@ -85,6 +87,27 @@ impl Acl {
         Acl {
             entries: Vec::new(alloc),
         }
+    }
+
+    /// The list of these entries, which may be in any order. `None` if there are over [`MAX_ENTRIES`], an
+    /// identifier is there twice, or an entry has no rights or bits that are none of the eleven. It takes no
+    /// memory.
+    pub fn from_entries(mut entries: Vec<Entry>) -> Option<Acl>
+        ensures { MatchOption result
+            ((acl : AclMap) → IsAcl acl → IsPermutation (pairs_of entries.items) (finite.entries acl) → ⊥)
+            (λ acl. IsPermutation (pairs_of entries.items) (finite.entries acl)) }
+    {
+        if entries.len() > MAX_ENTRIES {
+            return None;
+        }
+        sort_entries(&mut entries);
+        if !are_entries(&entries) {
+            return None;
+        }
+        if !are_rising(&entries) {
+            return None;
+        }
+        Some(Acl { entries })
     }
 
     /// The number of entries.

@@ -8,6 +8,7 @@ mod identifier;
 pub mod laws;
 mod rights;
 mod sameness;
+mod sorting;
 
 pub use acl::{Acl, AclError, Entry, MAX_ENTRIES};
 pub use change::{RightsChange, read_rights};

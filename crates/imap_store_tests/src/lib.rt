@@ -20,6 +20,8 @@ mod name_map;
 #[cfg(test)]
 mod names;
 #[cfg(test)]
+mod parts;
+#[cfg(test)]
 mod patterns;
 #[cfg(test)]
 mod rights;

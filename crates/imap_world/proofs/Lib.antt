@@ -21,3 +21,8 @@ pub mod Room
 pub mod Sets
 pub mod Sound
 pub mod Superiors
+pub mod Placed
+pub mod MovedEntries
+pub mod Standing
+pub mod Subscribing
+pub mod OneOfParts

@@ -11,3 +11,6 @@ pub mod NewMailbox
 pub mod Stored
 pub mod Tree
 pub mod World
+pub mod Subscription
+pub mod Parts
+pub mod Restored

@@ -2,6 +2,7 @@
 
 ghost use Rattle.imap_world.specs.Laws.{CreatesByName, CurrentIsFresh, MessagesGrow, MessagesStayKept};
 ghost use Rattle.imap_world.specs.Laws.{RenamesByName, ValiditiesAreUsedOnce, WorldsStaySound};
+ghost use Rattle.imap_world.specs.Parts.{StandForOne};
 
 /// The superiors of mailboxes stay there, and the UIDVALIDITYs of mailboxes stay counted.
 pub fn worlds_stay_sound()
@@ -43,4 +44,9 @@ pub fn creates_by_name()
 /// there are made, and all else stays (RFC 9051, section 6.3.6).
 pub fn renames_by_name()
     ensures { RenamesByName }
+{}
+
+/// What a store keeps of a world stands for one world at most, whatever the order of its rows.
+pub fn parts_stand_for_one_world()
+    ensures { StandForOne }
 {}

@@ -19,11 +19,13 @@ mod new_mailbox;
 mod owner;
 mod placing;
 mod resolve;
+mod restored;
 mod rights;
 mod same;
 mod site;
 mod subscriptions;
 mod world;
+mod world_parts;
 
 pub use arrivals::Arrivals;
 pub use change::{Change, Write};
@@ -35,3 +37,4 @@ pub use named_batch::{NamedBatch, NamedWrite};
 pub use new_mailbox::NewMailbox;
 pub use site::{Limits, Site};
 pub use world::World;
+pub use world_parts::{MailboxRow, Subscription, WorldParts};

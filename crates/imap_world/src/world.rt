@@ -12,8 +12,10 @@ ghost use Rattle.imap_world.specs.Laws.{KeepsValidities};
 ghost use Rattle.imap_world.specs.Mailbox.{plain_all, plain_lent};
 ghost use Rattle.imap_world.specs.Messages.{with_messages};
 ghost use Rattle.imap_world.specs.Moving.{with_moved};
-ghost use Rattle.imap_world.specs.Ready.{AreApart, HasRoomFor, IsMadeByEffects, IsOneReady, IsReady, Leaves};
-ghost use Rattle.imap_world.specs.Ready.{HasPartsRoom, MayChangeParts, MayMove, MayPut, count_of};
+ghost use Rattle.imap_world.specs.Parts.{Restores};
+ghost use Rattle.imap_world.specs.Ready.{AreApart, HasRoomFor, IsCurrent, IsMadeByEffects, IsOneReady};
+ghost use Rattle.imap_world.specs.Ready.{HasPartsRoom, IsReady, Leaves, MayChangeParts, MayMove, MayPut};
+ghost use Rattle.imap_world.specs.Ready.{count_of};
 ghost use Rattle.imap_world.specs.Stored.{names_in, world_of};
 ghost use Rattle.imap_world.specs.Tree.{new_row, with_acl, with_row, without};
 ghost use Rattle.imap_world.specs.World.{epoch, max_validity, subscribed_by};
@@ -29,8 +31,11 @@ use crate::moving::set_validities;
 use crate::named_batch::NamedWrite;
 use crate::new_mailbox::NewMailbox;
 use crate::placing::{epoch_of, has_superior, new_row, next_validity};
+use crate::restored::{are_sound, mailboxes_of, map_of, subscriptions_of};
 use crate::rights::{put_acl, set_rights};
 use crate::subscriptions::{add_name, make_room_for, remove_name};
+use crate::world_parts::WorldParts;
+use imap_mailbox::PartsError;
 use imap_name_map::NameMap;
 use imap_names::{Name, NameRef};
 use imap_rights::{Acl, Identifier, RightsChange};
@@ -84,6 +89,31 @@ impl World {
             epochs: NameMap::new(alloc),
             subscriptions: UserMap::new(alloc),
         }
+    }
+
+    /// The world for which the parts stand. Fails with `Bad` if they stand for none: if a mailbox, a used
+    /// UIDVALIDITY or a subscription of a user is there twice under a name; a superior is missing; a
+    /// UIDVALIDITY is 0, or is greater than the greatest that was used under its name; or the entries of a
+    /// list, or the parts of a mailbox, stand for none.
+    pub fn from_parts(alloc: Global, parts: WorldParts) -> Result<World, PartsError>
+        ensures { Restores parts result }
+    {
+        let WorldParts {
+            mailboxes,
+            epochs,
+            subscriptions,
+        } = parts;
+        let epochs = map_of(epochs)?;
+        let mailboxes = mailboxes_of(alloc, mailboxes)?;
+        if !are_sound(&mailboxes, &epochs) {
+            return Err(PartsError::Bad);
+        }
+        let subscriptions = subscriptions_of(alloc, subscriptions)?;
+        Ok(World {
+            mailboxes,
+            epochs,
+            subscriptions,
+        })
     }
 
     /// Returns a copy. Its room may be another.
@@ -265,6 +295,19 @@ impl World {
         while let Some(write) = writes.pop_front() {
             self.write(write);
         }
+    }
+
+    /// Writes what another world writes that is the same: a change that is what effects ask for by the world
+    /// as it is. Only memory may run out, and then nothing has changed.
+    pub fn apply(&mut self, alloc: Global, change: &Change) -> Result<(), AllocError>
+        requires { IsCurrent change.now (world_of self.old) }
+        ensures ok { OnOk result (world_of self.new ≡ after_writes change.now (world_of self.old)) }
+        ensures err { OnErr result (world_of self.new ≡ world_of self.old) }
+    {
+        let copy = change.try_copy(alloc)?;
+        self.make_room(alloc, &copy)?;
+        self.commit(copy);
+        Ok(())
     }
 
     /// Writes one value.
