@@ -2,8 +2,6 @@ pub mod Answering
 pub mod Fitting
 pub mod Marked
 pub mod Named
-pub mod Permitted
 pub mod Possible
 pub mod ReadPossible
 pub mod SameSections
-pub mod Spanned

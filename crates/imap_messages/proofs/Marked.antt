@@ -14,7 +14,7 @@ use Rattle.imap_syntax.specs.declared.set.Numbering.{Numbering}
 use Rattle.imap_syntax.specs.declared.set.SeqRange.{SeqRange}
 use Rattle.imap_messages.specs.Fetched.{Wanted}
 use Rattle.imap_messages.specs.Found.{marks_named}
-use Rattle.imap_messages.specs.MessageNumbers.{Numbered, in_set, messages_from, number_by, row_with}
+use Rattle.imap_targets.specs.MessageNumbers.{Numbered, in_set, messages_from, number_by, row_with}
 use Rattle.imap_messages.specs.Reading.{count_after, is_set, is_unread, mark_effect, marks_if_there, read_effect, seen_mark, seen_marks, uid_told, uids_told}
 
 abbrev pub uids_of : List Numbered → List ℕ

@@ -26,7 +26,7 @@ use Rattle.imap_view.specs.Readable.{readable_by, readable_in, readable_of}
 use Rattle.imap_view.specs.Seen.{Seen, is_root, owner_of, rights_shown, seen_at, seen_by_rights}
 use Rattle.imap_view.specs.View.{View}
 use Rattle.imap_view.proofs.Views.{get_seen}
-use Rattle.imap_messages.specs.MessageNumbers.{Numbered}
+use Rattle.imap_targets.specs.MessageNumbers.{Numbered}
 use Rattle.imap_messages.specs.Reading.{is_unread, mark_effect, read_effect, seen_mark, seen_marks}
 
 -- ---- marks of rows

@@ -19,8 +19,8 @@ use Rattle.imap_view.specs.Seen.{Seen}
 use Rattle.imap_view.specs.View.{View}
 use Rattle.imap_world.specs.declared.effect.Effect.{Effect}
 use Rattle.imap_world.specs.declared.effect.Effect.TheVariants as effect
-use Rattle.imap_messages.specs.NewFlags.{is_new_seen, new_flags}
-use Rattle.imap_messages.specs.Target.{target_refusal}
+use Rattle.imap_targets.specs.NewFlags.{is_new_seen, new_flags}
+use Rattle.imap_targets.specs.Target.{target_refusal}
 
 -- the arguments of APPEND
 pub record Append : Type 0 where

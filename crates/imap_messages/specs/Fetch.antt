@@ -21,7 +21,7 @@ use Rattle.imap_view.specs.declared.readable.Readable.{Readable}
 use Rattle.imap_view.specs.Readable.{readable_in}
 use Rattle.imap_view.specs.View.{View, rights_in}
 use Rattle.imap_messages.specs.Fetched.{wanted_of}
-use Rattle.imap_messages.specs.MessageNumbers.{Numbered, are_numbers, messages_named, row_with}
+use Rattle.imap_targets.specs.MessageNumbers.{Numbered, are_numbers, is_by_uid, is_saved, messages_named, ranges_of, row_with}
 use Rattle.imap_messages.specs.Reading.{lines_from, read_effect, uids_told}
 
 -- the arguments of FETCH
@@ -31,14 +31,6 @@ pub record Fetch : Type 0 where
   pub items : List FetchItem
   pub changed_since : Option ℕ
   pub vanished : Bool
-
-abbrev pub is_by_uid : Numbering → Bool
-is_by_uid numbering.Sequence = false
-is_by_uid numbering.Uid = true
-
-abbrev pub ranges_of : MessageSet → List SeqRange
-ranges_of Saved = []
-ranges_of (Numbers ranges) = ranges
 
 -- ---- what is malformed
 
@@ -56,10 +48,6 @@ is_malformed enabled count asked =
     (asked.vanished && not (may_ask_vanished enabled asked)) || not (has_known_numbers count asked)
 
 -- ---- what can't be done
-
-abbrev pub is_saved : MessageSet → Bool
-is_saved Saved = true
-is_saved (Numbers ranges) = false
 
 abbrev pub is_unserved : FetchItem → Bool
 is_unserved item.Unserved = true

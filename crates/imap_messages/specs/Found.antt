@@ -7,44 +7,13 @@ use Rattle.imap_mailbox.specs.Rows.{Row}
 use Rattle.imap_print.specs.Lines.{IsPrintable}
 use Rattle.imap_session.specs.Held.{UidsRise}
 use Rattle.imap_view.specs.declared.readable.Readable.{Readable}
-use Rattle.imap_messages.specs.declared.message_numbers.MessageNumbers.{MessageNumbers}
+use Rattle.imap_targets.specs.declared.message_numbers.MessageNumbers.{MessageNumbers}
 use Rattle.imap_messages.specs.declared.reading.Reading.{Reading}
 use Rattle.imap_messages.specs.Fetched.{Wanted}
-use Rattle.imap_messages.specs.MessageNumbers.{Numbered, in_set, messages_from, number_by, row_with}
+use Rattle.imap_targets.specs.MessageNumbers.{Numbered, in_set, messages_from, number_by, row_with}
 use Rattle.imap_syntax.specs.declared.set.Numbering.{Numbering}
 use Rattle.imap_syntax.specs.declared.set.SeqRange.{SeqRange}
 use Rattle.imap_messages.specs.Reading.{lines_from, marks_if_there, uids_told}
-
--- the known messages of the set
-abbrev pub named_in : MessageNumbers → List KnownMessage → List Numbered
-named_in m known = messages_from m.numbering m.last m.ranges.now 1 known
-
--- ---- where they stand
-
--- each number of the set lies between these
-abbrev pub AreBounds : (last : ℕ) → List SeqRange → (low high : ℕ) → Type 0
-AreBounds last ranges low high =
-    (n : ℕ) → in_set last ranges n ≡ true → (low ≤ n) × (n ≤ high)
-
-abbrev pub name_at : Numbering → List KnownMessage → (place : ℕ) → KnownMessage → ℕ
-name_at by known place d =
-    number_by by (record { number = place + 1; uid = (slice_index_or known place d).uid })
-
--- before the place `start` they are named by less than `low`, and from the place `end` on by more than `high`
-pub record IsWithin (by : Numbering) (low high : ℕ) (known : List KnownMessage) (start end : ℕ) : Type 0 where
-  pub order : start ≤ end
-  pub within : end ≤ length known
-  pub less : (place : ℕ) (d : KnownMessage) → place < start → name_at by known place d < low
-  pub more : (place : ℕ) (d : KnownMessage) → end ≤ place → place < length known
-      → high < name_at by known place d
-
--- those of the set stand from the place `start` up to the place `end`
-pub record IsSpan (m : MessageNumbers) (known : List KnownMessage) (start end : ℕ) : Type 0 where
-  pub rise : UidsRise known
-  pub order : start ≤ end
-  pub within : end ≤ length known
-  pub before : messages_from m.numbering m.last m.ranges.now (start + 1) (drop start known) ≡ named_in m known
-  pub after : messages_from m.numbering m.last m.ranges.now (end + 1) (drop end known) ≡ []
 
 -- ---- what is found
 

@@ -4,7 +4,4 @@ pub mod BodySections
 pub mod Fetch
 pub mod Fetched
 pub mod Found
-pub mod MessageNumbers
-pub mod NewFlags
 pub mod Reading
-pub mod Target

@@ -6,8 +6,6 @@ ghost use Rattle.imap_messages.specs.Append as specs;
 ghost use Rattle.imap_rights.specs.Rights.{bits};
 ghost use Rattle.imap_view.specs.Seen.{shown};
 
-use crate::new_flags::{is_new_seen, new_flags};
-use crate::target::target_refusal;
 use imap_answer::{Answer, Call};
 use imap_batch::{Batch, NewMessage};
 use imap_lex::Octets;
@@ -16,6 +14,7 @@ use imap_names::{Name, UserName};
 use imap_print::{Code, Refusal};
 use imap_rights::Rights;
 use imap_syntax::{DateTime, Flags, Items, has_nul};
+use imap_targets::{is_new_seen, new_flags, target_refusal};
 use imap_view::Seen;
 use imap_world::{Effect, NamedBatch};
 use std::alloc::{AllocError, Global};

@@ -7,18 +7,17 @@ ghost use Rattle.imap_mailbox.specs.Summary.{AreRising};
 ghost use Rattle.imap_mailbox.specs.Lent.{row_shown};
 ghost use Rattle.imap_mailbox.specs.Order.{AreRowsInOrder};
 ghost use Rattle.imap_messages.specs.Fetch as specs;
-ghost use Rattle.imap_messages.specs.Found.{IsReading, named_in};
+ghost use Rattle.imap_messages.specs.Found.{IsReading};
 ghost use Rattle.imap_messages.specs.Reading.{mark_effect};
 ghost use Rattle.imap_modseq.specs.Numbers.{max_events, max_number};
+ghost use Rattle.imap_targets.specs.MessageNumbers.{is_by_uid as by_uid_in};
+ghost use Rattle.imap_targets.specs.Spans.{named_in};
 ghost use Rattle.imap_print.specs.Lines.{IsPrintable};
 ghost use Rattle.imap_rights.specs.Rights.{has_any, seen};
 ghost use Rattle.imap_session.specs.Held.{UidsRise};
 ghost use Rattle.imap_session.specs.State.{selection_of, state_of};
 ghost use Rattle.imap_view.specs.View.{rights_in};
 
-use crate::message_numbers::{
-    MessageNumbers, are_numbers, is_by_uid, known_count, last_of, number_at, row_with,
-};
 use crate::reading::{Reading, mark_effect};
 use crate::wanted::Wanted;
 use imap_answer::{Answer, Call};
@@ -28,7 +27,11 @@ use imap_print::{EnabledCapabilities, Refusal};
 use imap_query::FetchItem;
 use imap_rights::Rights;
 use imap_session::{KnownList, Selected, Session};
-use imap_syntax::{Items, MessageSet, Numbering, SeqRange};
+use imap_syntax::{Items, MessageSet, Numbering};
+use imap_targets::{
+    MessageNumbers, are_numbers, is_by_uid, is_saved, known_count, last_of, number_at, ranges_of,
+    row_with,
+};
 use imap_view::{Readable, View};
 use std::alloc::{AllocError, Global};
 use std::marker::Model;
@@ -116,15 +119,6 @@ fn fetch_selected(
     }
 }
 
-fn ranges_of(messages: &MessageSet) -> &[SeqRange]
-    ensures { result.now ≡ specs.ranges_of messages.now }
-{
-    match messages {
-        MessageSet::Saved => &[],
-        MessageSet::Numbers(ranges) => ranges.as_slice(),
-    }
-}
-
 /// Whether a number is that of no message, or VANISHED may not be asked for.
 fn is_malformed(enabled: EnabledCapabilities, count: u32, asked: &Fetch<'_>) -> bool
     ensures { result ≡ specs.is_malformed enabled count asked.now }
@@ -150,15 +144,6 @@ fn is_impossible(asked: &Fetch<'_>) -> bool
 {
     has_unserved(asked.items.as_slice())
         || (is_saved(asked.messages) || asked.changed_since.is_some())
-}
-
-fn is_saved(messages: &MessageSet) -> bool
-    ensures { result ≡ specs.is_saved messages.now }
-{
-    match messages {
-        MessageSet::Saved => true,
-        MessageSet::Numbers(_) => false,
-    }
 }
 
 fn has_unserved(items: &[FetchItem]) -> bool
@@ -284,7 +269,7 @@ fn read_messages(
     requires few { mailbox.now.own ≤ max_events }
     requires bounded { mailbox.now.highest ≤ max_number }
     ensures refused { let rows = mailbox.now.rows in
-        let refused = specs.is_refused (specs.is_by_uid messages.now.numbering) rows in
+        let refused = specs.is_refused (by_uid_in messages.now.numbering) rows in
         IfOk result (λ r. is_none r ≡ refused (named_in messages.now known.now.list)) }
     ensures known { UidsRise known.now.list }
     ensures read { let mailbox = mailbox.now in

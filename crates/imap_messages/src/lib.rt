@@ -8,10 +8,7 @@ mod append;
 mod body_sections;
 mod fetch;
 pub mod laws;
-mod message_numbers;
-mod new_flags;
 mod reading;
-mod target;
 mod wanted;
 
 pub use append::{Append, append_answer};

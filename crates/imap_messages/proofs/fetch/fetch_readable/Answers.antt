@@ -4,10 +4,11 @@ use Rattle.imap_answer.specs.Answer.{Answer}
 use Rattle.imap_session.specs.State.{selection_of}
 use Rattle.imap_view.specs.View.{View}
 use Rattle.imap_messages.specs.declared.reading.Reading.{Reading}
-use Rattle.imap_messages.specs.Fetch.{Fetch, is_by_uid, ranges_of, sets_seen}
+use Rattle.imap_messages.specs.Fetch.{Fetch, sets_seen}
 use Rattle.imap_messages.specs.Fetched.{wanted_of}
-use Rattle.imap_messages.specs.Found.{IsReading, named_in}
-use Rattle.imap_messages.specs.MessageNumbers.{last_of}
+use Rattle.imap_targets.specs.Spans.{named_in}
+use Rattle.imap_messages.specs.Found.{IsReading}
+use Rattle.imap_targets.specs.MessageNumbers.{is_by_uid, last_of, ranges_of}
 use Rattle.imap_messages.proofs.Answering.{answer_is, told_rise}
 use Rattle.imap_messages.proofs.fetch.fetch_readable.Goals as goal
 

@@ -1,5 +1,0 @@
-use Rattle.std.proofs.Common.{length}
-use Rattle.imap_messages.proofs.target.+holds_create_above.Given as goal
-
-abbrev pub decreases-holds_create_above : goal.decreases-holds_create_above
-decreases-holds_create_above l = length l.name.now

@@ -1,0 +1,4 @@
+pub mod Named
+pub mod Permitted
+pub mod Possible
+pub mod Spanned

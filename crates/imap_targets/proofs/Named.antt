@@ -1,0 +1,54 @@
+-- The messages that a command names.
+use Rattle.std.proofs.Common.{◌≡◌, ℕ, suc, ◌+◌, ◌-◌, ◌<◌, ◌≤◌, Bool, true, false, cond, List, [], ◌∷◌, length, get_or, eqb, Option, Some, None, option_map, refl, sym, ap, ◌∙◌, arith}
+use Rattle.std.proofs.lemmas.List.{length-map}
+use Rattle.imap_mailbox.specs.declared.known.KnownMessage.{KnownMessage}
+use Rattle.imap_mailbox.specs.Lent.{place_in, row_uids}
+use Rattle.imap_mailbox.specs.Rows.{Row}
+use Rattle.imap_mailbox.proofs.Finding.{inside}
+use Rattle.imap_session.specs.Held.{UidsRise, uid_limit}
+use Rattle.imap_session.proofs.Telling.{length_fits}
+use Rattle.imap_targets.specs.MessageNumbers.{last_uid, row_with}
+
+-- ---- the last UID
+
+pub none_is_last : (next : ℕ) (known : List KnownMessage) → length known ≡ 0 → next ≡ last_uid next known
+none_is_last next [] e = refl
+none_is_last next (k ∷ known) e = absurd (omega (arith, e))
+
+pub last_is_last : (next : ℕ) (known : List KnownMessage) (d : KnownMessage) → 0 < length known → (get_or known (length known - 1) d).uid ≡ last_uid next known
+last_is_last next [] d some = absurd (omega (arith, some))
+last_is_last next (k ∷ []) d some = refl
+last_is_last next (k ∷ l ∷ known) d some =
+    let here : length (k ∷ l ∷ known) - 1 ≡ suc (length known) = omega arith in
+    let there : length known ≡ length (l ∷ known) - 1 = omega arith in
+    ap (λ n. (get_or (k ∷ l ∷ known) n d).uid) here ∙ ap (λ n. (get_or (l ∷ known) n d).uid) there ∙ last_is_last k.uid (l ∷ known) d (omega arith)
+
+-- so few that each has a number
+pub known_fit : (known : List KnownMessage) → UidsRise known → length known + 1 ≤ uid_limit
+known_fit known rise = length_fits known uid_limit rise
+
+-- ---- a row by its UID
+
+row_by : (uid : ℕ) (b : Bool) (r d : Row) (rows : List Row) (o : Option ℕ) (i : ℕ) → cond b (Some 0) (option_map (λ n. n + 1) o) ≡ Some i
+    → ((j : ℕ) → o ≡ Some j → row_with uid rows ≡ Some (get_or rows j d)) → cond b (Some r) (row_with uid rows) ≡ Some (get_or (r ∷ rows) i d)
+row_by uid true r d rows o i e later = let z : 0 ≡ i = cc e in ap (λ n. Some (get_or (r ∷ rows) n d)) z
+row_by uid false r d rows None i e later = absurd (cc e)
+row_by uid false r d rows (Some j) i e later =
+    let z : j + 1 ≡ i = cc e in let y : suc j ≡ i = omega (arith, z) in later j refl ∙ ap (λ n. Some (get_or (r ∷ rows) n d)) y
+
+pub row_at : (uid : ℕ) (rows : List Row) (i : ℕ) (d : Row) → place_in uid (row_uids rows) ≡ Some i → row_with uid rows ≡ Some (get_or rows i d)
+row_at uid [] i d e = absurd (cc e)
+row_at uid (r ∷ rows) i d e = row_by uid (eqb r.uid uid) r d rows (place_in uid (row_uids rows)) i e (λ j. row_at uid rows j d)
+
+none_by : (uid : ℕ) (b : Bool) (r : Row) (rows : List Row) (o : Option ℕ) → cond b (Some 0) (option_map (λ n. n + 1) o) ≡ None
+    → (o ≡ None → row_with uid rows ≡ None) → cond b (Some r) (row_with uid rows) ≡ None
+none_by uid true r rows o e later = absurd (cc e)
+none_by uid false r rows None e later = later refl
+none_by uid false r rows (Some j) e later = absurd (cc e)
+
+pub row_nowhere : (uid : ℕ) (rows : List Row) → place_in uid (row_uids rows) ≡ None → row_with uid rows ≡ None
+row_nowhere uid [] e = refl
+row_nowhere uid (r ∷ rows) e = none_by uid (eqb r.uid uid) r rows (place_in uid (row_uids rows)) e (row_nowhere uid rows)
+
+pub row_within : (uid : ℕ) (rows : List Row) (i : ℕ) → place_in uid (row_uids rows) ≡ Some i → i < length rows
+row_within uid rows i e = omega (arith, inside uid (row_uids rows) i e, length-map rows (λ (r : Row). r.uid))

@@ -1,0 +1,12 @@
+-- What a mailbox has left for changes.
+use Rattle.std.specs.Prelude.{ℕ, ◌+◌, ◌-◌}
+use Rattle.imap_modseq.specs.Numbers.{max_events}
+use Rattle.imap_view.specs.declared.readable.Readable.{Readable}
+
+-- the number of shared events so far. HIGHESTMODSEQ counts them, and the user's own changes, from 1
+abbrev pub shared_events : Readable → ℕ
+shared_events mailbox = mailbox.highest - (1 + mailbox.own)
+
+-- the number of shared events that may still be
+abbrev pub events_left : Readable → ℕ
+events_left mailbox = max_events - shared_events mailbox

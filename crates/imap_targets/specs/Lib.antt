@@ -1,0 +1,6 @@
+-- What commands on messages act on.
+pub mod Left
+pub mod MessageNumbers
+pub mod NewFlags
+pub mod Spans
+pub mod Target

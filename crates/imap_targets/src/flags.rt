@@ -1,0 +1,75 @@
+//! The flags that a user gives to a message.
+
+ghost use Rattle.std.specs.Prelude.{◌≡◌, IfOk, OnOk};
+ghost use Rattle.std.specs.List.{list_any};
+ghost use Rattle.imap_targets.specs.NewFlags as specs;
+ghost use Rattle.imap_rights.specs.Rights.{bits};
+
+use imap_mailbox::{MAX_KEYWORDS, SharedFlags};
+use imap_rights::Rights;
+use imap_syntax::Flag;
+use std::alloc::{AllocError, Global};
+
+/// The right that the flag needs.
+fn right_for(flag: &Flag) -> Rights
+    ensures { bits result ≡ specs.right_for flag.now }
+{
+    match flag {
+        Flag::Seen => Rights::SEEN,
+        Flag::Deleted => Rights::DELETE_MESSAGES,
+        _ => Rights::WRITE,
+    }
+}
+
+/// Sets the flag, if the user holds the right that it needs.
+fn insert_permitted(
+    shared: &mut SharedFlags,
+    alloc: Global,
+    rights: Rights,
+    flag: &Flag,
+) -> Result<(), AllocError>
+    ensures { let meant = specs.with_permitted_flag (bits rights) flag.now shared.old in
+        OnOk result (shared.new ≡ meant) }
+{
+    if rights.has_any(right_for(flag)) {
+        shared.insert(alloc, flag)
+    } else {
+        Ok(())
+    }
+}
+
+/// Returns the flags that all users share of a new message: those of the list for which the user holds the
+/// right. `None` if they have more keywords than a message may have.
+pub fn new_flags(
+    alloc: Global,
+    rights: Rights,
+    flags: &[Flag],
+) -> Result<Option<SharedFlags>, AllocError>
+    ensures { IfOk result (specs.IsNewFlags (specs.new_flags (bits rights) flags.now)) }
+{
+    let mut shared = SharedFlags::new(alloc);
+    for flag in flags {
+        insert_permitted(&mut shared, alloc, rights, flag)?;
+        if shared.keywords.len() > MAX_KEYWORDS {
+            return Ok(None);
+        }
+    }
+    Ok(Some(shared))
+}
+
+/// Whether the user has seen a new message.
+pub fn is_new_seen(rights: Rights, flags: &[Flag]) -> bool
+    ensures { result ≡ specs.is_new_seen (bits rights) flags.now }
+{
+    rights.has_any(Rights::SEEN) && has_seen(flags)
+}
+
+fn has_seen(flags: &[Flag]) -> bool
+    ensures { result ≡ list_any specs.is_seen flags.now }
+{
+    flags.iter().any(
+        |flag: &Flag| -> bool
+            ensures { result ≡ specs.is_seen flag.now }
+        { matches!(flag, Flag::Seen) },
+    )
+}

@@ -1,0 +1,17 @@
+//! What commands on messages act on: the messages that a command names (RFC 9051, sections 2.3.1 and 9,
+//! `sequence-set`), the flags that a user may give them, the mailbox into which they are put, and what a
+//! mailbox has left for changes.
+#![tactic(auto)]
+
+mod flags;
+mod left;
+mod message_numbers;
+mod target;
+
+pub use flags::{is_new_seen, new_flags};
+pub use left::events_left;
+pub use message_numbers::{
+    MessageNumbers, are_numbers, in_set, is_by_uid, is_saved, known_count, last_of, number_at,
+    ranges_of, row_with,
+};
+pub use target::target_refusal;

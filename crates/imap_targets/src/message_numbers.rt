@@ -1,0 +1,215 @@
+//! The messages that a command names (RFC 9051, section 2.3.1).
+
+ghost use Rattle.std.specs.Prelude.{◌≡◌, ◌+◌, ◌<◌, ◌≤◌, ℕ, length, option_map, slice_index_or};
+ghost use Rattle.imap_mailbox.specs.declared.known.KnownMessage.{KnownMessage};
+ghost use Rattle.imap_mailbox.specs.Lent.{row_shown};
+ghost use Rattle.imap_targets.specs.Spans.{AreBounds, IsSpan, IsWithin};
+ghost use Rattle.imap_targets.specs.MessageNumbers as specs;
+ghost use Rattle.imap_syntax.specs.declared.set.Numbering.TheVariants.{Sequence, Uid};
+
+use imap_mailbox::{Row, Rows};
+use imap_session::KnownList;
+use imap_syntax::{MessageSet, Numbering, SeqNumber, SeqRange};
+
+/// A set of numbers or UIDs, as a session that knows some messages means it.
+#[derive(Drop)]
+pub struct MessageNumbers<'a> {
+    pub numbering: Numbering,
+    /// What `*` stands for.
+    pub last: u32,
+    pub ranges: &'a [SeqRange],
+}
+
+impl MessageNumbers<'_> {
+    /// Whether the set has the message with this number and this UID.
+    pub fn has(&self, number: u32, uid: u32) -> bool
+        ensures { let m : specs.Numbered = record { number = number; uid = uid } in
+            result ≡ specs.in_set self.now.last self.now.ranges.now (specs.number_by self.now.numbering m) }
+    {
+        match self.numbering {
+            Numbering::Sequence => in_set(self.last, self.ranges, number),
+            Numbering::Uid => in_set(self.last, self.ranges, uid),
+        }
+    }
+}
+
+impl MessageNumbers<'_> {
+    /// The places from which and up to which messages of the set may stand among those that are known.
+    pub fn span(&self, known: &KnownList) -> (usize, usize)
+        ensures { IsSpan self.now known.now.list result.0 result.1 }
+    {
+        let _count = known.len();
+        let (low, high) = bounds(self.last, self.ranges);
+        match self.numbering {
+            Numbering::Sequence => number_span(low, high, known),
+            Numbering::Uid => uid_span(low, high, known),
+        }
+    }
+}
+
+/// The places of messages with numbers from `low` to `high`.
+fn number_span(low: u32, high: u32, known: &KnownList) -> (usize, usize)
+    ensures { IsWithin Sequence low high known.now.list result.0 result.1 }
+{
+    let end = (high as usize).min(known.len());
+    ((low.saturating_sub(1) as usize).min(end), end)
+}
+
+/// The places of messages with UIDs from `low` to `high`, by searches that halve.
+fn uid_span(low: u32, high: u32, known: &KnownList) -> (usize, usize)
+    ensures { IsWithin Uid low high known.now.list result.0 result.1 }
+{
+    let end = place_after(high, known);
+    (known.place_from(low).min(end), end)
+}
+
+/// The place after all messages with UIDs up to `high`.
+fn place_after(high: u32, known: &KnownList) -> usize
+    ensures within { result ≤ length known.now.list }
+    ensures more { (place : ℕ) (d : KnownMessage) → result ≤ place → place < length known.now.list
+        → high < (slice_index_or known.now.list place d).uid }
+{
+    let count = known.len();
+    match high.checked_add(1) {
+        Some(above) => known.place_from(above),
+        None => count,
+    }
+}
+
+/// The least and the greatest number that the set may have.
+fn bounds(last: u32, ranges: &[SeqRange]) -> (u32, u32)
+    ensures { AreBounds last ranges.now result.0 result.1 }
+{
+    let mut low = u32::MAX;
+    let mut high = 0;
+    for range in ranges {
+        let first = end_of(last, range.first);
+        let second = end_of(last, range.last);
+        low = low.min(first).min(second);
+        high = high.max(first).max(second);
+    }
+    (low, high)
+}
+
+fn end_of(last: u32, number: SeqNumber) -> u32
+    ensures { result ≡ specs.end_of last number }
+{
+    match number {
+        SeqNumber::Last => last,
+        SeqNumber::Number(number) => number.get(),
+    }
+}
+
+fn is_between(first: u32, second: u32, number: u32) -> bool
+    ensures { result ≡ specs.is_between first second number }
+{
+    (first <= number && number <= second) || (second <= number && number <= first)
+}
+
+fn in_range(last: u32, number: u32, range: &SeqRange) -> bool
+    ensures { result ≡ specs.in_range last number range.now }
+{
+    is_between(end_of(last, range.first), end_of(last, range.last), number)
+}
+
+/// Whether the set has the number, if `*` stands for `last`.
+pub fn in_set(last: u32, ranges: &[SeqRange], number: u32) -> bool
+    ensures { result ≡ specs.in_set last ranges.now number }
+{
+    ranges.iter().any(|range| in_range(last, number, range))
+}
+
+fn is_number(count: u32, number: u32) -> bool
+    ensures { result ≡ specs.is_number count number }
+{
+    1 <= number && number <= count
+}
+
+fn has_numbers(count: u32, range: &SeqRange) -> bool
+    ensures { result ≡ specs.has_numbers count range.now }
+{
+    is_number(count, end_of(count, range.first)) && is_number(count, end_of(count, range.last))
+}
+
+/// Whether all numbers of the set are numbers of messages, of which there are `count`.
+pub fn are_numbers(count: u32, ranges: &[SeqRange]) -> bool
+    ensures { result ≡ specs.are_numbers count ranges.now }
+{
+    ranges.iter().all(|range| has_numbers(count, range))
+}
+
+/// The number of messages that the session knows.
+pub fn known_count(known: &KnownList) -> u32
+    ensures { result ≡ length known.now.list }
+{
+    known.len() as u32
+}
+
+/// The number of the message at the place.
+pub fn number_at(known: &KnownList, place: usize) -> u32
+    requires { place < length known.now.list }
+    ensures { result ≡ place + 1 }
+{
+    let _count = known.len();
+    place as u32 + 1
+}
+
+/// What `*` stands for.
+pub fn last_of(numbering: Numbering, next_uid: u32, known: &KnownList) -> u32
+    ensures { result ≡ specs.last_of numbering next_uid known.now.list }
+{
+    match numbering {
+        Numbering::Sequence => known_count(known),
+        Numbering::Uid => last_uid(next_uid, known),
+    }
+}
+
+fn last_uid(next_uid: u32, known: &KnownList) -> u32
+    ensures { result ≡ specs.last_uid next_uid known.now.list }
+{
+    let count = known.len();
+    if count == 0 {
+        return next_uid;
+    }
+    known.get(count - 1).uid
+}
+
+/// The message with the UID, if it is there, by a search that halves.
+pub fn row_with<'a>(rows: &Rows<'a>, uid: u32) -> Option<Row<'a>>
+    ensures { option_map row_shown result ≡ specs.row_with uid rows.now }
+{
+    match rows.place_of(uid) {
+        Some(place) => Some(rows.get(place)),
+        None => None,
+    }
+}
+
+/// Whether messages are named by their UIDs, and not by their numbers.
+pub fn is_by_uid(numbering: Numbering) -> bool
+    ensures { result ≡ specs.is_by_uid numbering }
+{
+    match numbering {
+        Numbering::Sequence => false,
+        Numbering::Uid => true,
+    }
+}
+
+/// The ranges of the set: none, if it is `$`.
+pub fn ranges_of(messages: &MessageSet) -> &[SeqRange]
+    ensures { result.now ≡ specs.ranges_of messages.now }
+{
+    match messages {
+        MessageSet::Saved => &[],
+        MessageSet::Numbers(ranges) => ranges.as_slice(),
+    }
+}
+
+/// Whether the set is `$`, the messages that SEARCH saved (RFC 9051, section 6.4.4.1).
+pub fn is_saved(messages: &MessageSet) -> bool
+    ensures { result ≡ specs.is_saved messages.now }
+{
+    match messages {
+        MessageSet::Saved => true,
+        MessageSet::Numbers(_) => false,
+    }
+}
