@@ -14,6 +14,8 @@ use Rattle.imap_grammar.specs.declared.request.Request.{Request}
 use Rattle.imap_grammar.specs.declared.request.Request.TheVariants as request
 use Rattle.imap_grammar.specs.declared.command.Command.{Command}
 use Rattle.imap_grammar.specs.declared.command.Command.TheVariants as command
+use Rattle.imap_changes.specs.Expunge.{close_answer, close_if_selected}
+use Rattle.imap_changes.proofs.Fitting as changes
 use Rattle.imap_list.proofs.Fitting as list
 use Rattle.imap_messages.proofs.Fitting as messages
 use Rattle.imap_syntax.specs.Moments.{Moment}
@@ -45,7 +47,7 @@ use Rattle.imap_core.specs.Commands.Session.{enabled_by_names, named_by}
 use Rattle.imap_core.specs.Laws.{selects}
 use Rattle.imap_core.specs.Notices.{mailbox_after, may_tell_expunges, notice_lines, notice_telling, options_after, selected_mailbox}
 use Rattle.imap_core.specs.Reply.{command_answer, command_outcome, enables_nothing, has_parameters, highest_line, if_selected, kept, newly_enables_condstore, noting, opened, outcome_of_answer, outcome_of_selecting, reply_by_session, reply_when_closed, reply_when_open, request_outcome}
-use Rattle.imap_core.specs.Reply.{select_outcome, unbuilt_answer, unbuilt_refusal, unless_lost, unselect_outcome, with_notices}
+use Rattle.imap_core.specs.Reply.{select_outcome, unbuilt_answer, unbuilt_refusal, unless_lost, unselect_outcome, close_outcome, with_notices}
 use Rattle.imap_core.proofs.Noticed.{no_line_refuses}
 use Rattle.imap_session.specs.Telling.{Telling}
 use Rattle.imap_core.specs.Sessions.{Own, max_sessions}
@@ -252,9 +254,8 @@ module _ (view : View) where
   command_fits active tag at (command.GetAcl mailbox) = tree.get_acl_fits view tag mailbox
   command_fits active tag at (command.ListRights mailbox identifier) = tree.list_rights_fits view tag mailbox identifier
   command_fits active tag at (command.MyRights mailbox) = tree.my_rights_fits view tag mailbox
-  command_fits active tag at command.Close = unbuilt_fits active tag
-  command_fits active tag at command.Expunge = unbuilt_fits active tag
-  command_fits active tag at (command.UidExpunge named) = unbuilt_fits active tag
+  command_fits active tag at command.Expunge = changes.expunge_fits view active tag None
+  command_fits active tag at (command.UidExpunge named) = changes.expunge_fits view active tag (Some named)
   command_fits active tag at (command.Search numbering returns charset keys) = unbuilt_fits active tag
   command_fits active tag at (command.Store numbering named store) = unbuilt_fits active tag
   command_fits active tag at (command.Copy numbering named mailbox) = unbuilt_fits active tag
@@ -265,10 +266,18 @@ module _ (view : View) (own : Option Own) (number : ℕ) where
   unselect_fits : (what : Act) (tag : List ℕ) (active : SessionState) → Fits view own number what (unselect_outcome active tag)
   unselect_fits what tag active = selected_fits view own number what active tag _ (selects_nothing view own number what (done tag) (fits_alone view _ _ refl) refl) active.selected
 
+  close_fits : (what : Act) (tag : List ℕ) (active : SessionState) → Fits view own number what (close_outcome view active tag)
+  close_fits what tag active = by active.selected refl
+    where
+      by : (selected : Option Selection) → active.selected ≡ selected → Fits view own number what (if_selected selected tag (answered (close_answer view active tag) (session.Select None)))
+      by None is = selected_fits view own number what active tag (said [] session.Keep) (says view own number what [] refl) None
+      by (Some s) is = selects_nothing view own number what (close_answer view active tag) (changes.close_fits view active tag) (ap (λ (o : Option Selection). list_any is_refusal (lines_of (close_if_selected view tag o))) is)
+
   outcome_of_command_fits : (active : SessionState) (tag : List ℕ) (at : Moment) (asked : Command) → Fits view own number (act.Do (request.Command tag asked)) (command_outcome view active tag at asked)
   outcome_of_command_fits active tag at command.Logout = ends view own number _ _ refl refl
   outcome_of_command_fits active tag at (command.Select mailbox parameters) = select_fits view own number _ refl active tag false mailbox parameters
   outcome_of_command_fits active tag at (command.Examine mailbox parameters) = select_fits view own number _ refl active tag true mailbox parameters
+  outcome_of_command_fits active tag at command.Close = close_fits _ tag active
   outcome_of_command_fits active tag at command.Unselect = unselect_fits _ tag active
   outcome_of_command_fits active tag at asked = answer_fits view own number _ active (may_tell_expunges asked) (command_answer view active tag at asked) (command_fits view active tag at asked)
 

@@ -45,8 +45,9 @@ use Rattle.imap_core.specs.declared.step.Act.TheVariants as act
 use Rattle.imap_core.specs.declared.step.Step.{Step}
 use Rattle.imap_core.specs.Machine.{accounts_after, outcome, outcome_for, own_in}
 use Rattle.imap_core.specs.Outcome.{Outcome, answered, said, silence}
+use Rattle.imap_changes.specs.Expunge.{close_answer}
 use Rattle.imap_core.specs.Reply.{command_answer, command_outcome, enables_nothing, has_parameters, highest_line, if_selected, newly_enables_condstore, noting, opened, outcome_of_answer, outcome_of_selecting, refused, reply_by_session}
-use Rattle.imap_core.specs.Reply.{reply_when_closed, reply_when_open, request_outcome, select_outcome, unless_lost, unselect_outcome, with_notices}
+use Rattle.imap_core.specs.Reply.{reply_when_closed, reply_when_open, request_outcome, select_outcome, unless_lost, unselect_outcome, close_outcome, with_notices}
 use Rattle.imap_core.proofs.Fitting.{command_fits, highest_fits}
 use Rattle.imap_world.proofs.Growing.{messages_grow}
 use Rattle.imap_world.proofs.Histories.{all_stay_kept, steps_stay_sound}
@@ -353,12 +354,20 @@ module _ (site : Site) (user : List ℕ) (world : World) (sound : IsSound world)
         by None = keeps (refusal tag WrongState)
         by (Some s) = selects_none (done tag)
 
+    close_keeps : (tag : List ℕ) → Keeps (Some own) (close_outcome seen own tag)
+    close_keeps tag = by own.selected
+      where
+        by : (selected : Option Selection) → Keeps (Some own) (if_selected selected tag (answered (close_answer seen own tag) (session.Select None)))
+        by None = keeps (refusal tag WrongState)
+        by (Some s) = selects_none (close_answer seen own tag)
+
     -- ---- commands and acts
 
     command_keeps : (tag : List ℕ) (at : Moment) (asked : Command) → Keeps (Some own) (command_outcome seen own tag at asked)
     command_keeps tag at command.Logout = closes world user (Some own)
     command_keeps tag at (command.Select mailbox parameters) = select_keeps tag false mailbox parameters
     command_keeps tag at (command.Examine mailbox parameters) = select_keeps tag true mailbox parameters
+    command_keeps tag at command.Close = close_keeps tag
     command_keeps tag at command.Unselect = unselect_keeps tag
     command_keeps tag at asked = answer_keeps (may_tell_expunges asked) (command_answer seen own tag at asked) (command_fits seen own tag at asked)
 

@@ -15,6 +15,7 @@ use Rattle.imap_list.specs.Subscriptions.{subscribe_answer, unsubscribe_answer}
 use Rattle.imap_syntax.specs.Moments.{Moment}
 use Rattle.imap_print.specs.declared.response.Response.{Response}
 use Rattle.imap_print.specs.declared.response.Response.TheVariants as response
+use Rattle.imap_changes.specs.Expunge.{close_answer, expunge_answer}
 use Rattle.imap_messages.specs.Append.{append_answer}
 use Rattle.imap_messages.specs.Fetch.{fetch_answer}
 use Rattle.imap_print.specs.declared.response.Farewell.TheVariants.{LimitReached, MailboxUnavailable}
@@ -100,9 +101,8 @@ command_answer view own tag at (command.GetAcl mailbox) = get_acl_answer view ta
 command_answer view own tag at (command.ListRights mailbox identifier) =
     list_rights_answer view tag mailbox identifier
 command_answer view own tag at (command.MyRights mailbox) = my_rights_answer view tag mailbox
-command_answer view own tag at command.Close = unbuilt_answer own tag
-command_answer view own tag at command.Expunge = unbuilt_answer own tag
-command_answer view own tag at (command.UidExpunge messages) = unbuilt_answer own tag
+command_answer view own tag at command.Expunge = expunge_answer view own tag None
+command_answer view own tag at (command.UidExpunge messages) = expunge_answer view own tag (Some messages)
 command_answer view own tag at (command.Search numbering returns charset keys) = unbuilt_answer own tag
 command_answer view own tag at (command.Store numbering messages store) = unbuilt_answer own tag
 command_answer view own tag at (command.Copy numbering messages mailbox) = unbuilt_answer own tag
@@ -170,12 +170,18 @@ if_selected (Some s) tag outcome = outcome
 abbrev pub unselect_outcome : SessionState → (tag : List ℕ) → Outcome
 unselect_outcome own tag = if_selected own.selected tag (answered (done tag) (session.Select None))
 
+-- CLOSE tells nothing of the mailbox that it closes
+abbrev pub close_outcome : View → SessionState → (tag : List ℕ) → Outcome
+close_outcome view own tag =
+    if_selected own.selected tag (answered (close_answer view own tag) (session.Select None))
+
 abbrev pub command_outcome : View → SessionState → (tag : List ℕ) → (at : Moment) → Command → Outcome
 command_outcome view own tag at command.Logout = answered (logout_answer tag) session.End
 command_outcome view own tag at (command.Select mailbox parameters) =
     select_outcome view own tag false mailbox parameters
 command_outcome view own tag at (command.Examine mailbox parameters) =
     select_outcome view own tag true mailbox parameters
+command_outcome view own tag at command.Close = close_outcome view own tag
 command_outcome view own tag at command.Unselect = unselect_outcome own tag
 command_outcome view own tag at command =
     outcome_of_answer view own (may_tell_expunges command) (command_answer view own tag at command)

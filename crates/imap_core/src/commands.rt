@@ -17,6 +17,7 @@ use crate::outcome::Outcome;
 use crate::pending::Pending;
 use crate::sessions::SessionEffect;
 use imap_answer::{Answer, Call};
+use imap_changes::{close_answer, expunge_answer, uid_expunge_answer};
 use imap_grammar::{Command, SelectParameters};
 use imap_lex::Octets;
 use imap_list::{
@@ -56,6 +57,7 @@ pub(crate) fn command_pending(
             mailbox,
             parameters,
         } => select_pending(call, session, true, mailbox, parameters),
+        Command::Close => close_pending(call, session),
         Command::Unselect => unselect_pending(call, session),
         _ => answer_pending(call, session, command),
     }
@@ -141,6 +143,22 @@ fn unselect_pending(call: &Call<'_>, session: &Session) -> Result<Pending, Alloc
 {
     match &session.selected {
         Some(_) => whole(call.done()?, SessionEffect::Select(NewSelection::none())),
+        None => whole(call.refuse(Refusal::WrongState)?, SessionEffect::Keep),
+    }
+}
+
+/// A mailbox is closed without notices.
+fn close_pending(call: &Call<'_>, session: &Session) -> Result<Pending, AllocError>
+    ensures outcome { let outcome = specs.close_outcome call.now.view (state_of session.now) call.now.tag in
+        IfOk result (λ given. given ≡ pending.Whole outcome) }
+    ensures completable { let own = state_of session.now in
+        IfOk result (λ given. IsCompletable call.now.view (Some own) given) }
+{
+    match &session.selected {
+        Some(_) => whole(
+            close_answer(call, session)?,
+            SessionEffect::Select(NewSelection::none()),
+        ),
         None => whole(call.refuse(Refusal::WrongState)?, SessionEffect::Keep),
     }
 }
@@ -237,10 +255,9 @@ fn command_answer(
             identifier,
         } => list_rights_answer(call, mailbox, identifier),
         Command::MyRights { mailbox } => my_rights_answer(call, mailbox),
-        Command::Close
-        | Command::Expunge
-        | Command::UidExpunge { .. }
-        | Command::Search { .. }
+        Command::Expunge => expunge_answer(call, session),
+        Command::UidExpunge { messages } => uid_expunge_answer(call, session, messages),
+        Command::Search { .. }
         | Command::Store { .. }
         | Command::Copy { .. }
         | Command::Move { .. } => unbuilt_answer(call, session),

@@ -1,0 +1,2 @@
+-- Commands that change messages: their answers.
+pub mod Expunge

@@ -1,0 +1,16 @@
+//! What holds of each command.
+
+ghost use Rattle.std.specs.Prelude.{ℕ, List, Option};
+ghost use Rattle.imap_answer.specs.Alike.{AnswersAlike};
+ghost use Rattle.imap_changes.specs.Expunge.{close_answer, expunge_answer};
+ghost use Rattle.imap_session.specs.State.{SessionState};
+ghost use Rattle.imap_syntax.specs.declared.set.MessageSet.{MessageSet};
+
+/// In two worlds that are alike to its user each command is answered alike, and leaves them alike to that
+/// user.
+pub fn commands_are_alike()
+    ensures expunge { (own : SessionState) (tag : List ℕ) (asked : Option MessageSet)
+        → AnswersAlike (λ view. expunge_answer view own tag asked) }
+    ensures close { (own : SessionState) (tag : List ℕ)
+        → AnswersAlike (λ view. close_answer view own tag) }
+{}
