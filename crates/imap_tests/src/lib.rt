@@ -10,11 +10,15 @@ mod acts;
 #[cfg(test)]
 mod batches;
 #[cfg(test)]
+mod keepers;
+#[cfg(test)]
 mod looks;
 #[cfg(test)]
 mod machine;
 #[cfg(test)]
 mod messages;
+#[cfg(test)]
+mod parts;
 #[cfg(test)]
 mod wanted;
 #[cfg(test)]

@@ -1,0 +1,15 @@
+//! Keeps the mailboxes where they outlive the program, or in memory.
+//!
+//! A [`Keeper`] holds a world. It saves each change of it, and gives the world back.
+#![tactic(auto)]
+
+mod error;
+mod keeper;
+pub mod laws;
+mod list_keeper;
+mod refuser;
+
+pub use error::KeepError;
+pub use keeper::Keeper;
+pub use list_keeper::ListKeeper;
+pub use refuser::Refuser;
