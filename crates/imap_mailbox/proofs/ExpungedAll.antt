@@ -8,6 +8,8 @@ use Rattle.std.specs.List.Sorted.{IsBinarySearchResult}
 use Rattle.imap_modseq.specs.Numbers.{max_events}
 use Rattle.imap_mailbox.specs.declared.message.Message.{Message}
 use Rattle.imap_mailbox.specs.declared.message.GoneMessage.{GoneMessage}
+use Rattle.imap_user_map.specs.Rows.{Users}
+use Rattle.imap_mailbox.specs.declared.own.SeenChange.{SeenChange}
 use Rattle.imap_mailbox.specs.Rows.{Expunged, is_among}
 use Rattle.imap_mailbox.specs.Summary.{Summary, Rises, AreRising, uids_in, with_expunge, without, is_there}
 use Rattle.imap_mailbox.specs.Held.{IsKept}
@@ -19,7 +21,7 @@ use Rattle.imap_mailbox.proofs.Keeping.{kept_step}
 -- ---- messages
 
 -- one filter after another
-filter_twice : (uid : ℕ) (uids : List ℕ) (messages : List Message) → without_all uids (without uid messages) ≡ without_all (uid ∷ uids) messages
+pub filter_twice : (uid : ℕ) (uids : List ℕ) (messages : List Message) → without_all uids (without uid messages) ≡ without_all (uid ∷ uids) messages
 filter_twice uid uids [] = refl
 filter_twice uid uids (m ∷ messages) =
     by (eqb m.uid uid) (filter_twice uid uids messages)
@@ -31,7 +33,7 @@ filter_twice uid uids (m ∷ messages) =
     by true rest = rest
     by false rest = λ i. cond (not (is_among m.uid uids)) (m ∷ rest i) (rest i)
 
-all_stay : (messages : List Message) → without_all [] messages ≡ messages
+pub all_stay : (messages : List Message) → without_all [] messages ≡ messages
 all_stay [] = refl
 all_stay (m ∷ messages) = ap (λ ms. m ∷ ms) (all_stay messages)
 
@@ -40,7 +42,7 @@ or_false true b e = absurd (cc e)
 or_false false b e = (refl, e)
 
 -- a UID that no message has removes none
-absent_stay : (uid : ℕ) (uids : List ℕ) (messages : List Message) → is_among uid (uids_in messages) ≡ false → without_all (uid ∷ uids) messages ≡ without_all uids messages
+pub absent_stay : (uid : ℕ) (uids : List ℕ) (messages : List Message) → is_among uid (uids_in messages) ≡ false → without_all (uid ∷ uids) messages ≡ without_all uids messages
 absent_stay uid uids [] e = refl
 absent_stay uid uids (m ∷ messages) e =
     let parts = or_false (eqb m.uid uid) (is_among uid (uids_in messages)) e in
@@ -58,7 +60,7 @@ among_without uid q (m ∷ messages) lt = by (eqb m.uid uid) refl (among_without
     by true t rest = rest ∙ sym (ap (λ b. b || is_among q (uids_in messages)) (ne_eqb m.uid q (λ e. let is = eqb-true m.uid uid t in omega (arith, is, e))))
     by false t rest = ap (λ b. eqb m.uid q || b) rest
 
-there_without : (uid low high : ℕ) (uids : List ℕ) (messages : List Message) → uid < low → Rises low high uids → uids_there uids (without uid messages) ≡ uids_there uids messages
+pub there_without : (uid low high : ℕ) (uids : List ℕ) (messages : List Message) → uid < low → Rises low high uids → uids_there uids (without uid messages) ≡ uids_there uids messages
 there_without uid low high [] messages lt h = refl
 there_without uid low high (u ∷ uids) messages lt h =
     let at : low ≤ u = h.0 in
@@ -177,15 +179,15 @@ by_lists low high (uid ∷ uids) s h = by (is_there uid s) refl (λ s. by_lists 
     by false f rest = rest s ∙ absent_gone uid uids s f
 
 -- as the code makes it: `read` are the messages that it looked through
-pub made_by : (low high : ℕ) (uids : List ℕ) (s : Summary) (read messages : List Message) (gone : List GoneMessage) (next : ℕ) → Rises low high uids → read ≡ s.messages
-    → messages ≡ without_all uids s.messages → gone ≡ s.gone ++ gone_at s.shared (uids_there uids read) → next ≡ s.shared + length (uids_there uids read)
-    → with_expunges uids s ≡ record { messages = messages; gone = gone; next = s.next; shared = next; own = s.own }
-made_by low high uids s read messages gone next h is left went count = by_lists low high uids s h ∙ λ i. record {
+pub made_by : (low high : ℕ) (uids : List ℕ) (s : Summary) (read messages : List Message) (gone : List GoneMessage) (next : ℕ) (own : Users (List SeenChange)) → Rises low high uids → read ≡ s.messages
+    → messages ≡ without_all uids s.messages → gone ≡ s.gone ++ gone_at s.shared (uids_there uids read) → next ≡ s.shared + length (uids_there uids read) → own ≡ s.own
+    → with_expunges uids s ≡ record { messages = messages; gone = gone; next = s.next; shared = next; own = own }
+made_by low high uids s read messages gone next own h is left went count same = by_lists low high uids s h ∙ λ i. record {
   messages = sym left i;
   gone = sym (went ∙ ap (λ ms. s.gone ++ gone_at s.shared (uids_there uids ms)) is) i;
   next = s.next;
   shared = sym (count ∙ ap (λ ms. s.shared + length (uids_there uids ms)) is) i;
-  own = s.own;
+  own = sym same i;
 }
 
 pub kept_expunges : (uids : List ℕ) (s : Summary) → s.shared + length uids ≤ max_events → IsKept s → IsKept (with_expunges uids s)

@@ -1,5 +1,5 @@
 -- A message by its UID.
-use Rattle.std.proofs.Common.{◌≡◌, ◌≢◌, ℕ, zero, suc, ◌+◌, ◌<◌, ◌≤◌, eqb, ltb, Bool, true, false, cond, ◌||◌, List, [], ◌∷◌, length, map, get_or, set, Option, Some, None, option_map, unwrap_or, refl, sym, ap, ◌∙◌, arith, ⊎_elim}
+use Rattle.std.proofs.Common.{is_some, ◌≡◌, ◌≢◌, ℕ, zero, suc, ◌+◌, ◌<◌, ◌≤◌, eqb, ltb, Bool, true, false, cond, ◌||◌, List, [], ◌∷◌, length, map, get_or, set, Option, Some, None, option_map, unwrap_or, refl, sym, ap, ◌∙◌, arith, ⊎_elim}
 use Rattle.std.proofs.lemmas.Bool.{ne_eqb, eq-eqb, ltb-true, ltb-false, eqb-true, cases_lt}
 use Rattle.std.proofs.lemmas.List.{length-map}
 use Rattle.std.specs.List.{prefix_len}
@@ -95,6 +95,13 @@ among_nowhere uid [] e = refl
 among_nowhere uid (u ∷ us) e =
     let parts = front_none (eqb u uid) (place_in uid us) e in
     ap (λ b. b || is_among uid us) parts.0 ∙ among_nowhere uid us parts.1
+
+pub place_tells : (uid : ℕ) (us : List ℕ) → is_some (place_in uid us) ≡ is_among uid us
+place_tells uid us = by (place_in uid us) refl
+  where
+    by : (o : Option ℕ) → place_in uid us ≡ o → is_some o ≡ is_among uid us
+    by (Some i) e = sym (among_found uid us i e)
+    by None e = sym (among_nowhere uid us e)
 
 -- ---- messages
 

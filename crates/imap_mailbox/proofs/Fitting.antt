@@ -121,7 +121,7 @@ taken_step (Expunged uid) s own h = taken_all own s.shared h.order uid s.gone
 
 -- ---- uids
 
-put_uid : (uid : ℕ) (flags : SharedFlags) (p : ℕ) (messages : List Message) → uids_in (map (flags_in uid flags p) messages) ≡ uids_in messages
+pub put_uid : (uid : ℕ) (flags : SharedFlags) (p : ℕ) (messages : List Message) → uids_in (map (flags_in uid flags p) messages) ≡ uids_in messages
 put_uid uid flags p [] = refl
 put_uid uid flags p (c ∷ messages) = λ i. by (eqb c.uid uid) i ∷ put_uid uid flags p messages i
   where
@@ -129,7 +129,7 @@ put_uid uid flags p (c ∷ messages) = λ i. by (eqb c.uid uid) i ∷ put_uid ui
     by true = refl
     by false = refl
 
-without_uid : (uid : ℕ) (messages : List Message) → uids_in (without uid messages) ≡ filter (λ u. not (eqb u uid)) (uids_in messages)
+pub without_uid : (uid : ℕ) (messages : List Message) → uids_in (without uid messages) ≡ filter (λ u. not (eqb u uid)) (uids_in messages)
 without_uid uid [] = refl
 without_uid uid (c ∷ messages) = by (not (eqb c.uid uid)) (without_uid uid messages)
   where

@@ -1,11 +1,10 @@
 -- The mailbox that is made of parts, and what a mailbox says of its parts.
-use Rattle.std.proofs.Common.{◌≡◌, ◌≢◌, ◌⊎◌, ℕ, Bool, true, false, cond, eqb, ◌+◌, ◌<◌, ◌≤◌, List, [], ◌∷◌, map, length, Option, Some, None, Result, Ok, Err, refl, sym, ap, ◌∙◌, subst, arith, inl, inr, IsPermutation, unwrap_or, IsErr, IsErrAnd}
+use Rattle.std.proofs.Common.{◌≡◌, ◌≢◌, ◌⊎◌, ℕ, Bool, true, false, cond, eqb, ◌+◌, ◌<◌, ◌≤◌, List, [], ◌∷◌, length, Option, Some, None, Result, Ok, Err, refl, sym, ap, ◌∙◌, subst, arith, inl, inr, IsPermutation, unwrap_or, IsErr, IsErrAnd}
 use Rattle.std.specs.Prelude.{option_and_then}
 use Rattle.std.specs.FinMap as fin
 use Rattle.std.proofs.lemmas.Bool.{cases_lt, eqb-true}
 use Rattle.std.specs.List.Sorted.{IsNonDecreasingBy}
 use Rattle.std.proofs.lemmas.List.Sorted.{IsPermutation-map, IsPermutation-sym}
-use Rattle.imap_modseq.specs.Numbers.{max_events}
 use Rattle.imap_user_map.specs.Rows as table
 use Rattle.imap_mailbox.specs.declared.message.GoneMessage.{GoneMessage}
 use Rattle.imap_mailbox.specs.declared.message.Message.{Message}
@@ -14,13 +13,12 @@ use Rattle.imap_mailbox.specs.declared.parts.MailboxParts.{MailboxParts}
 use Rattle.imap_mailbox.specs.declared.parts.PartsError.{PartsError}
 use Rattle.imap_mailbox.specs.declared.parts.PartsError.TheVariants.{Bad, Memory}
 use Rattle.imap_mailbox.specs.Flags.{HasFewKeywords}
-use Rattle.imap_mailbox.specs.Held.{Held, HaveFewKeywords, IsKept, lists, summary_with}
-use Rattle.imap_mailbox.specs.History.{own_at}
+use Rattle.imap_mailbox.specs.Held.{HaveFewKeywords, IsKept, lists, summary_with}
 use Rattle.imap_mailbox.specs.Owned.{Owned, if_any, owned_changes}
-use Rattle.imap_mailbox.specs.Parts.{AreOwn, Restores, StandFor}
-use Rattle.imap_mailbox.specs.Restored.{AreMessages, ArePlacesOf, Checks, FitAll, HaveAllUids, RestoresOwn}
-use Rattle.imap_mailbox.specs.Summary.{Summary, AreApart, ArePlacesBelow, Rises, count_of, given_once, uids_in, gone_uids, message_places, places_in}
-use Rattle.imap_mailbox.proofs.Counts.{one, one_same, count_more}
+use Rattle.imap_mailbox.specs.Parts.{Restores, StandFor}
+use Rattle.imap_mailbox.specs.Restored.{AreMessages, Checks, FitAll, RestoresOwn}
+use Rattle.imap_mailbox.specs.Summary.{Summary, ArePlacesBelow, Rises, count_of, uids_in, gone_uids, message_places, places_in}
+use Rattle.imap_mailbox.proofs.Counts.{one_same, count_more}
 use Rattle.imap_mailbox.proofs.Reordered.{Has, count_moved, given_most, given_within, has_moved, ordered_by, rises_ordered, within_risen}
 use Rattle.imap_mailbox.proofs.Rising.{rises_end}
 use Rattle.imap_mailbox.proofs.Values.{get_changes}
@@ -89,14 +87,19 @@ module _ (next shared : ℕ) (xs ys : List Message) (gs hs : List GoneMessage) (
     keywords = few_moved xs ys moved h.keywords;
   }
 
+-- messages in order
+pub rising_of : (next shared : ℕ) (messages : List Message) (gone : List GoneMessage) → IsNonDecreasingBy (λ m. m.uid) messages → AreMessages next shared messages gone → Rises 1 next (uids_in messages)
+rising_of next shared messages gone by_uid h =
+    rises_ordered 1 next 0 (uids_in messages) h.uids.0 (ordered_by (λ (m : Message). m.uid) messages by_uid)
+    (λ uid. let all = h.uids.1 uid in omega (arith, all, given_most next uid))
+    (λ uid lt. let all = h.uids.1 uid in given_within next uid (omega (arith, all, lt)))
+
 pub kept_of : (next shared : ℕ) (messages : List Message) (gone : List GoneMessage) (own : table.Rows Owned)
     → IsNonDecreasingBy (λ m. m.uid) messages → IsNonDecreasingBy (λ g. g.place) gone
     → AreMessages next shared messages gone → FitAll next shared (lists own) → IsKept (summary_with messages gone next shared own)
 kept_of next shared messages gone own by_uid by_place h fit = record {
   sound = record {
-    uids = rises_ordered 1 next 0 (uids_in messages) h.uids.0 (ordered_by (λ (m : Message). m.uid) messages by_uid)
-        (λ uid. let all = h.uids.1 uid in omega (arith, all, given_most next uid))
-        (λ uid lt. let all = h.uids.1 uid in given_within next uid (omega (arith, all, lt)));
+    uids = rising_of next shared messages gone by_uid h;
     once = h.uids.1;
     apart = h.apart;
     place = places_below shared messages (λ p lt. h.places p (omega (arith, lt)));

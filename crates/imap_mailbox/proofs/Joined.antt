@@ -44,7 +44,7 @@ latest-bound low high j uid (s ∷ own) found h le =
     by false = omega arith
 
 -- a message that came after all own changes has none
-latest-none : (j uid next : ℕ) (own : List SeenChange) → AreOfGiven next own → next ≤ uid → latest_from j uid own None ≡ None
+pub latest-none : (j uid next : ℕ) (own : List SeenChange) → AreOfGiven next own → next ≤ uid → latest_from j uid own None ≡ None
 latest-none j uid next [] h lt = refl
 latest-none j uid next (s ∷ own) h lt =
     let le : s.uid < next = h.0.1 in

@@ -8,6 +8,7 @@ pub mod Ordered
 pub mod Fitting
 pub mod Bridge
 pub mod Counts
+pub mod Passing
 pub mod Accounts
 pub mod Apart
 pub mod Rising
@@ -33,3 +34,5 @@ pub mod Restoring
 pub mod OwnChanges
 pub mod FromParts
 pub mod OneMailbox
+pub mod SeenCounts
+pub mod AllCounted

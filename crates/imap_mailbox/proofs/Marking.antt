@@ -9,7 +9,13 @@ use Rattle.imap_mailbox.specs.Owned.{if_any, owned_changes, changes_of}
 use Rattle.imap_mailbox.proofs.Values.{any_pushed, changes_in, changes_put, changes_same, get_set}
 use Rattle.imap_mailbox.specs.declared.own.SeenChange.{SeenChange}
 use Rattle.imap_mailbox.specs.Owned.{Owned}
+use Rattle.imap_mailbox.specs.declared.message.Message.{Message}
+use Rattle.imap_mailbox.specs.Counted.{seen_among, seen_after, IsCounted, AreCounted}
 use Rattle.imap_mailbox.specs.Held.{lists, list_at, list_room, own_room}
+use Rattle.imap_mailbox.specs.Rows.{is_among}
+use Rattle.imap_mailbox.specs.Summary.{AreRising, latest, latest_seen, uids_in}
+use Rattle.imap_mailbox.proofs.AllCounted.{put_counted}
+use Rattle.imap_mailbox.proofs.SeenCounts.{seen_pushed}
 
 list_in : (own : Rows Owned) (user : List ℕ) → list_at own user ≡ unwrap_or (option_map (λ (o : Owned). o.list) (fin.get own.map user)) []
 list_in own user = changes_in own.map user
@@ -32,6 +38,24 @@ module _ (old n : Rows Owned) (user : List ℕ) (found : MutBor Owned) (o : Owne
 
   pub room_after : own_room n user ≡ o.room
   room_after = ap (λ (rows : Rows Owned). own_room rows user) lent ∙ ap list_room (get_set old.map user o)
+
+  put_is : n.map ≡ fin.insert old.map user o
+  put_is = ap (λ (rows : Rows Owned). rows.map) lent
+
+  pub same_kept : (messages : List Message) → o.list ≡ found.now.list → o.seen ≡ found.now.seen → AreCounted messages old → AreCounted messages n
+  same_kept messages same seen h =
+      let had : found.now.seen ≡ seen_among found.now.list (uids_in messages) = subst (IsCounted messages) was (h user) in
+      put_counted messages old.map n.map user o put_is (seen ∙ had ∙ ap (λ l. seen_among l (uids_in messages)) (sym same)) h
+
+  pub one_counted : (messages : List Message) (change : SeenChange) → AreRising (uids_in messages) → is_among change.uid (uids_in messages) ≡ true
+      → o.list ≡ found.now.list ++ change ∷ [] → o.seen ≡ seen_after (latest_seen (latest change.uid found.now.list)) change.seen found.now.seen
+      → AreCounted messages old → AreCounted messages n
+  one_counted messages change rising there pushed seen h =
+      let had : found.now.seen ≡ seen_among found.now.list (uids_in messages) = subst (IsCounted messages) was (h user) in
+      put_counted messages old.map n.map user o put_is
+      (seen ∙ ap (seen_after (latest_seen (latest change.uid found.now.list)) change.seen) had
+      ∙ sym (seen_pushed found.now.list change rising.0 rising.1 (uids_in messages) rising.2 there)
+      ∙ ap (λ l. seen_among l (uids_in messages)) (sym pushed)) h
 
 pub on_ok : {A E : Type 0} (P Q : Type 0) (r : Result A E) → (P → Q) → OnOk r P → OnOk r Q
 on_ok P Q (Ok x) f h = f h

@@ -7,11 +7,9 @@ use Rattle.imap_user_map.proofs.Entries.{same_answers}
 use Rattle.imap_mailbox.specs.declared.message.GoneMessage.{GoneMessage}
 use Rattle.imap_mailbox.specs.declared.message.Message.{Message}
 use Rattle.imap_mailbox.specs.declared.own.SeenChange.{SeenChange}
-use Rattle.imap_mailbox.specs.declared.parts.MailboxParts.{MailboxParts}
-use Rattle.imap_mailbox.specs.Held.{IsKept}
 use Rattle.imap_mailbox.specs.History.{own_at}
-use Rattle.imap_mailbox.specs.Parts.{StandFor, StandForOne}
-use Rattle.imap_mailbox.specs.Summary.{Summary, Rises}
+use Rattle.imap_mailbox.specs.Parts.{StandForOne}
+use Rattle.imap_mailbox.specs.Summary.{Rises}
 use Rattle.imap_mailbox.specs.UserChange.{UserChange, of_user, changes_from}
 use Rattle.imap_mailbox.proofs.OwnChanges.{has_kept, has_of, places_rise}
 use Rattle.imap_mailbox.proofs.Reordered.{has_moved, same_rising}

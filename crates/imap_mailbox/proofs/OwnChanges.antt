@@ -1,5 +1,5 @@
 -- Own changes of all users, from a list in the order of their places.
-use Rattle.std.proofs.Common.{◌≡◌, ◌≢◌, ◌↔◌, ℕ, zero, suc, ◌+◌, ◌-◌, ◌<◌, ◌≤◌, Bool, true, false, cond, List, [], ◌∷◌, ◌++◌, length, get_or, drop, map, Err, filter, sum_by, Some, unwrap_or, refl, sym, ap, ◌∙◌, subst, arith, append_assoc, inl, inr, IsPermutation, length-append}
+use Rattle.std.proofs.Common.{◌≡◌, ℕ, zero, suc, ◌+◌, ◌-◌, ◌<◌, ◌≤◌, Bool, true, false, cond, List, [], ◌∷◌, ◌++◌, length, get_or, drop, map, Err, sum_by, Some, unwrap_or, refl, sym, ap, ◌∙◌, subst, arith, append_assoc, inl, inr, IsPermutation, length-append}
 use Rattle.std.specs.Prelude.{bytes_eq}
 use Rattle.std.specs.FinMap as fin
 use Rattle.std.specs.Cmp.Lexicographic.{nat_list_cmp_total}
@@ -18,7 +18,6 @@ use Rattle.imap_mailbox.specs.Held.{list_at, lists}
 use Rattle.imap_mailbox.specs.Owned.{Owned}
 use Rattle.imap_mailbox.specs.declared.own.SeenChange.{SeenChange}
 use Rattle.imap_mailbox.specs.History.{own_at, own_entry}
-use Rattle.imap_mailbox.specs.Parts.{AreOwn}
 use Rattle.imap_mailbox.specs.Restored.{Appends, AppendsAll, AreInPlace, FitAll, MayFollow, RestoresOwn, last_before}
 use Rattle.imap_mailbox.specs.Rows.{WasGiven}
 use Rattle.imap_mailbox.specs.Summary.{AreOfGiven, Fits, Rises, count_of}

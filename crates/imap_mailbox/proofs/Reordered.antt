@@ -1,7 +1,7 @@
 -- Lists in another order: what stays, and which order is the one that rises.
 use Rattle.std.proofs.Common.{◌≡◌, ℕ, suc, ◌+◌, ◌<◌, ◌≤◌, Bool, true, false, cond, ◌&&◌, leb, ltb, eqb, List, [], ◌∷◌, ◌++◌, length, get_or, sum_by, refl, sym, ap, ap₂, ◌∙◌, subst, arith, ⊎_elim, le_antisymm, IsPermutation, suc-le-suc, zero, map, map-id, filter, inl, inr, le_of_suc-le-suc, ◌⊎◌, Contains}
 use Rattle.std.specs.List.Sorted.{IsNonDecreasing, IsNonDecreasingBy}
-use Rattle.std.proofs.lemmas.Bool.{cases_lt, eqb-true, eqb-false, lt-ltb, le-leb, leb-true, ltb-true}
+use Rattle.std.proofs.lemmas.Bool.{cases_lt, eqb-true, lt-ltb, le-leb, leb-true, ltb-true}
 use Rattle.std.proofs.lemmas.List.Sorted.{sum_by-IsPermutation, Contains-permutation}
 use Rattle.std.proofs.lemmas.List.Sums.{sum_by-cons}
 use Rattle.imap_mailbox.specs.Restored.{IsRun}

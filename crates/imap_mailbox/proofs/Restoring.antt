@@ -1,5 +1,5 @@
 -- What is asked of the messages of a mailbox, by their UIDs and places in order.
-use Rattle.std.proofs.Common.{length, drop, get_or, subst, ◌≡◌, ◌↔◌, ℕ, ◌+◌, ◌<◌, ◌≤◌, List, [], ◌∷◌, ◌++◌, map, refl, sym, ap, ◌∙◌, arith, ⊎_elim, IsPermutation, le_antisymm}
+use Rattle.std.proofs.Common.{length, drop, get_or, subst, ◌≡◌, ◌↔◌, ℕ, ◌+◌, ◌<◌, ◌≤◌, List, ◌∷◌, ◌++◌, ◌∙◌, arith, ⊎_elim, IsPermutation}
 use Rattle.std.specs.List.Sorted.{IsNonDecreasing}
 use Rattle.std.proofs.lemmas.Bool.{cases_lt}
 use Rattle.std.proofs.lemmas.List.{drop_more}

@@ -47,7 +47,7 @@ goes_high uid table i d lt le = ⊎_elim (λ (low : i < before_uid uid table). a
 
 -- ---- what is found there
 
-none_above : (uid low high : ℕ) (table : List LastSeen) → uid < low → Rises low high (last_uids table) → last_in uid table ≡ None
+pub none_above : (uid low high : ℕ) (table : List LastSeen) → uid < low → Rises low high (last_uids table) → last_in uid table ≡ None
 none_above uid low high [] lt h = refl
 none_above uid low high (l ∷ table) lt h =
     let at : low ≤ l.uid = h.0 in

@@ -45,3 +45,9 @@ IsGap uid table place = (place ≡ before_uid uid table) × (place ≤ length ta
 pub record AreLatest (table : List LastSeen) (own : List SeenChange) : Type 0 where
   pub rising : AreRising (last_uids table)
   pub same : (uid : ℕ) → last_in uid table ≡ latest uid own
+
+-- no more messages are counted as seen than there are changes
+pub record IsOwnSeen (table : List LastSeen) (own : List SeenChange) (seen : ℕ) : Type 0 where
+  pub latest : AreLatest table own
+  pub short : length table ≤ length own
+  pub few : seen ≤ length own

@@ -9,6 +9,7 @@ pub mod Called
 pub mod Bridge
 pub mod Latest
 pub mod Owned
+pub mod Counted
 pub mod Held
 pub mod Lent
 pub mod Order

@@ -6,15 +6,17 @@ use Rattle.imap_user_map.specs.Rows.{Users}
 use Rattle.imap_mailbox.specs.contracts.own.SeenChange as change
 use Rattle.imap_mailbox.specs.declared.own.SeenChange.{SeenChange}
 
--- the room is the number of changes that need no memory
+-- the room is the number of changes that need no memory, and `seen` the number of messages that are there and
+-- that the user has seen
 pub record Owned : Type 0 where
   pub list : List SeenChange
   pub room : ℕ
+  pub seen : ℕ
 
 abbrev pub owned_code : Coded Owned
 owned_code =
-    code_by (List SeenChange × ℕ) (coded× (coded_list change.the_row.coded) coded_ℕ)
-    (λ o. (o.list, o.room)) (λ t. record { list = t.0; room = t.1 }) (λ _. refl)
+    code_by (List SeenChange × (ℕ × ℕ)) (coded× (coded_list change.the_row.coded) (coded× coded_ℕ coded_ℕ))
+    (λ o. (o.list, (o.room, o.seen))) (λ t. record { list = t.0; room = t.1.0; seen = t.1.1 }) (λ _. refl)
 
 -- the changes, if there are any
 abbrev pub if_any : List SeenChange → Option (List SeenChange)

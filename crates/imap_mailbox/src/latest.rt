@@ -1,10 +1,13 @@
 //! The last change of each UID, in the order of UIDs.
 
 ghost use Rattle.std.specs.Prelude.{◌≡◌, ℕ, ◌+◌, ◌<◌, ◌≤◌, ◌==◌, ◌↔◌, true, nat_lt, length, vec_len, Some, IsTrue};
-ghost use Rattle.std.specs.Prelude.{MatchResult, if◌then◌else◌};
+ghost use Rattle.std.specs.Prelude.{MatchResult, if◌then◌else◌, ◌&&◌, count_by};
 ghost use Rattle.std.specs.Vec.{vec_capacity};
-ghost use Rattle.imap_mailbox.specs.Summary.{AreRising};
+ghost use Rattle.imap_mailbox.specs.Rows.{is_among};
+ghost use Rattle.imap_mailbox.specs.Summary.{AreRising, latest_seen, uids_in};
 ghost use Rattle.imap_mailbox.specs.Latest.{last_uids, last_in, put_in, before_uid, IsAt, IsPlace, IsGap};
+
+use crate::message::{Message, find_message};
 
 /// The last change of a user's own `\Seen` of a UID.
 #[derive(Clone, Copy)]
@@ -130,4 +133,25 @@ pub(crate) fn put_last(table: &mut Vec<LastSeen>, last: LastSeen)
         Ok(place) => table[place] = last,
         Err(place) => drop(table.insert(place, last)),
     }
+}
+
+/// Whether a message that is there has the UID and is seen.
+fn is_counted(last: &LastSeen, messages: &[Message]) -> bool
+    requires { AreRising (uids_in messages.now) }
+    ensures { result ≡ (last.now.seen && is_among last.now.uid (uids_in messages.now)) }
+{
+    last.seen && find_message(messages, last.uid).is_some()
+}
+
+/// Returns how many of the messages are seen, by a search for each entry.
+pub(crate) fn count_seen(table: &[LastSeen], messages: &[Message]) -> usize
+    requires table { AreRising (last_uids table.now) }
+    requires messages { AreRising (uids_in messages.now) }
+    ensures count { result ≡ count_by (λ uid. latest_seen (last_in uid table.now)) (uids_in messages.now) }
+    ensures most { result ≤ length table.now }
+{
+    table
+        .iter()
+        .filter(|last| is_counted(last, messages))
+        .count()
 }

@@ -11,6 +11,7 @@
 
 mod calls;
 mod copies;
+mod counting;
 mod error;
 mod expunging;
 mod flags;

@@ -18,6 +18,7 @@ ghost use Rattle.imap_mailbox.specs.Order.{AreRowsInOrder, AreGoneInOrder};
 ghost use Rattle.imap_mailbox.specs.Parts.{Restores};
 
 use crate::copies::{copy_items, copy_messages};
+use crate::counting::{count_all, forget_gone};
 use crate::expunging::{Rising, push_gone, remove_messages};
 use crate::flags::SharedFlags;
 use crate::gone::GoneUids;
@@ -52,6 +53,7 @@ pub struct Mailbox {
 impl Model for Mailbox {
     ghost use Rattle.std.specs.Prelude.{◌-◌, vec_len};
     ghost use Rattle.std.specs.Vec.{vec_capacity};
+    ghost use Rattle.imap_mailbox.specs.Counted.{AreCounted};
     ghost use Rattle.imap_mailbox.specs.Held.{Held, held_code, summary_with, IsKept};
 
     ghost Value = { Held };
@@ -68,7 +70,8 @@ impl Model for Mailbox {
       expunge_room = vec_capacity m.gone - vec_len m.gone;
     } };
 
-    ghost invariant = { λ m. IsKept (summary_with m.messages.items m.gone.items m.next m.shared m.own) };
+    ghost invariant = { λ m. IsKept (summary_with m.messages.items m.gone.items m.next m.shared m.own)
+        × AreCounted m.messages.items m.own };
 }
 
 impl Mailbox {
@@ -102,9 +105,10 @@ impl Mailbox {
             own,
         } = parts;
         check_messages(alloc, &messages, &gone, next, shared)?;
-        let own = own_lists(alloc, own, next, shared)?;
+        let mut own = own_lists(alloc, own, next, shared)?;
         sort_by_uid(&mut messages);
         sort_by_place(&mut gone);
+        count_all(&mut own, &messages);
         Ok(Mailbox {
             messages,
             gone,
@@ -210,7 +214,7 @@ impl Mailbox {
         requires few { self.old.shared < max_events }
         ensures contents { summary_in self.new
             ≡ if_there uid (with_expunge uid (summary_in self.old)) (summary_in self.old) }
-        ensures own { self.new.own ≡ self.old.own }
+        ensures own_room { (user : List ℕ) → own_room self.new.own user ≡ own_room self.old.own user }
         ensures add_room { self.old.add_room ≤ self.new.add_room }
         ensures expunge_room { self.old.expunge_room ≤ self.new.expunge_room + 1 }
     {
@@ -220,18 +224,22 @@ impl Mailbox {
     }
 
     /// Expunges the messages with these UIDs, in this order, in room that is there. UIDs that no message has
-    /// change nothing. It takes one pass of the messages, and a search that halves for each message and UID.
+    /// change nothing. It takes one pass of the messages, a search that halves for each message and UID, and
+    /// for each user with own changes one pass of the UIDs that went.
     pub fn expunge_all_reserved(&mut self, uids: &[u32])
         requires rising { AreRising uids.now }
         requires room { length uids.now ≤ self.old.expunge_room }
         requires few { self.old.shared + length uids.now ≤ max_events }
         ensures contents { summary_in self.new ≡ with_expunges uids.now (summary_in self.old) }
-        ensures own { self.new.own ≡ self.old.own }
+        ensures own_room { (user : List ℕ) → own_room self.new.own user ≡ own_room self.old.own user }
         ensures add_room { self.old.add_room ≤ self.new.add_room }
         ensures expunge_room { self.old.expunge_room ≤ self.new.expunge_room + length uids.now }
     {
         let place = self.shared;
+        let first = self.gone.len();
         let next = push_gone(&mut self.gone, &self.messages, uids, place);
+        let (_, gone) = self.gone.split_at(first);
+        forget_gone(&mut self.own, gone);
         remove_messages(&mut self.messages, &Rising { uids });
         self.shared = next;
     }
@@ -271,20 +279,22 @@ impl Mailbox {
         requires room { 0 < self.old.expunge_room }
         requires few { self.old.shared < max_events }
         ensures contents { summary_in self.new ≡ with_expunge uid (summary_in self.old) }
-        ensures own { self.new.own ≡ self.old.own }
+        ensures own_room { (user : List ℕ) → own_room self.new.own user ≡ own_room self.old.own user }
         ensures add_room { self.old.add_room ≤ self.new.add_room }
         ensures expunge_room { self.old.expunge_room ≤ self.new.expunge_room + 1 }
     {
         let place = self.shared;
+        let gone = GoneMessage { uid, place };
         remove_message(&mut self.messages, uid);
-        self.gone.push_reserved(GoneMessage { uid, place });
+        self.gone.push_reserved(gone);
+        forget_gone(&mut self.own, &[gone]);
         self.shared = place + 1;
     }
 
-    /// Sets a user's own `\Seen` of a message that was added or takes it away, in room that is there.
+    /// Sets a user's own `\Seen` of a message that is there or takes it away, in room that is there.
     pub(crate) fn put_seen(&mut self, user: &str, uid: u32, seen: bool)
         requires room { 0 < own_room self.old.own user.now }
-        requires known { WasGiven self.old.next uid }
+        requires there { is_there uid (summary_in self.old) ≡ true }
         requires few { length (own_at (summary_in self.old).own user.now) < max_events }
         ensures contents { summary_in self.new ≡ with_seen user.now uid seen (summary_in self.old) }
         ensures own_room { own_room self.old.own user.now ≤ own_room self.new.own user.now + 1 }

@@ -1,9 +1,14 @@
 //! The own changes of all users.
 
 ghost use Rattle.std.specs.Prelude.{◌≡◌, ◌+◌, ◌<◌, ◌≤◌, [], ◌∷◌, ◌++◌, true, false, is_some, length, OnOk};
+ghost use Rattle.std.specs.Prelude.{List};
 ghost use Rattle.std.specs.FinMap as map;
 ghost use Rattle.imap_modseq.specs.Numbers.{max_events};
+ghost use Rattle.imap_mailbox.specs.declared.message.Message.{Message};
+ghost use Rattle.imap_mailbox.specs.Counted.{StayCounted};
 ghost use Rattle.imap_mailbox.specs.Held.{lists, list_at, own_room};
+ghost use Rattle.imap_mailbox.specs.Rows.{is_among};
+ghost use Rattle.imap_mailbox.specs.Summary.{AreRising, uids_in};
 
 use crate::own::{OwnSeen, SeenChange};
 use imap_user_map::UserMap;
@@ -17,6 +22,8 @@ pub(crate) fn mark_own(own: &mut UserMap<OwnSeen>, user: &str, change: SeenChang
     ensures lists { lists own.new
         ≡ map.insert (lists own.old) user.now (list_at own.old user.now ++ change ∷ []) }
     ensures room { own_room own.old user.now ≤ own_room own.new user.now + 1 }
+    ensures counted { (messages : List Message) → AreRising (uids_in messages)
+        → is_among change.uid (uids_in messages) ≡ true → StayCounted messages own.old own.new }
 {
     match own.get_mut(user) {
         Some(list) => list.push_reserved(change),
@@ -32,6 +39,7 @@ pub(crate) fn reserve_own(
     more: usize,
 ) -> Result<(), AllocError>
     ensures lists { lists own.new ≡ lists own.old }
+    ensures counted { (messages : List Message) → StayCounted messages own.old own.new }
     ensures ok { OnOk result (more ≤ own_room own.new user.now) }
 {
     if own.contains(user) {
@@ -45,6 +53,7 @@ pub(crate) fn reserve_own(
 fn reserve_list(own: &mut UserMap<OwnSeen>, user: &str, more: usize) -> Result<(), AllocError>
     requires { is_some (map.get own.old.map user.now) ≡ true }
     ensures lists { lists own.new ≡ lists own.old }
+    ensures counted { (messages : List Message) → StayCounted messages own.old own.new }
     ensures ok { OnOk result (more ≤ own_room own.new user.now) }
 {
     match own.get_mut(user) {
@@ -57,6 +66,7 @@ fn reserve_list(own: &mut UserMap<OwnSeen>, user: &str, more: usize) -> Result<(
 fn add_list(own: &mut UserMap<OwnSeen>, alloc: Global, user: &str) -> Result<(), AllocError>
     requires { is_some (map.get own.old.map user.now) ≡ false }
     ensures lists { lists own.new ≡ lists own.old }
+    ensures counted { (messages : List Message) → StayCounted messages own.old own.new }
     ensures ok { OnOk result (is_some (map.get own.new.map user.now) ≡ true) }
 {
     let key = String::from_str(alloc, user)?;

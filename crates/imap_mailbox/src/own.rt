@@ -4,10 +4,13 @@ ghost use Rattle.std.specs.Prelude.{◌≡◌, ℕ, ◌+◌, ◌<◌, ◌≤◌,
 ghost use Rattle.imap_modseq.specs.Merge.{befores, AreInOrder};
 ghost use Rattle.imap_modseq.specs.Numbers.{max_events, own_before};
 ghost use Rattle.imap_mailbox.specs.History.{own_entry};
+ghost use Rattle.imap_mailbox.specs.Counted.{seen_among, seen_after, without_gone, with_count};
 ghost use Rattle.imap_mailbox.specs.Summary.{latest, latest_number, latest_seen};
+ghost use Rattle.imap_mailbox.specs.Summary.{AreRising, uids_in, gone_uids};
 
 use crate::copies::copy_items;
-use crate::latest::{LastSeen, last_near, last_of, put_last};
+use crate::latest::{LastSeen, count_seen, last_near, last_of, put_last};
+use crate::message::{GoneMessage, Message};
 use imap_modseq::{OwnChange, count_before, count_before_near, number_after};
 use imap_values::TryCopy;
 use std::alloc::{AllocError, Global};
@@ -39,12 +42,15 @@ pub struct OwnSeen {
     // For each UID its last change, in the order of UIDs. A row is found by a search that halves: no choice
     // of UIDs makes it slow.
     latest: Vec<LastSeen>,
+
+    // The number of messages that are there and whose flag is set.
+    seen: usize,
 }
 
 impl Model for OwnSeen {
     ghost use Rattle.std.specs.Prelude.{◌-◌, min, vec_len};
     ghost use Rattle.std.specs.Vec.{vec_capacity};
-    ghost use Rattle.imap_mailbox.specs.Latest.{AreLatest};
+    ghost use Rattle.imap_mailbox.specs.Latest.{IsOwnSeen};
     ghost use Rattle.imap_mailbox.specs.Owned.{Owned, owned_code};
 
     ghost Value = { Owned };
@@ -54,19 +60,22 @@ impl Model for OwnSeen {
     ghost view = { λ o. record {
       list = o.changes.items;
       room = min (vec_capacity o.changes - vec_len o.changes) (vec_capacity o.latest - vec_len o.latest);
+      seen = o.seen;
     } };
 
-    ghost invariant = { λ o. AreLatest o.latest.items o.changes.items };
+    ghost invariant = { λ o. IsOwnSeen o.latest.items o.changes.items o.seen };
 }
 
 impl OwnSeen {
     /// No changes.
     pub(crate) fn new(alloc: Global) -> Self
-        ensures { result.list ≡ [] }
+        ensures list { result.list ≡ [] }
+        ensures seen { result.seen ≡ 0 }
     {
         OwnSeen {
             changes: Vec::new(alloc),
             latest: Vec::new(alloc),
+            seen: 0,
         }
     }
 
@@ -75,19 +84,23 @@ impl OwnSeen {
         ensures list { self.new.list ≡ self.old.list }
         ensures ok { OnOk result (more ≤ self.new.room) }
         ensures room { self.old.room ≤ self.new.room }
+        ensures seen { self.new.seen ≡ self.old.seen }
     {
         self.changes.reserve(more)?;
         self.latest.reserve(more)
     }
 
-    /// Appends a change, in room that is there.
+    /// Appends a change of a message that is there, in room that was made before.
     pub(crate) fn push_reserved(&mut self, change: SeenChange)
         requires room { 0 < self.old.room }
         requires before { change.before ≤ max_events }
         requires few { length self.old.list ≤ max_events }
         ensures list { self.new.list ≡ self.old.list ++ change ∷ [] }
         ensures room { self.old.room ≤ self.new.room + 1 }
+        ensures seen { self.new.seen
+            ≡ seen_after (latest_seen (latest change.uid self.old.list)) change.seen self.old.seen }
     {
+        let was_seen = self.is_seen(change.uid);
         let number = number_after(change.before, self.changes.len() as u64);
         put_last(
             &mut self.latest,
@@ -98,6 +111,43 @@ impl OwnSeen {
             },
         );
         self.changes.push_reserved(change);
+        self.seen = self.seen.saturating_sub(was_seen as usize) + change.seen as usize;
+    }
+
+    /// Takes messages that are expunged out of the number of seen ones. They were there.
+    pub(crate) fn forget(&mut self, gone: &[GoneMessage])
+        ensures { self.new ≡ without_gone (gone_uids gone.now) self.old }
+    {
+        let seen = self.count_seen(gone);
+        self.seen = self.seen.saturating_sub(seen);
+    }
+
+    /// Returns how many of the messages the user has seen. The look-up of each begins where that of the one
+    /// before ended.
+    fn count_seen(&self, gone: &[GoneMessage]) -> usize
+        ensures { result ≡ seen_among self.now.list (gone_uids gone.now) }
+    {
+        let mut near = 0;
+        let mut count = 0;
+        for message in gone {
+            count += self.is_seen_near(message.uid, &mut near) as usize;
+        }
+        count
+    }
+
+    /// Counts anew the messages that the user has seen, by a search for each UID that has a change.
+    pub(crate) fn count(&mut self, messages: &[Message])
+        requires { AreRising (uids_in messages.now) }
+        ensures { self.new ≡ with_count (uids_in messages.now) self.old }
+    {
+        self.seen = count_seen(&self.latest, messages);
+    }
+
+    /// The number of messages that are there and that the user has seen.
+    pub(crate) fn seen_len(&self) -> usize
+        ensures { result ≡ self.now.seen }
+    {
+        self.seen
     }
 
     /// The number of changes.
@@ -153,6 +203,13 @@ impl OwnSeen {
         self.latest(uid).unwrap_or((0, false)).1
     }
 
+    /// As [`OwnSeen::is_seen`], at once if `near` is the place of the UID. It is then that of the next UID.
+    fn is_seen_near(&self, uid: u32, near: &mut usize) -> bool
+        ensures { result ≡ latest_seen (latest uid self.now.list) }
+    {
+        self.latest_near(uid, near).unwrap_or((0, false)).1
+    }
+
     /// The last change of the UID: its mod-sequence, and whether it set the flag.
     pub(crate) fn latest(&self, uid: u32) -> Option<(u64, bool)>
         ensures { result ≡ latest uid self.now.list }
@@ -175,6 +232,10 @@ impl TryCopy for OwnSeen {
     fn try_copy(&self, alloc: Global) -> Result<OwnSeen, AllocError> {
         let changes = copy_items(alloc, &self.changes)?;
         let latest = copy_items(alloc, &self.latest)?;
-        Ok(OwnSeen { changes, latest })
+        Ok(OwnSeen {
+            changes,
+            latest,
+            seen: self.seen,
+        })
     }
 }

@@ -18,7 +18,8 @@ use imap_user_map::UserMap;
 use std::alloc::Global;
 
 /// Each user's own changes, in their order. Fails with `Bad` if they are not those of a mailbox with this
-/// UIDNEXT and this number of shared events.
+/// UIDNEXT and this number of shared events. Whether messages are there isn't looked at: the numbers of seen
+/// ones are to be counted once they are known.
 pub(crate) fn own_lists(
     alloc: Global,
     mut changes: Vec<UserChange>,

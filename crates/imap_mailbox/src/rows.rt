@@ -10,7 +10,7 @@ use crate::flags::SharedFlags;
 use crate::message::{Message, count_lower, find_message};
 use crate::own::OwnSeen;
 use crate::row::{Near, Row, own_is_above, own_row, own_row_near, plain_row};
-use crate::status::{count_deleted, count_unseen, sum_sizes};
+use crate::status::{count_deleted, sum_sizes};
 use std::marker::Model;
 
 /// The messages of a mailbox as a user has them, in the order of UIDs. They are lent from the mailbox.
@@ -25,6 +25,8 @@ impl<'a> Model for Rows<'a> {
     ghost use Rattle.std.specs.Coded.{coded_list};
     ghost use Rattle.imap_mailbox.specs.Rows.{Row};
     ghost use Rattle.imap_mailbox.specs.Summary.{row_in};
+    ghost use Rattle.std.specs.Prelude.{option_copied};
+    ghost use Rattle.imap_mailbox.specs.Counted.{IsCounted};
     ghost use Rattle.imap_mailbox.specs.Lent.{row_code, own_lent, IsLent};
 
     ghost Value = { List Row };
@@ -33,7 +35,8 @@ impl<'a> Model for Rows<'a> {
 
     ghost view = { λ r. map (row_in (own_lent r.own)) r.messages.now.items };
 
-    ghost invariant = { λ r. IsLent r.messages.now.items (own_lent r.own) };
+    ghost invariant = { λ r. IsLent r.messages.now.items (own_lent r.own)
+        × IsCounted r.messages.now.items (option_copied r.own) };
 }
 
 impl<'a> Rows<'a> {
@@ -121,12 +124,12 @@ impl<'a> Rows<'a> {
         count_deleted(self.messages)
     }
 
-    /// The number of messages without the user's `\Seen`, by a walk.
+    /// The number of messages without the user's `\Seen`, from the number of seen ones that is kept.
     pub fn unseen_len(&self) -> usize
         ensures { result ≡ unseen_in self.now }
     {
         match self.own {
-            Some(own) => count_unseen(self.messages, own),
+            Some(own) => self.messages.len() - own.seen_len(),
             None => self.messages.len(),
         }
     }

@@ -1,12 +1,10 @@
 //! What STATUS counts (RFC 9051, section 6.3.11).
 
-ghost use Rattle.std.specs.Prelude.{◌≡◌, min, not, length, count_by};
+ghost use Rattle.std.specs.Prelude.{◌≡◌, min, length, count_by};
 ghost use Rattle.std.specs.List.{sum_by};
-ghost use Rattle.imap_mailbox.specs.Summary.{latest, latest_seen};
 ghost use Rattle.imap_mailbox.specs.Status.{max_size};
 
 use crate::message::Message;
-use crate::own::OwnSeen;
 
 /// The greatest size that STATUS says (RFC 9051, section 9, `number64`).
 const MAX_SIZE: u64 = 9_223_372_036_854_775_807;
@@ -20,16 +18,6 @@ pub(crate) fn count_deleted(messages: &[Message]) -> usize
         count += message.flags.deleted as usize;
     }
     count
-}
-
-/// Returns the number of messages without the user's own `\Seen`.
-pub(crate) fn count_unseen(messages: &[Message], own: &OwnSeen) -> usize
-    ensures { result ≡ count_by (λ m. not (latest_seen (latest m.uid own.now.list))) messages.now }
-{
-    messages
-        .iter()
-        .filter(|message| !own.is_seen(message.uid))
-        .count()
 }
 
 /// Returns the number of octets of all messages, or [`MAX_SIZE`] if there are more.

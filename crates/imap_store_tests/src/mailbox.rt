@@ -26,6 +26,8 @@ enum Act {
     Delete(u32),
     /// bob sets his own `\Seen` of it, or takes it away.
     Seen(u32, bool),
+    /// ann does so.
+    AnnSeen(u32, bool),
     Expunge(u32),
     // The same in room that was made before.
     AddInRoom,
@@ -275,6 +277,7 @@ fn make(
         Act::ManyWords(uid, words) => set_many(alloc, mailbox, uid, words),
         Act::Delete(uid) => delete(alloc, mailbox, uid),
         Act::Seen(uid, seen) => mailbox.mark_seen(alloc, "bob", uid, seen),
+        Act::AnnSeen(uid, seen) => mailbox.mark_seen(alloc, "ann", uid, seen),
         Act::Expunge(uid) => mailbox.expunge(uid),
         Act::AddInRoom => add_in_room(alloc, mailbox),
         Act::WordInRoom(uid) => flag_in_room(alloc, mailbox, uid),
@@ -314,7 +317,7 @@ fn run(alloc: Global, acts: &[Act]) -> Result<String, MailboxError> {
     Ok(text)
 }
 
-const MAILBOXES: [(&[Act], &str); 9] = [
+const MAILBOXES: [(&[Act], &str); 11] = [
     // bob's own changes come after the second and the fourth shared event.
     (
         &[
@@ -388,6 +391,39 @@ const MAILBOXES: [(&[Act], &str); 9] = [
         "2=5 3=6 1=7 | 2=5 3=7 1=8 | 2=5 3=6 1=7 | 2=5 3=7 1=8 | 3=6 1=7 | 3=7 1=8 | \
             1=7 | 3=7 1=8 | | 1=8 | | | | | 2=5 3=7 1=8 | 7 8 4 6",
     ),
+    // A message is counted as seen for each user apart, until it is unmarked or goes.
+    (
+        &[
+            Act::Add(3),
+            Act::Seen(1, true),
+            Act::Seen(1, true),
+            Act::Seen(2, true),
+            Act::Seen(2, false),
+            Act::AnnSeen(3, true),
+            Act::Status,
+            Act::Expunge(1),
+            Act::Expunge(2),
+            Act::Status,
+            Act::Seen(3, true),
+            Act::Add(1),
+            Act::Status,
+        ],
+        "3 0 2 63; 3 0 2 63; 1 0 0 21; 1 0 1 21; 2 0 1 42; 2 0 1 42; \
+            3=5* 4=8 | 3=10* 4=11 | 1=8 2=9 | 8 11 5 6",
+    ),
+    (
+        &[
+            Act::Add(4),
+            Act::Seen(1, true),
+            Act::Seen(3, true),
+            Act::AnnSeen(1, true),
+            Act::AnnSeen(2, true),
+            Act::Status,
+            Act::SeveralInRoom,
+            Act::Status,
+        ],
+        "4 0 2 84; 4 0 2 84; 2 0 1 42; 2 0 0 42; 2=7* 4=5 | 2=9* 4=8* | 1=10 3=11 | 9 11 5 6",
+    ),
     // A mailbox is full exactly if it has no room, and then a 33rd keyword isn't looked at.
     (
         &[
@@ -439,8 +475,9 @@ fn commits_in_room_that_is_there(rt: HostRuntime) {
                 Act::WordInRoom(3),
                 Act::SeenInRoom(1),
                 Act::ExpungeInRoom(1),
+                Act::Status,
             ],
-            "2=3 | 2=5* | 1=6 | 5 6 3 4; 2=3 | 2=5* | 1=6 | 5 6 3 4",
+            "2=3 | 2=5* | 1=6 | 5 6 3 4; 1 0 1 21; 1 0 0 21; 2=3 | 2=5* | 1=6 | 5 6 3 4",
         ),
         // One reservation pays for two marks, and another for all that are expunged.
         (

@@ -106,6 +106,33 @@ fn restored(alloc: Global, row: Parts) -> Result<String, MailboxError> {
     }
 }
 
+/// The numbers of messages that ann has not seen, and that bob has not seen.
+fn unseen(alloc: Global, mailbox: &Mailbox) -> Result<String, MailboxError> {
+    let (ann, bob) = (
+        mailbox.rows("ann").unseen_len(),
+        mailbox.rows("bob").unseen_len(),
+    );
+    Ok(format!(in alloc; "{ann} {bob}")?)
+}
+
+fn unseen_of(alloc: Global, restored: Result<Mailbox, PartsError>) -> Result<String, MailboxError> {
+    match restored {
+        Ok(mailbox) => {
+            let text = unseen(alloc, &mailbox);
+            drop(mailbox);
+            text
+        }
+        Err(_) => Err(MailboxError::Limit),
+    }
+}
+
+fn unseen_restored(alloc: Global, row: Parts) -> Result<String, MailboxError> {
+    match parts_of(alloc, row) {
+        Ok(parts) => unseen_of(alloc, Mailbox::from_parts(alloc, parts)),
+        Err(error) => Err(error),
+    }
+}
+
 /// Three messages were added, the second got other flags and the first went. bob saw the third after four
 /// events, and the second after five.
 const GOOD: Parts = Parts {
@@ -270,6 +297,8 @@ fn parts_stand_for_a_mailbox_or_for_none(rt: HostRuntime) {
     for &(row, wanted) in &RESTORED {
         expect_text(&rt, restored(rt.alloc(), row), wanted);
     }
+    // What ann saw is gone.
+    expect_text(&rt, unseen_restored(rt.alloc(), GOOD), "2 0");
     let memory = PartsError::Memory.to_string(rt.alloc());
     expect_text(&rt, memory, "out of memory");
 }

@@ -1,3 +1,4 @@
+pub mod Changed
 pub mod Entries
 pub mod KeptValues
 pub mod Within

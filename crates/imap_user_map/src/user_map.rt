@@ -1,15 +1,18 @@
 //! Maps from user names, in a hash table.
 
-ghost use Rattle.std.specs.Prelude.{◌≡◌, ◌↔◌, ◌+◌, ◌<◌, ◌≤◌, is_some, IsTrue, IfOk, OnOk, OnSome, option_copied};
+ghost use Rattle.std.specs.Prelude.{◌≡◌, ◌↔◌, ◌+◌, ◌<◌, ◌≤◌, true, is_some, IsTrue};
+ghost use Rattle.std.specs.Prelude.{IfOk, OnOk, OnSome, option_copied};
 ghost use Rattle.std.specs.Option.{option_copied_mut};
 ghost use Rattle.std.specs.Borrow.{sem, LendsSo};
 ghost use Rattle.std.specs.FinMap as map;
+ghost use Rattle.std.specs.HashMap.{spare};
 ghost use Rattle.std.specs.String.{string_bytes};
 ghost use Rattle.imap_user_map.specs.contracts.user_map.UserMap.{the_row};
-ghost use Rattle.imap_user_map.specs.Finite.{keep};
+ghost use Rattle.imap_user_map.specs.Finite.{keep, map_values};
 ghost use Rattle.imap_user_map.specs.Parts.{IsWithin};
 ghost use Rattle.imap_user_map.specs.Rows.{by_octets, with_value};
 
+use crate::change::Change;
 use crate::part::Part;
 use imap_values::TryCopy;
 use std::alloc::{AllocError, Global};
@@ -84,6 +87,14 @@ impl<V: Drop> UserMap<V> {
     {
         let _inserted = self.entries.insert(user, value);
     }
+
+    /// Changes the values of all users.
+    pub fn change_all<C: Change<V>>(&mut self, change: &C)
+        ensures map { self.new.map ≡ map_values (C.changed change.now) self.old.map }
+        ensures spare { self.old.spare ≤ self.new.spare }
+    {
+        change_entries(&mut self.entries, change);
+    }
 }
 
 impl<V: TryCopy + Drop> UserMap<V> {
@@ -115,6 +126,23 @@ fn is_within<V: Part>(entries: &HashMap<String, V>, other: &UserMap<V>) -> bool
         }
     }
     true
+}
+
+/// Changes the values of all entries.
+fn change_entries<V: Drop, C: Change<V>>(entries: &mut HashMap<String, V>, change: &C)
+    ensures map { by_octets entries.new.entries
+        ≡ map_values (C.changed change.now) (by_octets entries.old.entries) }
+    ensures spare { spare entries.old ≤ spare entries.new }
+{
+    entries.retain(
+        |_user: &String, value: &mut V| -> bool
+            ensures kept { result ≡ true }
+            ensures value { value.new ≡ C.changed change.entry.now value.old }
+        {
+            change.make(value);
+            true
+        },
+    );
 }
 
 /// An equal copy of the entries.

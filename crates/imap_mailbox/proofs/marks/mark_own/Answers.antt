@@ -1,7 +1,7 @@
 use Rattle.std.proofs.Common.{◌≤◌, List, length, subst, arith}
 use Rattle.imap_modseq.specs.Numbers.{max_events}
 use Rattle.imap_mailbox.specs.declared.own.SeenChange.{SeenChange}
-use Rattle.imap_mailbox.proofs.Marking.{room_after, list_found, one_more, room_before}
+use Rattle.imap_mailbox.proofs.Marking.{room_after, list_found, one_more, room_before, one_counted}
 use Rattle.imap_mailbox.proofs.marks.mark_own.Goals as goal
 
 pub push_reserved-requires-clause-room : goal.push_reserved-requires-clause-room
@@ -20,3 +20,8 @@ returns-in-Some-clause-room c =
     let had = room_before c.args.own.now c.args.user.now c.in-Some.list c.get_mut.result c.in-Some.is c.get_mut.ensures.value in
     let has = room_after c.args.own.now _ c.args.user.now c.in-Some.list c.push_reserved.new.self c.get_mut.result c.in-Some.is c.get_mut.ensures.value (c.get_mut.follows.holds c.push_reserved.new.self) in
     omega (arith, had, has, c.push_reserved.ensures.room)
+
+pub returns-in-Some-clause-counted : goal.returns-in-Some-clause-counted
+returns-in-Some-clause-counted c messages rising there counted =
+    one_counted c.args.own.now _ c.args.user.now c.in-Some.list c.push_reserved.new.self c.get_mut.result c.in-Some.is c.get_mut.ensures.value (c.get_mut.follows.holds c.push_reserved.new.self) messages c.args.change rising there
+    c.push_reserved.ensures.list c.push_reserved.ensures.seen counted

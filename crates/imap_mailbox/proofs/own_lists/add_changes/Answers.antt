@@ -1,11 +1,11 @@
-use Rattle.std.proofs.Common.{◌≡◌, ◌≤◌, ◌+◌, ◌++◌, ◌∷◌, List, ℕ, length, drop, ap, subst, sym, ◌∙◌, arith, Err}
+use Rattle.std.proofs.Common.{◌≤◌, ◌+◌, ◌++◌, ◌∷◌, List, length, drop, ap, subst, sym, ◌∙◌, arith}
 use Rattle.std.proofs.lemmas.List.{drop_more}
 use Rattle.imap_modseq.specs.Numbers.{max_events}
 use Rattle.imap_mailbox.specs.declared.own.SeenChange.{SeenChange}
 use Rattle.imap_mailbox.specs.Held.{list_at, lists}
 use Rattle.imap_mailbox.specs.Restored.{Appends}
 use Rattle.imap_mailbox.specs.Summary.{Fits}
-use Rattle.imap_mailbox.specs.UserChange.{UserChange, of_user, changes_from}
+use Rattle.imap_mailbox.specs.UserChange.{of_user, changes_from}
 use Rattle.imap_mailbox.proofs.Keeping.{nobody}
 use Rattle.imap_mailbox.proofs.OwnChanges.{refused, appended, fit_all}
 use Rattle.imap_mailbox.proofs.own_lists.add_changes.Goals as goal

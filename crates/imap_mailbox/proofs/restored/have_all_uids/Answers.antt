@@ -1,5 +1,5 @@
-use Rattle.std.proofs.Common.{◌≡◌, ◌↔◌, List, ℕ, IsTrue, sym, subst}
-use Rattle.imap_mailbox.specs.Restored.{HaveAllUids, IsRun}
+use Rattle.std.proofs.Common.{◌↔◌, List, ℕ, IsTrue, subst}
+use Rattle.imap_mailbox.specs.Restored.{IsRun}
 use Rattle.imap_mailbox.proofs.Restoring.{run_is}
 use Rattle.imap_mailbox.proofs.restored.have_all_uids.Goals as goal
 

@@ -1,4 +1,4 @@
-use Rattle.std.proofs.Common.{◌≡◌, ◌↔◌, List, ℕ, IsTrue, sym, subst}
+use Rattle.std.proofs.Common.{◌↔◌, List, ℕ, IsTrue, subst}
 use Rattle.imap_mailbox.specs.Summary.{Rises}
 use Rattle.imap_mailbox.proofs.Restoring.{places_are}
 use Rattle.imap_mailbox.proofs.restored.have_own_places.Goals as goal

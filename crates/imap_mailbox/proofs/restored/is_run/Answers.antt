@@ -1,4 +1,3 @@
-use Rattle.std.proofs.Common.{arith, true≢false}
 use Rattle.imap_mailbox.proofs.Restoring.{run_past_end}
 use Rattle.imap_mailbox.proofs.restored.is_run.Goals as goal
 

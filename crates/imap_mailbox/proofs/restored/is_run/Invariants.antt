@@ -1,4 +1,4 @@
-use Rattle.std.proofs.Common.{◌≤◌, drop}
+use Rattle.std.proofs.Common.{drop}
 use Rattle.std.specs.Prelude.{◌↔◌}
 use Rattle.imap_mailbox.specs.Restored.{IsRun}
 use Rattle.imap_mailbox.proofs.restored.is_run.Given as goal

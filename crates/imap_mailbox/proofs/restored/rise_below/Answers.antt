@@ -1,4 +1,3 @@
-use Rattle.std.proofs.Common.{arith, true≢false}
 use Rattle.imap_mailbox.proofs.Restoring.{past_end}
 use Rattle.imap_mailbox.proofs.restored.rise_below.Goals as goal
 

@@ -1,13 +1,22 @@
-use Rattle.std.proofs.Common.{◌<◌, ◌+◌, refl, sym, subst}
+use Rattle.std.proofs.Common.{◌<◌, ◌+◌, refl, sym, subst, arith}
 use Rattle.imap_modseq.specs.Numbers.{max_events}
+use Rattle.imap_mailbox.specs.declared.message.Message.{Message}
+use Rattle.imap_mailbox.specs.Counted.{AreCounted}
 use Rattle.imap_mailbox.specs.Rows.{Added}
+use Rattle.imap_mailbox.specs.Summary.{message_of}
 use Rattle.imap_mailbox.specs.Held.{Held, summary_with, IsKept}
 use Rattle.imap_mailbox.specs.Calls.{arrival}
+use Rattle.imap_mailbox.proofs.AllCounted.{new_counted}
 use Rattle.imap_mailbox.proofs.Keeping.{kept_step}
 use Rattle.imap_mailbox.proofs.mailbox.Mailbox.add_reserved.Goals as goal
 
 pub invariant_of-self : goal.invariant_of-self
 invariant_of-self c =
     let few : c.self.inside.shared < max_events = subst (λ (h : Held). h.shared < max_events) (sym c.self.view_is) c.requires.few in
-    subst (λ messages. IsKept (summary_with messages c.self.inside.gone.items (c.self.inside.next + 1) (c.self.inside.shared + 1) c.self.inside.own)) (sym c.push_reserved.ensures.items)
-    (kept_step (Added (arrival c.self.inside.next c.args.date c.args.octets c.args.flags)) (summary_with c.self.inside.messages.items c.self.inside.gone.items c.self.inside.next c.self.inside.shared c.self.inside.own) refl tt c.requires.keywords few c.self.invariant)
+    let kept = c.self.invariant.0 in
+    let message : Message = message_of c.self.inside.shared (arrival c.self.inside.next c.args.date c.args.octets c.args.flags) in (
+      subst (λ messages. IsKept (summary_with messages c.self.inside.gone.items (c.self.inside.next + 1) (c.self.inside.shared + 1) c.self.inside.own)) (sym c.push_reserved.ensures.items)
+          (kept_step (Added (arrival c.self.inside.next c.args.date c.args.octets c.args.flags)) (summary_with c.self.inside.messages.items c.self.inside.gone.items c.self.inside.next c.self.inside.shared c.self.inside.own) refl tt c.requires.keywords few kept),
+      subst (λ messages. AreCounted messages c.self.inside.own) (sym c.push_reserved.ensures.items)
+          (new_counted c.self.inside.own c.self.inside.next c.self.inside.shared c.self.inside.messages.items message kept.sound.fits (omega arith) c.self.invariant.1),
+    )

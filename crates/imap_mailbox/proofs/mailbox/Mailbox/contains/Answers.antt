@@ -17,8 +17,8 @@ returns-in-Some-clause-known c t =
     let found = ap (λ ms. place_in c.args.uid (uids_in ms)) (sym c.deref.ensures.value) ∙ sym c.find_message.ensures ∙ c.in-Some.is in
     let is = number_there c.args.uid (uids_in c.self.inside.messages.items) _ 0 found in
     let within = inside c.args.uid (uids_in c.self.inside.messages.items) _ found in
-    let above = at_least 1 c.self.inside.next (uids_in c.self.inside.messages.items) _ 0 c.self.invariant.sound.uids within in
-    let below = below_end 1 c.self.inside.next (uids_in c.self.inside.messages.items) _ 0 c.self.invariant.sound.uids within in
+    let above = at_least 1 c.self.inside.next (uids_in c.self.inside.messages.items) _ 0 c.self.invariant.0.sound.uids within in
+    let below = below_end 1 c.self.inside.next (uids_in c.self.inside.messages.items) _ 0 c.self.invariant.0.sound.uids within in
     subst (λ (h : Held). WasGiven h.next c.args.uid) c.self.view_is (omega (arith, is, above), omega (arith, is, below))
 
 pub returns-in-None-clause-there : goal.returns-in-None-clause-there
@@ -28,7 +28,7 @@ returns-in-None-clause-there c =
     ∙ ap (λ (h : Held). is_there c.args.uid (summary_in h)) c.self.view_is
 
 pub returns-in-Some-clause-valid : goal.returns-in-Some-clause-valid
-returns-in-Some-clause-valid c = subst (λ (h : Held). IsKept (summary_in h)) c.self.view_is c.self.invariant
+returns-in-Some-clause-valid c = subst (λ (h : Held). IsKept (summary_in h)) c.self.view_is c.self.invariant.0
 
 pub returns-in-None-clause-valid : goal.returns-in-None-clause-valid
-returns-in-None-clause-valid c = subst (λ (h : Held). IsKept (summary_in h)) c.self.view_is c.self.invariant
+returns-in-None-clause-valid c = subst (λ (h : Held). IsKept (summary_in h)) c.self.view_is c.self.invariant.0

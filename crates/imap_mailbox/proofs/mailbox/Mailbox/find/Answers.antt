@@ -29,8 +29,8 @@ returns-in-Some-clause-known c =
     let at : place_in c.args.uid (uids_in c.self.inside.messages.items) ≡ Some c.in-Some.place = ap (λ ms. place_in c.args.uid (uids_in ms)) (sym c.deref.ensures.value) ∙ sym c.find_message.ensures ∙ c.in-Some.is in
     let is = number_there c.args.uid (uids_in c.self.inside.messages.items) c.in-Some.place 0 at in
     let within = inside c.args.uid (uids_in c.self.inside.messages.items) c.in-Some.place at in
-    let above = at_least 1 c.self.inside.next (uids_in c.self.inside.messages.items) c.in-Some.place 0 c.self.invariant.sound.uids within in
-    let below = below_end 1 c.self.inside.next (uids_in c.self.inside.messages.items) c.in-Some.place 0 c.self.invariant.sound.uids within in
+    let above = at_least 1 c.self.inside.next (uids_in c.self.inside.messages.items) c.in-Some.place 0 c.self.invariant.0.sound.uids within in
+    let below = below_end 1 c.self.inside.next (uids_in c.self.inside.messages.items) c.in-Some.place 0 c.self.invariant.0.sound.uids within in
     subst (λ (h : Held). WasGiven h.next c.args.uid) c.self.view_is (omega (arith, is, above), omega (arith, is, below))
 
 pub returns-in-Some-clause-there : goal.returns-in-Some-clause-there
@@ -39,7 +39,7 @@ returns-in-Some-clause-there c =
     subst (λ (h : Held). is_there c.args.uid (summary_in h) ≡ true) c.self.view_is (among_found c.args.uid (uids_in c.self.inside.messages.items) c.in-Some.place at)
 
 pub returns-in-Some-clause-valid : goal.returns-in-Some-clause-valid
-returns-in-Some-clause-valid c = subst (λ (h : Held). IsKept (summary_in h)) c.self.view_is c.self.invariant
+returns-in-Some-clause-valid c = subst (λ (h : Held). IsKept (summary_in h)) c.self.view_is c.self.invariant.0
 
 pub returns-in-None-clause-valid : goal.returns-in-None-clause-valid
-returns-in-None-clause-valid c = subst (λ (h : Held). IsKept (summary_in h)) c.self.view_is c.self.invariant
+returns-in-None-clause-valid c = subst (λ (h : Held). IsKept (summary_in h)) c.self.view_is c.self.invariant.0

@@ -8,7 +8,7 @@ use Rattle.imap_mailbox.proofs.Bounds.{gone_in_order}
 use Rattle.imap_mailbox.proofs.mailbox.Mailbox.gone.Goals as goal
 
 pub invariant_of-result : goal.invariant_of-result
-invariant_of-result c = gone_lent (summary_with c.self.inside.messages.items c.self.inside.gone.items c.self.inside.next c.self.inside.shared c.self.inside.own) c.args.user.now _ c.self.invariant (own_is c.self.inside.own c.args.user.now c.get.result c.get.ensures)
+invariant_of-result c = gone_lent (summary_with c.self.inside.messages.items c.self.inside.gone.items c.self.inside.next c.self.inside.shared c.self.inside.own) c.args.user.now _ c.self.invariant.0 (own_is c.self.inside.own c.args.user.now c.get.result c.get.ensures)
 
 pub returns-clause-gone : goal.returns-clause-gone
 returns-clause-gone c =
@@ -18,5 +18,5 @@ returns-clause-gone c =
 pub returns-clause-valid : goal.returns-clause-valid
 returns-clause-valid c =
     let s = summary_with c.self.inside.messages.items c.self.inside.gone.items c.self.inside.next c.self.inside.shared c.self.inside.own in
-    let order = subst (λ (h : Held). AreGoneInOrder h.next (highest_of (summary_in h) c.args.user.now) (gone_of (summary_in h) c.args.user.now)) c.self.view_is (gone_in_order s c.args.user.now c.self.invariant) in
+    let order = subst (λ (h : Held). AreGoneInOrder h.next (highest_of (summary_in h) c.args.user.now) (gone_of (summary_in h) c.args.user.now)) c.self.view_is (gone_in_order s c.args.user.now c.self.invariant.0) in
     subst (λ (gone : List (ℕ × ℕ)). AreGoneInOrder c.args.self.now.next (highest_of (summary_in c.args.self.now) c.args.user.now) gone) (sym (returns-clause-gone c)) order

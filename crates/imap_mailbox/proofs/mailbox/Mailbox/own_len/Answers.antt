@@ -7,7 +7,7 @@ use Rattle.imap_mailbox.proofs.mailbox.Mailbox.own_len.Goals as goal
 
 pub returns-in-Some-clause-few : goal.returns-in-Some-clause-few
 returns-in-Some-clause-few c =
-    let le = few_of _ c.self.invariant c.args.user.now c.in-Some.own.now.list (found_is c.self.inside.own c.args.user.now c.get.result c.in-Some.own c.in-Some.is c.get.ensures) in
+    let le = few_of _ c.self.invariant.0 c.args.user.now c.in-Some.own.now.list (found_is c.self.inside.own c.args.user.now c.get.result c.in-Some.own c.in-Some.is c.get.ensures) in
     omega (arith, le)
 
 pub returns-in-Some-clause-events : goal.returns-in-Some-clause-events

@@ -1,8 +1,13 @@
-use Rattle.std.proofs.Common.{◌≡◌, true, ◌<◌, ◌+◌, sym, subst}
+use Rattle.std.proofs.Common.{◌≡◌, true, ◌<◌, ◌+◌, ◌∙◌, List, [], ◌∷◌, ap, sym, subst}
 use Rattle.imap_modseq.specs.Numbers.{max_events}
 use Rattle.imap_mailbox.specs.Rows.{Expunged}
-use Rattle.imap_mailbox.specs.Summary.{is_there}
+use Rattle.imap_mailbox.specs.declared.message.Message.{Message}
+use Rattle.imap_mailbox.specs.declared.own.SeenChange.{SeenChange}
+use Rattle.imap_mailbox.specs.Counted.{seen_among}
+use Rattle.imap_mailbox.specs.Summary.{is_there, uids_in}
 use Rattle.imap_mailbox.specs.Held.{Held, summary_in, summary_with, IsKept}
+use Rattle.imap_mailbox.proofs.AllCounted.{gone_counted}
+use Rattle.imap_mailbox.proofs.SeenCounts.{seen_without}
 use Rattle.imap_mailbox.proofs.Keeping.{kept_step}
 use Rattle.imap_mailbox.proofs.mailbox.Mailbox.remove.Goals as goal
 
@@ -11,5 +16,9 @@ invariant_of-self c =
     let few : c.self.inside.shared < max_events = subst (λ (h : Held). h.shared < max_events) (sym c.self.view_is) c.requires.few in
     let there : is_there c.args.uid (summary_with c.self.inside.messages.items c.self.inside.gone.items c.self.inside.next c.self.inside.shared c.self.inside.own) ≡ true =
     subst (λ (h : Held). is_there c.args.uid (summary_in h) ≡ true) (sym c.self.view_is) c.requires.there in
-    subst IsKept (λ i. summary_with (sym c.remove_message.ensures.items i) (sym c.push_reserved.ensures.items i) c.self.inside.next (c.self.inside.shared + 1) c.self.inside.own)
-    (kept_step (Expunged c.args.uid) (summary_with c.self.inside.messages.items c.self.inside.gone.items c.self.inside.next c.self.inside.shared c.self.inside.own) tt there tt few c.self.invariant)
+    let messages = c.self.inside.messages.items in
+    let fewer = λ (list : List SeenChange). ap (λ (ms : List Message). seen_among list (uids_in ms)) c.remove_message.ensures.items ∙ seen_without list c.args.uid 1 c.self.inside.next messages c.self.invariant.0.sound.uids there in (
+      subst IsKept (λ i. record { messages = sym c.remove_message.ensures.items i; gone = sym c.push_reserved.ensures.items i; next = c.self.inside.next; shared = c.self.inside.shared + 1; own = sym c.forget_gone.ensures.lists i })
+          (kept_step (Expunged c.args.uid) (summary_with c.self.inside.messages.items c.self.inside.gone.items c.self.inside.next c.self.inside.shared c.self.inside.own) tt there tt few c.self.invariant.0),
+      gone_counted c.self.inside.own c.forget_gone.new.own (c.args.uid ∷ []) c.forget_gone.ensures.counts messages c.remove_message.new.messages.items fewer c.self.invariant.1,
+    )

@@ -1,5 +1,6 @@
 use Rattle.std.proofs.Common.{◌∙◌, List, map, ap, sym, subst}
 use Rattle.imap_mailbox.specs.declared.own.SeenChange.{SeenChange}
+use Rattle.imap_mailbox.specs.Counted.{IsCounted}
 use Rattle.imap_mailbox.specs.Rows.{Row}
 use Rattle.imap_mailbox.specs.Summary.{row_in, rows_of, highest_of}
 use Rattle.imap_mailbox.specs.Order.{AreRowsInOrder}
@@ -9,7 +10,10 @@ use Rattle.imap_mailbox.proofs.Bounds.{rows_in_order}
 use Rattle.imap_mailbox.proofs.mailbox.Mailbox.rows.Goals as goal
 
 pub invariant_of-result : goal.invariant_of-result
-invariant_of-result c = lent (summary_with c.self.inside.messages.items c.self.inside.gone.items c.self.inside.next c.self.inside.shared c.self.inside.own) c.args.user.now _ c.self.invariant (own_is c.self.inside.own c.args.user.now c.get.result c.get.ensures)
+invariant_of-result c = (
+  lent (summary_with c.self.inside.messages.items c.self.inside.gone.items c.self.inside.next c.self.inside.shared c.self.inside.own) c.args.user.now _ c.self.invariant.0 (own_is c.self.inside.own c.args.user.now c.get.result c.get.ensures),
+  subst (IsCounted c.self.inside.messages.items) (sym c.get.ensures) (c.self.invariant.1 c.args.user.now),
+)
 
 pub returns-clause-rows : goal.returns-clause-rows
 returns-clause-rows c =
@@ -19,5 +23,5 @@ returns-clause-rows c =
 pub returns-clause-valid : goal.returns-clause-valid
 returns-clause-valid c =
     let s = summary_with c.self.inside.messages.items c.self.inside.gone.items c.self.inside.next c.self.inside.shared c.self.inside.own in
-    let order = subst (λ (h : Held). AreRowsInOrder h.next (highest_of (summary_in h) c.args.user.now) (rows_of (summary_in h) c.args.user.now)) c.self.view_is (rows_in_order s c.args.user.now c.self.invariant) in
+    let order = subst (λ (h : Held). AreRowsInOrder h.next (highest_of (summary_in h) c.args.user.now) (rows_of (summary_in h) c.args.user.now)) c.self.view_is (rows_in_order s c.args.user.now c.self.invariant.0) in
     subst (λ (rows : List Row). AreRowsInOrder c.args.self.now.next (highest_of (summary_in c.args.self.now) c.args.user.now) rows) (sym (returns-clause-rows c)) order
