@@ -1,9 +1,7 @@
 -- When two worlds are one, by what is kept of their maps.
 use Rattle.std.proofs.Common.{◌≡◌, Bool, false, Some, sym, ap, subst, ◌∙◌}
 use Rattle.std.specs.Prelude.{◌↔◌, IsTrue}
-use Rattle.imap_names.specs.Order.{Names}
 use Rattle.imap_names.proofs.OrderLaws.{name_total, name_antisymmetric}
-use Rattle.std.specs.Prelude.{ℕ}
 use Rattle.imap_user_map.specs.Finite.{keep}
 use Rattle.imap_user_map.proofs.Within.{keep-some}
 use Rattle.imap_world.specs.Mailbox.{plain_all}

@@ -1,5 +1,5 @@
 -- Subscriptions of all users, one row after another.
-use Rattle.std.proofs.Common.{◌≡◌, ℕ, ◌+◌, ◌≤◌, Bool, true, false, cond, ◌&&◌, List, [], ◌∷◌, Option, Some, None, Result, Ok, Err, is_some, refl, sym, ap, ◌∙◌, subst, arith, IsPermutation, sum_by, IsErr, IsErrAnd}
+use Rattle.std.proofs.Common.{◌≡◌, ℕ, ◌+◌, ◌≤◌, Bool, true, false, cond, ◌&&◌, List, [], ◌∷◌, Option, Some, None, Result, Ok, Err, is_some, refl, sym, ap, ◌∙◌, arith, IsPermutation}
 use Rattle.std.specs.Prelude.{bytes_eq}
 use Rattle.std.specs.FinMap as map
 use Rattle.std.specs.FinMap.{get-empty, get-insert}
@@ -17,10 +17,10 @@ use Rattle.imap_names.specs.Order.{name_cmp}
 use Rattle.imap_names.proofs.NameLaws.{equal_names, get_put, is_name_at, is_name_at-same}
 use Rattle.imap_world.specs.Parts.{AreSubscriptions, is_subscription}
 use Rattle.imap_world.specs.Restored.{AddsName, HaveName, RestoresNames, Subscribes, names_at}
-use Rattle.imap_world.specs.Stored.{Subscriptions, filled_sets, names_in}
+use Rattle.imap_world.specs.Stored.{Subscriptions, names_in}
 use Rattle.imap_world.specs.Subscription.{Subscription}
-use Rattle.imap_world.specs.World.{World, NameSet, set_of, subscribed_by}
-use Rattle.imap_world.proofs.Sets.{is_user, names_in_filled}
+use Rattle.imap_world.specs.World.{World, set_of, subscribed_by}
+use Rattle.imap_world.proofs.Sets.{names_in_filled}
 
 abbrev present : Option (Unit {0})
 present = Some tt

@@ -11,14 +11,13 @@ use Rattle.imap_names.specs.Name.{Name}
 use Rattle.imap_names.specs.Order.{Names, name_cmp}
 use Rattle.imap_rights.specs.Acl.{IsAcl}
 use Rattle.imap_rights.specs.Entries.{pairs_of}
-use Rattle.imap_user_map.specs.Rows.{Users}
 use Rattle.imap_world.specs.declared.world_parts.MailboxRow.{MailboxRow}
 use Rattle.imap_world.specs.declared.world_parts.WorldParts.{WorldParts}
 use Rattle.imap_world.specs.Kept.{AreKept, IsSound}
 use Rattle.imap_world.specs.Mailbox.{Mailbox}
 use Rattle.imap_world.specs.Stored.{Stored, world_of}
 use Rattle.imap_world.specs.Subscription.{Subscription}
-use Rattle.imap_world.specs.World.{World, NameSet, subscribed_by}
+use Rattle.imap_world.specs.World.{World, subscribed_by}
 
 -- the row is that of the mailbox, under its name
 pub record IsRowOf (row : MailboxRow) (e : Name × Mailbox) : Type 0 where

@@ -297,8 +297,8 @@ impl World {
         }
     }
 
-    /// Writes what another world writes that is the same: a change that is what effects ask for by the world
-    /// as it is. Only memory may run out, and then nothing has changed.
+    /// Makes a change that was prepared on another world that is the same as this one, which afterwards is the same
+    /// as the other once it has committed. It fails only where memory runs out, and then nothing has changed.
     pub fn apply(&mut self, alloc: Global, change: &Change) -> Result<(), AllocError>
         requires { IsCurrent change.now (world_of self.old) }
         ensures ok { OnOk result (world_of self.new ≡ after_writes change.now (world_of self.old)) }

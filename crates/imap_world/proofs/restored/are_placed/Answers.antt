@@ -1,4 +1,3 @@
-use Rattle.std.proofs.Common.{◌∙◌, ap, sym}
 use Rattle.imap_name_map.proofs.Maps.{sorted_entries}
 use Rattle.imap_world.proofs.Placed.{all_placed, placed_all}
 use Rattle.imap_world.proofs.restored.are_placed.Goals as goal

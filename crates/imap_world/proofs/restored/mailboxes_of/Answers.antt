@@ -1,4 +1,4 @@
-use Rattle.std.proofs.Common.{◌≡◌, ◌∷◌, [], ◌∙◌, List, length, ap, subst, sym, arith}
+use Rattle.std.proofs.Common.{◌≡◌, ◌∷◌, [], List, length, ap, subst, arith}
 use Rattle.std.specs.Vec.Iter.{into_iter_items}
 use Rattle.imap_name_map.proofs.RunInserts.{nothing_left}
 use Rattle.imap_world.specs.declared.world_parts.MailboxRow.{MailboxRow}

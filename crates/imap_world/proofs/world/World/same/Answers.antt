@@ -1,4 +1,4 @@
-use Rattle.std.proofs.Common.{◌≡◌, true, false, sym, ◌∙◌}
+use Rattle.std.proofs.Common.{sym, ◌∙◌}
 use Rattle.imap_world.specs.Stored.{Stored}
 use Rattle.imap_world.proofs.OneWorld.{if_three, if_viewed}
 use Rattle.imap_world.proofs.world.World.same.Goals as goal
