@@ -1,0 +1,10 @@
+use Rattle.std.proofs.Common.{◌≡◌, drop}
+use Rattle.sqlite.specs.Held.{state}
+use Rattle.imap_tables.specs.Changes.{MakesAllBelow}
+use Rattle.imap_tables.proofs.Chain.{HasMade}
+use Rattle.imap_tables.proofs.saving.make_all_below.Given as goal
+
+abbrev pub invariant-changes : goal.invariant-changes
+invariant-changes g l =
+    (l.tx.conn.ghost_name ≡ l.fn.tx.conn.ghost_name)
+    × HasMade (MakesAllBelow l.mailbox) l.changes (drop l.change-index l.changes) (state g.S.Store l.fn.tx.conn.now) (state g.S.Store l.tx.conn.now)

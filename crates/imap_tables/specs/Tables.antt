@@ -1,0 +1,168 @@
+-- The tables of a store. Whole numbers, texts and octets alone, none of them NULL.
+use Rattle.std.specs.Prelude.{ℕ, true, false, List, [], ◌∷◌, codes, Some, None}
+use Rattle.sqlite.specs.Collation.TheVariants.{Binary}
+use Rattle.sqlite.specs.declared.types.Value.TheVariants.{Null}
+use Rattle.sqlite.specs.Table.{Table}
+use Rattle.sqlite.specs.Schema.{Schema}
+use Rattle.sqlite.specs.Kind.{Kind}
+use Rattle.sqlite.specs.Kind.TheVariants.{Integer, Text, Blob}
+use Rattle.sqlite_schema.specs.declared.schema.Column.{Column}
+use Rattle.sqlite_schema.specs.declared.schema.Action.TheVariants.{Cascade, NoAction}
+use Rattle.sqlite_schema.specs.declared.schema.Reference.{Reference}
+use Rattle.sqlite_schema.specs.declared.schema.Index.{Index}
+
+abbrev pub column_of : Kind → List ℕ → Column
+column_of kind name = record {
+  name = name;
+  kind = kind;
+  is_strict = true;
+  not_null = true;
+  default = Null;
+  collation = Binary;
+}
+
+-- a table of columns that are not null; its key is the columns `primary`
+abbrev pub table_of : List ℕ → ℕ → List Column → List ℕ → List Reference → Table
+table_of name tree columns primary references = record {
+  name = name;
+  tree = tree;
+  columns = columns;
+  key = None;
+  primary = primary;
+  uniques = primary ∷ [];
+  orders = (record { digits = 0 }) ∷ [];
+  checks = [];
+  references = references;
+  computed = [];
+  stamps = record { places = []; terms = []; formats = [] };
+  is_counted = false;
+}
+
+-- the column that is the rowid
+abbrev pub id_column : Column
+id_column = record {
+  name = codes "id";
+  kind = Integer;
+  is_strict = true;
+  not_null = false;
+  default = Null;
+  collation = Binary;
+}
+
+-- a mailbox; no two have one tree and path
+abbrev pub mailbox_table : Table
+mailbox_table = record {
+  name = codes "mailbox";
+  tree = 0;
+  columns = id_column ∷ column_of Text (codes "tree") ∷ column_of Text (codes "path")
+      ∷ column_of Integer (codes "validity") ∷ column_of Integer (codes "uidnext")
+      ∷ column_of Integer (codes "shared") ∷ [];
+  key = Some 0;
+  primary = 0 ∷ [];
+  uniques = (2 ∷ 3 ∷ []) ∷ [];
+  orders = (record { digits = 0 }) ∷ [];
+  checks = [];
+  references = [];
+  computed = [];
+  stamps = record { places = []; terms = []; formats = [] };
+  is_counted = false;
+}
+
+-- what is below a mailbox goes with it
+abbrev pub to_mailbox : Reference
+to_mailbox = record {
+  columns = 1 ∷ [];
+  parent = codes "mailbox";
+  parent_columns = codes "id" ∷ [];
+  on_delete = Cascade;
+  on_update = NoAction;
+  is_deferred = false;
+}
+
+-- a table below a mailbox
+abbrev pub child_table : List ℕ → ℕ → List Column → List ℕ → Table
+child_table name tree columns key =
+    table_of name tree (column_of Integer (codes "mailbox") ∷ columns) (1 ∷ key) (to_mailbox ∷ [])
+
+-- an entry of an access control list
+abbrev pub acl_table : Table
+acl_table =
+    child_table (codes "acl") 2
+    (column_of Text (codes "identifier") ∷ column_of Integer (codes "rights") ∷ []) (2 ∷ [])
+
+-- a message that is there
+abbrev pub message_table : Table
+message_table =
+    child_table (codes "message") 4
+    (column_of Integer (codes "uid") ∷ column_of Text (codes "date") ∷ column_of Blob (codes "octets")
+    ∷ column_of Integer (codes "flags") ∷ column_of Text (codes "keywords")
+    ∷ column_of Integer (codes "place") ∷ []) (2 ∷ [])
+
+-- a message that was expunged
+abbrev pub gone_table : Table
+gone_table =
+    child_table (codes "gone") 6
+    (column_of Integer (codes "uid") ∷ column_of Integer (codes "place") ∷ []) (2 ∷ [])
+
+-- a user's change of his own \Seen
+abbrev pub mark_table : Table
+mark_table =
+    child_table (codes "mark") 8
+    (column_of Text (codes "user") ∷ column_of Integer (codes "own") ∷ column_of Integer (codes "before")
+    ∷ column_of Integer (codes "uid") ∷ column_of Integer (codes "seen") ∷ []) (2 ∷ 3 ∷ [])
+
+-- the greatest UIDVALIDITY that was used under a name
+abbrev pub epoch_table : Table
+epoch_table =
+    table_of (codes "epoch") 10
+    (column_of Text (codes "tree") ∷ column_of Text (codes "path")
+    ∷ column_of Integer (codes "greatest") ∷ []) (1 ∷ 2 ∷ []) []
+
+-- a name to which a user subscribed
+abbrev pub sub_table : Table
+sub_table =
+    table_of (codes "sub") 12
+    (column_of Text (codes "user") ∷ column_of Text (codes "tree") ∷ column_of Text (codes "path") ∷ [])
+    (1 ∷ 2 ∷ 3 ∷ []) []
+
+-- what is said of the store as a whole
+abbrev pub meta_table : Table
+meta_table =
+    table_of (codes "meta") 14 (column_of Text (codes "key") ∷ column_of Integer (codes "value") ∷ [])
+    (1 ∷ []) []
+
+abbrev pub index_of : List ℕ → ℕ → ℕ → List ℕ → Index
+index_of name tree table columns = record {
+  name = name;
+  tree = tree;
+  table = table;
+  columns = columns;
+  order = record { digits = 0 };
+  is_unique = true;
+}
+
+abbrev pub store_tables : List Table
+store_tables =
+    mailbox_table ∷ acl_table ∷ message_table ∷ gone_table ∷ mark_table ∷ epoch_table ∷ sub_table
+    ∷ meta_table ∷ []
+
+abbrev pub store_indexes : List Index
+store_indexes =
+    index_of (codes "sqlite_autoindex_mailbox_1") 1 0 (2 ∷ 3 ∷ [])
+    ∷ index_of (codes "sqlite_autoindex_acl_1") 3 2 (1 ∷ 2 ∷ [])
+    ∷ index_of (codes "sqlite_autoindex_message_1") 5 4 (1 ∷ 2 ∷ [])
+    ∷ index_of (codes "sqlite_autoindex_gone_1") 7 6 (1 ∷ 2 ∷ [])
+    ∷ index_of (codes "sqlite_autoindex_mark_1") 9 8 (1 ∷ 2 ∷ 3 ∷ [])
+    ∷ index_of (codes "sqlite_autoindex_epoch_1") 11 10 (1 ∷ 2 ∷ [])
+    ∷ index_of (codes "sqlite_autoindex_sub_1") 13 12 (1 ∷ 2 ∷ 3 ∷ [])
+    ∷ index_of (codes "sqlite_autoindex_meta_1") 15 14 (1 ∷ []) ∷ []
+
+abbrev pub store_schema : Schema
+store_schema = record { tables = store_tables; indexes = store_indexes; views = [] }
+
+abbrev pub no_schema : Schema
+no_schema = record { tables = []; indexes = []; views = [] }
+
+-- the tables below a mailbox
+abbrev pub tables_below : List Table
+tables_below = acl_table ∷ message_table ∷ gone_table ∷ mark_table ∷ []

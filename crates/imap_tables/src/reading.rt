@@ -1,0 +1,81 @@
+//! The rows of all tables, as they are read.
+
+ghost use Rattle.std.specs.Prelude.{◌<◌, ◌≡◌, IfOk, false, IsTrue};
+ghost use Rattle.imap_tables.specs.Reading.{AreAllRead, AreRead, select_at};
+ghost use Rattle.imap_tables.specs.Steps.{Calls, HasSchema};
+ghost use Rattle.imap_tables.specs.Tables.{store_schema};
+ghost use Rattle.sqlite.specs.Held.{state};
+ghost use Rattle.sqlite.specs.State.{HasCleanDisk, IsUnchanged, Survives};
+
+use sqlite::{Alter, Connection, Error, Row, Transaction};
+use std::alloc::Global;
+
+/// The text that reads the table at a place.
+fn text_of(at: u32) -> &'static str
+    requires low { at < 8 }
+    ensures { result.now ≡ select_at at }
+{
+    match at {
+        0 => "SELECT id, tree, path, validity, uidnext, shared FROM mailbox",
+        1 => "SELECT rowid, mailbox, identifier, rights FROM acl",
+        2 => "SELECT rowid, mailbox, uid, date, octets, flags, keywords, place FROM message",
+        3 => "SELECT rowid, mailbox, uid, place FROM gone",
+        4 => "SELECT rowid, mailbox, user, own, before, uid, seen FROM mark",
+        5 => "SELECT rowid, tree, path, greatest FROM epoch",
+        6 => "SELECT rowid, user, tree, path FROM sub",
+        _ => "SELECT rowid, key, value FROM meta",
+    }
+}
+
+/// Reads the table at a place.
+fn read_table<S: Alter>(tx: &mut Transaction<'_, S>, at: u32) -> Result<Vec<Row>, Error>
+    requires low { at < 8 }
+    requires schema { HasSchema store_schema (state S.Store tx.old.conn.now) }
+    ensures same_reference { tx.new.conn.ghost_name ≡ tx.old.conn.ghost_name }
+    ensures call { Calls S.Store tx.old.conn.now tx.new.conn.now (λ old new.
+        IfOk result (λ rows. AreRead at old.now.trees rows.items × IsUnchanged old new)) }
+{
+    let text = text_of(at);
+    tx.query_all(text, &[])
+}
+
+/// Reads all tables in turn.
+fn read_all<S: Alter>(tx: &mut Transaction<'_, S>, alloc: Global) -> Result<Vec<Vec<Row>>, Error>
+    requires schema { HasSchema store_schema (state S.Store tx.old.conn.now) }
+    requires begun { IsTrue (state S.Store tx.old.conn.now).in_transaction }
+    ensures same_reference { tx.new.conn.ghost_name ≡ tx.old.conn.ghost_name }
+    ensures read { HasCleanDisk (state S.Store tx.new.conn.now)
+        → IfOk result (λ tables. AreAllRead 8 (state S.Store tx.old.conn.now).now.trees tables.items) }
+    ensures kept { HasCleanDisk (state S.Store tx.new.conn.now)
+        → IsTrue (state S.Store tx.new.conn.now).is_open
+        → (state S.Store tx.new.conn.now).committed ≡ (state S.Store tx.old.conn.now).committed }
+    ensures survives { Survives (state S.Store tx.old.conn.now) (state S.Store tx.new.conn.now) (λ _. ⊥) }
+{
+    let mut tables = Vec::new(alloc);
+    'tables: for at in 0u32..8 {
+        let rows = read_table(tx, at)?;
+        tables.push(rows)?;
+    }
+    Ok(tables)
+}
+
+/// Reads the rows of all tables, in the order in which the tables are made. Changes nothing.
+pub fn read_tables<S: Alter>(
+    conn: &mut Connection<S>,
+    alloc: Global,
+) -> Result<Vec<Vec<Row>>, Error>
+    requires schema { HasSchema store_schema (state S.Store conn.old) }
+    requires autocommit { conn.old.in_transaction ≡ false }
+    ensures read { HasCleanDisk (state S.Store conn.new)
+        → IfOk result (λ tables. AreAllRead 8 (state S.Store conn.old).now.trees tables.items) }
+    ensures kept { HasCleanDisk (state S.Store conn.new) → IsTrue (state S.Store conn.new).is_open
+        → ((state S.Store conn.new).committed ≡ (state S.Store conn.old).committed)
+        × ((state S.Store conn.new).now ≡ (state S.Store conn.old).committed) }
+    ensures autocommit { conn.new.in_transaction ≡ false }
+    ensures crash { Survives (state S.Store conn.old) (state S.Store conn.new) (λ _. ⊥) }
+{
+    let mut tx = conn.transaction();
+    let tables = read_all(&mut tx, alloc)?;
+    tx.rollback();
+    Ok(tables)
+}
