@@ -1,5 +1,5 @@
 -- Each answer is fit.
-use Rattle.std.proofs.Common.{◌≡◌, ℕ, ◌+◌, ◌-◌, ◌≤◌, Bool, true, false, cond, not, List, [], ◌∷◌, filter, length, zero, suc, take, Option, Some, None, refl, sym, ap, subst, ◌∙◌, arith}
+use Rattle.std.proofs.Common.{◌≡◌, ℕ, ◌+◌, ◌≤◌, Bool, true, false, cond, not, List, [], ◌∷◌, filter, length, zero, suc, take, Option, Some, None, refl, arith}
 use Rattle.imap_answer.specs.Alike.{AnswersAlike}
 use Rattle.imap_answer.specs.Answer.{carried_out, refusal}
 use Rattle.imap_answer.specs.Fit.{IsFit, IsViewed, MayBeAsked}
@@ -8,7 +8,7 @@ use Rattle.imap_answer.proofs.Fits.{fits_alone}
 use Rattle.imap_batch.specs.Batch.{are_known}
 use Rattle.imap_mailbox.specs.Lent.{row_uids}
 use Rattle.imap_print.specs.declared.response.Code.{Code}
-use Rattle.imap_print.specs.declared.response.Refusal.TheVariants.{Cannot, NonExistent, NoPerm, WrongState}
+use Rattle.imap_print.specs.declared.response.Refusal.TheVariants.{Cannot, NoPerm}
 use Rattle.imap_session.specs.State.{Selection, SessionState}
 use Rattle.imap_syntax.specs.declared.set.MessageSet.{MessageSet}
 use Rattle.imap_syntax.specs.declared.set.Numbering.TheVariants as numbering

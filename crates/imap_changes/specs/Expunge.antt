@@ -1,6 +1,6 @@
 -- EXPUNGE, UID EXPUNGE and CLOSE (RFC 9051, sections 6.4.1, 6.4.3 and 6.4.9).
 use Rattle.std.specs.Prelude.{ℕ, ◌+◌, Bool, true, false, not, ◌&&◌, List, [], ◌∷◌, filter, length, take}
-use Rattle.std.specs.Prelude.{Option, Some, None, option_and_then, if◌then◌else◌}
+use Rattle.std.specs.Prelude.{Option, Some, None, if◌then◌else◌}
 use Rattle.imap_answer.specs.Answer.{Answer, carried_out, refusal}
 use Rattle.imap_batch.specs.declared.batch.Batch.{Batch}
 use Rattle.imap_mailbox.specs.declared.known.KnownMessage.{KnownMessage}
@@ -66,12 +66,13 @@ expunge_code qresync mailbox [] = None
 expunge_code qresync mailbox (uid ∷ uids) =
     if qresync then Some (code.HighestModSeq (mailbox.highest + length (uid ∷ uids))) else None
 
-abbrev pub expunge_messages : View → (qresync : Bool) → (tag : List ℕ) → Selection → Readable → (uids : List ℕ) → Answer
+abbrev pub expunge_messages : View → (qresync : Bool) → (tag : List ℕ) → Selection → Readable →
+    (uids : List ℕ) → Answer
 expunge_messages view qresync tag s mailbox uids =
     carried_out [] tag (expunge_code qresync mailbox uids) (expunge_effect view.user s.name uids)
 
-abbrev pub expunge_if_readable : View → (qresync : Bool) → (tag : List ℕ) → (asked : Option MessageSet) → Selection →
-    Option Readable → Answer
+abbrev pub expunge_if_readable : View → (qresync : Bool) → (tag : List ℕ) → (asked : Option MessageSet) →
+    Selection → Option Readable → Answer
 expunge_if_readable view qresync tag asked s None = refusal tag NonExistent
 expunge_if_readable view qresync tag asked s (Some mailbox) =
     expunge_messages view qresync tag s mailbox (expunged_uids asked s.known mailbox)
@@ -81,7 +82,8 @@ abbrev pub is_saved_set : Option MessageSet → Bool
 is_saved_set None = false
 is_saved_set (Some set) = is_saved set
 
-abbrev pub expunge_selected : View → (qresync : Bool) → (tag : List ℕ) → (asked : Option MessageSet) → Selection → Answer
+abbrev pub expunge_selected : View → (qresync : Bool) → (tag : List ℕ) → (asked : Option MessageSet) →
+    Selection → Answer
 expunge_selected view qresync tag asked s =
     if is_saved_set asked then refusal tag Cannot
     else if not (may_expunge view s) then refusal tag NoPerm

@@ -3,6 +3,8 @@
 ghost use Rattle.std.specs.Prelude.{ℕ, List, Option};
 ghost use Rattle.imap_answer.specs.Alike.{AnswersAlike};
 ghost use Rattle.imap_changes.specs.Expunge.{close_answer, expunge_answer};
+ghost use Rattle.imap_changes.specs.Laws.{ExpungesAll, ExpungesDeleted};
+ghost use Rattle.imap_changes.specs.Store.{Store, store_answer};
 ghost use Rattle.imap_session.specs.State.{SessionState};
 ghost use Rattle.imap_syntax.specs.declared.set.MessageSet.{MessageSet};
 
@@ -11,6 +13,15 @@ ghost use Rattle.imap_syntax.specs.declared.set.MessageSet.{MessageSet};
 pub fn commands_are_alike()
     ensures expunge { (own : SessionState) (tag : List ℕ) (asked : Option MessageSet)
         → AnswersAlike (λ view. expunge_answer view own tag asked) }
+    ensures store { (own : SessionState) (tag : List ℕ) (asked : Store)
+        → AnswersAlike (λ view. store_answer view own tag asked) }
     ensures close { (own : SessionState) (tag : List ℕ)
         → AnswersAlike (λ view. close_answer view own tag) }
+{}
+
+/// EXPUNGE and UID EXPUNGE take messages with `\Deleted` that the session knows, and that the set names if there
+/// is one, and no others; and all of these, if the mailbox has an event left for each of its messages.
+pub fn deleted_messages_are_expunged()
+    ensures only { ExpungesDeleted }
+    ensures all { ExpungesAll }
 {}

@@ -16,6 +16,7 @@ use Rattle.imap_grammar.specs.declared.command.Command.{Command}
 use Rattle.imap_grammar.specs.declared.command.Command.TheVariants as command
 use Rattle.imap_changes.specs.Expunge.{close_answer, close_if_selected}
 use Rattle.imap_changes.proofs.Fitting as changes
+use Rattle.imap_changes.proofs.StoreFitting as storing
 use Rattle.imap_list.proofs.Fitting as list
 use Rattle.imap_messages.proofs.Fitting as messages
 use Rattle.imap_syntax.specs.Moments.{Moment}
@@ -257,7 +258,8 @@ module _ (view : View) where
   command_fits active tag at command.Expunge = changes.expunge_fits view active tag None
   command_fits active tag at (command.UidExpunge named) = changes.expunge_fits view active tag (Some named)
   command_fits active tag at (command.Search numbering returns charset keys) = unbuilt_fits active tag
-  command_fits active tag at (command.Store numbering named store) = unbuilt_fits active tag
+  command_fits active tag at (command.Store numbering named store) =
+      storing.store_fits view active tag (record { numbering = numbering; messages = named; spec = store })
   command_fits active tag at (command.Copy numbering named mailbox) = unbuilt_fits active tag
   command_fits active tag at (command.Move numbering named mailbox) = unbuilt_fits active tag
   command_fits active tag at _ = fits_alone view _ _ refl

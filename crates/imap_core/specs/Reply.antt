@@ -16,6 +16,7 @@ use Rattle.imap_syntax.specs.Moments.{Moment}
 use Rattle.imap_print.specs.declared.response.Response.{Response}
 use Rattle.imap_print.specs.declared.response.Response.TheVariants as response
 use Rattle.imap_changes.specs.Expunge.{close_answer, expunge_answer}
+use Rattle.imap_changes.specs.Store.{store_answer}
 use Rattle.imap_messages.specs.Append.{append_answer}
 use Rattle.imap_messages.specs.Fetch.{fetch_answer}
 use Rattle.imap_print.specs.declared.response.Farewell.TheVariants.{LimitReached, MailboxUnavailable}
@@ -104,7 +105,8 @@ command_answer view own tag at (command.MyRights mailbox) = my_rights_answer vie
 command_answer view own tag at command.Expunge = expunge_answer view own tag None
 command_answer view own tag at (command.UidExpunge messages) = expunge_answer view own tag (Some messages)
 command_answer view own tag at (command.Search numbering returns charset keys) = unbuilt_answer own tag
-command_answer view own tag at (command.Store numbering messages store) = unbuilt_answer own tag
+command_answer view own tag at (command.Store numbering messages store) =
+    store_answer view own tag (record { numbering = numbering; messages = messages; spec = store })
 command_answer view own tag at (command.Copy numbering messages mailbox) = unbuilt_answer own tag
 command_answer view own tag at (command.Move numbering messages mailbox) = unbuilt_answer own tag
 command_answer view own tag at _ = refusal tag Cannot

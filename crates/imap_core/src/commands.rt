@@ -17,7 +17,7 @@ use crate::outcome::Outcome;
 use crate::pending::Pending;
 use crate::sessions::SessionEffect;
 use imap_answer::{Answer, Call};
-use imap_changes::{close_answer, expunge_answer, uid_expunge_answer};
+use imap_changes::{Store, close_answer, expunge_answer, store_answer, uid_expunge_answer};
 use imap_grammar::{Command, SelectParameters};
 use imap_lex::Octets;
 use imap_list::{
@@ -257,10 +257,21 @@ fn command_answer(
         Command::MyRights { mailbox } => my_rights_answer(call, mailbox),
         Command::Expunge => expunge_answer(call, session),
         Command::UidExpunge { messages } => uid_expunge_answer(call, session, messages),
-        Command::Search { .. }
-        | Command::Store { .. }
-        | Command::Copy { .. }
-        | Command::Move { .. } => unbuilt_answer(call, session),
+        Command::Store {
+            numbering,
+            messages,
+            store,
+        } => {
+            let asked = Store {
+                numbering: *numbering,
+                messages,
+                spec: store,
+            };
+            store_answer(call, session, &asked)
+        }
+        Command::Search { .. } | Command::Copy { .. } | Command::Move { .. } => unbuilt_answer(
+            call, session,
+        ),
         // What isn't built yet can't be done.
         _ => call.refuse(Refusal::Cannot),
     }

@@ -13,12 +13,14 @@ use Rattle.imap_syntax.specs.declared.set.SeqRange.{SeqRange}
 use Rattle.imap_view.specs.declared.readable.Readable.{Readable}
 use Rattle.imap_view.specs.View.{View}
 use Rattle.imap_messages.specs.declared.reading.Reading.{Reading}
-use Rattle.imap_messages.specs.Fetch.{Fetch, enabled_by, fetch_messages, fetched_lines, fetched_uids, is_refused, messages_of, sets_seen}
+use Rattle.imap_messages.specs.Fetch.{Fetch, enabled_by, fetch_messages, fetched_lines, fetched_uids, messages_of, sets_seen}
 use Rattle.imap_messages.specs.Fetched.{Wanted, wanted_of}
 use Rattle.imap_messages.specs.Found.{IsReading, marks_named}
-use Rattle.imap_targets.specs.MessageNumbers.{Numbered, is_by_uid, last_of, messages_from, ranges_of}
+use Rattle.imap_targets.specs.declared.message_numbers.Numbered.{Numbered}
+use Rattle.imap_targets.specs.MessageNumbers.{is_by_uid, is_refused, last_of, messages_from, ranges_of}
 use Rattle.imap_messages.specs.Reading.{lines_from, mark_effect, read_effect, uids_told}
-use Rattle.imap_messages.proofs.Marked.{named_rise, reading_is, uids_rise}
+use Rattle.imap_targets.proofs.Listed.{named_rise}
+use Rattle.imap_messages.proofs.Marked.{reading_is, uids_rise}
 
 module _ (view : View) (enabled : EnabledCapabilities) (tag : List ℕ) (asked : Fetch) (s : Selection) (mailbox : Readable) (order : AreRowsInOrder mailbox.next_uid mailbox.highest mailbox.rows) (rise : UidsRise s.known) where
   abbrev messages : List Numbered

@@ -27,9 +27,10 @@ use Rattle.imap_view.specs.Readable.{readable_in}
 use Rattle.imap_view.specs.Seen.{Seen}
 use Rattle.imap_view.specs.View.{View, rights_in}
 use Rattle.imap_messages.specs.Append.{Append, append_answer, append_code, append_message, append_to_name, append_to_seen, appends, batch_of, is_full, message_of}
-use Rattle.imap_messages.specs.Fetch.{Fetch, enabled_by, fetch_answer, fetch_if_readable, fetch_if_selected, fetched_lines, fetched_uids, is_impossible, is_malformed, is_refused, messages_of, sets_seen}
+use Rattle.imap_messages.specs.Fetch.{Fetch, enabled_by, fetch_answer, fetch_if_readable, fetch_if_selected, fetched_lines, fetched_uids, is_impossible, is_malformed, messages_of, sets_seen}
 use Rattle.imap_messages.specs.Fetched.{Wanted, wanted_of}
-use Rattle.imap_targets.specs.MessageNumbers.{Numbered, is_by_uid, row_with}
+use Rattle.imap_targets.specs.declared.message_numbers.Numbered.{Numbered}
+use Rattle.imap_targets.specs.MessageNumbers.{is_by_uid, is_refused, row_with}
 use Rattle.imap_messages.specs.Reading.{count_after, line_if_there, lines_from, read_effect}
 use Rattle.imap_targets.specs.Target.{holds_create_above, target_refusal}
 use Rattle.imap_messages.proofs.Possible.{possible}

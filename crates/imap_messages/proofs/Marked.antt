@@ -3,34 +3,17 @@ use Rattle.std.proofs.Common.{◌≡◌, ℕ, ◌+◌, ◌<◌, ◌≤◌, Bool,
 use Rattle.std.specs.List.{list_any}
 use Rattle.std.proofs.lemmas.Bool.{ne_eqb, eqb-true, eq-eqb}
 use Rattle.imap_batch.specs.declared.batch.Mark.{Mark}
-use Rattle.imap_mailbox.specs.declared.known.KnownMessage.{KnownMessage}
-use Rattle.imap_mailbox.specs.Brought.{known_uids}
 use Rattle.imap_mailbox.specs.Lent.{row_uids}
 use Rattle.imap_mailbox.specs.Rows.{Row}
 use Rattle.imap_mailbox.specs.Summary.{Rises}
 use Rattle.imap_mailbox.proofs.Rising.{rises_lower}
 use Rattle.imap_names.specs.Name.{Name}
-use Rattle.imap_syntax.specs.declared.set.Numbering.{Numbering}
-use Rattle.imap_syntax.specs.declared.set.SeqRange.{SeqRange}
 use Rattle.imap_messages.specs.Fetched.{Wanted}
 use Rattle.imap_messages.specs.Found.{marks_named}
-use Rattle.imap_targets.specs.MessageNumbers.{Numbered, in_set, messages_from, number_by, row_with}
+use Rattle.imap_targets.specs.declared.message_numbers.Numbered.{Numbered}
+use Rattle.imap_targets.specs.MessageNumbers.{row_with, uids_of}
+use Rattle.imap_targets.proofs.Named.{row_below}
 use Rattle.imap_messages.specs.Reading.{count_after, is_set, is_unread, mark_effect, marks_if_there, read_effect, seen_mark, seen_marks, uid_told, uids_told}
-
-abbrev pub uids_of : List Numbered → List ℕ
-uids_of messages = map (λ (m : Numbered). m.uid) messages
-
--- ---- the messages of a set rise, as those that are known do
-
-pub named_rise : (by : Numbering) (last : ℕ) (ranges : List SeqRange) (low high n : ℕ) (known : List KnownMessage) → Rises low high (known_uids known) → Rises low high (uids_of (messages_from by last ranges n known))
-named_rise by last ranges low high n [] h = h
-named_rise by last ranges low high n (k ∷ known) h =
-    either (in_set last ranges (number_by by (record { number = n; uid = k.uid }))) (named_rise by last ranges (k.uid + 1) high (n + 1) known h.1)
-  where
-    either : (b : Bool) → Rises (k.uid + 1) high (uids_of (messages_from by last ranges (n + 1) known))
-        → Rises low high (uids_of (cond b (record { number = n; uid = k.uid } ∷ messages_from by last ranges (n + 1) known) (messages_from by last ranges (n + 1) known)))
-    either true rest = (h.0, rest)
-    either false rest = let at : low ≤ k.uid = h.0 in rises_lower (k.uid + 1) low high (uids_of (messages_from by last ranges (n + 1) known)) (omega arith) rest
 
 -- ---- one message that is named before others, whose UIDs are greater
 
@@ -40,13 +23,6 @@ turned a b = by (eqb b a) refl
     by : (x : Bool) → eqb b a ≡ x → eqb a b ≡ x
     by true e = eq-eqb a b (sym (eqb-true b a e))
     by false e = ne_eqb a b (λ same. absurd (cc (sym e ∙ eq-eqb b a (sym same))))
-
-nowhere : (uid low high : ℕ) (rows : List Row) → uid < low → Rises low high (row_uids rows) → row_with uid rows ≡ None
-nowhere uid low high [] lt h = refl
-nowhere uid low high (r ∷ rows) lt h =
-    let at : low ≤ r.uid = h.0 in
-    ap (λ b. cond b (Some r) (row_with uid rows)) (ne_eqb r.uid uid (λ e. omega (arith, e, at, lt)))
-    ∙ nowhere uid (r.uid + 1) high rows (omega (arith, at, lt)) h.1
 
 abbrev names_uid : ℕ → List Numbered → Bool
 names_uid uid messages = list_any (λ (m : Numbered). eqb m.uid uid) messages
@@ -94,7 +70,7 @@ module _ (m : Numbered) (messages : List Numbered) where
     there false e later = later
     there true e later =
         let le = above r.uid (m.uid + 1) top messages up (second r.seen (names_uid r.uid messages) e) in
-        let none : marks_if_there true (row_with m.uid rows) ≡ [] = ap (marks_if_there true) (nowhere m.uid (r.uid + 1) high rows (omega (arith, le)) h) in
+        let none : marks_if_there true (row_with m.uid rows) ≡ [] = ap (marks_if_there true) (row_below m.uid (r.uid + 1) high rows (omega (arith, le)) h) in
         ap (λ ms. seen_mark r ∷ ms) (later ∙ ap (λ ms. ms ++ seen_marks messages rows) none) ∙ ap (λ ms. ms ++ (seen_mark r ∷ seen_marks messages rows)) (sym none)
 
     by_row : (b : Bool) → eqb r.uid m.uid ≡ b → seen_marks (m ∷ messages) rows ≡ marks_if_there true (row_with m.uid rows) ++ seen_marks messages rows

@@ -13,10 +13,10 @@ use Rattle.imap_session.proofs.Telling.{length_fits}
 use Rattle.imap_syntax.specs.declared.set.Numbering.{Numbering}
 use Rattle.imap_syntax.specs.declared.set.SeqRange.{SeqRange}
 use Rattle.imap_messages.specs.declared.reading.Reading.{Reading}
-use Rattle.imap_messages.specs.Fetch.{is_gone, is_refused}
 use Rattle.imap_messages.specs.Fetched.{Wanted}
 use Rattle.imap_messages.specs.Found.{IsReading, marks_named}
-use Rattle.imap_targets.specs.MessageNumbers.{Numbered, in_set, last_uid, messages_from, number_by, row_with}
+use Rattle.imap_targets.specs.declared.message_numbers.Numbered.{Numbered}
+use Rattle.imap_targets.specs.MessageNumbers.{in_set, is_gone, is_refused, last_uid, messages_from, number_by, row_with}
 use Rattle.imap_messages.specs.Reading.{IsAdded, count_after, is_set, line_if_there, lines_from, marks_if_there, uid_told, uids_told}
 use Rattle.imap_modseq.specs.Numbers.{max_events}
 use Rattle.imap_print.specs.Lines.{IsPrintable}

@@ -21,7 +21,8 @@ use Rattle.imap_view.specs.declared.readable.Readable.{Readable}
 use Rattle.imap_view.specs.Readable.{readable_in}
 use Rattle.imap_view.specs.View.{View, rights_in}
 use Rattle.imap_messages.specs.Fetched.{wanted_of}
-use Rattle.imap_targets.specs.MessageNumbers.{Numbered, are_numbers, is_by_uid, is_saved, messages_named, ranges_of, row_with}
+use Rattle.imap_targets.specs.declared.message_numbers.Numbered.{Numbered}
+use Rattle.imap_targets.specs.MessageNumbers.{are_numbers, is_by_uid, is_refused, is_saved, messages_named, ranges_of, row_with}
 use Rattle.imap_messages.specs.Reading.{lines_from, read_effect, uids_told}
 
 -- the arguments of FETCH
@@ -71,14 +72,6 @@ sets_seen view s asked =
     list_any is_reading asked.items && (not s.read_only && has_any (rights_in view s.name) seen)
 
 -- ---- the answer
-
--- A message that is named by its number is gone (RFC 9051, section 7.5.1, and RFC 5530, EXPUNGEISSUED). UIDs of
--- messages that are gone are passed over.
-abbrev pub is_gone : List Row → Numbered → Bool
-is_gone rows m = not (is_some (row_with m.uid rows))
-
-abbrev pub is_refused : (by_uid : Bool) → List Row → List Numbered → Bool
-is_refused by_uid rows messages = not by_uid && list_any (is_gone rows) messages
 
 abbrev pub is_mod_seq : FetchItem → Bool
 is_mod_seq item.ModSeq = true

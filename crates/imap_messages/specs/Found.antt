@@ -10,7 +10,8 @@ use Rattle.imap_view.specs.declared.readable.Readable.{Readable}
 use Rattle.imap_targets.specs.declared.message_numbers.MessageNumbers.{MessageNumbers}
 use Rattle.imap_messages.specs.declared.reading.Reading.{Reading}
 use Rattle.imap_messages.specs.Fetched.{Wanted}
-use Rattle.imap_targets.specs.MessageNumbers.{Numbered, in_set, messages_from, number_by, row_with}
+use Rattle.imap_targets.specs.declared.message_numbers.Numbered.{Numbered}
+use Rattle.imap_targets.specs.MessageNumbers.{in_set, messages_from, number_by, row_with}
 use Rattle.imap_syntax.specs.declared.set.Numbering.{Numbering}
 use Rattle.imap_syntax.specs.declared.set.SeqRange.{SeqRange}
 use Rattle.imap_messages.specs.Reading.{lines_from, marks_if_there, uids_told}

@@ -12,7 +12,8 @@ use Rattle.imap_world.specs.declared.effect.Effect.{Effect}
 use Rattle.imap_world.specs.declared.effect.Effect.TheVariants as effect
 use Rattle.imap_messages.specs.declared.reading.Reading.{Reading}
 use Rattle.imap_messages.specs.Fetched.{Wanted, fetch_line}
-use Rattle.imap_targets.specs.MessageNumbers.{Numbered, row_with}
+use Rattle.imap_targets.specs.declared.message_numbers.Numbered.{Numbered}
+use Rattle.imap_targets.specs.MessageNumbers.{row_with}
 
 -- ---- lines. The user made `own` changes of `\Seen`, and `highest` is HIGHESTMODSEQ
 

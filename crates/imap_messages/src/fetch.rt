@@ -10,7 +10,7 @@ ghost use Rattle.imap_messages.specs.Fetch as specs;
 ghost use Rattle.imap_messages.specs.Found.{IsReading};
 ghost use Rattle.imap_messages.specs.Reading.{mark_effect};
 ghost use Rattle.imap_modseq.specs.Numbers.{max_events, max_number};
-ghost use Rattle.imap_targets.specs.MessageNumbers.{is_by_uid as by_uid_in};
+ghost use Rattle.imap_targets.specs.MessageNumbers.{is_by_uid as by_uid_in, is_refused};
 ghost use Rattle.imap_targets.specs.Spans.{named_in};
 ghost use Rattle.imap_print.specs.Lines.{IsPrintable};
 ghost use Rattle.imap_rights.specs.Rights.{has_any, seen};
@@ -269,7 +269,7 @@ fn read_messages(
     requires few { mailbox.now.own ≤ max_events }
     requires bounded { mailbox.now.highest ≤ max_number }
     ensures refused { let rows = mailbox.now.rows in
-        let refused = specs.is_refused (by_uid_in messages.now.numbering) rows in
+        let refused = is_refused (by_uid_in messages.now.numbering) rows in
         IfOk result (λ r. is_none r ≡ refused (named_in messages.now known.now.list)) }
     ensures known { UidsRise known.now.list }
     ensures read { let mailbox = mailbox.now in

@@ -29,7 +29,7 @@ mod walk;
 
 pub use delta::{ChangedMessage, Delta};
 pub use known_list::KnownList;
-pub use lines::flag_set;
+pub use lines::{fetch_line, flag_set};
 pub use mailbox_rows::MailboxRows;
 pub use notices::Notices;
 pub use options::NoticeOptions;

@@ -30,7 +30,7 @@ pub fn flag_set(alloc: Global, flags: &SharedFlags, seen: bool) -> Result<FlagSe
 }
 
 /// Returns the FETCH line of the message of this number (RFC 9051, section 7.5.2).
-pub(crate) fn fetch_line(
+pub fn fetch_line(
     alloc: Global,
     number: u32,
     message: &KnownMessage,

@@ -1,13 +1,16 @@
 -- The messages that a command names.
-use Rattle.std.proofs.Common.{◌≡◌, ℕ, suc, ◌+◌, ◌-◌, ◌<◌, ◌≤◌, Bool, true, false, cond, List, [], ◌∷◌, length, get_or, eqb, Option, Some, None, option_map, refl, sym, ap, ◌∙◌, arith}
+use Rattle.std.proofs.Common.{◌≡◌, ℕ, suc, ◌+◌, ◌-◌, ◌<◌, ◌≤◌, Bool, true, false, cond, List, [], ◌∷◌, length, get_or, eqb, Option, Some, None, option_map, is_some, not, refl, sym, ap, ◌∙◌, arith}
+use Rattle.std.proofs.lemmas.Bool.{ne_eqb}
 use Rattle.std.proofs.lemmas.List.{length-map}
 use Rattle.imap_mailbox.specs.declared.known.KnownMessage.{KnownMessage}
+use Rattle.imap_mailbox.specs.Brought.{known_uids}
 use Rattle.imap_mailbox.specs.Lent.{place_in, row_uids}
 use Rattle.imap_mailbox.specs.Rows.{Row}
+use Rattle.imap_mailbox.specs.Summary.{Rises}
 use Rattle.imap_mailbox.proofs.Finding.{inside}
 use Rattle.imap_session.specs.Held.{UidsRise, uid_limit}
 use Rattle.imap_session.proofs.Telling.{length_fits}
-use Rattle.imap_targets.specs.MessageNumbers.{last_uid, row_with}
+use Rattle.imap_targets.specs.MessageNumbers.{known_with, last_uid, row_with}
 
 -- ---- the last UID
 
@@ -52,3 +55,57 @@ row_nowhere uid (r ∷ rows) e = none_by uid (eqb r.uid uid) r rows (place_in ui
 
 pub row_within : (uid : ℕ) (rows : List Row) (i : ℕ) → place_in uid (row_uids rows) ≡ Some i → i < length rows
 row_within uid rows i e = omega (arith, inside uid (row_uids rows) i e, length-map rows (λ (r : Row). r.uid))
+
+mapped : (o : Option ℕ) → is_some (option_map (λ n. n + 1) o) ≡ is_some o
+mapped None = refl
+mapped (Some i) = refl
+
+there_is : (uid : ℕ) (rows : List Row) → is_some (place_in uid (row_uids rows)) ≡ is_some (row_with uid rows)
+there_is uid [] = refl
+there_is uid (r ∷ rows) = by (eqb r.uid uid) (there_is uid rows)
+  where
+    by : (b : Bool) → is_some (place_in uid (row_uids rows)) ≡ is_some (row_with uid rows)
+        → is_some (cond b (Some 0) (option_map (λ n. n + 1) (place_in uid (row_uids rows)))) ≡ is_some (cond b (Some r) (row_with uid rows))
+    by true later = refl
+    by false later = mapped (place_in uid (row_uids rows)) ∙ later
+
+turned : (a b : Bool) → a ≡ not b → b ≡ not a
+turned a true e = ap not (sym e)
+turned a false e = ap not (sym e)
+
+pub is_nowhere : (uid : ℕ) (rows : List Row) (place : Option ℕ) (b : Bool) → place ≡ place_in uid (row_uids rows) → is_some place ≡ not b → b ≡ not (is_some (row_with uid rows))
+is_nowhere uid rows place b is none = turned (is_some (row_with uid rows)) b (sym (there_is uid rows) ∙ ap is_some (sym is) ∙ none)
+
+-- none, if all UIDs are greater
+pub row_below : (uid low high : ℕ) (rows : List Row) → uid < low → Rises low high (row_uids rows) → row_with uid rows ≡ None
+row_below uid low high [] lt h = refl
+row_below uid low high (r ∷ rows) lt h =
+    let at : low ≤ r.uid = h.0 in
+    ap (λ b. cond b (Some r) (row_with uid rows)) (ne_eqb r.uid uid (λ e. omega (arith, e, at, lt)))
+    ∙ row_below uid (r.uid + 1) high rows (omega (arith, at, lt)) h.1
+
+-- ---- a known message by its UID
+
+known_by : (uid : ℕ) (b : Bool) (k d : KnownMessage) (known : List KnownMessage) (o : Option ℕ) (i : ℕ) → cond b (Some 0) (option_map (λ n. n + 1) o) ≡ Some i
+    → ((j : ℕ) → o ≡ Some j → known_with uid known ≡ Some (get_or known j d)) → cond b (Some k) (known_with uid known) ≡ Some (get_or (k ∷ known) i d)
+known_by uid true k d known o i e later = let z : 0 ≡ i = cc e in ap (λ n. Some (get_or (k ∷ known) n d)) z
+known_by uid false k d known None i e later = absurd (cc e)
+known_by uid false k d known (Some j) i e later =
+    let z : j + 1 ≡ i = cc e in let y : suc j ≡ i = omega (arith, z) in later j refl ∙ ap (λ n. Some (get_or (k ∷ known) n d)) y
+
+pub known_at : (uid : ℕ) (known : List KnownMessage) (i : ℕ) (d : KnownMessage) → place_in uid (known_uids known) ≡ Some i → known_with uid known ≡ Some (get_or known i d)
+known_at uid [] i d e = absurd (cc e)
+known_at uid (k ∷ known) i d e = known_by uid (eqb k.uid uid) k d known (place_in uid (known_uids known)) i e (λ j. known_at uid known j d)
+
+unknown_by : (uid : ℕ) (b : Bool) (k : KnownMessage) (known : List KnownMessage) (o : Option ℕ) → cond b (Some 0) (option_map (λ n. n + 1) o) ≡ None
+    → (o ≡ None → known_with uid known ≡ None) → cond b (Some k) (known_with uid known) ≡ None
+unknown_by uid true k known o e later = absurd (cc e)
+unknown_by uid false k known None e later = later refl
+unknown_by uid false k known (Some j) e later = absurd (cc e)
+
+pub known_nowhere : (uid : ℕ) (known : List KnownMessage) → place_in uid (known_uids known) ≡ None → known_with uid known ≡ None
+known_nowhere uid [] e = refl
+known_nowhere uid (k ∷ known) e = unknown_by uid (eqb k.uid uid) k known (place_in uid (known_uids known)) e (known_nowhere uid known)
+
+pub known_within : (uid : ℕ) (known : List KnownMessage) (i : ℕ) → place_in uid (known_uids known) ≡ Some i → i < length known
+known_within uid known i e = omega (arith, inside uid (known_uids known) i e, length-map known (λ (k : KnownMessage). k.uid))

@@ -1,5 +1,5 @@
 -- The flags of a new message, one after the other.
-use Rattle.std.proofs.Common.{◌≡◌, ℕ, ◌+◌, ◌<◌, ◌≤◌, Bool, true, false, cond, List, [], ◌∷◌, length, drop, drop-cons, add-one, get_or, refl, sym, ap, ◌∙◌, arith}
+use Rattle.std.proofs.Common.{◌≡◌, ℕ, ◌+◌, ◌<◌, ◌≤◌, Bool, true, false, cond, List, [], ◌∷◌, length, drop, drop-cons, add-one, get_or, sym, ap, ◌∙◌, arith}
 use Rattle.std.specs.Prelude.{nat_lt}
 use Rattle.std.proofs.lemmas.Bool.{lt-ltb, ltb-true}
 use Rattle.std.specs.BTreeSet.{insert_key}
@@ -13,7 +13,7 @@ use Rattle.imap_mailbox.specs.Flags.{has_too_many, with_flag}
 use Rattle.imap_rights.specs.Rights.{has_any}
 use Rattle.imap_syntax.specs.declared.flag.Flag.{Flag}
 use Rattle.imap_syntax.specs.declared.flag.Flag.TheVariants as flag
-use Rattle.imap_targets.specs.NewFlags.{new_flags, right_for, with_permitted, with_permitted_flag}
+use Rattle.imap_targets.specs.NewFlags.{right_for, with_permitted, with_permitted_flag}
 
 -- ---- keywords become no fewer
 
@@ -54,16 +54,16 @@ stay_many rights (flag ∷ flags) f many = stay_many rights flags (with_permitte
 
 -- ---- along the list: `f` are the flags before the place i
 
-pub record IsSoFar (rights : ℕ) (flags : List Flag) (i : ℕ) (f : SharedFlags) : Type 0 where
-  pub rest : with_permitted rights (drop i flags) f ≡ new_flags rights flags
+pub record IsSoFar (rights : ℕ) (flags : List Flag) (first : SharedFlags) (i : ℕ) (f : SharedFlags) : Type 0 where
+  pub rest : with_permitted rights (drop i flags) f ≡ with_permitted rights flags first
   pub few : has_too_many f ≡ false
 
-module _ (rights : ℕ) (flags : List Flag) (i : ℕ) (flag : Flag) (f new : SharedFlags) (within : i < length flags) (is : flag ≡ get_or flags i flag) (made : new ≡ with_permitted_flag rights flag f) where
-  pub one_more : IsSoFar rights flags i f → with_permitted rights (drop (i + 1) flags) new ≡ new_flags rights flags
+module _ (rights : ℕ) (flags : List Flag) (first : SharedFlags) (i : ℕ) (flag : Flag) (f new : SharedFlags) (within : i < length flags) (is : flag ≡ get_or flags i flag) (made : new ≡ with_permitted_flag rights flag f) where
+  pub one_more : IsSoFar rights flags first i f → with_permitted rights (drop (i + 1) flags) new ≡ with_permitted rights flags first
   one_more before =
       ap (with_permitted rights (drop (i + 1) flags)) made
       ∙ sym (ap (λ l. with_permitted rights l f) (drop-cons flags i flag within) ∙ λ j. with_permitted rights (drop (sym (add-one i) j) flags) (with_permitted_flag rights (sym is j) f))
       ∙ before.rest
 
-  pub too_many : IsSoFar rights flags i f → has_too_many new ≡ true → has_too_many (new_flags rights flags) ≡ true
+  pub too_many : IsSoFar rights flags first i f → has_too_many new ≡ true → has_too_many (with_permitted rights flags first) ≡ true
   too_many before many = sym (ap has_too_many (one_more before)) ∙ stay_many rights (drop (i + 1) flags) new many

@@ -7,7 +7,7 @@ use Rattle.imap_answer.specs.Fit.{IsViewed}
 use Rattle.imap_batch.specs.declared.batch.Batch.{Batch}
 use Rattle.imap_batch.specs.declared.batch.NewMessage.{NewMessage}
 use Rattle.imap_batch.specs.Batch.{are_known, event_count, has_few_keywords, mark_uids}
-use Rattle.imap_batch.specs.Seen.{CanChange, HasRoomToAdd, IsPossible}
+use Rattle.imap_batch.specs.Seen.{CanChange, HasRoomToAdd}
 use Rattle.imap_mailbox.specs.Held.{IsKept}
 use Rattle.imap_mailbox.specs.Lent.{row_uids}
 use Rattle.imap_mailbox.specs.Rows.{Row, first_uid, is_among}

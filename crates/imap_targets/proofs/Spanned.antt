@@ -12,7 +12,8 @@ use Rattle.imap_syntax.specs.declared.set.Numbering.{Numbering}
 use Rattle.imap_syntax.specs.declared.set.SeqRange.{SeqRange}
 use Rattle.imap_targets.specs.declared.message_numbers.MessageNumbers.{MessageNumbers}
 use Rattle.imap_targets.specs.Spans.{AreBounds, IsSpan, IsWithin, name_at}
-use Rattle.imap_targets.specs.MessageNumbers.{Numbered, end_of, in_range, in_set, is_between, messages_from, number_by}
+use Rattle.imap_targets.specs.declared.message_numbers.Numbered.{Numbered}
+use Rattle.imap_targets.specs.MessageNumbers.{end_of, in_range, in_set, is_between, messages_from, number_by}
 
 -- ---- a set between its bounds
 

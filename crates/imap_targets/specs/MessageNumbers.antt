@@ -1,9 +1,10 @@
 -- The messages that a set of numbers or UIDs names (RFC 9051, sections 2.3.1 and 9, `sequence-set`).
-use Rattle.std.specs.Prelude.{ℕ, ◌+◌, ◌==◌, nat_le, Bool, true, false, ◌&&◌, ◌||◌, List, [], ◌∷◌, length}
-use Rattle.std.specs.Prelude.{Option, Some, None, if◌then◌else◌}
+use Rattle.std.specs.Prelude.{ℕ, ◌+◌, ◌==◌, nat_le, Bool, true, false, ◌&&◌, ◌||◌, List, [], ◌∷◌, length, map}
+use Rattle.std.specs.Prelude.{Option, Some, None, is_some, not, if◌then◌else◌}
 use Rattle.std.specs.List.{list_all, list_any}
 use Rattle.imap_mailbox.specs.declared.known.KnownMessage.{KnownMessage}
 use Rattle.imap_mailbox.specs.Rows.{Row}
+use Rattle.imap_targets.specs.declared.message_numbers.Numbered.{Numbered}
 use Rattle.imap_syntax.specs.declared.set.MessageSet.{MessageSet}
 use Rattle.imap_syntax.specs.declared.set.MessageSet.TheVariants.{Numbers, Saved}
 use Rattle.imap_syntax.specs.declared.set.Numbering.{Numbering}
@@ -58,11 +59,6 @@ are_numbers count ranges = list_all (has_numbers count) ranges
 
 -- ---- messages of a session
 
--- a message that a session knows
-pub record Numbered : Type 0 where
-  pub number : ℕ
-  pub uid : ℕ
-
 -- the last UID that the session knows, or UIDNEXT if it knows none
 abbrev pub last_uid : (next_uid : ℕ) → List KnownMessage → ℕ
 last_uid next_uid [] = next_uid
@@ -88,6 +84,9 @@ messages_from by last ranges n (k ∷ known) =
     then m ∷ messages_from by last ranges (n + 1) known
     else messages_from by last ranges (n + 1) known
 
+abbrev pub uids_of : List Numbered → List ℕ
+uids_of messages = map (λ m. m.uid) messages
+
 -- the known messages that a command names
 abbrev pub messages_named : Numbering → (next_uid : ℕ) → List SeqRange → List KnownMessage → List Numbered
 messages_named by next_uid ranges known = messages_from by (last_of by next_uid known) ranges 1 known
@@ -96,3 +95,16 @@ messages_named by next_uid ranges known = messages_from by (last_of by next_uid 
 abbrev pub row_with : (uid : ℕ) → List Row → Option Row
 row_with uid [] = None
 row_with uid (r ∷ rows) = if r.uid == uid then Some r else row_with uid rows
+
+-- the known message with the UID, if there is one
+abbrev pub known_with : (uid : ℕ) → List KnownMessage → Option KnownMessage
+known_with uid [] = None
+known_with uid (k ∷ known) = if k.uid == uid then Some k else known_with uid known
+
+-- A message that is named by its number is gone (RFC 9051, section 7.5.1, and RFC 5530, EXPUNGEISSUED). UIDs of
+-- messages that are gone are passed over.
+abbrev pub is_gone : List Row → Numbered → Bool
+is_gone rows m = not (is_some (row_with m.uid rows))
+
+abbrev pub is_refused : (by_uid : Bool) → List Row → List Numbered → Bool
+is_refused by_uid rows messages = not by_uid && list_any (is_gone rows) messages

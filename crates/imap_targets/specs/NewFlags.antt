@@ -27,9 +27,9 @@ abbrev pub new_flags : (rights : ℕ) → List Flag → SharedFlags
 new_flags rights flags = with_permitted rights flags no_flags
 
 -- these are the flags that are meant, or there are none as they have too many keywords
-abbrev pub IsNewFlags : (meant : SharedFlags) → Option SharedFlags → Type 0
-IsNewFlags meant None = has_too_many meant ≡ true
-IsNewFlags meant (Some f) = (f ≡ meant) × (has_too_many meant ≡ false)
+abbrev pub IsFew : (meant : SharedFlags) → Option SharedFlags → Type 0
+IsFew meant None = has_too_many meant ≡ true
+IsFew meant (Some f) = (f ≡ meant) × (has_too_many meant ≡ false)
 
 abbrev pub is_seen : Flag → Bool
 is_seen flag.Seen = true

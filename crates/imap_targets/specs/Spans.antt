@@ -5,7 +5,8 @@ use Rattle.imap_session.specs.Held.{UidsRise}
 use Rattle.imap_syntax.specs.declared.set.Numbering.{Numbering}
 use Rattle.imap_syntax.specs.declared.set.SeqRange.{SeqRange}
 use Rattle.imap_targets.specs.declared.message_numbers.MessageNumbers.{MessageNumbers}
-use Rattle.imap_targets.specs.MessageNumbers.{Numbered, in_set, messages_from, number_by}
+use Rattle.imap_targets.specs.declared.message_numbers.Numbered.{Numbered}
+use Rattle.imap_targets.specs.MessageNumbers.{in_set, messages_from, number_by}
 
 -- the known messages of the set
 abbrev pub named_in : MessageNumbers → List KnownMessage → List Numbered

@@ -2,6 +2,7 @@
 
 ghost use Rattle.std.specs.Prelude.{◌≡◌, IfOk, OnOk};
 ghost use Rattle.std.specs.List.{list_any};
+ghost use Rattle.imap_mailbox.specs.Flags.{has_too_many};
 ghost use Rattle.imap_targets.specs.NewFlags as specs;
 ghost use Rattle.imap_rights.specs.Rights.{bits};
 
@@ -11,7 +12,7 @@ use imap_syntax::Flag;
 use std::alloc::{AllocError, Global};
 
 /// The right that the flag needs.
-fn right_for(flag: &Flag) -> Rights
+pub fn right_for(flag: &Flag) -> Rights
     ensures { bits result ≡ specs.right_for flag.now }
 {
     match flag {
@@ -38,6 +39,35 @@ fn insert_permitted(
     }
 }
 
+/// Returns the flags with those of the list for which the user holds the right. `None` if they have more
+/// keywords than a message may have.
+pub fn with_permitted(
+    alloc: Global,
+    rights: Rights,
+    flags: &[Flag],
+    mut shared: SharedFlags,
+) -> Result<Option<SharedFlags>, AllocError>
+    ensures { IfOk result (specs.IsFew (specs.with_permitted (bits rights) flags.now shared)) }
+{
+    if has_too_many(&shared) {
+        return Ok(None);
+    }
+    for flag in flags {
+        insert_permitted(&mut shared, alloc, rights, flag)?;
+        if has_too_many(&shared) {
+            return Ok(None);
+        }
+    }
+    Ok(Some(shared))
+}
+
+/// Whether they have more keywords than a message may have.
+pub fn has_too_many(flags: &SharedFlags) -> bool
+    ensures { result ≡ has_too_many flags.now }
+{
+    flags.keywords.len() > MAX_KEYWORDS
+}
+
 /// Returns the flags that all users share of a new message: those of the list for which the user holds the
 /// right. `None` if they have more keywords than a message may have.
 pub fn new_flags(
@@ -45,16 +75,9 @@ pub fn new_flags(
     rights: Rights,
     flags: &[Flag],
 ) -> Result<Option<SharedFlags>, AllocError>
-    ensures { IfOk result (specs.IsNewFlags (specs.new_flags (bits rights) flags.now)) }
+    ensures { IfOk result (specs.IsFew (specs.new_flags (bits rights) flags.now)) }
 {
-    let mut shared = SharedFlags::new(alloc);
-    for flag in flags {
-        insert_permitted(&mut shared, alloc, rights, flag)?;
-        if shared.keywords.len() > MAX_KEYWORDS {
-            return Ok(None);
-        }
-    }
-    Ok(Some(shared))
+    with_permitted(alloc, rights, flags, SharedFlags::new(alloc))
 }
 
 /// Whether the user has seen a new message.
@@ -64,7 +87,8 @@ pub fn is_new_seen(rights: Rights, flags: &[Flag]) -> bool
     rights.has_any(Rights::SEEN) && has_seen(flags)
 }
 
-fn has_seen(flags: &[Flag]) -> bool
+/// Whether `\Seen` is one of the flags.
+pub fn has_seen(flags: &[Flag]) -> bool
     ensures { result ≡ list_any specs.is_seen flags.now }
 {
     flags.iter().any(

@@ -8,10 +8,10 @@ mod left;
 mod message_numbers;
 mod target;
 
-pub use flags::{is_new_seen, new_flags};
+pub use flags::{has_seen, has_too_many, is_new_seen, new_flags, right_for, with_permitted};
 pub use left::events_left;
 pub use message_numbers::{
-    MessageNumbers, are_numbers, in_set, is_by_uid, is_saved, known_count, last_of, number_at,
-    ranges_of, row_with,
+    MessageNumbers, Numbered, are_numbers, in_set, is_any_gone, is_by_uid, is_saved, known_count,
+    known_with, last_of, messages_named, number_at, ranges_of, row_with,
 };
 pub use target::target_refusal;

@@ -1,15 +1,27 @@
 //! The messages that a command names (RFC 9051, section 2.3.1).
 
-ghost use Rattle.std.specs.Prelude.{◌≡◌, ◌+◌, ◌<◌, ◌≤◌, ℕ, length, option_map, slice_index_or};
+ghost use Rattle.std.specs.Prelude.{◌≡◌, ◌+◌, ◌<◌, ◌≤◌, ℕ, IfOk, length, option_copied, option_map, slice_index_or};
+ghost use Rattle.std.specs.List.{list_any};
 ghost use Rattle.imap_mailbox.specs.declared.known.KnownMessage.{KnownMessage};
 ghost use Rattle.imap_mailbox.specs.Lent.{row_shown};
-ghost use Rattle.imap_targets.specs.Spans.{AreBounds, IsSpan, IsWithin};
+ghost use Rattle.imap_mailbox.specs.Summary.{AreRising};
+ghost use Rattle.imap_targets.specs.Spans.{AreBounds, IsSpan, IsWithin, named_in};
+ghost use Rattle.imap_targets.specs.declared.message_numbers.Numbered.{Numbered};
 ghost use Rattle.imap_targets.specs.MessageNumbers as specs;
 ghost use Rattle.imap_syntax.specs.declared.set.Numbering.TheVariants.{Sequence, Uid};
 
-use imap_mailbox::{Row, Rows};
+use imap_mailbox::{KnownMessage, Row, Rows};
 use imap_session::KnownList;
 use imap_syntax::{MessageSet, Numbering, SeqNumber, SeqRange};
+use std::alloc::{AllocError, Global};
+
+/// A message that a session knows.
+#[derive(Clone, Copy, Drop)]
+pub struct Numbered {
+    /// Its message sequence number.
+    pub number: u32,
+    pub uid: u32,
+}
 
 /// A set of numbers or UIDs, as a session that knows some messages means it.
 #[derive(Drop)]
@@ -23,7 +35,7 @@ pub struct MessageNumbers<'a> {
 impl MessageNumbers<'_> {
     /// Whether the set has the message with this number and this UID.
     pub fn has(&self, number: u32, uid: u32) -> bool
-        ensures { let m : specs.Numbered = record { number = number; uid = uid } in
+        ensures { let m : Numbered = record { number = number; uid = uid } in
             result ≡ specs.in_set self.now.last self.now.ranges.now (specs.number_by self.now.numbering m) }
     {
         match self.numbering {
@@ -45,6 +57,53 @@ impl MessageNumbers<'_> {
             Numbering::Uid => uid_span(low, high, known),
         }
     }
+}
+
+/// The known messages of the set, in the order of their numbers. Tests each known message between the first and
+/// the last of the set.
+pub fn messages_named(
+    alloc: Global,
+    messages: &MessageNumbers<'_>,
+    known: &KnownList,
+) -> Result<Vec<Numbered>, AllocError>
+    ensures named { IfOk result (λ named. named.items ≡ named_in messages.now known.now.list) }
+    ensures rise { IfOk result (λ named. AreRising (specs.uids_of named.items)) }
+{
+    let mut named = Vec::new(alloc);
+    let (start, end) = messages.span(known);
+    for place in start..end {
+        let message = numbered_at(known, place);
+        if !messages.has(message.number, message.uid) {
+            continue;
+        }
+        named.push(message)?;
+    }
+    Ok(named)
+}
+
+/// The message at the place.
+fn numbered_at(known: &KnownList, place: usize) -> Numbered
+    requires { place < length known.now.list }
+    ensures number { result.number ≡ place + 1 }
+    ensures uid { (d : KnownMessage) → d ≡ slice_index_or known.now.list place d → result.uid ≡ d.uid }
+{
+    Numbered {
+        number: number_at(known, place),
+        uid: known.get(place).uid,
+    }
+}
+
+/// Whether one of the messages is gone.
+pub fn is_any_gone(messages: &[Numbered], rows: &Rows<'_>) -> bool
+    ensures { result ≡ list_any (specs.is_gone rows.now) messages.now }
+{
+    messages.iter().any(|message| is_gone(message, rows))
+}
+
+fn is_gone(message: &Numbered, rows: &Rows<'_>) -> bool
+    ensures { result ≡ specs.is_gone rows.now message.now }
+{
+    rows.place_of(message.uid).is_none()
 }
 
 /// The places of messages with numbers from `low` to `high`.
@@ -211,5 +270,15 @@ pub fn is_saved(messages: &MessageSet) -> bool
     match messages {
         MessageSet::Saved => true,
         MessageSet::Numbers(_) => false,
+    }
+}
+
+/// What the session knows of the message with the UID, by a search that halves.
+pub fn known_with(known: &KnownList, uid: u32) -> Option<&KnownMessage>
+    ensures { option_copied result ≡ specs.known_with uid known.now.list }
+{
+    match known.place_of(uid) {
+        Some(place) => Some(known.get(place)),
+        None => None,
     }
 }

@@ -1,4 +1,4 @@
-use Rattle.std.proofs.Common.{◌≡◌, ◌∙◌, ◌<◌, ◌++◌, ◌∷◌, [], ap, arith, length, option_copied, sym}
+use Rattle.std.proofs.Common.{◌∙◌, ◌<◌, ◌++◌, ◌∷◌, [], ap, arith, length, option_copied, sym}
 use Rattle.imap_changes.specs.Expunge.{is_taken}
 use Rattle.imap_changes.proofs.Taken.{passed, pushed, row_at_place}
 use Rattle.imap_changes.proofs.expunge.taken_uids.Goals as goal

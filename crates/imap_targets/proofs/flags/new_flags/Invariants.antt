@@ -1,6 +1,0 @@
-use Rattle.imap_rights.specs.Rights.{bits}
-use Rattle.imap_targets.proofs.Permitted.{IsSoFar}
-use Rattle.imap_targets.proofs.flags.new_flags.Given as goal
-
-abbrev pub invariant-loop-flag : goal.invariant-loop-flag
-invariant-loop-flag l = IsSoFar (bits l.rights) l.flags l.flag-index l.shared
