@@ -21,7 +21,7 @@ def head(count):
     lines = ["admin root", "user ann", "limit max_messages 100000", "ann.1 open"]
     for number in range(count):
         lines += [f"ann.1 < p{number} APPEND INBOX (\\Seen) {{2046+}}", f"ann.1 < {MESSAGE}"]
-    return [*lines, "ann.1 < s SELECT INBOX"]
+    return [*lines, "ann.1 < c CREATE Box", "ann.1 < s SELECT INBOX"]
 
 
 def microseconds(program, lines, commands, times):
@@ -43,7 +43,38 @@ def commands(count):
         ("STATUS (MESSAGES UNSEEN)", lambda n: [f"a{n} STATUS INBOX (MESSAGES UNSEEN)"], 100),
         ("SELECT", lambda n: [f"a{n} SELECT INBOX"], 20),
         ("FETCH 1:* FLAGS", lambda n: [f"a{n} FETCH 1:* FLAGS"], 20),
+        ("STORE n FLAGS.SILENT", lambda n: [f"a{n} STORE {one(n)} {sign(n // (count // 4))}FLAGS.SILENT (\\Flagged)"], 1_000),
+        ("STORE 1:* FLAGS.SILENT", lambda n: [f"a{n} STORE 1:* {sign(n)}FLAGS.SILENT (\\Flagged)"], 20),
+        ("STORE 1:* FLAGS", lambda n: [f"a{n} STORE 1:* {sign(n)}FLAGS (\\Flagged)"], 20),
+        ("COPY 1:*", lambda n: [f"a{n} COPY 1:* Box"], 4),
     )
+
+
+def sign(number):
+    """Sets the flag and takes it away in turn, so that each command changes something."""
+    return "-" if number % 2 else "+"
+
+
+def once(program, count):
+    """What commands take that can be made once: the difference of a script with the command and one without."""
+    marked = {"all": "1:*", "every second": ",".join(str(number) for number in range(1, min(count, 3_000) + 1, 2))}
+    for which, numbers in marked.items():
+        lines = [*head(count), f"ann.1 < m STORE {numbers} +FLAGS.SILENT (\\Deleted)"]
+        yield f"EXPUNGE of {which}", (seconds(program, [*lines, "ann.1 < x EXPUNGE"]) - seconds(program, lines)) * 1e6
+    yield "MOVE 1:*", (seconds(program, [*head(count), "ann.1 < x MOVE 1:* Box"]) - seconds(program, head(count))) * 1e6
+
+
+def told(program, count):
+    """One flag is changed by one of 16 sessions, and each of the other 15 is told of it by NOOP."""
+    others = [f"ann.{number}" for number in range(2, 17)]
+    lines = head(count) + [line for label in others for line in (f"{label} open", f"{label} < s SELECT INBOX")]
+
+    def changes(n):
+        yield f"ann.1 < a{n} STORE {count // 2} {sign(n)}FLAGS.SILENT (\\Flagged)"
+        yield from (f"{label} < n{n} NOOP" for label in others)
+
+    steps = [line for number in range(50) for line in changes(number)]
+    return (seconds(program, lines + steps) - seconds(program, lines)) / 50 * 1e6
 
 
 def main():
@@ -58,6 +89,10 @@ def main():
             _, lines, repeated = commands(count)[place]
             times.append(microseconds(program, heads[count], lines, repeated))
         print(f"| `{name}` | " + " | ".join(f"{it:,.1f}" for it in times) + " |", flush=True)
+    made = [dict(once(program, count)) for count in SIZES]
+    for name in made[0]:
+        print(f"| `{name}` | " + " | ".join(f"{row[name]:,.0f}" for row in made) + " |", flush=True)
+    print("| one flag, of which 15 sessions are told | " + " | ".join(f"{told(program, count):,.0f}" for count in SIZES) + " |")
 
 
 main()

@@ -74,7 +74,11 @@ fn one_mark(alloc: Global, uid: u32, words: &[&[u8]], seen: bool) -> Result<Mark
 }
 
 /// One message more, new flags of the first, and the second expunged.
-fn changes(alloc: Global, mailbox: &mut Mailbox, uids: &[u32]) -> Result<(), MailboxError> {
+pub(crate) fn changes(
+    alloc: Global,
+    mailbox: &mut Mailbox,
+    uids: &[u32],
+) -> Result<(), MailboxError> {
     let mut batch = empty(alloc)?;
     let mut added = Vec::new(alloc);
     push(&mut added, new_message(alloc, true)?)?;

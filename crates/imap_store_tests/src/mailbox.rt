@@ -2,6 +2,7 @@
 //!
 //! A mailbox is lent to a function and let go before a `?`: a `?` within reach of one takes long to prove.
 
+use crate::batches::changes;
 use crate::commits::{add_in_room, expunge_in_room, flag_in_room, mark_in_room, several_in_room};
 use crate::flags::{atom, flags_of};
 use crate::wanted::expect_text;
@@ -13,7 +14,7 @@ use std::alloc::{AllocError, Global};
 
 /// What is done to a mailbox, or looked at.
 #[derive(Clone, Copy)]
-enum Act {
+pub(crate) enum Act {
     /// This many messages are added without flags, where 100 messages may be.
     Add(u32),
     /// A message with this many keywords is added, where this many messages may be.
@@ -35,6 +36,9 @@ enum Act {
     SeenInRoom(u32),
     ExpungeInRoom(u32),
     SeveralInRoom,
+    /// As one batch of bob: a message that bob has seen, a new keyword of the first, which bob has not seen,
+    /// and these messages are expunged.
+    Batch(&'static [u32]),
     /// What a copy shows.
     Copy,
     /// What went since this number, for ann and for bob.
@@ -284,6 +288,7 @@ fn make(
         Act::SeenInRoom(uid) => mark_in_room(alloc, mailbox, uid),
         Act::ExpungeInRoom(uid) => expunge_in_room(mailbox, uid),
         Act::SeveralInRoom => several_in_room(alloc, mailbox),
+        Act::Batch(uids) => changes(alloc, mailbox, uids),
         Act::Copy => push_copy(alloc, text, mailbox),
         Act::GoneSince(number) => push_gone_since(alloc, text, mailbox, number),
         Act::Status => push_both_status(alloc, text, mailbox),
@@ -294,7 +299,7 @@ fn make(
 }
 
 /// What was looked at and why acts were refused, and what the mailbox shows in the end.
-fn make_all(
+pub(crate) fn make_all(
     alloc: Global,
     text: &mut String,
     mailbox: &mut Mailbox,

@@ -1,7 +1,7 @@
 //! Tests of mailboxes from what a store keeps of them. A row has the parts of a mailbox, and what the mailbox
 //! shows.
 
-use crate::mailbox::{date, many_words, message, shown};
+use crate::mailbox::{Act, date, make_all, many_words, message, shown};
 use crate::wanted::expect_text;
 use imap_mailbox::{
     GoneMessage, Mailbox, MailboxError, MailboxParts, Message, PartsError, SeenChange, SharedFlags,
@@ -301,4 +301,97 @@ fn parts_stand_for_a_mailbox_or_for_none(rt: HostRuntime) {
     expect_text(&rt, unseen_restored(rt.alloc(), GOOD), "2 0");
     let memory = PartsError::Memory.to_string(rt.alloc());
     expect_text(&rt, memory, "out of memory");
+}
+
+// ---- near the last of the 4,611,686,018,427,387,903 shared events that a mailbox may have
+
+/// Acts on a mailbox with one message, which the last of `shared` events added.
+struct Last {
+    shared: u64,
+    place: u64,
+    acts: &'static [Act],
+    /// What was looked at, why acts were refused, and what the mailbox shows in the end.
+    wanted: &'static str,
+}
+
+const LAST: [Last; 3] = [
+    // Own changes, and flags that stay, need no shared event.
+    Last {
+        shared: 4_611_686_018_427_387_902,
+        place: 4_611_686_018_427_387_901,
+        acts: &[
+            Act::Room(9),
+            Act::Batch(&[]),
+            Act::Add(1),
+            Act::Room(9),
+            Act::Add(1),
+            Act::Words(1, &[]),
+            Act::Words(1, &[b"a"]),
+            Act::Delete(1),
+            Act::Expunge(1),
+            Act::Seen(1, true),
+            Act::Seen(1, false),
+        ],
+        wanted: "1; a limit of the mailbox is reached; 0; the mailbox is full; \
+            a limit of the mailbox is reached; a limit of the mailbox is reached; \
+            a limit of the mailbox is reached; \
+            1=4611686018427387903 2=4611686018427387904 | \
+            1=4611686018427387906 2=4611686018427387904 | | \
+            4611686018427387904 4611686018427387906 3 4611686018427387903",
+    },
+    // A batch of three events is made if three are left.
+    Last {
+        shared: 4_611_686_018_427_387_900,
+        place: 4_611_686_018_427_387_899,
+        acts: &[Act::Seen(1, true), Act::Batch(&[1]), Act::Batch(&[])],
+        wanted: "a limit of the mailbox is reached; 2=4611686018427387902 | \
+            2=4611686018427387904* | 1=4611686018427387907 | \
+            4611686018427387904 4611686018427387907 3 4611686018427387903",
+    },
+    Last {
+        shared: 4_611_686_018_427_387_901,
+        place: 4_611_686_018_427_387_900,
+        acts: &[Act::Batch(&[1])],
+        wanted: "a limit of the mailbox is reached; 1=4611686018427387902 | \
+            1=4611686018427387902 | | 4611686018427387902 4611686018427387902 2 \
+            4611686018427387901",
+    },
+];
+
+fn one_message(alloc: Global, row: &Last) -> Result<MailboxParts, MailboxError> {
+    let messages = messages_of(alloc, &[(1, row.place, 0)])?;
+    Ok(MailboxParts {
+        next: 2,
+        shared: row.shared,
+        messages,
+        gone: Vec::new(alloc),
+        own: Vec::new(alloc),
+    })
+}
+
+fn after_acts(
+    alloc: Global,
+    restored: Result<Mailbox, PartsError>,
+    acts: &[Act],
+) -> Result<String, MailboxError> {
+    match restored {
+        Ok(mut mailbox) => {
+            let mut text = String::new(alloc);
+            let made = make_all(alloc, &mut text, &mut mailbox, acts);
+            drop(mailbox);
+            made.map(|()| text)
+        }
+        Err(_) => Err(MailboxError::Limit),
+    }
+}
+
+#[test]
+fn shared_events_end(rt: HostRuntime) {
+    for row in &LAST {
+        let made = match one_message(rt.alloc(), row) {
+            Ok(parts) => after_acts(rt.alloc(), Mailbox::from_parts(rt.alloc(), parts), row.acts),
+            Err(error) => Err(error),
+        };
+        expect_text(&rt, made, row.wanted);
+    }
 }
