@@ -5,3 +5,4 @@ pub mod StoreFitting
 pub mod Gone
 pub mod Taken
 pub mod Told
+pub mod ToldLeft

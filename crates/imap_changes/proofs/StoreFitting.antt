@@ -72,7 +72,7 @@ module _ (rights : ℕ) (spec : StoreSpec) (known : List KnownMessage) (messages
   abbrev uids_in : List Row → List ℕ
   uids_in rows = mark_uids (marks_of (stored_all rights spec known messages rows))
 
-  marks_known : (l low high : ℕ) (rows : List Row) → l ≤ low → Rises low high (row_uids rows) → are_known l (uids_in rows) (row_uids rows) ≡ true
+  pub marks_known : (l low high : ℕ) (rows : List Row) → l ≤ low → Rises low high (row_uids rows) → are_known l (uids_in rows) (row_uids rows) ≡ true
   marks_known l low high [] le h = refl
   marks_known l low high (r ∷ rows) le h = by_name (number_with r.uid messages) (λ k below. marks_known k (r.uid + 1) high rows below h.1)
     where

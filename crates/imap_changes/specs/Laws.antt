@@ -1,14 +1,27 @@
--- What EXPUNGE takes, message by message (RFC 9051, sections 6.4.3 and 6.4.9).
-use Rattle.std.specs.Prelude.{◌≡◌, ℕ, ◌==◌, ◌≤◌, Bool, true, ◌&&◌, List, filter, length, Option}
+-- What EXPUNGE takes, message by message, and what STORE tells (RFC 9051, sections 6.4.3, 6.4.6 and 6.4.9).
+use Rattle.std.specs.Prelude.{◌≡◌, ℕ, ◌+◌, ◌==◌, ◌≤◌, Bool, true, false, ◌&&◌, List, [], ◌∷◌, ◌++◌, length}
+use Rattle.std.specs.Prelude.{Option, Some, None}
 use Rattle.std.specs.List.{list_any}
+use Rattle.imap_batch.specs.declared.batch.Batch.{Batch}
+use Rattle.imap_batch.specs.declared.batch.Mark.{Mark}
+use Rattle.imap_batch.specs.Seen.{content_batched}
+use Rattle.imap_grammar.specs.declared.commands.store.StoreSpec.{StoreSpec}
 use Rattle.imap_mailbox.specs.declared.known.KnownMessage.{KnownMessage}
+use Rattle.imap_mailbox.specs.Brought.{IsOrdered, highest_in, told_of}
 use Rattle.imap_mailbox.specs.Rows.{Row, is_among}
+use Rattle.imap_mailbox.specs.Shown.{Content}
+use Rattle.imap_modseq.specs.Numbers.{max_events}
+use Rattle.imap_print.specs.declared.response.Response.{Response}
 use Rattle.imap_syntax.specs.declared.set.MessageSet.{MessageSet}
 use Rattle.imap_syntax.specs.declared.set.Numbering.TheVariants as numbering
+use Rattle.imap_targets.specs.declared.message_numbers.Numbered.{Numbered}
 use Rattle.imap_targets.specs.Left.{events_left}
 use Rattle.imap_targets.specs.MessageNumbers.{last_of}
 use Rattle.imap_view.specs.declared.readable.Readable.{Readable}
-use Rattle.imap_changes.specs.Expunge.{expunged_uids, is_taken, is_wanted}
+use Rattle.imap_changes.specs.Expunge.{expunged_uids, is_wanted}
+use Rattle.imap_changes.specs.Store.{full_line, lines_from, marks_of, number_with, seen_changes, stored_all}
+
+-- ---- EXPUNGE
 
 -- a message with the UID is there, and has \Deleted
 abbrev pub is_deleted : (uid : ℕ) → List Row → Bool
@@ -31,3 +44,28 @@ ExpungesAll =
     (asked : Option MessageSet) (known : List KnownMessage) (mailbox : Readable) (uid : ℕ)
     → length mailbox.rows ≤ events_left mailbox
     → is_among uid (expunged_uids asked known mailbox) ≡ may_go asked known mailbox uid
+
+-- ---- STORE
+
+-- the line of a message with its flags and mod-sequence, if the command names it
+abbrev pub line_if_named : (condstore : Bool) → (number : Option ℕ) → Row → List Response
+line_if_named condstore None row = []
+line_if_named condstore (Some number) row = full_line condstore number (told_of row) ∷ []
+
+abbrev pub lines_of : (condstore : Bool) → List Numbered → List Row → List Response
+lines_of condstore messages [] = []
+lines_of condstore messages (row ∷ rows) =
+    line_if_named condstore (number_with row.uid messages) row ++ lines_of condstore messages rows
+
+abbrev pub marking : (user : List ℕ) → List Mark → Batch
+marking user marks = record { user = user; added = []; marks = marks; expunged = [] }
+
+-- The lines of a STORE that isn't silent tell each message that it names as the user then sees it.
+abbrev pub StoreTellsWhatItLeaves : Type 0
+StoreTellsWhatItLeaves =
+    (user : List ℕ) (rights : ℕ) (spec : StoreSpec) (known : List KnownMessage) (condstore : Bool)
+    (messages : List Numbered) (mailbox : Content) → IsOrdered mailbox →
+    let stored = stored_all rights spec known messages mailbox.rows in
+    mailbox.own + seen_changes stored ≤ max_events
+    → lines_from false condstore (highest_in mailbox) stored
+    ≡ lines_of condstore messages (content_batched (marking user (marks_of stored)) mailbox).rows

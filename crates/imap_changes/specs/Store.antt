@@ -52,7 +52,7 @@ storing_rights view s = if s.read_only then no_rights else rights_in view s.name
 abbrev pub may_store : (rights : ℕ) → Bool
 may_store rights = has_any rights (union seen (union delete_messages write))
 
--- flags with a backslash that aren't one of the five are passed over
+-- a flag of another name with a backslash is passed over
 abbrev pub is_kept : Flag → Bool
 is_kept (flag.Other word) = false
 is_kept _ = true

@@ -3,7 +3,7 @@
 ghost use Rattle.std.specs.Prelude.{ℕ, List, Option};
 ghost use Rattle.imap_answer.specs.Alike.{AnswersAlike};
 ghost use Rattle.imap_changes.specs.Expunge.{close_answer, expunge_answer};
-ghost use Rattle.imap_changes.specs.Laws.{ExpungesAll, ExpungesDeleted};
+ghost use Rattle.imap_changes.specs.Laws.{ExpungesAll, ExpungesDeleted, StoreTellsWhatItLeaves};
 ghost use Rattle.imap_changes.specs.Store.{Store, store_answer};
 ghost use Rattle.imap_session.specs.State.{SessionState};
 ghost use Rattle.imap_syntax.specs.declared.set.MessageSet.{MessageSet};
@@ -24,4 +24,10 @@ pub fn commands_are_alike()
 pub fn deleted_messages_are_expunged()
     ensures only { ExpungesDeleted }
     ensures all { ExpungesAll }
+{}
+
+/// The lines of a STORE that isn't silent tell each message that it names with the flags and the mod-sequence that
+/// its user sees afterwards, if the user's own changes suffice, without which STORE is refused.
+pub fn stored_messages_are_told()
+    ensures { StoreTellsWhatItLeaves }
 {}
