@@ -17,6 +17,8 @@ use Rattle.imap_grammar.specs.declared.command.Command.TheVariants as command
 use Rattle.imap_changes.specs.Expunge.{close_answer, close_if_selected}
 use Rattle.imap_changes.proofs.Fitting as changes
 use Rattle.imap_changes.proofs.StoreFitting as storing
+use Rattle.imap_copies.proofs.Fitting as copies
+use Rattle.imap_copies.specs.declared.kind.TransferKind.TheVariants as transfer
 use Rattle.imap_list.proofs.Fitting as list
 use Rattle.imap_messages.proofs.Fitting as messages
 use Rattle.imap_syntax.specs.Moments.{Moment}
@@ -260,8 +262,10 @@ module _ (view : View) where
   command_fits active tag at (command.Search numbering returns charset keys) = unbuilt_fits active tag
   command_fits active tag at (command.Store numbering named store) =
       storing.store_fits view active tag (record { numbering = numbering; messages = named; spec = store })
-  command_fits active tag at (command.Copy numbering named mailbox) = unbuilt_fits active tag
-  command_fits active tag at (command.Move numbering named mailbox) = unbuilt_fits active tag
+  command_fits active tag at (command.Copy numbering named mailbox) =
+      copies.transfer_fits view active tag (record { kind = transfer.Copy; numbering = numbering; messages = named; mailbox = mailbox })
+  command_fits active tag at (command.Move numbering named mailbox) =
+      copies.transfer_fits view active tag (record { kind = transfer.Move; numbering = numbering; messages = named; mailbox = mailbox })
   command_fits active tag at _ = fits_alone view _ _ refl
 
 module _ (view : View) (own : Option Own) (number : ℕ) where

@@ -17,6 +17,8 @@ use Rattle.imap_print.specs.declared.response.Response.{Response}
 use Rattle.imap_print.specs.declared.response.Response.TheVariants as response
 use Rattle.imap_changes.specs.Expunge.{close_answer, expunge_answer}
 use Rattle.imap_changes.specs.Store.{store_answer}
+use Rattle.imap_copies.specs.declared.kind.TransferKind.TheVariants as transfer
+use Rattle.imap_copies.specs.Transfer.{transfer_answer}
 use Rattle.imap_messages.specs.Append.{append_answer}
 use Rattle.imap_messages.specs.Fetch.{fetch_answer}
 use Rattle.imap_print.specs.declared.response.Farewell.TheVariants.{LimitReached, MailboxUnavailable}
@@ -107,8 +109,20 @@ command_answer view own tag at (command.UidExpunge messages) = expunge_answer vi
 command_answer view own tag at (command.Search numbering returns charset keys) = unbuilt_answer own tag
 command_answer view own tag at (command.Store numbering messages store) =
     store_answer view own tag (record { numbering = numbering; messages = messages; spec = store })
-command_answer view own tag at (command.Copy numbering messages mailbox) = unbuilt_answer own tag
-command_answer view own tag at (command.Move numbering messages mailbox) = unbuilt_answer own tag
+command_answer view own tag at (command.Copy numbering messages mailbox) =
+    transfer_answer view own tag (record {
+      kind = transfer.Copy;
+      numbering = numbering;
+      messages = messages;
+      mailbox = mailbox;
+    })
+command_answer view own tag at (command.Move numbering messages mailbox) =
+    transfer_answer view own tag (record {
+      kind = transfer.Move;
+      numbering = numbering;
+      messages = messages;
+      mailbox = mailbox;
+    })
 command_answer view own tag at _ = refusal tag Cannot
 
 -- ---- commands, with what becomes of the session

@@ -18,6 +18,7 @@ use crate::pending::Pending;
 use crate::sessions::SessionEffect;
 use imap_answer::{Answer, Call};
 use imap_changes::{Store, close_answer, expunge_answer, store_answer, uid_expunge_answer};
+use imap_copies::{Transfer, TransferKind, transfer_answer};
 use imap_grammar::{Command, SelectParameters};
 use imap_lex::Octets;
 use imap_list::{
@@ -269,9 +270,33 @@ fn command_answer(
             };
             store_answer(call, session, &asked)
         }
-        Command::Search { .. } | Command::Copy { .. } | Command::Move { .. } => unbuilt_answer(
-            call, session,
-        ),
+        Command::Copy {
+            numbering,
+            messages,
+            mailbox,
+        } => {
+            let asked = Transfer {
+                kind: TransferKind::Copy,
+                numbering: *numbering,
+                messages,
+                mailbox,
+            };
+            transfer_answer(call, session, &asked)
+        }
+        Command::Move {
+            numbering,
+            messages,
+            mailbox,
+        } => {
+            let asked = Transfer {
+                kind: TransferKind::Move,
+                numbering: *numbering,
+                messages,
+                mailbox,
+            };
+            transfer_answer(call, session, &asked)
+        }
+        Command::Search { .. } => unbuilt_answer(call, session),
         // What isn't built yet can't be done.
         _ => call.refuse(Refusal::Cannot),
     }

@@ -1,0 +1,10 @@
+//! COPY or MOVE.
+
+/// What becomes of messages that are copied into a mailbox.
+#[derive(Clone, Copy)]
+pub enum TransferKind {
+    /// They stay where they are (RFC 9051, section 6.4.7).
+    Copy,
+    /// They are expunged there (RFC 9051, section 6.4.8).
+    Move,
+}
