@@ -1,0 +1,6 @@
+pub mod Bounds
+pub mod Columns
+pub mod Laws
+pub mod Standing
+pub mod Steps
+pub mod Values
