@@ -1,11 +1,12 @@
 -- What holds of what comes of a step: what it asks for may be asked for by its user, there is room for the session that
 -- it opens, a refusal changes nothing, and none is UNAVAILABLE.
-use Rattle.std.proofs.Common.{◌≡◌, ℕ, Bool, true, false, cond, List, [], ◌∷◌, ◌⊎◌, ◌||◌, Option, Some, None, is_some, inl, inr, refl, sym, ap, ◌∙◌, true≢false}
-use Rattle.std.specs.Prelude.{nat_le}
+use Rattle.std.proofs.Common.{◌≡◌, ℕ, Bool, true, false, cond, List, [], ◌∷◌, ◌++◌, ◌⊎◌, ◌||◌, Option, Some, None, is_some, inl, inr, refl, sym, ap, ◌∙◌, true≢false}
+use Rattle.std.specs.Prelude.{nat_le, option_and_then}
+use Rattle.std.proofs.lemmas.List.Folds.{list_any-append}
 use Rattle.std.proofs.lemmas.Bool.{leb-false}
 use Rattle.std.specs.List.{list_any}
 use Rattle.std.specs.FinMap as map
-use Rattle.imap_answer.specs.Answer.{Answer, carried_out, done, followed_by, lines_of, nothing_enabled, preceded_by, refusal, refused_line}
+use Rattle.imap_answer.specs.Answer.{Answer, carried_out, done, done_line, followed_by, lines_of, nothing_enabled, preceded_by, refusal, refused_line}
 use Rattle.imap_answer.specs.Fit.{IsFit, IsViewed, MayBeAsked, is_refusal, is_unavailable}
 use Rattle.imap_answer.proofs.Fits.{fits_alone, fits_enabling, fits_followed, fits_preceded}
 use Rattle.imap_answer.specs.Name.{name_of_text}
@@ -23,6 +24,7 @@ use Rattle.imap_list.proofs.Fitting as list
 use Rattle.imap_messages.proofs.Fitting as messages
 use Rattle.imap_syntax.specs.Moments.{Moment}
 use Rattle.imap_print.specs.declared.enabled.EnabledCapabilities.{EnabledCapabilities}
+use Rattle.imap_print.specs.declared.fetch.FetchedItems.{FetchedItems}
 use Rattle.imap_print.specs.declared.response.Farewell.TheVariants.{LimitReached}
 use Rattle.imap_print.specs.declared.response.Response.{Response}
 use Rattle.imap_print.specs.declared.response.Response.TheVariants as response
@@ -38,6 +40,8 @@ use Rattle.imap_grammar.specs.declared.commands.select.SelectParameters.{SelectP
 use Rattle.imap_view.specs.declared.readable.Readable.{Readable}
 use Rattle.imap_view.specs.Readable.{readable_in}
 use Rattle.imap_view.specs.View.{View, rights_in}
+use Rattle.imap_core.specs.declared.idling.Idling.{Idling}
+use Rattle.imap_core.specs.declared.idling.Idling.TheVariants as idling
 use Rattle.imap_core.specs.declared.sessions.SessionEffect.{SessionEffect}
 use Rattle.imap_core.specs.declared.sessions.SessionEffect.TheVariants as session
 use Rattle.imap_core.specs.declared.step.Act.{Act}
@@ -47,16 +51,16 @@ use Rattle.imap_core.specs.Machine.{outcome_for}
 use Rattle.imap_core.specs.Outcome.{Outcome, answered, said}
 use Rattle.imap_core.specs.Planned.{MayOpen}
 use Rattle.imap_core.specs.Commands.Session.{enabled_by_names, named_by}
-use Rattle.imap_core.specs.Laws.{selects}
-use Rattle.imap_core.specs.Notices.{mailbox_after, may_tell_expunges, notice_lines, notice_telling, options_after, selected_mailbox}
-use Rattle.imap_core.specs.Reply.{command_answer, command_outcome, enables_nothing, has_parameters, highest_line, if_selected, kept, newly_enables_condstore, noting, opened, outcome_of_answer, outcome_of_selecting, reply_by_session, reply_when_closed, reply_when_open, request_outcome}
+use Rattle.imap_core.specs.Laws.{is_idling, is_line, selects}
+use Rattle.imap_core.specs.Notices.{idle_lines, idle_telling, mailbox_after, mailbox_left, may_tell_expunges, notice_lines, notice_options, notice_telling, options_after, selected_mailbox}
+use Rattle.imap_core.specs.Reply.{command_answer, command_outcome, enables_nothing, has_parameters, highest_line, idle_outcome, if_selected, kept, newly_enables_condstore, noting, opened, outcome_of_answer, outcome_of_selecting, reply_by_idle, reply_by_session, reply_when_closed, reply_when_open, request_outcome}
 use Rattle.imap_core.specs.Reply.{select_outcome, unbuilt_answer, unbuilt_refusal, unless_lost, unselect_outcome, close_outcome, with_notices}
 use Rattle.imap_core.proofs.Noticed.{no_line_refuses}
 use Rattle.imap_session.specs.Telling.{Telling}
 use Rattle.imap_core.specs.Sessions.{Own, max_sessions}
 
 -- nothing is asked for, and the session stays
-pub record IsIdle (outcome : Outcome) : Type 0 where
+pub record IsUnchanged (outcome : Outcome) : Type 0 where
   pub session : outcome.session ≡ session.Keep
   pub effect : outcome.effect ≡ None
 
@@ -65,15 +69,22 @@ pub record OnlyNotes (effect : SessionEffect) : Type 0 where
   pub told : Option Telling
   pub is : effect ≡ noting nothing_enabled told
 
--- nothing is asked for; and the session notes what it is told, or has no mailbox selected after SELECT or EXAMINE
-pub record IsRefused (what : Act) (outcome : Outcome) : Type 0 where
-  pub session : OnlyNotes outcome.session ⊎ ((selects what ≡ true) × (outcome.session ≡ session.Select None))
+-- a line ends the IDLE of its session
+pub record BreaksIdle (own : Option Own) (number : ℕ) (what : Act) (effect : SessionEffect) : Type 0 where
+  pub idles : is_idling (option_and_then (λ own. map.get own number) own) ≡ true
+  pub line : is_line what ≡ true
+  pub is : effect ≡ session.Idle None None
+
+-- nothing is asked for; and the session notes what it is told, has no mailbox selected after SELECT or EXAMINE, or
+-- idles no more
+pub record IsRefused (own : Option Own) (number : ℕ) (what : Act) (outcome : Outcome) : Type 0 where
+  pub session : OnlyNotes outcome.session ⊎ (((selects what ≡ true) × (outcome.session ≡ session.Select None)) ⊎ BreaksIdle own number what outcome.session)
   pub effect : outcome.effect ≡ None
 
 pub record Fits (view : View) (own : Option Own) (number : ℕ) (what : Act) (outcome : Outcome) : Type 0 where
   pub asks : IsViewed view → MayBeAsked view outcome.effect
   pub room : MayOpen own number outcome.session
-  pub refused : list_any is_refusal outcome.replies ≡ true → IsRefused what outcome
+  pub refused : list_any is_refusal outcome.replies ≡ true → IsRefused own number what outcome
   pub available : list_any is_unavailable outcome.replies ≡ false
 
 room_to_keep : (own : Option Own) (number : ℕ) → MayOpen own number session.Keep
@@ -87,6 +98,10 @@ room_to_note (Some own) number more told = tt
 room_to_select : (own : Option Own) (number : ℕ) (selection : Option Selection) → MayOpen own number (session.Select selection)
 room_to_select None number selection = tt
 room_to_select (Some own) number selection = tt
+
+room_to_idle : (own : Option Own) (number : ℕ) (tag : Option (List ℕ)) (told : Option Telling) → MayOpen own number (session.Idle tag told)
+room_to_idle None number tag told = tt
+room_to_idle (Some own) number tag told = tt
 
 room_to_end : (own : Option Own) (number : ℕ) → MayOpen own number session.End
 room_to_end None number = tt
@@ -144,6 +159,49 @@ module _ (view : View) (own : Option Own) (number : ℕ) (what : Act) where
       by true = notices_fit active expunges (preceded_by (highest_line (selected_mailbox view active.selected)) answer) (highest_fits answer fit (selected_mailbox view active.selected))
       by false = notices_fit active expunges answer fit
 
+  -- a session that idles, or begins to
+  idle_fits : (active : SessionState) (step : Idling) → Fits view own number what (idle_outcome view active step)
+  idle_fits active step = by step
+    where
+      lines : List Response
+      lines = idle_lines view active
+
+      told : Option Telling
+      told = idle_telling view active
+
+      none : (test : Response → Bool) → ((n : ℕ) → test (response.Expunge n) ≡ false) → ((earlier : Bool) (uids : List ℕ) → test (response.Vanished earlier uids) ≡ false)
+          → ((n : ℕ) → test (response.Exists n) ≡ false) → ((n : ℕ) (items : FetchedItems) → test (response.Fetch n items) ≡ false) → list_any test lines ≡ false
+      none test expunge vanished exists fetch = no_line_refuses test expunge vanished exists fetch (notice_options true active.enabled) [] active.selected (mailbox_left view active)
+
+      refuses : list_any is_refusal lines ≡ false
+      refuses = none is_refusal (λ n. refl) (λ e uids. refl) (λ n. refl) (λ n items. refl)
+
+      unavailable : list_any is_unavailable lines ≡ false
+      unavailable = none is_unavailable (λ n. refl) (λ e uids. refl) (λ n. refl) (λ n items. refl)
+
+      ended : (tag : List ℕ) (test : Response → Bool) → test (done_line tag) ≡ false → list_any test lines ≡ false → list_any test (lines ++ done_line tag ∷ []) ≡ false
+      ended tag test last rest = list_any-append test lines (done_line tag ∷ []) ∙ (λ i. rest i || (last i || false))
+
+      by : (step : Idling) → Fits view own number what (idle_outcome view active step)
+      by (idling.Begins tag) = record {
+        asks = λ _. tt;
+        room = room_to_idle own number (Some tag) told;
+        refused = λ e. absurd (true≢false (sym e ∙ refuses));
+        available = unavailable;
+      }
+      by idling.Polls = record {
+        asks = λ _. tt;
+        room = room_noting nothing_enabled told;
+        refused = λ e. absurd (true≢false (sym e ∙ refuses));
+        available = unavailable;
+      }
+      by (idling.Ends tag) = record {
+        asks = λ _. tt;
+        room = room_to_idle own number None told;
+        refused = λ e. absurd (true≢false (sym e ∙ ended tag is_refusal refl refuses));
+        available = ended tag is_unavailable refl unavailable;
+      }
+
   says : (replies : List Response) → list_any is_unavailable replies ≡ false → Fits view own number what (said replies session.Keep)
   says replies available = record {
     asks = λ _. tt;
@@ -195,13 +253,13 @@ module _ (view : View) (own : Option Own) (number : ℕ) (what : Act) where
     refused_fits reason available None = record {
       asks = λ _. tt;
       room = room_to_select own number None;
-      refused = λ e. record { session = inr (asked, refl); effect = refl };
+      refused = λ e. record { session = inr (inl (asked, refl)); effect = refl };
       available = ap (λ b. b || false) available;
     }
     refused_fits reason available (Some s) = record {
       asks = λ _. tt;
       room = room_to_select own number None;
-      refused = λ e. record { session = inr (asked, refl); effect = refl };
+      refused = λ e. record { session = inr (inl (asked, refl)); effect = refl };
       available = ap (λ b. b || false) available;
     }
 
@@ -285,6 +343,7 @@ module _ (view : View) (own : Option Own) (number : ℕ) where
   outcome_of_command_fits active tag at (command.Examine mailbox parameters) = select_fits view own number _ refl active tag true mailbox parameters
   outcome_of_command_fits active tag at command.Close = close_fits _ tag active
   outcome_of_command_fits active tag at command.Unselect = unselect_fits _ tag active
+  outcome_of_command_fits active tag at command.Idle = idle_fits view own number _ active (idling.Begins tag)
   outcome_of_command_fits active tag at asked = answer_fits view own number _ active (may_tell_expunges asked) (command_answer view active tag at asked) (command_fits view active tag at asked)
 
   request_fits : (active : SessionState) (at : Moment) (asked : Request) → Fits view own number (act.Do asked) (request_outcome view active at asked)
@@ -307,12 +366,29 @@ module _ (view : View) (own : Own) (number : ℕ) where
   unless_lost_fits what outcome fit true = ends view (Some own) number what _ refl refl
   unless_lost_fits what outcome fit false = fit
 
-  open_fits : map.contains_key own number ≡ true → (active : SessionState) (at : Moment) (what : Act) → Fits view (Some own) number what (reply_when_open view active at what)
-  open_fits is active at act.Open = opening act.Open (inr is)
-  open_fits is active at (act.Do asked) = unless_lost_fits (act.Do asked) _ (request_fits view (Some own) number active at asked) (is_lost view active)
-  open_fits is active at act.Poll = unless_lost_fits act.Poll _ (says view (Some own) number act.Poll [] refl) (is_lost view active)
-  open_fits is active at act.Done = unless_lost_fits act.Done _ (says view (Some own) number act.Done _ refl) (is_lost view active)
-  open_fits is active at act.Leave = ends view (Some own) number act.Leave [] refl refl
+  line_fits : (active : SessionState) → map.get own number ≡ Some active → (at : Moment) (asked : Request) (idle : Option (List ℕ)) → active.idle ≡ idle → Fits view (Some own) number (act.Do asked) (reply_by_idle view active at (act.Do asked) idle)
+  line_fits active there at asked None idles = request_fits view (Some own) number active at asked
+  line_fits active there at asked (Some tag) idles = record {
+    asks = λ _. tt;
+    room = room_to_idle (Some own) number None None;
+    refused = λ e. record { session = inr (inr (record { idles = ap is_idling there ∙ ap is_some idles; line = refl; is = refl })); effect = refl };
+    available = refl;
+  }
+
+  poll_fits : (active : SessionState) (at : Moment) (idle : Option (List ℕ)) → Fits view (Some own) number act.Poll (reply_by_idle view active at act.Poll idle)
+  poll_fits active at None = says view (Some own) number act.Poll [] refl
+  poll_fits active at (Some tag) = idle_fits view (Some own) number act.Poll active idling.Polls
+
+  done_fits : (active : SessionState) (at : Moment) (idle : Option (List ℕ)) → Fits view (Some own) number act.Done (reply_by_idle view active at act.Done idle)
+  done_fits active at None = says view (Some own) number act.Done _ refl
+  done_fits active at (Some tag) = idle_fits view (Some own) number act.Done active (idling.Ends tag)
+
+  open_fits : (active : SessionState) → map.get own number ≡ Some active → (at : Moment) (what : Act) → Fits view (Some own) number what (reply_when_open view active at what)
+  open_fits active there at act.Open = opening act.Open (inr (ap is_some there))
+  open_fits active there at (act.Do asked) = unless_lost_fits (act.Do asked) _ (line_fits active there at asked active.idle refl) (is_lost view active)
+  open_fits active there at act.Poll = unless_lost_fits act.Poll _ (poll_fits active at active.idle) (is_lost view active)
+  open_fits active there at act.Done = unless_lost_fits act.Done _ (done_fits active at active.idle) (is_lost view active)
+  open_fits active there at act.Leave = ends view (Some own) number act.Leave [] refl refl
 
   by_count : (b : Bool) → nat_le max_sessions (map.len own) ≡ b → Fits view (Some own) number act.Open (cond b (said (response.Bye LimitReached ∷ []) session.Keep) opened)
   by_count true e = says view (Some own) number act.Open _ refl
@@ -327,7 +403,7 @@ module _ (view : View) (own : Own) (number : ℕ) where
 
   by_session : (step : Step) (active : Option SessionState) → map.get own number ≡ active → Fits view (Some own) number step.act (reply_by_session view own step active)
   by_session step None e = closed_fits step.act
-  by_session step (Some active) e = open_fits (ap is_some e) active step.at step.act
+  by_session step (Some active) e = open_fits active e step.at step.act
 
 pub outcome_fits : (view : View) (own : Option Own) (step : Step) → Fits view own step.who.number step.act (outcome_for view own step)
 outcome_fits view None step = says view None step.who.number step.act [] refl

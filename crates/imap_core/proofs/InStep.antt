@@ -9,7 +9,7 @@ use Rattle.std.proofs.lemmas.Bool.Decides.{nat_tests}
 use Rattle.std.proofs.lemmas.Slice.Eq.{bytes_eq-Decides}
 use Rattle.imap_answer.proofs.Alike.{after_asking, viewed}
 use Rattle.imap_answer.specs.Alike.{effects_of, view_after_asking}
-use Rattle.imap_answer.specs.Answer.{Answer, done, preceded_by, refusal}
+use Rattle.imap_answer.specs.Answer.{Answer, done, nothing_enabled, preceded_by, refusal}
 use Rattle.imap_mailbox.proofs.BroughtUp.{all_told_is_brought, shown_is_ordered}
 use Rattle.imap_mailbox.specs.Brought.{IsBrought, told_of}
 use Rattle.imap_mailbox.specs.Shown.{content_of}
@@ -38,15 +38,17 @@ use Rattle.imap_core.proofs.Numbered.{at_number, both_true}
 use Rattle.imap_core.proofs.StepLaws.{sessions_apart}
 use Rattle.imap_core.proofs.Steps.{accounts_after_here, kept_next, one_is_apart}
 use Rattle.imap_core.specs.declared.session_id.SessionId.{SessionId}
+use Rattle.imap_core.specs.declared.idling.Idling.{Idling}
+use Rattle.imap_core.specs.declared.idling.Idling.TheVariants as idling
 use Rattle.imap_core.specs.declared.sessions.SessionEffect.{SessionEffect}
 use Rattle.imap_core.specs.declared.sessions.SessionEffect.TheVariants as session
 use Rattle.imap_core.specs.declared.step.Act.{Act}
 use Rattle.imap_core.specs.declared.step.Act.TheVariants as act
 use Rattle.imap_core.specs.declared.step.Step.{Step}
 use Rattle.imap_core.specs.Machine.{accounts_after, outcome, outcome_for, own_in}
-use Rattle.imap_core.specs.Outcome.{Outcome, answered, said, silence}
+use Rattle.imap_core.specs.Outcome.{Outcome, answered, said}
 use Rattle.imap_changes.specs.Expunge.{close_answer}
-use Rattle.imap_core.specs.Reply.{command_answer, command_outcome, enables_nothing, has_parameters, highest_line, if_selected, newly_enables_condstore, noting, opened, outcome_of_answer, outcome_of_selecting, refused, reply_by_session}
+use Rattle.imap_core.specs.Reply.{command_answer, command_outcome, enables_nothing, has_parameters, highest_line, idle_outcome, if_selected, newly_enables_condstore, noting, opened, outcome_of_answer, outcome_of_selecting, reply_by_idle, reply_by_session}
 use Rattle.imap_core.specs.Reply.{reply_when_closed, reply_when_open, request_outcome, select_outcome, unless_lost, unselect_outcome, close_outcome, with_notices}
 use Rattle.imap_core.proofs.Fitting.{command_fits, highest_fits}
 use Rattle.imap_world.proofs.Growing.{messages_grow}
@@ -67,9 +69,9 @@ use Rattle.imap_print.specs.declared.response.Refusal.TheVariants.{Cannot, Limit
 use Rattle.imap_print.specs.declared.response.Response.{Response}
 use Rattle.imap_print.specs.declared.response.Response.TheVariants as response
 use Rattle.imap_core.specs.Sessions.{Own, edited, edited_if_open, max_sessions, own_with}
-use Rattle.imap_core.specs.Notices.{is_bad, mailbox_after, mailbox_left, may_tell_expunges, notice_telling, options_after, selected_mailbox}
+use Rattle.imap_core.specs.Notices.{idle_telling, is_bad, mailbox_after, mailbox_left, may_tell_expunges, notice_options, notice_telling, options_after, selected_mailbox}
 
-some_same : {A : Type 0} (x y : A) → Some x ≡ Some y → x ≡ y
+pub some_same : {A : Type 0} (x y : A) → Some x ≡ Some y → x ≡ y
 some_same x y e = cc
 
 -- ---- while mailboxes change
@@ -167,11 +169,12 @@ module _ (site : Site) (user : List ℕ) (world : World) (kept : AreKept world.m
 -- ---- after a step
 
 -- a session after what a step asks of it
-abbrev session_with : SessionEffect → Option SessionState → Option SessionState
+abbrev pub session_with : SessionEffect → Option SessionState → Option SessionState
 session_with session.Keep own = own
 session_with session.Open own = Some new_session
 session_with (session.Note more told) own = option_map (edited (session.Note more told)) own
 session_with (session.Select selection) own = option_map (edited (session.Select selection)) own
+session_with (session.Idle tag told) own = option_map (edited (session.Idle tag told)) own
 session_with session.End own = None
 
 same_number : (number : ℕ) → eqb number number ≡ true
@@ -189,9 +192,10 @@ own_there own number session.Keep = refl
 own_there own number session.Open = put_there own number new_session
 own_there own number (session.Note more told) = edited_there own number (session.Note more told) (map.get own number) refl
 own_there own number (session.Select selection) = edited_there own number (session.Select selection) (map.get own number) refl
+own_there own number (session.Idle tag told) = edited_there own number (session.Idle tag told) (map.get own number) refl
 own_there own number session.End = get-remove nat_cmp_total own number number ∙ ap (λ b. cond b None (map.get own number)) (at_number number number ∙ same_number number)
 
-session_there : (accounts : Accounts) (who : SessionId) (change : SessionEffect) (own : Own) → map.get accounts who.user ≡ Some own
+pub session_there : (accounts : Accounts) (who : SessionId) (change : SessionEffect) (own : Own) → map.get accounts who.user ≡ Some own
     → session_at (accounts_after accounts who change) who.user who.number ≡ session_with change (map.get own who.number)
 session_there accounts who change own is =
     ap (option_and_then (λ own. map.get own who.number)) (accounts_after_here accounts who change (Some own) is) ∙ own_there own who.number change
@@ -232,7 +236,7 @@ pub grown_by : (world : World) → AreKept world.mailboxes → (asked : Option E
 grown_by world kept asked = messages_grow world (effects_of asked ∷ []) (one_is_apart asked, tt) kept
 
 -- the selected mailbox once the session is told
-abbrev told_selection : Option Telling → Option Selection → Option Selection
+abbrev pub told_selection : Option Telling → Option Selection → Option Selection
 told_selection None selected = selected
 told_selection (Some told) selected = option_map (with_telling told) selected
 
@@ -255,6 +259,10 @@ module _ (world : World) (user : List ℕ) where
     notes : (more : EnabledCapabilities) (told : Option Telling) → IsInStep world user (told_selection told own.selected) → StaysInStep world user (session.Note more told) (Some own)
     notes more None h after is = subst (λ (state : SessionState). IsInStep world user state.selected) (some_same (edited (session.Note more None) own) after is) h
     notes more (Some told) h after is = subst (λ (state : SessionState). IsInStep world user state.selected) (some_same (edited (session.Note more (Some told)) own) after is) h
+
+    idles : (tag : Option (List ℕ)) (told : Option Telling) → IsInStep world user (told_selection told own.selected) → StaysInStep world user (session.Idle tag told) (Some own)
+    idles tag None h after is = subst (λ (state : SessionState). IsInStep world user state.selected) (some_same (edited (session.Idle tag None) own) after is) h
+    idles tag (Some told) h after is = subst (λ (state : SessionState). IsInStep world user state.selected) (some_same (edited (session.Idle tag (Some told)) own) after is) h
 
     noting_stays : (more : EnabledCapabilities) (told : Option Telling) → IsInStep world user (told_selection told own.selected) → StaysInStep world user (noting more told) (Some own)
     noting_stays more None h = by (enables_nothing more)
@@ -326,6 +334,19 @@ module _ (site : Site) (user : List ℕ) (world : World) (sound : IsSound world)
         by true = notices_keep expunges (preceded_by (highest_line (selected_mailbox seen own.selected)) answer) (highest_fits seen None 0 act.Poll answer fit (selected_mailbox seen own.selected))
         by false = notices_keep expunges answer fit
 
+    -- ---- IDLE
+
+    idle_keeps : (step : Idling) → Keeps (Some own) (idle_outcome seen own step)
+    idle_keeps step = by step
+      where
+        told : IsInStep world user (told_selection (idle_telling seen own) own.selected)
+        told = told_of_mailbox world kept (notice_options true own.enabled) own.selected h (mailbox_left seen own) (λ s r selected is. left_is site user world kept own s r selected is)
+
+        by : (step : Idling) → Keeps (Some own) (idle_outcome seen own step)
+        by (idling.Begins tag) = idles world user own (Some tag) (idle_telling seen own) told
+        by idling.Polls = noting_stays world user own nothing_enabled (idle_telling seen own) told
+        by (idling.Ends tag) = idles world user own None (idle_telling seen own) told
+
     -- ---- mailboxes that are selected
 
     selects_none : (answer : Answer) → Keeps (Some own) (answered answer (session.Select None))
@@ -369,6 +390,7 @@ module _ (site : Site) (user : List ℕ) (world : World) (sound : IsSound world)
     command_keeps tag at (command.Examine mailbox parameters) = select_keeps tag true mailbox parameters
     command_keeps tag at command.Close = close_keeps tag
     command_keeps tag at command.Unselect = unselect_keeps tag
+    command_keeps tag at command.Idle = idle_keeps (idling.Begins tag)
     command_keeps tag at asked = answer_keeps (may_tell_expunges asked) (command_answer seen own tag at asked) (command_fits seen own tag at asked)
 
     request_keeps : (at : Moment) (asked : Request) → Keeps (Some own) (request_outcome seen own at asked)
@@ -383,9 +405,21 @@ module _ (site : Site) (user : List ℕ) (world : World) (sound : IsSound world)
     act_keeps : (at : Moment) (what : Act) → Keeps (Some own) (reply_when_open seen own at what)
     act_keeps at act.Open = opens world user (Some own)
     act_keeps at act.Leave = closes world user (Some own)
-    act_keeps at (act.Do asked) = unless_lost_keeps (is_lost seen own) (request_outcome seen own at asked) (request_keeps at asked)
-    act_keeps at act.Poll = unless_lost_keeps (is_lost seen own) silence (says_nothing [])
-    act_keeps at act.Done = unless_lost_keeps (is_lost seen own) (refused None Malformed) (says_nothing (response.Refused None Malformed ∷ []))
+    act_keeps at (act.Do asked) = unless_lost_keeps (is_lost seen own) (reply_by_idle seen own at (act.Do asked) own.idle) (by own.idle)
+      where
+        by : (idle : Option (List ℕ)) → Keeps (Some own) (reply_by_idle seen own at (act.Do asked) idle)
+        by None = request_keeps at asked
+        by (Some tag) = idles world user own None None h
+    act_keeps at act.Poll = unless_lost_keeps (is_lost seen own) (reply_by_idle seen own at act.Poll own.idle) (by own.idle)
+      where
+        by : (idle : Option (List ℕ)) → Keeps (Some own) (reply_by_idle seen own at act.Poll idle)
+        by None = says_nothing []
+        by (Some tag) = idle_keeps idling.Polls
+    act_keeps at act.Done = unless_lost_keeps (is_lost seen own) (reply_by_idle seen own at act.Done own.idle) (by own.idle)
+      where
+        by : (idle : Option (List ℕ)) → Keeps (Some own) (reply_by_idle seen own at act.Done idle)
+        by None = says_nothing (response.Refused None Malformed ∷ [])
+        by (Some tag) = idle_keeps (idling.Ends tag)
 
   -- ---- of a session that is not open
 

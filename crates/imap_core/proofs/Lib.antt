@@ -3,6 +3,7 @@ pub mod Fitting
 pub mod InStep
 pub mod Lent
 pub mod MailboxLeft
+pub mod MessagesKnown
 pub mod Noticed
 pub mod Numbered
 pub mod Opened
@@ -11,6 +12,7 @@ pub mod Replay
 pub mod Roomless
 pub mod Runs
 pub mod Sameness
+pub mod Silent
 pub mod Starting
 pub mod StepLaws
 pub mod Steps

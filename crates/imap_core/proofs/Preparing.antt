@@ -16,6 +16,8 @@ use Rattle.imap_world.specs.World.{World}
 use Rattle.imap_core.specs.declared.session_id.SessionId.{SessionId}
 use Rattle.imap_core.specs.declared.sessions.SessionEffect.{SessionEffect}
 use Rattle.imap_core.specs.declared.sessions.SessionEffect.TheVariants as session
+use Rattle.imap_core.specs.declared.idling.Idling.{Idling}
+use Rattle.imap_core.specs.declared.idling.Idling.TheVariants as idling
 use Rattle.imap_core.specs.declared.pending.Pending.{Pending}
 use Rattle.imap_core.specs.declared.pending.Pending.TheVariants as pending
 use Rattle.imap_core.specs.declared.step.Step.{Step}
@@ -25,7 +27,7 @@ use Rattle.imap_core.specs.Machine.{State, accounts_after, next, outcome, outcom
 use Rattle.imap_core.specs.Outcome.{Outcome}
 use Rattle.imap_core.specs.Pending.{AreFound, IsCompletable, completed, effect_in, tells_nothing}
 use Rattle.imap_core.specs.Planned.{MayTell}
-use Rattle.imap_core.specs.Reply.{reply}
+use Rattle.imap_core.specs.Reply.{idle_outcome, reply}
 use Rattle.imap_core.specs.Sessions.{Own}
 use Rattle.imap_core.proofs.Fitting.{outcome_fits}
 use Rattle.imap_core.proofs.InStep.{all_stay_in_step}
@@ -46,6 +48,13 @@ module _ (state : State) (step : Step) where
   effect_is own (pending.Whole o) done = ap (λ (o : Outcome). o.effect) done
   effect_is None (pending.Command answer expunges) done = ap (λ (o : Outcome). o.effect) done
   effect_is (Some active) (pending.Command answer expunges) done = ap (λ (o : Outcome). o.effect) done
+  effect_is None (pending.Idle what) done = ap (λ (o : Outcome). o.effect) done
+  effect_is (Some active) (pending.Idle what) done = idle_effect what done
+    where
+      idle_effect : (what : Idling) → idle_outcome view active what ≡ outcome state step → None ≡ (outcome state step).effect
+      idle_effect (idling.Begins tag) done = ap (λ (o : Outcome). o.effect) done
+      idle_effect idling.Polls done = ap (λ (o : Outcome). o.effect) done
+      idle_effect (idling.Ends tag) done = ap (λ (o : Outcome). o.effect) done
 
   module _ (kept : IsMachineKept state.world state.accounts) where
     -- its user may ask for it, and the session is in step
@@ -65,7 +74,17 @@ module _ (state : State) (step : Step) where
         unlost = unlost;
         step = kept.sessions.at step.who.user step.who.number active is;
       };
-      effect = refl;
+      asked = refl;
+    }
+    are_found change None (pending.Idle what) is done unlost writes = tt
+    are_found change (Some active) (pending.Idle what) is done unlost writes = record {
+      found = record {
+        kept = kept.messages;
+        asked = record { effect = None; may = tt; writes = writes };
+        unlost = unlost;
+        step = kept.sessions.at step.who.user step.who.number active is;
+      };
+      asked = refl;
     }
 
     -- the step leaves the machine as its type keeps it
@@ -82,6 +101,8 @@ silent_may (Some own) session.Keep silent = tt
 silent_may (Some own) session.Open silent = tt
 silent_may (Some own) (session.Note more told) silent = absurd (cc silent)
 silent_may (Some own) (session.Select selection) silent = tt
+silent_may (Some own) (session.Idle tag None) silent = tt
+silent_may (Some own) (session.Idle tag (Some told)) silent = absurd (cc silent)
 silent_may (Some own) session.End silent = tt
 
 -- a machine without sessions

@@ -8,18 +8,23 @@ use Rattle.imap_core.specs.declared.sessions.SessionEffect.TheVariants as sessio
 use Rattle.imap_core.specs.declared.step.Act.{Act}
 use Rattle.imap_core.specs.declared.step.Act.TheVariants as act
 use Rattle.imap_core.specs.declared.step.Step.{Step}
-use Rattle.imap_core.specs.Machine.{State, outcome_for, answer, next, view_in, own_in}
-use Rattle.imap_core.specs.Outcome.{silence}
-use Rattle.imap_core.specs.Reply.{reply_by_session, unless_lost}
+use Rattle.imap_core.specs.Machine.{State, accounts_after, outcome_for, answer, next, view_in, own_in}
+use Rattle.imap_core.specs.Laws.{QuietPollsChangeNothing}
+use Rattle.imap_core.specs.Notices.{mailbox_left, notice_options}
+use Rattle.imap_core.specs.Outcome.{Outcome}
+use Rattle.imap_core.specs.Reply.{noting, reply_by_idle, reply_by_session, unless_lost}
 use Rattle.imap_core.specs.Sessions.{Own}
 use Rattle.imap_core.specs.Trace.{Event, Acts, Sees, is_quiet, with_replies, trace, transcript, same_view, EqualViewsAreSame, Isolation}
 use Rattle.imap_session.specs.Lost.{is_lost}
 use Rattle.imap_session.specs.State.{SessionState}
 use Rattle.imap_view.specs.View.{View, view_code}
 use Rattle.imap_world.specs.Kept.{AreKept}
-use Rattle.imap_core.proofs.Fitting.{IsIdle}
+use Rattle.imap_core.proofs.Fitting.{IsUnchanged}
+use Rattle.imap_core.proofs.Silent.{silent_is_untold}
 use Rattle.imap_core.proofs.Sameness.{equal_from_same, same_from_itself}
-use Rattle.imap_answer.specs.Alike.{view_after_asking}
+use Rattle.imap_answer.specs.Alike.{effects_of, view_after_asking}
+use Rattle.imap_answer.specs.Answer.{nothing_enabled}
+use Rattle.imap_world.specs.Effects.{after_all}
 use Rattle.imap_core.proofs.Steps.{kept_next, own_after, own_after_change, own_in-next, own_in-other, view_in-next, view_next}
 
 abbrev replay : View → Option Own → List Event → List (ℕ × List ℕ)
@@ -46,19 +51,26 @@ quiet_act act.Done replies e = absurd (true≢false (sym e))
 quiet_act act.Leave replies e = absurd (true≢false (sym e))
 
 -- a poll to which nothing is answered asks for nothing and leaves the session
-polled : (view : View) (own : Option Own) (step : Step) (what : Act) → what ≡ act.Poll → (outcome_for view own (record step { act = what })).replies ≡ [] → IsIdle (outcome_for view own (record step { act = what }))
+polled : (view : View) (own : Option Own) (step : Step) (what : Act) → what ≡ act.Poll → (outcome_for view own (record step { act = what })).replies ≡ [] → IsUnchanged (outcome_for view own (record step { act = what }))
 polled view None step what e quiet = record { session = refl; effect = refl }
 polled view (Some own) step act.Open e quiet = absurd (cc)
 polled view (Some own) step (act.Do request) e quiet = absurd (cc)
 polled view (Some own) step act.Poll e quiet = by (map.get own step.who.number) quiet
   where
-    unless : (is : Bool) → (unless_lost is silence).replies ≡ [] → IsIdle (unless_lost is silence)
-    unless true quiet = absurd (cc quiet)
-    unless false quiet = record { session = refl; effect = refl }
+    by_idle : (active : SessionState) (idle : Option (List ℕ)) → (reply_by_idle view active step.at act.Poll idle).replies ≡ [] → IsUnchanged (reply_by_idle view active step.at act.Poll idle)
+    by_idle active None quiet = record { session = refl; effect = refl }
+    by_idle active (Some tag) quiet = record {
+      session = ap (noting nothing_enabled) (silent_is_untold (notice_options true active.enabled) active.selected (mailbox_left view active) quiet);
+      effect = refl;
+    }
 
-    by : (active : Option SessionState) → (reply_by_session view own (record step { act = act.Poll }) active).replies ≡ [] → IsIdle (reply_by_session view own (record step { act = act.Poll }) active)
+    unless : (is : Bool) (outcome : Outcome) → (outcome.replies ≡ [] → IsUnchanged outcome) → (unless_lost is outcome).replies ≡ [] → IsUnchanged (unless_lost is outcome)
+    unless true outcome h quiet = absurd (cc quiet)
+    unless false outcome h quiet = h quiet
+
+    by : (active : Option SessionState) → (reply_by_session view own (record step { act = act.Poll }) active).replies ≡ [] → IsUnchanged (reply_by_session view own (record step { act = act.Poll }) active)
     by None quiet = record { session = refl; effect = refl }
-    by (Some active) quiet = unless (is_lost view active) quiet
+    by (Some active) quiet = unless (is_lost view active) (reply_by_idle view active step.at act.Poll active.idle) (by_idle active active.idle) quiet
 polled view (Some own) step act.Done e quiet = absurd (cc)
 polled view (Some own) step act.Leave e quiet = absurd (cc)
 
@@ -72,6 +84,16 @@ module _ (view : View) (own : Option Own) (step : Step) (quiet : step.act ≡ ac
 
   quiet_view : view_next view own step ≡ view
   quiet_view = ap (λ asked. view_after_asking asked view) (polled view own step step.act quiet nothing).effect
+
+pub quiet_unchanged : QuietPollsChangeNothing
+quiet_unchanged state step quiet =
+    let is = quiet_act step.act (answer state step) quiet in
+    let stays = polled (view_in state step.who.user) (own_in state step.who.user) step step.act is.0 is.1 in
+    λ i. record {
+      site = state.site;
+      world = after_all (effects_of (stays.effect i)) state.world;
+      accounts = accounts_after state.accounts step.who (stays.session i);
+    }
 
 -- ---- along a run
 

@@ -25,13 +25,13 @@ use Rattle.imap_core.specs.InStep.{session_at}
 use Rattle.imap_core.specs.Reply.{noting}
 use Rattle.imap_core.specs.declared.sessions.SessionEffect.{SessionEffect}
 use Rattle.imap_core.specs.declared.sessions.SessionEffect.TheVariants as session
-use Rattle.imap_core.specs.Laws.{EffectsAreMade, IsMadeIfAsked, IsOnlyTold, NeverUnavailable, OtherSessionsStay, OtherUsersStay, RefusalsChangeNothing, StepsAreAlike, selects, unselected}
+use Rattle.imap_core.specs.Laws.{EffectsAreMade, IsIdleBroken, IsMadeIfAsked, IsOnlyTold, NeverUnavailable, OtherSessionsStay, OtherUsersStay, RefusalsChangeNothing, StepsAreAlike, selects, unselected}
 use Rattle.imap_answer.proofs.Alike.{viewed}
 use Rattle.imap_answer.specs.Alike.{effects_of}
 use Rattle.imap_answer.specs.Fit.{MayBeAsked}
 use Rattle.imap_core.specs.Machine.{accounts_after, next, outcome, outcome_for, own_in, view_in}
 use Rattle.imap_core.specs.Sessions.{Own, edited, edited_if_open}
-use Rattle.imap_core.proofs.Fitting.{IsRefused, OnlyNotes, outcome_fits}
+use Rattle.imap_core.proofs.Fitting.{BreaksIdle, IsRefused, OnlyNotes, outcome_fits}
 use Rattle.imap_core.proofs.Numbered.{at_number}
 use Rattle.imap_core.proofs.Steps.{accounts_after_here, accounts_after_there, kept_next, own_after, own_after_change, own_in-next, own_in-other, view_in-next, view_next}
 
@@ -72,6 +72,7 @@ other_number (Some own) changed number session.Keep apart = refl
 other_number (Some own) changed number session.Open apart = put_elsewhere own changed number new_session apart
 other_number (Some own) changed number (session.Note more told) apart = edited_elsewhere own changed number (session.Note more told) (map.get own changed) apart
 other_number (Some own) changed number (session.Select selection) apart = edited_elsewhere own changed number (session.Select selection) (map.get own changed) apart
+other_number (Some own) changed number (session.Idle tag told) apart = edited_elsewhere own changed number (session.Idle tag told) (map.get own changed) apart
 other_number (Some own) changed number session.End apart =
     get-remove nat_cmp_total own changed number ∙ ap (λ b. cond b None (map.get own number)) (apart_from changed number apart)
 
@@ -117,7 +118,7 @@ effects_made state step kept =
 pub refusals_change : RefusalsChangeNothing
 refusals_change state step refused = by fits.session
   where
-    fits : IsRefused step.act (outcome state step)
+    fits : IsRefused (own_in state step.who.user) step.who.number step.act (outcome state step)
     fits = (outcome_fits (view_in state step.who.user) (own_in state step.who.user) step).refused refused
 
     made : (change : SessionEffect) → (outcome state step).session ≡ change → next state step ≡ record { site = state.site; world = state.world; accounts = accounts_after state.accounts step.who change }
@@ -127,15 +128,20 @@ refusals_change state step refused = by fits.session
       accounts = accounts_after state.accounts step.who (is i);
     }
 
-    by_told : (told : Option Telling) → (outcome state step).session ≡ noting nothing_enabled told
-        → (next state step ≡ state) ⊎ (IsOnlyTold state step ⊎ ((selects step.act ≡ true) × (next state step ≡ unselected state step.who)))
+    Left : Type 0
+    Left = (next state step ≡ state)
+        ⊎ (IsOnlyTold state step ⊎ (((selects step.act ≡ true) × (next state step ≡ unselected state step.who)) ⊎ IsIdleBroken state step))
+
+    by_told : (told : Option Telling) → (outcome state step).session ≡ noting nothing_enabled told → Left
     by_told None is = inl (made session.Keep is)
     by_told (Some told) is = inr (inl (record { told = told; is = made (session.Note nothing_enabled (Some told)) is }))
 
-    by : OnlyNotes (outcome state step).session ⊎ ((selects step.act ≡ true) × ((outcome state step).session ≡ session.Select None))
-        → (next state step ≡ state) ⊎ (IsOnlyTold state step ⊎ ((selects step.act ≡ true) × (next state step ≡ unselected state step.who)))
+    by : OnlyNotes (outcome state step).session
+        ⊎ (((selects step.act ≡ true) × ((outcome state step).session ≡ session.Select None)) ⊎ BreaksIdle (own_in state step.who.user) step.who.number step.act (outcome state step).session)
+        → Left
     by (inl notes) = by_told notes.told notes.is
-    by (inr closed) = inr (inr (closed.0, made (session.Select None) closed.1))
+    by (inr (inl closed)) = inr (inr (inl (closed.0, made (session.Select None) closed.1)))
+    by (inr (inr broken)) = inr (inr (inr (record { idles = broken.idles; line = broken.line; is = made (session.Idle None None) broken.is })))
 
 pub available : NeverUnavailable
 available state step = (outcome_fits (view_in state step.who.user) (own_in state step.who.user) step).available

@@ -78,6 +78,7 @@ accounts_after_here accounts who session.Keep own is = kept_here accounts who ow
 accounts_after_here accounts who session.Open own is = accounts_with_here accounts who session.Open own is
 accounts_after_here accounts who (session.Note more told) own is = accounts_with_here accounts who (session.Note more told) own is
 accounts_after_here accounts who (session.Select selection) own is = accounts_with_here accounts who (session.Select selection) own is
+accounts_after_here accounts who (session.Idle tag told) own is = accounts_with_here accounts who (session.Idle tag told) own is
 accounts_after_here accounts who session.End own is = accounts_with_here accounts who session.End own is
 
 accounts_with_there : (accounts : Accounts) (who : SessionId) (other : List ℕ) (effect : SessionEffect) → bytes_eq other who.user ≡ false → map.get (accounts_with accounts who effect) other ≡ map.get accounts other
@@ -88,6 +89,7 @@ accounts_after_there accounts who other session.Keep apart = refl
 accounts_after_there accounts who other session.Open apart = accounts_with_there accounts who other session.Open apart
 accounts_after_there accounts who other (session.Note more told) apart = accounts_with_there accounts who other (session.Note more told) apart
 accounts_after_there accounts who other (session.Select selection) apart = accounts_with_there accounts who other (session.Select selection) apart
+accounts_after_there accounts who other (session.Idle tag told) apart = accounts_with_there accounts who other (session.Idle tag told) apart
 accounts_after_there accounts who other session.End apart = accounts_with_there accounts who other session.End apart
 
 -- the acting user's sessions after a step are a function of those before, the view and the step

@@ -1,10 +1,11 @@
 -- What holds of every step.
-use Rattle.std.specs.Prelude.{◌≡◌, ◌⊎◌, ℕ, Bool, true, false, ◌==◌, ◌&&◌, List, Option, Some, None}
-use Rattle.std.specs.Prelude.{bytes_eq}
+use Rattle.std.specs.Prelude.{◌≡◌, ◌⊎◌, ℕ, Bool, true, false, ◌==◌, ◌&&◌, List, map, Option, Some, None}
+use Rattle.std.specs.Prelude.{bytes_eq, is_some}
 use Rattle.std.specs.List.{list_any}
 use Rattle.imap_answer.specs.Fit.{is_refusal, is_unavailable}
 use Rattle.imap_answer.specs.Answer.{nothing_enabled}
-use Rattle.imap_session.specs.State.{SessionState}
+use Rattle.imap_mailbox.specs.Brought.{told_of}
+use Rattle.imap_session.specs.State.{Selection, SessionState}
 use Rattle.imap_session.specs.Telling.{Telling}
 use Rattle.imap_core.specs.InStep.{session_at}
 use Rattle.imap_grammar.specs.declared.command.Command.{Command}
@@ -20,8 +21,11 @@ use Rattle.imap_view.specs.After.{DifferInHidden, IsMade}
 use Rattle.imap_world.specs.declared.effect.Effect.{Effect}
 use Rattle.imap_world.specs.Kept.{AreKept}
 use Rattle.imap_world.specs.World.{World}
-use Rattle.imap_core.specs.Machine.{State, accounts_with, answer, next, outcome, own_in}
-use Rattle.imap_core.specs.Trace.{Alike}
+use Rattle.imap_view.specs.declared.readable.Readable.{Readable}
+use Rattle.imap_view.specs.View.{View}
+use Rattle.imap_core.specs.Machine.{State, accounts_with, answer, next, outcome, own_in, view_in}
+use Rattle.imap_core.specs.Notices.{is_bad, mailbox_left, may_tell_expunges}
+use Rattle.imap_core.specs.Trace.{Alike, is_quiet}
 
 -- A step in two states that are alike to its user is answered alike, and leaves them alike to that user.
 abbrev pub StepsAreAlike : Type 0
@@ -84,12 +88,63 @@ pub record IsOnlyTold (state : State) (step : Step) : Type 0 where
     accounts = accounts_with state.accounts step.who (session.Note nothing_enabled (Some told));
   }
 
--- A step that is answered by a refusal changes nothing; but its session may be told of its mailbox, and a refused
--- SELECT or EXAMINE leaves no mailbox selected in it (RFC 9051, section 6.3.2).
+-- the client sends a line that isn't DONE
+abbrev pub is_line : Act → Bool
+is_line (act.Do request) = true
+is_line _ = false
+
+-- the session idles (RFC 2177)
+abbrev pub is_idling : Option SessionState → Bool
+is_idling None = false
+is_idling (Some own) = is_some own.idle
+
+-- a line ended the IDLE of its session, and nothing else changed
+pub record IsIdleBroken (state : State) (step : Step) : Type 0 where
+  pub idles : is_idling (session_in state step.who.user step.who.number) ≡ true
+  pub line : is_line step.act ≡ true
+  pub is : next state step ≡ record {
+    site = state.site;
+    world = state.world;
+    accounts = accounts_with state.accounts step.who (session.Idle None None);
+  }
+
+-- A step that is answered by a refusal changes nothing; but its session may be told of its mailbox, a refused
+-- SELECT or EXAMINE leaves no mailbox selected in it (RFC 9051, section 6.3.2), and a line that ends its IDLE
+-- does so.
 abbrev pub RefusalsChangeNothing : Type 0
 RefusalsChangeNothing = (state : State) (step : Step) → list_any is_refusal (answer state step) ≡ true
     → (next state step ≡ state)
-    ⊎ (IsOnlyTold state step ⊎ ((selects step.act ≡ true) × (next state step ≡ unselected state step.who)))
+    ⊎ (IsOnlyTold state step
+    ⊎ (((selects step.act ≡ true) × (next state step ≡ unselected state step.who))
+    ⊎ IsIdleBroken state step))
+
+-- What a trace leaves out changes nothing: a poll to which nothing is answered.
+abbrev pub QuietPollsChangeNothing : Type 0
+QuietPollsChangeNothing = (state : State) (step : Step)
+    → is_quiet step.act (answer state step) ≡ true → next state step ≡ state
+
+-- expunges may be told in a session: at a poll and at DONE if it idles, and else by commands that may tell them
+abbrev pub may_be_told : (idle : Option (List ℕ)) → Act → Bool
+may_be_told None (act.Do (request.Command tag command)) = may_tell_expunges command
+may_be_told (Some tag) act.Poll = true
+may_be_told (Some tag) act.Done = true
+may_be_told idle _ = false
+
+-- the session knows the messages of its mailbox with their flags and mod-sequences as the user sees them, unless
+-- it has lost the mailbox
+abbrev pub KnowsMessages : View → SessionState → Type 0
+KnowsMessages view own = (s : Selection) (mailbox : Readable)
+    → own.selected ≡ Some s → mailbox_left view own ≡ Some mailbox → s.known ≡ map told_of mailbox.rows
+
+-- After a step in which expunges may be told, and which isn't answered BAD, its session knows the messages of its
+-- mailbox (RFC 9051, section 7.5.1).
+abbrev pub MessagesAreKnown : Type 0
+MessagesAreKnown = (state : State) (step : Step) (before after : SessionState)
+    → AreKept state.world.mailboxes
+    → session_in state step.who.user step.who.number ≡ Some before
+    → may_be_told before.idle step.act ≡ true → list_any is_bad (answer state step) ≡ false
+    → session_in (next state step) step.who.user step.who.number ≡ Some after
+    → KnowsMessages (view_in (next state step) step.who.user) after
 
 -- UNAVAILABLE (RFC 5530) is for a host to say, when it can't save a change.
 abbrev pub NeverUnavailable : Type 0

@@ -78,6 +78,7 @@ accounts_after accounts who session.Open = accounts_with accounts who session.Op
 accounts_after accounts who (session.Note more told) = accounts_with accounts who (session.Note more told)
 accounts_after accounts who (session.Select selection) =
     accounts_with accounts who (session.Select selection)
+accounts_after accounts who (session.Idle tag told) = accounts_with accounts who (session.Idle tag told)
 accounts_after accounts who session.End = accounts_with accounts who session.End
 
 abbrev pub next : State → Step → State

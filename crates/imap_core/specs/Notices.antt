@@ -62,3 +62,13 @@ notice_lines o told selected (Some mailbox) = session_lines o told mailbox.rows 
 abbrev pub notice_telling : NoticeOptions → Option Selection → Option Readable → Option Telling
 notice_telling o selected None = None
 notice_telling o selected (Some mailbox) = session_telling o mailbox.rows mailbox.highest selected
+
+-- ---- while a session idles (RFC 2177): expunges are told, too
+
+abbrev pub idle_lines : View → SessionState → List Response
+idle_lines view own =
+    notice_lines (notice_options true own.enabled) [] own.selected (mailbox_left view own)
+
+abbrev pub idle_telling : View → SessionState → Option Telling
+idle_telling view own =
+    notice_telling (notice_options true own.enabled) own.selected (mailbox_left view own)

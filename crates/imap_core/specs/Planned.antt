@@ -53,6 +53,7 @@ is_open session.Keep = false
 is_open session.Open = true
 is_open (session.Note more told) = false
 is_open (session.Select selection) = false
+is_open (session.Idle tag told) = false
 is_open session.End = false
 
 abbrev pub is_end : SessionEffect → Bool
@@ -60,6 +61,7 @@ is_end session.Keep = false
 is_end session.Open = false
 is_end (session.Note more told) = false
 is_end (session.Select selection) = false
+is_end (session.Idle tag told) = false
 is_end session.End = true
 
 -- if a session is opened, fewer are open than may be, or it is one of them
@@ -68,6 +70,7 @@ MayOpen None number change = Unit {0}
 MayOpen (Some own) number session.Keep = Unit {0}
 MayOpen (Some own) number (session.Note more told) = Unit {0}
 MayOpen (Some own) number (session.Select selection) = Unit {0}
+MayOpen (Some own) number (session.Idle tag told) = Unit {0}
 MayOpen (Some own) number session.Open =
     (map.len own < max_sessions) ⊎ (map.contains_key own number ≡ true)
 MayOpen (Some own) number session.End = Unit {0}
@@ -78,6 +81,7 @@ MayTell None change = Unit {0}
 MayTell (Some state) session.Keep = Unit {0}
 MayTell (Some state) (session.Note more told) = IfSome told (λ t. IsTellingFor t state.selected)
 MayTell (Some state) (session.Select selection) = Unit {0}
+MayTell (Some state) (session.Idle tag told) = IfSome told (λ t. IsTellingFor t state.selected)
 MayTell (Some state) session.Open = Unit {0}
 MayTell (Some state) session.End = Unit {0}
 
@@ -87,6 +91,7 @@ room_needed session.Keep = 0
 room_needed session.Open = 0
 room_needed (session.Note more told) = added_by told
 room_needed (session.Select selection) = 0
+room_needed (session.Idle tag told) = added_by told
 room_needed session.End = 0
 
 -- it needs no memory in this machine, and leaves its sessions in step

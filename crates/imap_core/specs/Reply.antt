@@ -1,9 +1,10 @@
 -- What a step is answered, what becomes of its session, and what it asks of the mailboxes: by what the
 -- user sees, and the user's own sessions, alone.
-use Rattle.std.specs.Prelude.{ℕ, Bool, true, false, not, ◌&&◌, ◌||◌, nat_le, is_some, List, [], ◌∷◌}
+use Rattle.std.specs.Prelude.{ℕ, Bool, true, false, not, ◌&&◌, ◌||◌, nat_le, is_some, List, [], ◌∷◌, ◌++◌}
 use Rattle.std.specs.Prelude.{Option, Some, None, if◌then◌else◌}
 use Rattle.std.specs.FinMap as map
-use Rattle.imap_answer.specs.Answer.{Answer, done, followed_by, preceded_by, refusal}
+use Rattle.imap_answer.specs.Answer.{Answer, done, done_line, followed_by, nothing_enabled, preceded_by}
+use Rattle.imap_answer.specs.Answer.{refusal, refused_line}
 use Rattle.imap_grammar.specs.declared.request.Request.{Request}
 use Rattle.imap_grammar.specs.declared.request.Request.TheVariants as request
 use Rattle.imap_grammar.specs.declared.command.Command.{Command}
@@ -39,6 +40,8 @@ use Rattle.imap_tree.specs.Rename.{rename_answer}
 use Rattle.imap_tree.specs.SetAcl.{delete_acl_answer, set_acl_answer}
 use Rattle.imap_view.specs.declared.readable.Readable.{Readable}
 use Rattle.imap_view.specs.View.{View}
+use Rattle.imap_core.specs.declared.idling.Idling.{Idling}
+use Rattle.imap_core.specs.declared.idling.Idling.TheVariants as idling
 use Rattle.imap_core.specs.declared.sessions.SessionEffect.{SessionEffect}
 use Rattle.imap_core.specs.declared.sessions.SessionEffect.TheVariants as session
 use Rattle.imap_core.specs.declared.step.Act.{Act}
@@ -46,8 +49,8 @@ use Rattle.imap_core.specs.declared.step.Act.TheVariants as act
 use Rattle.imap_core.specs.declared.step.Step.{Step}
 use Rattle.imap_core.specs.Commands.Session.{capability_answer, noop_answer, logout_answer}
 use Rattle.imap_core.specs.Commands.Session.{authenticate_answer, enable_answer}
-use Rattle.imap_core.specs.Notices.{may_tell_expunges, mailbox_after, notice_lines, notice_telling}
-use Rattle.imap_core.specs.Notices.{options_after, selected_mailbox}
+use Rattle.imap_core.specs.Notices.{idle_lines, idle_telling, may_tell_expunges, mailbox_after, notice_lines}
+use Rattle.imap_core.specs.Notices.{notice_telling, options_after, selected_mailbox}
 use Rattle.imap_core.specs.Outcome.{Outcome, answered, said, silence}
 use Rattle.imap_core.specs.Sessions.{Own, max_sessions}
 
@@ -161,6 +164,15 @@ with_notices view own expunges answer =
 abbrev pub outcome_of_answer : View → SessionState → (expunges : Bool) → Answer → Outcome
 outcome_of_answer view own expunges answer = with_notices view own expunges (with_highest view own answer)
 
+-- IDLE (RFC 2177) begins, a session that idles is polled, or DONE ends it: the session is told of its mailbox
+abbrev pub idle_outcome : View → SessionState → Idling → Outcome
+idle_outcome view own (idling.Begins tag) =
+    said (response.Idling ∷ idle_lines view own) (session.Idle (Some tag) (idle_telling view own))
+idle_outcome view own idling.Polls =
+    said (idle_lines view own) (noting nothing_enabled (idle_telling view own))
+idle_outcome view own (idling.Ends tag) =
+    said (idle_lines view own ++ done_line tag ∷ []) (session.Idle None (idle_telling view own))
+
 -- a command that leaves its session as it is
 abbrev pub kept : Answer → Outcome
 kept answer = answered answer session.Keep
@@ -199,6 +211,7 @@ command_outcome view own tag at (command.Examine mailbox parameters) =
     select_outcome view own tag true mailbox parameters
 command_outcome view own tag at command.Close = close_outcome view own tag
 command_outcome view own tag at command.Unselect = unselect_outcome own tag
+command_outcome view own tag at command.Idle = idle_outcome view own (idling.Begins tag)
 command_outcome view own tag at command =
     outcome_of_answer view own (may_tell_expunges command) (command_answer view own tag at command)
 
@@ -215,11 +228,21 @@ request_outcome view own at (request.TooBig tag) = refused (Some tag) Limit
 abbrev pub opened : Outcome
 opened = said (response.Greeting ∷ []) session.Open
 
--- a poll brings nothing; DONE where no IDLE runs (RFC 2177) is malformed, and has no tag
+-- of a session that doesn't idle. A poll brings nothing; DONE (RFC 2177) is malformed, and has no tag
 abbrev pub reply_of_act : View → SessionState → (at : Moment) → Act → Outcome
 reply_of_act view own at (act.Do request) = request_outcome view own at request
 reply_of_act view own at act.Done = refused None Malformed
 reply_of_act view own at _ = silence
+
+-- of a session that idles: a line other than DONE ends its IDLE, with the tag of that, and isn't carried out
+abbrev pub reply_to_idle : View → SessionState → (tag : List ℕ) → Act → Outcome
+reply_to_idle view own tag act.Poll = idle_outcome view own idling.Polls
+reply_to_idle view own tag act.Done = idle_outcome view own (idling.Ends tag)
+reply_to_idle view own tag _ = said (refused_line tag Malformed ∷ []) (session.Idle None None)
+
+abbrev pub reply_by_idle : View → SessionState → (at : Moment) → Act → Option (List ℕ) → Outcome
+reply_by_idle view own at asked None = reply_of_act view own at asked
+reply_by_idle view own at asked (Some tag) = reply_to_idle view own tag asked
 
 -- a session that has lost its mailbox ends, whatever its client asks
 abbrev pub lost : Outcome
@@ -234,9 +257,11 @@ abbrev pub reply_when_open : View → SessionState → (at : Moment) → Act →
 reply_when_open view own at act.Open = opened
 reply_when_open view own at act.Leave = said [] session.End
 reply_when_open view own at (act.Do request) =
-    unless_lost (is_lost view own) (reply_of_act view own at (act.Do request))
-reply_when_open view own at act.Poll = unless_lost (is_lost view own) (reply_of_act view own at act.Poll)
-reply_when_open view own at act.Done = unless_lost (is_lost view own) (reply_of_act view own at act.Done)
+    unless_lost (is_lost view own) (reply_by_idle view own at (act.Do request) own.idle)
+reply_when_open view own at act.Poll =
+    unless_lost (is_lost view own) (reply_by_idle view own at act.Poll own.idle)
+reply_when_open view own at act.Done =
+    unless_lost (is_lost view own) (reply_by_idle view own at act.Done own.idle)
 
 -- of one user no more than the limit are open
 abbrev pub open_outcome : Own → Outcome

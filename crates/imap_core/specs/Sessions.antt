@@ -44,10 +44,15 @@ states_of entries = map_list (λ e. (e.0, e.1.state)) entries
 
 -- ---- after a step
 
+-- a session that idles under the tag, or doesn't idle (RFC 2177)
+abbrev pub with_idle : (tag : Option (List ℕ)) → SessionState → SessionState
+with_idle tag state = record { selected = state.selected; enabled = state.enabled; idle = tag }
+
 -- a session that stays open, after what a step asks of it
 abbrev pub edited : SessionEffect → SessionState → SessionState
 edited (session.Note more told) state = with_enabled more (session_after told state)
 edited (session.Select selection) state = with_selection selection state
+edited (session.Idle tag told) state = with_idle tag (session_after told state)
 edited _ state = state
 
 abbrev pub edited_if_open : (number : ℕ) → SessionEffect → Own → Option SessionState → Own
@@ -64,6 +69,7 @@ own_with number session.Keep own = own
 own_with number session.Open own = map.insert own number new_session
 own_with number (session.Note more told) own = with_edit number (session.Note more told) own
 own_with number (session.Select selection) own = with_edit number (session.Select selection) own
+own_with number (session.Idle tag told) own = with_edit number (session.Idle tag told) own
 own_with number session.End own = map.remove own number
 
 abbrev pub own_code : Coded Own

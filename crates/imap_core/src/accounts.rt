@@ -105,6 +105,9 @@ pub(crate) fn change_session(
         SessionEffect::Select(selection) => {
             change_own(accounts, who, SessionEffect::Select(selection));
         }
+        SessionEffect::Idle(tag, told) => {
+            change_own(accounts, who, SessionEffect::Idle(tag, told));
+        }
         SessionEffect::End => change_own(accounts, who, SessionEffect::End),
     }
 }

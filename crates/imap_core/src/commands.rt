@@ -1,6 +1,7 @@
 //! What each command is answered.
 
-ghost use Rattle.std.specs.Prelude.{◌≡◌, false, Some, IfOk};
+ghost use Rattle.std.specs.Prelude.{◌≡◌, ◌≢◌, false, Some, IfOk};
+ghost use Rattle.imap_grammar.specs.declared.command.Command.TheVariants.{Idle};
 ghost use Rattle.imap_core.specs.declared.pending.Pending.TheVariants as pending;
 ghost use Rattle.imap_core.specs.Notices.{may_tell_expunges, selected_mailbox};
 ghost use Rattle.imap_core.specs.Outcome.{answered};
@@ -35,13 +36,14 @@ use imap_view::{Readable, View};
 use session::{capability_answer, enable_answer, logout_answer};
 use std::alloc::AllocError;
 
-/// Finds what comes of a command, but for the notices of its session.
+/// Finds what comes of a command other than IDLE, but for the notices of its session.
 pub(crate) fn command_pending(
     call: &Call<'_>,
     session: &Session,
     command: &Command,
 ) -> Result<Pending, AllocError>
-    requires { is_lost call.now.view (state_of session.now) ≡ false }
+    requires unlost { is_lost call.now.view (state_of session.now) ≡ false }
+    requires not_idle { command.now ≢ Idle }
     ensures outcome { let own = state_of session.now in
         let meant = command_outcome call.now.view own call.now.tag call.now.at command.now in
         IfOk result (λ pending. completed call.now.view (Some own) pending ≡ meant) }

@@ -2,7 +2,8 @@
 
 ghost use Rattle.imap_core.specs.InStep.{AreInStep, SessionsStayInStep};
 ghost use Rattle.imap_core.specs.Laws.{EffectsAreMade, HiddenIsAlike, NeverUnavailable, OtherSessionsStay};
-ghost use Rattle.imap_core.specs.Laws.{OtherUsersStay, RefusalsChangeNothing, StepsAreAlike};
+ghost use Rattle.imap_core.specs.Laws.{MessagesAreKnown, OtherUsersStay, QuietPollsChangeNothing};
+ghost use Rattle.imap_core.specs.Laws.{RefusalsChangeNothing, StepsAreAlike};
 ghost use Rattle.imap_core.specs.Starting.{StartsWithInboxes};
 ghost use Rattle.imap_core.specs.Trace.{EqualViewsAreSame, Isolation};
 ghost use Rattle.imap_world.specs.Kept.{AreKept};
@@ -56,8 +57,8 @@ pub fn messages_are_kept(core: &Core)
 }
 
 /// A step that is answered by a refusal leaves all mailboxes, subscriptions and sessions as they were, but for
-/// what its session was told of its mailbox; and a refused SELECT or EXAMINE leaves no mailbox selected in its
-/// session.
+/// what its session was told of its mailbox; a refused SELECT or EXAMINE leaves no mailbox selected in its
+/// session, and a line that ends the IDLE of its session does so.
 pub fn refusals_change_nothing()
     ensures { RefusalsChangeNothing }
 {}
@@ -80,4 +81,16 @@ pub fn starts_with_inboxes()
 /// what it asks.
 pub fn sessions_stay_in_step()
     ensures { SessionsStayInStep }
+{}
+
+/// A poll to which nothing is answered changes nothing, in its own session neither.
+pub fn quiet_polls_change_nothing()
+    ensures { QuietPollsChangeNothing }
+{}
+
+/// A session that has not lost its mailbox knows the messages that its user sees there, with their flags and
+/// mod-sequences, after each step that may tell expunges: a command, unless it is FETCH, STORE or SEARCH by number or
+/// is answered BAD, and a poll or DONE of a session that idles.
+pub fn messages_are_known()
+    ensures { MessagesAreKnown }
 {}

@@ -12,6 +12,7 @@ mod accounts;
 mod commands;
 mod effects;
 mod frames;
+mod idling;
 pub mod laws;
 mod machine;
 mod notices;

@@ -5,6 +5,7 @@ ghost use Rattle.std.specs.FinMap as map;
 ghost use Rattle.std.specs.List.{AllByRecursion};
 ghost use Rattle.imap_world.specs.Effects.{after_writes, writes_of};
 ghost use Rattle.imap_world.specs.Ready as world;
+ghost use Rattle.imap_world.specs.Ready.{AreApart};
 ghost use Rattle.imap_world.specs.Stored.{world_of};
 ghost use Rattle.imap_core.specs.Accounts.{held_in};
 ghost use Rattle.imap_core.specs.Held.{HasKnownRoom};
@@ -178,7 +179,7 @@ impl Core {
     {
         let who = step.who.try_copy()?;
         let pending = self.pending(alloc, step)?;
-        let change = self.resolve(alloc, pending.effect())?;
+        let change = self.resolve(alloc, pending.effects())?;
         let outcome = self.complete(alloc, step, pending, &change)?;
         let (replies, session) = outcome.into_parts();
         self.make_room(&who, room_needed(&session))?;
@@ -289,12 +290,13 @@ impl Core {
     }
 
     /// Finds the values to be written for what a step asks, and makes room for them.
-    fn resolve(&mut self, alloc: Global, effect: &Option<Effect>) -> Result<Change, AllocError>
+    fn resolve(&mut self, alloc: Global, effects: &[Effect]) -> Result<Change, AllocError>
+        requires { AreApart effects.now }
         ensures unchanged { self.new.state ≡ self.old.state }
         ensures change { let world = self.old.state.world in
-            IfOk result (λ change. writes_of (effects_of effect.now) world ≡ Ok change) }
+            IfOk result (λ change. writes_of effects.now world ≡ Ok change) }
         ensures ready { IfOk result (λ change. world.IsReady change self.new.stored) }
     {
-        resolve_effects(alloc, &mut self.world, effect.as_slice())
+        resolve_effects(alloc, &mut self.world, effects)
     }
 }

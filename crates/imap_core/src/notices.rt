@@ -3,9 +3,10 @@
 ghost use Rattle.std.specs.Prelude.{◌≡◌, if◌then◌else◌, Some, None, IfOk, IfSome, option_copied, option_map};
 ghost use Rattle.std.specs.List.{AllByRecursion};
 ghost use Rattle.imap_core.specs.Notices as specs;
-ghost use Rattle.imap_core.specs.Pending.{AreFound, IsFoundFor, IsFoundForAnswer, completed};
+ghost use Rattle.imap_core.specs.Pending.{AreFound, IsFoundFor, IsFoundForEffect, completed};
 ghost use Rattle.imap_core.specs.Planned.{MayTell};
 ghost use Rattle.imap_core.specs.Reply as reply;
+ghost use Rattle.imap_mailbox.specs.Summary.{AreRising};
 ghost use Rattle.imap_print.specs.Lines.{IsPrintable};
 ghost use Rattle.imap_session.specs.Lost.{has_other_validity};
 ghost use Rattle.imap_session.specs.State.{IsTellingFor, both_enabled, state_of};
@@ -15,6 +16,7 @@ ghost use Rattle.imap_view.specs.View.{view_of};
 ghost use Rattle.imap_world.specs.Effects.{after_writes};
 ghost use Rattle.imap_world.specs.Stored.{world_of};
 
+use crate::idling::idle_outcome;
 use crate::outcome::Outcome;
 use crate::pending::Pending;
 use crate::sessions::SessionEffect;
@@ -37,7 +39,7 @@ pub(crate) struct Asked<'a> {
     pub(crate) change: &'a Change,
 }
 
-/// What comes of a command, with the notices of its session, if it is open.
+/// What comes of a step, with the notices of its session, if it is open.
 pub(crate) fn with_notices(
     alloc: Global,
     asked: &Asked<'_>,
@@ -60,6 +62,10 @@ pub(crate) fn with_notices(
             Some(session) => outcome_of_answer(alloc, asked, session, expunges, answer),
             None => Outcome::answered(answer, SessionEffect::Keep),
         },
+        Pending::Idle(idling) => match session {
+            Some(session) => idle_outcome(alloc, asked, session, idling),
+            None => Ok(Outcome::silence(alloc)),
+        },
     }
 }
 
@@ -72,7 +78,8 @@ fn outcome_of_answer(
 ) -> Result<Outcome, AllocError>
     requires { let world = world_of asked.now.world.now in
         let own = state_of session.now in
-        IsFoundForAnswer asked.now.site.now asked.now.user.now world asked.now.change.now own answer }
+        let effect = answer.effect in
+        IsFoundForEffect asked.now.site.now asked.now.user.now world asked.now.change.now own effect }
     ensures outcome { let world = world_of asked.now.world.now in
         let view = view_of asked.now.site.now asked.now.user.now world in
         let meant = reply.with_notices view (state_of session.now) expunges answer in
@@ -96,7 +103,8 @@ fn notices_of(
 ) -> Result<SessionNotices, AllocError>
     requires { let world = world_of asked.now.world.now in
         let own = state_of session.now in
-        IsFoundForAnswer asked.now.site.now asked.now.user.now world asked.now.change.now own answer.now }
+        let effect = answer.now.effect in
+        IsFoundForEffect asked.now.site.now asked.now.user.now world asked.now.change.now own effect }
     ensures lines { let world = world_of asked.now.world.now in
         let view = view_of asked.now.site.now asked.now.user.now world in
         let own = state_of session.now in
@@ -115,11 +123,37 @@ fn notices_of(
         IfOk result (λ n. IfSome n.told (λ t. IsTellingFor t selected)) }
     ensures printable { IfOk result (λ n. AllByRecursion IsPrintable n.lines.items) }
 {
-    match mailbox_after(asked, session, answer) {
+    let options = options_after(expunges, session.enabled, answer.enables());
+    let mailbox = mailbox_after(asked, session, answer);
+    notices_of_mailbox(alloc, session, mailbox, &options, answer.told())
+}
+
+/// What the session is told of its mailbox, if one is left. The command's own lines told of the messages with the
+/// UIDs `told`.
+pub(crate) fn notices_of_mailbox(
+    alloc: Global,
+    session: &Session,
+    mailbox: Option<Upcoming<'_>>,
+    options: &NoticeOptions,
+    told: &[u32],
+) -> Result<SessionNotices, AllocError>
+    requires step { let selected = (state_of session.now).selected in
+        IfSome mailbox (λ m. IsInStepIfSelected m.highest m.messages selected) }
+    requires told { AreRising told.now }
+    ensures lines { let left = option_map readable mailbox.entry in
+        let meant = specs.notice_lines options.now told.now (state_of session.now).selected left in
+        IfOk result (λ n. n.lines.items ≡ meant) }
+    ensures told { let left = option_map readable mailbox.entry in
+        let meant = specs.notice_telling options.now (state_of session.now).selected left in
+        IfOk result (λ n. n.told ≡ meant) }
+    ensures change { let selected = (state_of session.now).selected in
+        IfOk result (λ n. IfSome n.told (λ t. IsTellingFor t selected)) }
+    ensures printable { IfOk result (λ n. AllByRecursion IsPrintable n.lines.items) }
+{
+    match mailbox {
         Some(mailbox) => {
-            let options = options_after(expunges, session.enabled, answer.enables());
             let mut rows = mailbox.messages.cursor();
-            session.notices(alloc, &mut rows, &options, answer.told(), mailbox.highest)
+            session.notices(alloc, &mut rows, options, told, mailbox.highest)
         }
         None => Ok(SessionNotices {
             lines: Vec::new(alloc),
@@ -132,7 +166,8 @@ fn notices_of(
 fn mailbox_after<'a>(asked: &Asked<'a>, session: &Session, answer: &Answer) -> Option<Upcoming<'a>>
     requires { let world = world_of asked.now.world.now in
         let own = state_of session.now in
-        IsFoundForAnswer asked.now.site.now asked.now.user.now world asked.now.change.now own answer.now }
+        let effect = answer.now.effect in
+        IsFoundForEffect asked.now.site.now asked.now.user.now world asked.now.change.now own effect }
     ensures mailbox { let world = world_of asked.now.world.now in
         let view = view_of asked.now.site.now asked.now.user.now world in
         option_map readable result ≡ specs.mailbox_after view (state_of session.now) answer.now }
@@ -146,7 +181,7 @@ fn mailbox_after<'a>(asked: &Asked<'a>, session: &Session, answer: &Answer) -> O
 }
 
 /// The selected mailbox after the change, unless the session has lost it then.
-fn mailbox_left<'a>(asked: &Asked<'a>, session: &Session) -> Option<Upcoming<'a>>
+pub(crate) fn mailbox_left<'a>(asked: &Asked<'a>, session: &Session) -> Option<Upcoming<'a>>
     requires { let world = world_of asked.now.world.now in
         let own = state_of session.now in
         IsFoundFor asked.now.site.now asked.now.user.now world asked.now.change.now own }
@@ -204,7 +239,7 @@ fn options_after(
 }
 
 /// What a session notes of an answer.
-fn noting(enables: EnabledCapabilities, told: Option<Told>) -> SessionEffect
+pub(crate) fn noting(enables: EnabledCapabilities, told: Option<Told>) -> SessionEffect
     ensures { result ≡ reply.noting enables told }
 {
     match told {

@@ -2,10 +2,12 @@
 
 ghost use Rattle.std.specs.Prelude.{◌≡◌, ◌≤◌, IfSome, OnOk};
 ghost use Rattle.imap_core.specs.Held.{added_by};
+ghost use Rattle.imap_core.specs.Sessions.{with_idle};
 ghost use Rattle.imap_session.specs.State as specs;
 ghost use Rattle.imap_session.specs.State.{HasRoomFor, IsTellingFor, state_of};
 ghost use Rattle.imap_session.specs.Told.{session_after};
 
+use imap_lex::Tag;
 use imap_print::EnabledCapabilities;
 use imap_session::{NewSelection, Session, Told};
 use imap_values::TryCopy;
@@ -57,11 +59,32 @@ impl OpenSession {
         requires room { added_by told ≤ self.old.room }
         ensures { self.new.state ≡ specs.with_enabled more (session_after told self.old.state) }
     {
+        self.tell(told);
+        self.session.enable(more);
+    }
+
+    /// Begins an IDLE with this tag, or ends one, and notes what the session is told of its mailbox, in room that
+    /// is there. The room is counted anew.
+    pub(crate) fn idle(&mut self, tag: Option<Tag>, told: Option<Told>)
+        requires told { IfSome told (λ t. IsTellingFor t self.old.state.selected) }
+        requires room { added_by told ≤ self.old.room }
+        ensures { self.new.state ≡ with_idle tag (session_after told self.old.state) }
+    {
+        self.tell(told);
+        self.session.idle = tag;
+    }
+
+    /// Notes what the session is told of its mailbox.
+    fn tell(&mut self, told: Option<Told>)
+        requires told { IfSome told (λ t. IsTellingFor t self.old.state.selected) }
+        requires room { added_by told ≤ self.old.room }
+        ensures state { self.new.state ≡ session_after told self.old.state }
+        ensures room { self.new.room ≡ 0 }
+    {
         match told {
             Some(told) => self.session.tell(told),
             None => {}
         }
-        self.session.enable(more);
         self.room = 0;
     }
 

@@ -1,8 +1,11 @@
 //! What comes of a step, but for notices.
 
 ghost use Rattle.std.specs.Prelude.{◌≡◌};
+ghost use Rattle.imap_answer.specs.Alike.{effects_of};
 ghost use Rattle.imap_core.specs.Pending as specs;
+ghost use Rattle.imap_world.specs.Ready.{AreApart};
 
+use crate::idling::Idling;
 use crate::outcome::Outcome;
 use imap_answer::Answer;
 use imap_world::Effect;
@@ -15,16 +18,20 @@ pub(crate) enum Pending {
     Whole(Outcome),
     /// The answer to a command, in whose last place notices stand, and whether they may tell expunges.
     Command(Answer, bool),
+    /// An IDLE (RFC 2177) begins, goes on or ends.
+    Idle(Idling),
 }
 
 impl Pending {
     /// What the step asks of the mailboxes.
-    pub(crate) fn effect(&self) -> &Option<Effect>
-        ensures { result.now ≡ specs.effect_in self.now }
+    pub(crate) fn effects(&self) -> &[Effect]
+        ensures effects { result.now ≡ effects_of (specs.effect_in self.now) }
+        ensures apart { AreApart result.now }
     {
         match self {
-            Pending::Whole(outcome) => outcome.effect(),
-            Pending::Command(answer, _) => answer.effect(),
+            Pending::Whole(outcome) => outcome.effect().as_slice(),
+            Pending::Command(answer, _) => answer.effect().as_slice(),
+            Pending::Idle(_) => &[],
         }
     }
 }

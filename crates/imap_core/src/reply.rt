@@ -8,15 +8,17 @@ ghost use Rattle.imap_core.specs.Pending.{IsCompletable, completed, tells_nothin
 ghost use Rattle.imap_core.specs.Reply as specs;
 ghost use Rattle.imap_core.specs.Sessions.{own_of};
 ghost use Rattle.imap_session.specs.Lost.{is_lost};
-ghost use Rattle.imap_session.specs.State.{state_of};
+ghost use Rattle.imap_session.specs.State.{SessionState, state_of};
+ghost use Rattle.imap_view.specs.View.{View};
 
 use crate::commands::command_pending;
+use crate::idling::{Idling, idle_broken};
 use crate::outcome::Outcome;
 use crate::pending::Pending;
 use crate::sessions::{OwnSessions, SessionEffect};
 use crate::step::{Act, Step};
 use imap_answer::{Call, Moment, refused_line};
-use imap_grammar::Request;
+use imap_grammar::{Command, Request};
 use imap_lex::Tag;
 use imap_print::{Farewell, Refusal, Response};
 use imap_session::Session;
@@ -61,7 +63,7 @@ fn pending_when_open(
             if session.is_lost(view) {
                 Ok(Pending::Whole(lost_outcome(alloc)?))
             } else {
-                pending_of_act(alloc, view, session, step.at, act)
+                pending_by_idle(alloc, view, session, step.at, act)
             }
         }
     }
@@ -76,6 +78,41 @@ fn lost_outcome(alloc: Global) -> Result<Outcome, AllocError>
 }
 
 /// The session has not lost its mailbox.
+fn pending_by_idle(
+    alloc: Global,
+    view: &View<'_>,
+    session: &Session,
+    at: Moment,
+    act: &Act,
+) -> Result<Pending, AllocError>
+    requires { is_lost view.now (state_of session.now) ≡ false }
+    ensures outcome { let active = state_of session.now in
+        let meant = specs.reply_by_idle view.now active at act.now active.idle in
+        IfOk result (λ pending. completed view.now (Some active) pending ≡ meant) }
+    ensures completable { let own = Some (state_of session.now) in
+        IfOk result (λ pending. IsCompletable view.now own pending) }
+{
+    match &session.idle {
+        Some(tag) => pending_of_idle(alloc, tag, act),
+        None => pending_of_act(alloc, view, session, at, act),
+    }
+}
+
+/// A session that idles is told of its mailbox at a poll and at DONE. Any other line ends its IDLE.
+fn pending_of_idle(alloc: Global, tag: &Tag, act: &Act) -> Result<Pending, AllocError>
+    ensures outcome { IfOk result (λ pending. (view : View) (own : SessionState)
+        → completed view (Some own) pending ≡ specs.reply_to_idle view own tag.now act.now) }
+    ensures completable { IfOk result (λ pending. (view : View) (own : SessionState)
+        → is_lost view own ≡ false → IsCompletable view (Some own) pending) }
+{
+    match act {
+        Act::Poll => Ok(Pending::Idle(Idling::Polls)),
+        Act::Done => Ok(Pending::Idle(Idling::Ends(tag.try_copy(alloc)?))),
+        Act::Open | Act::Do(_) | Act::Leave => Ok(Pending::Whole(idle_broken(alloc, tag)?)),
+    }
+}
+
+/// The session has not lost its mailbox, and doesn't idle.
 fn pending_of_act(
     alloc: Global,
     view: &View<'_>,
@@ -141,9 +178,7 @@ fn pending_of_request(
         IfOk result (λ pending. IsCompletable view.now own pending) }
 {
     match request {
-        Request::Command { tag, body } => {
-            command_pending(&Call::new(alloc, view, tag, at), session, body)
-        }
+        Request::Command { tag, body } => pending_of_command(alloc, view, session, at, tag, body),
         Request::Malformed { tag } => {
             Ok(Pending::Whole(refused(alloc, tag, Refusal::Malformed)?))
         }
@@ -151,6 +186,27 @@ fn pending_of_request(
             let tag = Some(tag.try_copy(alloc)?);
             Ok(Pending::Whole(refused(alloc, &tag, Refusal::Limit)?))
         }
+    }
+}
+
+fn pending_of_command(
+    alloc: Global,
+    view: &View<'_>,
+    session: &Session,
+    at: Moment,
+    tag: &Tag,
+    command: &Command,
+) -> Result<Pending, AllocError>
+    requires { is_lost view.now (state_of session.now) ≡ false }
+    ensures outcome { let active = state_of session.now in
+        let meant = specs.command_outcome view.now active tag.now at command.now in
+        IfOk result (λ pending. completed view.now (Some active) pending ≡ meant) }
+    ensures completable { let own = Some (state_of session.now) in
+        IfOk result (λ pending. IsCompletable view.now own pending) }
+{
+    match command {
+        Command::Idle => Ok(Pending::Idle(Idling::Begins(tag.try_copy(alloc)?))),
+        _ => command_pending(&Call::new(alloc, view, tag, at), session, command),
     }
 }
 

@@ -13,6 +13,7 @@ ghost use Rattle.imap_session.specs.State.{new_session, state_of};
 
 use crate::open_session::OpenSession;
 use crate::session_id::SessionNumber;
+use imap_lex::Tag;
 use imap_print::EnabledCapabilities;
 use imap_session::{NewSelection, Session, Told};
 use imap_values::TryCopy;
@@ -32,6 +33,8 @@ pub enum SessionEffect {
     Note(EnabledCapabilities, Option<Told>),
     /// Its client selects another mailbox, or none.
     Select(NewSelection),
+    /// Its client begins an IDLE with this tag, or ends one, and it is told this of its mailbox (RFC 2177).
+    Idle(Option<Tag>, Option<Told>),
     End,
 }
 
@@ -40,7 +43,7 @@ pub(crate) fn room_needed(effect: &SessionEffect) -> usize
     ensures { result ≡ room_needed effect.now }
 {
     match effect {
-        SessionEffect::Note(_, Some(told)) => told.added_len(),
+        SessionEffect::Note(_, Some(told)) | SessionEffect::Idle(_, Some(told)) => told.added_len(),
         _ => 0,
     }
 }
@@ -112,6 +115,7 @@ impl OwnSessions {
                 self.edit(number, SessionEffect::Note(more, told));
             }
             SessionEffect::Select(selection) => self.edit(number, SessionEffect::Select(selection)),
+            SessionEffect::Idle(tag, told) => self.edit(number, SessionEffect::Idle(tag, told)),
             SessionEffect::End => self.remove(number),
         }
     }
@@ -189,6 +193,7 @@ fn edit_in(entry: &mut (SessionNumber, OpenSession), effect: SessionEffect)
     match effect {
         SessionEffect::Note(more, told) => entry.1.note(more, told),
         SessionEffect::Select(selection) => entry.1.select(selection),
+        SessionEffect::Idle(tag, told) => entry.1.idle(tag, told),
         SessionEffect::Keep | SessionEffect::Open | SessionEffect::End => {}
     }
 }

@@ -14,5 +14,5 @@ returns-clause-mailbox c =
     let answer = c.args.answer.now in
     let view = view_of asked.site.now asked.user.now (world_of asked.world.now) in
     c.mailbox_left.ensures.mailbox
-    ∙ ap (λ view. mailbox_left view own) (viewed_after asked.site.now asked.user.now (world_of asked.world.now) asked.change.now own c.requires.found ∙ ap (λ e. view_after_asking e view) c.requires.effect)
+    ∙ ap (λ view. mailbox_left view own) (viewed_after asked.site.now asked.user.now (world_of asked.world.now) asked.change.now own c.requires.found ∙ ap (λ e. view_after_asking e view) c.requires.asked)
     ∙ sym (ap (λ b. cond b None (mailbox_left (view_after_asking answer.effect view) own)) (ap is_bad (sym c.last.ensures) ∙ sym c.is_bad.ensures ∙ c.if-is_bad.false))

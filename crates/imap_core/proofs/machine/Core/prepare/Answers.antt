@@ -19,9 +19,9 @@ returns-clause-next c =
     let state = c.args.self.now.state in
     let step = c.args.step.now in
     let outcome_is : c.in_ok-outcome.outcome ≡ outcome state step = c.in_ok-outcome.ensures.outcome ∙ ap (λ s. outcome s step) c.resolve.ensures.unchanged in
-    let effect = c.effect.ensures ∙ effect_is state step (session_at state.accounts step.who.user step.who.number) c.in_ok-pending.pending c.in_ok-pending.ensures.outcome in
+    let effect = c.effects.ensures.effects ∙ ap effects_of (effect_is state step (session_at state.accounts step.who.user step.who.number) c.in_ok-pending.pending c.in_ok-pending.ensures.outcome) in
     next_is state step c.in_ok-who.who c.in_ok-change.change c.into_parts-replies.result.1 c.in_ok-who.ensures (c.into_parts-replies.ensures.session ∙ ap (λ (o : Outcome). o.session) outcome_is)
-    (ap (λ e. writes_of (effects_of e) state.world) (sym effect) ∙ c.in_ok-change.ensures.change)
+    (ap (λ asked. writes_of asked state.world) (sym effect) ∙ c.in_ok-change.ensures.change)
 
 pub returns-clause-ready : goal.returns-clause-ready
 returns-clause-ready c =
