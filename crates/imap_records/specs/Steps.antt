@@ -145,7 +145,8 @@ acl_steps acl = map entry_step (fin.entries acl)
 abbrev pub steps_for : Write → List Step
 steps_for (write.Put row) =
     AddMailbox (tree_text row.name) (path_of row.name) row.validity
-    ∷ Below (tree_text row.name) (path_of row.name) (acl_steps row.acl) ∷ epoch_step row.name row.validity ∷ []
+    ∷ Below (tree_text row.name) (path_of row.name) (acl_steps row.acl)
+    ∷ epoch_step row.name row.validity ∷ []
 steps_for (write.SetAcl name acl) =
     Below (tree_text name) (path_of name) (RemoveAcl ∷ acl_steps acl) ∷ []
 steps_for (write.Remove name) = RemoveMailbox (tree_text name) (path_of name) ∷ []

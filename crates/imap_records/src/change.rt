@@ -130,7 +130,8 @@ pub fn row_changes(alloc: Global, change: &Change) -> Result<Vec<RowChange>, All
     requires { (world : World) × IsCurrent change.now world }
     ensures rows { IfOk result (λ changes. steps_in changes.items ≡ steps_of change.now) }
     ensures stands { IfOk result (λ changes. (world : World) (old new : Trees) → IsCurrent change.now world
-        → StandFor old world → MakesAll changes.items old new → StandFor new (after_writes change.now world)) }
+        → StandFor old world → MakesAll changes.items old new
+        → StandFor new (after_writes change.now world)) }
     ensures values { OnOk result ((world : World) → IsCurrent change.now world → WorldHasValues world
         → WorldHasValues (after_writes change.now world)) }
 {

@@ -71,7 +71,8 @@ fn push_list(
     acl: &Acl,
 ) -> Result<(), AllocError>
     ensures rows { OnOk result (steps_in changes.new.items ≡ steps_in changes.old.items
-        ++ Below (tree_text name.now) (path_of name.now) (map_list below_of below.items ++ acl_steps acl.now) ∷ []) }
+        ++ Below (tree_text name.now) (path_of name.now)
+        (map_list below_of below.items ++ acl_steps acl.now) ∷ []) }
     ensures valid { OnOk result (IsName name.now) }
 {
     push_entries(&mut below, alloc, acl.entries())?;

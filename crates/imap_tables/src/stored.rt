@@ -1,11 +1,12 @@
 //! Rows as they are read.
 
 ghost use Rattle.std.specs.Prelude.{◌≡◌, ◌≢◌, ◌↔◌, ◌<◌, ℕ, ℤ, Bool, IsTrue, map, IfErr, IfOk, List, length};
-ghost use Rattle.std.specs.List.{AllZip, IsDistinct};
+ghost use Rattle.std.specs.List.{AllByRecursion, AllZip, IsDistinct};
 ghost use Rattle.std.specs.Ordering.{eq_by_cmp, int_cmp};
 ghost use Rattle.imap_tables.specs.Rows.{flag_of};
 ghost use Rattle.imap_tables.specs.Stored.{IsEntry, IsEpoch, IsGone, IsMailbox, IsMark, IsMessage, IsMeta};
-ghost use Rattle.imap_tables.specs.Stored.{IsSubscription};
+ghost use Rattle.imap_tables.specs.Stored.{IsSubscription, ShowsEntry, ShowsEpoch, ShowsGone, ShowsMailbox};
+ghost use Rattle.imap_tables.specs.Stored.{ShowsMark, ShowsMessage, ShowsMeta, ShowsSubscription};
 ghost use Rattle.sqlite.specs.Order.{Row as Values, column};
 ghost use Rattle.sqlite.specs.declared.types.Value.TheVariants.{Int, Blob as Bytes};
 ghost use Rattle.sqlite.specs.declared.error.Error.TheVariants.{SqliteFailure};
@@ -22,6 +23,9 @@ pub trait Stored: Sized + Drop {
     /// It is read of the row.
     ghost is_of: { Values → Self → Type 0 };
 
+    /// The row has texts that are UTF-8 and numbers that fit, so that one is read of it.
+    ghost shows: { Values → Type 0 };
+
     /// The rowid of that row.
     ghost id: { Self → ℤ };
 
@@ -33,7 +37,8 @@ pub trait Stored: Sized + Drop {
     fn read(row: &Row) -> Result<Self, Error>
         ensures ok { IfOk result (is_of row.now) }
         ensures err { IfErr result (λ e. e ≢ SqliteFailure OutOfMemory
-            → (it : Self) → is_of row.now it → ⊥) };
+            → (it : Self) → is_of row.now it → ⊥) }
+        ensures unread { IfErr result (λ e. e ≢ SqliteFailure OutOfMemory → shows row.now → ⊥) };
 }
 
 /// A mailbox.
@@ -109,6 +114,8 @@ pub struct StoredMeta {
 impl Stored for StoredMailbox {
     ghost is_of = { IsMailbox };
 
+    ghost shows = { ShowsMailbox };
+
     ghost id = { λ it. it.id };
 
     fn rowid(&self) -> i64 {
@@ -139,6 +146,8 @@ impl Stored for StoredMailbox {
 impl Stored for StoredEntry {
     ghost is_of = { IsEntry };
 
+    ghost shows = { ShowsEntry };
+
     ghost id = { λ it. it.rowid };
 
     fn rowid(&self) -> i64 {
@@ -165,6 +174,8 @@ impl Stored for StoredEntry {
 
 impl Stored for StoredMessage {
     ghost is_of = { IsMessage };
+
+    ghost shows = { ShowsMessage };
 
     ghost id = { λ it. it.rowid };
 
@@ -203,6 +214,8 @@ impl Stored for StoredMessage {
 impl Stored for StoredGone {
     ghost is_of = { IsGone };
 
+    ghost shows = { ShowsGone };
+
     ghost id = { λ it. it.rowid };
 
     fn rowid(&self) -> i64 {
@@ -229,6 +242,8 @@ impl Stored for StoredGone {
 
 impl Stored for StoredMark {
     ghost is_of = { IsMark };
+
+    ghost shows = { ShowsMark };
 
     ghost id = { λ it. it.rowid };
 
@@ -265,6 +280,8 @@ impl Stored for StoredMark {
 impl Stored for StoredEpoch {
     ghost is_of = { IsEpoch };
 
+    ghost shows = { ShowsEpoch };
+
     ghost id = { λ it. it.rowid };
 
     fn rowid(&self) -> i64 {
@@ -291,6 +308,8 @@ impl Stored for StoredEpoch {
 impl Stored for StoredSubscription {
     ghost is_of = { IsSubscription };
 
+    ghost shows = { ShowsSubscription };
+
     ghost id = { λ it. it.rowid };
 
     fn rowid(&self) -> i64 {
@@ -316,6 +335,8 @@ impl Stored for StoredSubscription {
 
 impl Stored for StoredMeta {
     ghost is_of = { IsMeta };
+
+    ghost shows = { ShowsMeta };
 
     ghost id = { λ it. it.rowid };
 
@@ -366,6 +387,8 @@ pub fn read_rows<R: Stored>(alloc: Global, rows: Vec<Row>) -> Result<Vec<R>, Err
     ensures ok { IfOk result (λ items. AllZip R.Stored.is_of rows.items items.items) }
     ensures err { IfErr result (λ e. e ≢ SqliteFailure OutOfMemory
         → (items : List R) → AllZip R.Stored.is_of rows.items items → ⊥) }
+    ensures unread { IfErr result (λ e. e ≢ SqliteFailure OutOfMemory
+        → AllByRecursion R.Stored.shows rows.items → ⊥) }
 {
     let mut items = Vec::new(alloc);
     'rows: for row in rows {
