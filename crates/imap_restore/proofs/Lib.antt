@@ -1,0 +1,4 @@
+mod Full
+mod Words
+mod Kept
+mod Zipped

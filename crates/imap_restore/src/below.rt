@@ -1,0 +1,126 @@
+//! The rows below one mailbox.
+
+ghost use Rattle.std.specs.Prelude.{◌≡◌, ℤ, true, List, Err, IfOk, filter, string_bytes};
+ghost use Rattle.std.specs.List.{AllZip};
+ghost use Rattle.std.specs.Ordering.{int_eq};
+ghost use Rattle.std.specs.Str.{is_utf8};
+ghost use Rattle.imap_restore.specs.Restored.{HasRights, IsAnEntry, IsFit, IsGoneFor, IsMarkFor, IsRowFor};
+
+use crate::rows::{read_change, read_entry, read_gone, read_message};
+use imap_mailbox::{GoneMessage, Message, PartsError, UserChange};
+use imap_rights::Entry;
+use imap_tables::{StoredEntry, StoredGone, StoredMark, StoredMessage};
+use std::alloc::Global;
+
+/// What is read again from a row below a mailbox.
+pub trait Restore<R>: Sized + Drop {
+    /// It is kept by the row.
+    ghost is_for: { R → Self → Type 0 };
+
+    /// The id of the mailbox.
+    ghost mailbox: { R → ℤ };
+
+    /// Returns the id of the mailbox.
+    fn mailbox(row: &R) -> i64
+        ensures { result ≡ mailbox row.now };
+
+    /// Reads it. Fails with `Bad` if the row keeps nothing.
+    fn restore(alloc: Global, row: &R) -> Result<Self, PartsError>
+        ensures ok { IfOk result (is_for row.now) }
+        ensures bad { result ≡ Err PartsError.Bad → (it : Self) → is_for row.now it → ⊥ };
+}
+
+impl Restore<StoredEntry> for Entry {
+    ghost is_for = { λ row it. HasRights (string_bytes row.identifier) row.rights it × IsAnEntry it };
+
+    ghost mailbox = { λ row. row.mailbox };
+
+    fn mailbox(row: &StoredEntry) -> i64 {
+        row.mailbox
+    }
+
+    fn restore(alloc: Global, row: &StoredEntry) -> Result<Entry, PartsError> {
+        read_entry(alloc, &row.identifier, row.rights)
+    }
+}
+
+impl Restore<StoredMessage> for Message {
+    ghost is_for = { λ row it. IsRowFor row.row it × IsFit it };
+
+    ghost mailbox = { λ row. row.mailbox };
+
+    fn mailbox(row: &StoredMessage) -> i64 {
+        row.mailbox
+    }
+
+    fn restore(alloc: Global, row: &StoredMessage) -> Result<Message, PartsError> {
+        read_message(alloc, &row.row)
+    }
+}
+
+impl Restore<StoredGone> for GoneMessage {
+    ghost is_for = { λ row it. IsGoneFor row.uid row.place it };
+
+    ghost mailbox = { λ row. row.mailbox };
+
+    fn mailbox(row: &StoredGone) -> i64 {
+        row.mailbox
+    }
+
+    fn restore(_alloc: Global, row: &StoredGone) -> Result<GoneMessage, PartsError> {
+        match read_gone(row.uid, row.place) {
+            Some(message) => Ok(message),
+            None => Err(PartsError::Bad),
+        }
+    }
+}
+
+impl Restore<StoredMark> for UserChange {
+    ghost is_for = { λ row it. IsMarkFor row.row it × (is_utf8 it.user ≡ true) };
+
+    ghost mailbox = { λ row. row.mailbox };
+
+    fn mailbox(row: &StoredMark) -> i64 {
+        row.mailbox
+    }
+
+    fn restore(alloc: Global, row: &StoredMark) -> Result<UserChange, PartsError> {
+        read_change(alloc, &row.row)
+    }
+}
+
+fn is_same(mailbox: i64, id: i64) -> bool
+    ensures { result ≡ int_eq mailbox id }
+{
+    mailbox == id
+}
+
+/// Reads all that is below a mailbox, in the order of the rows. Fails with `Bad` if one of its rows keeps nothing.
+///
+/// It goes over the rows of all mailboxes, the plain form.
+#[tactic(auto, using(crate::proofs::Zipped::read_start))]
+pub fn read_below<R, T: Restore<R>>(
+    alloc: Global,
+    rows: &[R],
+    id: i64,
+) -> Result<Vec<T>, PartsError>
+    ensures ok { IfOk result (λ items. AllZip T.Restore.is_for
+        (filter (λ row. int_eq (T.Restore.mailbox row) id) rows.now) items.items) }
+    ensures bad { result ≡ Err PartsError.Bad → (items : List T) → AllZip T.Restore.is_for
+        (filter (λ row. int_eq (T.Restore.mailbox row) id) rows.now) items → ⊥ }
+{
+    let mut items = Vec::new(alloc);
+    'rows: for row in rows {
+        if !is_same(T::mailbox(row), id) {
+            continue;
+        }
+        let item = match T::restore(alloc, row) {
+            Ok(item) => item,
+            Err(error) => return Err(error),
+        };
+        let Ok(()) = items.push(item) else {
+            return Err(PartsError::Memory);
+        };
+    }
+    Ok(items)
+}

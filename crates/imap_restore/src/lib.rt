@@ -1,0 +1,15 @@
+//! The mailboxes of a store, read again from its rows.
+//!
+//! A value that was kept is read again; anything else is refused as damaged.
+#![tactic(auto)]
+
+mod below;
+mod lists;
+mod names;
+mod rows;
+mod values;
+
+pub use below::{Restore, read_below};
+pub use lists::{read_epochs, read_subscriptions};
+pub use names::read_key;
+pub use rows::{read_change, read_entry, read_gone, read_message};
