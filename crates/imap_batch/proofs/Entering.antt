@@ -1,5 +1,5 @@
 -- The rows of a store are what a batch makes.
-use Rattle.std.proofs.Common.{◌≡◌, ◌≢◌, ℕ, zero, suc, ◌+◌, ◌-◌, ◌<◌, ◌≤◌, eqb, Bool, true, false, cond, ◌&&◌, List, [], ◌∷◌, ◌++◌, append_assoc, append-nil, length, take, map, Option, Some, None, refl, sym, ap, subst, ◌∙◌, arith}
+use Rattle.std.proofs.Common.{◌≡◌, ◌≢◌, ℕ, zero, suc, ◌+◌, ◌-◌, Bool, true, false, cond, ◌&&◌, List, [], ◌∷◌, ◌++◌, append_assoc, append-nil, length, take, map, Option, Some, None, refl, sym, ap, subst, ◌∙◌, arith}
 use Rattle.std.specs.Prelude.{nat_lt, nat_le, is_some}
 use Rattle.std.proofs.lemmas.Bool.{and_parts, ltb-true, ltb-false}
 use Rattle.std.proofs.lemmas.List.{length_push}
@@ -8,7 +8,7 @@ use Rattle.imap_mailbox.specs.declared.flags.SharedFlags.{SharedFlags}
 use Rattle.imap_mailbox.specs.declared.message.Message.{Message}
 use Rattle.imap_mailbox.specs.declared.own.SeenChange.{SeenChange}
 use Rattle.imap_mailbox.specs.Calls.{arrival, if_there}
-use Rattle.imap_mailbox.specs.Expunging.{with_expunges, without_all, uids_there, gone_at}
+use Rattle.imap_mailbox.specs.Expunging.{without_all, uids_there, gone_at}
 use Rattle.imap_mailbox.specs.History.{own_at}
 use Rattle.imap_mailbox.specs.Rows.{Added, FlagsSet, is_among}
 use Rattle.imap_mailbox.specs.Summary.{Summary, flags_in, is_there, uids_in, with_flags, with_seen}
@@ -20,7 +20,7 @@ use Rattle.imap_batch.specs.declared.batch.Mark.{Mark}
 use Rattle.imap_batch.specs.declared.batch.Batch.{Batch}
 use Rattle.imap_batch.specs.declared.write.BatchWrite.{BatchWrite}
 use Rattle.imap_batch.specs.Batch.{one_if, flag_count, are_known, has_messages, mark_uids, write_of}
-use Rattle.imap_batch.specs.Written.{with_own, with_message, with_new, with_added, with_new_flags, with_new_seen, with_mark, with_marks, with_batch, MayWrite}
+use Rattle.imap_batch.specs.Written.{with_own, with_message, with_new, with_added, with_new_flags, with_new_seen, with_mark, with_marks, with_batch}
 use Rattle.imap_batch.specs.Entered.{FlagChange, messages_from, flag_change, flags_from, own_added, own_change, own_marked, with_flag_changes, IsEntered, WritesAreEntered}
 use Rattle.imap_batch.proofs.Steps.{known_rise, own_by, own_stays, seen_by, new_seen_stays, new_by, flags_by, all_added}
 use Rattle.imap_batch.proofs.Known.{among_last, known_append}

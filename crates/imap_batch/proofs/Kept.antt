@@ -1,6 +1,6 @@
 -- What a mailbox keeps is kept by a batch, and it grows.
 use Rattle.std.proofs.Common.{◌≡◌, ◌≢◌, ℕ, ◌+◌, ◌<◌, ◌≤◌, Bool, true, false, cond, not, ◌&&◌, List, [], ◌∷◌, length, map, Option, Some, None, Result, Ok, Err, refl, sym, ap, subst, ◌∙◌, arith}
-use Rattle.std.specs.Prelude.{nat_lt, nat_le, is_some}
+use Rattle.std.specs.Prelude.{nat_le, is_some}
 use Rattle.std.specs.List.{list_all}
 use Rattle.std.specs.Str.{bytes_eq}
 use Rattle.std.proofs.lemmas.Bool.{and_parts, leb-true}
@@ -9,7 +9,7 @@ use Rattle.imap_modseq.specs.Numbers.{max_events}
 use Rattle.imap_mailbox.specs.declared.flags.SharedFlags.{SharedFlags}
 use Rattle.imap_mailbox.specs.Brought.{IsBrought}
 use Rattle.imap_mailbox.specs.Flags.{has_too_many}
-use Rattle.imap_mailbox.specs.History.{end_uid, own_at}
+use Rattle.imap_mailbox.specs.History.{own_at}
 use Rattle.imap_mailbox.specs.Held.{IsKept, SetsFewKeywords}
 use Rattle.imap_mailbox.specs.Rows.{Event, Added, FlagsSet, Expunged, Shared, IsGiven, IsPresent}
 use Rattle.imap_mailbox.specs.Summary.{Summary, step, with_expunge, with_seen, is_there, uids_in, row_in, gone_in}
@@ -27,10 +27,10 @@ use Rattle.imap_batch.specs.declared.batch.Batch.{Batch}
 use Rattle.imap_batch.specs.declared.write.BatchWrite.{BatchWrite}
 use Rattle.imap_batch.specs.declared.error.BatchError.{BatchError}
 use Rattle.imap_batch.specs.declared.error.BatchError.TheVariants.{Limit, NoSuchUid}
-use Rattle.imap_batch.specs.Batch.{one_if, are_few, are_known, flag_count, event_count, has_few_keywords, has_numbers, has_uids, has_messages, write_of, write_for}
-use Rattle.imap_batch.specs.Written.{with_own, with_message, with_new, with_added, with_new_flags, with_new_seen, with_mark, with_marks, with_batch, MayWrite}
+use Rattle.imap_batch.specs.Batch.{one_if, are_few, flag_count, event_count, has_few_keywords, has_numbers, has_uids, has_messages, write_of}
+use Rattle.imap_batch.specs.Written.{with_own, with_message, with_new, with_added, with_new_flags, with_mark, with_marks, with_batch, MayWrite}
 use Rattle.imap_batch.specs.Laws.{IsGrown, BatchesKeep, WritesMayBeMade}
-use Rattle.imap_batch.proofs.Steps.{given_there, own_by, seen_by, new_by, flags_by, new_added, all_added, mark_fewer, marks_fewer, flags_counted, few_keywords}
+use Rattle.imap_batch.proofs.Steps.{given_there, own_by, seen_by, new_by, new_added, all_added, mark_fewer, marks_fewer, flags_counted, few_keywords}
 
 -- ---- one state after the other
 

@@ -4,3 +4,4 @@ pub mod Kept
 pub mod Sights
 pub mod Planning
 pub mod Entering
+pub mod Walking

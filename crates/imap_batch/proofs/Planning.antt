@@ -1,7 +1,7 @@
 -- Rows that are planned are those that a batch leaves.
-use Rattle.std.proofs.Common.{◌≡◌, ◌≢◌, ℕ, zero, suc, ◌+◌, ◌<◌, ◌≤◌, eqb, not, Bool, true, false, cond, ◌&&◌, ◌||◌, List, [], ◌∷◌, ◌++◌, append_assoc, append-nil, length, map, filter, Option, Some, None, refl, sym, ap, subst, ◌∙◌, arith}
+use Rattle.std.proofs.Common.{◌≡◌, ◌≢◌, ℕ, ◌+◌, ◌<◌, ◌≤◌, eqb, not, Bool, true, false, cond, ◌&&◌, ◌||◌, List, [], ◌∷◌, ◌++◌, append_assoc, append-nil, length, map, filter, Option, Some, None, refl, sym, ap, subst, ◌∙◌, arith}
 use Rattle.std.specs.Prelude.{nat_lt, nat_le, is_some, min}
-use Rattle.std.proofs.lemmas.Bool.{and_parts, and_from, eqb-true, ne_eqb, eq-eqb, leb-true, le-leb, ltb-true, ltb-false}
+use Rattle.std.proofs.lemmas.Bool.{and_parts, and_from, eqb-true, ne_eqb, eq-eqb, le-leb, ltb-true, ltb-false}
 use Rattle.imap_modseq.specs.Numbers.{max_events, number_after}
 use Rattle.imap_mailbox.specs.declared.flags.SharedFlags.{SharedFlags}
 use Rattle.imap_mailbox.specs.Rows.{Row, Expunged, FlagsSet, row_of, at_uid, is_among, first_uid}
@@ -10,17 +10,17 @@ use Rattle.imap_mailbox.specs.Lent.{row_uids}
 use Rattle.imap_mailbox.specs.History.{own_at}
 use Rattle.imap_mailbox.specs.Calls.{arrival}
 use Rattle.imap_mailbox.specs.Summary.{Summary, Rises, rows_of, uids_in}
-use Rattle.imap_mailbox.specs.Shown.{Content, content_of, content_after, content_with_seen, if_shown, content_without, content_expunged, next_number}
+use Rattle.imap_mailbox.specs.Shown.{Content, content_of, content_after, content_with_seen, if_shown, content_without, content_expunged}
 use Rattle.imap_mailbox.proofs.Accounts.{turned}
 use Rattle.imap_mailbox.proofs.BroughtUp.{shown_is_ordered}
 use Rattle.imap_mailbox.proofs.Lending.{uids_lent}
-use Rattle.imap_mailbox.proofs.Rising.{rises_end, rises_lower, rises_upper, rises_push}
+use Rattle.imap_mailbox.proofs.Rising.{rises_end, rises_upper, rises_push}
 use Rattle.imap_batch.specs.declared.batch.NewMessage.{NewMessage}
 use Rattle.imap_batch.specs.declared.batch.Mark.{Mark}
 use Rattle.imap_batch.specs.declared.batch.Batch.{Batch}
 use Rattle.imap_batch.specs.declared.write.BatchWrite.{BatchWrite}
 use Rattle.imap_batch.specs.Batch.{one_if, added_seen_count, are_known, has_messages, mark_uids, write_of}
-use Rattle.imap_batch.specs.Written.{with_batch, MayWrite}
+use Rattle.imap_batch.specs.Written.{with_batch}
 use Rattle.imap_batch.specs.Seen.{own_seen, message_seen, new_seen, added_seen, flags_seen, seen_seen, mark_seen, marks_seen, content_batched}
 use Rattle.imap_batch.specs.Planned.{own_after, row_with_flags, row_with_seen, row_marked, seen_added, row_added, rows_marked, rows_left, rows_added, own_after_all, rows_planned, BatchIsPlanned}
 use Rattle.imap_batch.proofs.Sights.{shows_batch}
@@ -141,7 +141,7 @@ abbrev marked_all : ℕ → ℕ → List Mark → List Row → List Row
 marked_all shared own [] rows = rows
 marked_all shared own (k ∷ marks) rows = marked_all (shared + one_if (is_some k.flags)) (own_after own k.seen) marks (map (mark_at shared own k) rows)
 
-uid_marked : (shared own : ℕ) (k : Mark) (r : Row) → (row_marked shared own k r).uid ≡ r.uid
+pub uid_marked : (shared own : ℕ) (k : Mark) (r : Row) → (row_marked shared own k r).uid ≡ r.uid
 uid_marked shared own k r =
     uid_seen own (number_after (shared + one_if (is_some k.flags)) own) k.seen (row_with_flags (number_after shared own) k.flags r) ∙ uid_flagged (number_after shared own) k.flags r
 

@@ -1,5 +1,5 @@
 -- What a user sees of a batch.
-use Rattle.std.proofs.Common.{◌≡◌, ◌≢◌, ℕ, eqb, ◌+◌, ◌-◌, ◌<◌, ◌≤◌, Bool, true, false, cond, not, ◌||◌, ◌&&◌, List, [], ◌∷◌, length, Option, Some, None, option_map, Ok, Err, refl, sym, ap, subst, ◌∙◌, arith}
+use Rattle.std.proofs.Common.{◌≡◌, ◌≢◌, ℕ, eqb, ◌+◌, ◌-◌, ◌≤◌, Bool, true, false, cond, not, ◌||◌, ◌&&◌, List, [], ◌∷◌, length, Option, Some, None, option_map, Ok, Err, refl, sym, ap, subst, ◌∙◌, arith}
 use Rattle.std.specs.Prelude.{nat_lt, nat_le, is_some}
 use Rattle.std.specs.List.{list_all}
 use Rattle.std.proofs.lemmas.Bool.{and_parts, and_from, le-leb, eq-eqb}
@@ -7,10 +7,9 @@ use Rattle.imap_modseq.specs.Numbers.{max_events}
 use Rattle.imap_mailbox.specs.declared.flags.SharedFlags.{SharedFlags}
 use Rattle.imap_mailbox.specs.History.{end_uid, own_at, room_by}
 use Rattle.imap_mailbox.specs.Held.{IsKept}
-use Rattle.imap_mailbox.specs.Lent.{row_uids}
 use Rattle.imap_mailbox.specs.Rows.{Added, FlagsSet}
-use Rattle.imap_mailbox.specs.Summary.{Summary, IsSound, with_flags, with_seen, is_there, uids_in, rows_of, room_of}
-use Rattle.imap_mailbox.specs.Shown.{Content, Rights, Shown, content_of, shown_to, content_with_seen, content_after, if_shown, content_expunged, room_in}
+use Rattle.imap_mailbox.specs.Summary.{Summary, IsSound, with_seen, uids_in, room_of}
+use Rattle.imap_mailbox.specs.Shown.{Content, Rights, Shown, content_of, shown_to, content_with_seen, if_shown, content_expunged, room_in}
 use Rattle.imap_mailbox.specs.Calls.{arrival, if_there}
 use Rattle.imap_mailbox.specs.Expunging.{with_expunges}
 use Rattle.imap_mailbox.proofs.DecidedShown.{decided_is_seen, shows_expunged}
@@ -20,12 +19,11 @@ use Rattle.imap_mailbox.proofs.Lending.{uids_lent}
 use Rattle.imap_batch.specs.declared.batch.NewMessage.{NewMessage}
 use Rattle.imap_batch.specs.declared.batch.Mark.{Mark}
 use Rattle.imap_batch.specs.declared.batch.Batch.{Batch}
-use Rattle.imap_batch.specs.declared.write.BatchWrite.{BatchWrite}
 use Rattle.imap_batch.specs.declared.error.BatchError.TheVariants.{Limit, NoSuchUid}
 use Rattle.imap_batch.specs.Batch.{are_known, event_count, flag_count, has_few_keywords, has_numbers, has_uids, has_messages, mark_uids, write_of, write_for}
 use Rattle.imap_batch.specs.Written.{with_own, with_message, with_new, with_added, with_new_flags, with_new_seen, with_mark, with_marks, with_batch}
 use Rattle.imap_batch.specs.Seen.{own_seen, message_seen, new_seen, added_seen, flags_seen, seen_seen, mark_seen, marks_seen, content_batched, batch_seen, batch_seen_by, HasRoomToAdd, CanChange, IsPossible}
-use Rattle.imap_batch.specs.Laws.{BatchIsSeen, IsFound, PossibleIsMade, MarksOwnSeen, AnothersSeenIsHidden, EmptyChangesNothing}
+use Rattle.imap_batch.specs.Laws.{BatchIsSeen, PossibleIsMade, AnothersSeenIsHidden, EmptyChangesNothing}
 use Rattle.imap_batch.proofs.Steps.{given_there, own_by, seen_by, new_by, flags_by, all_added}
 
 -- ---- what stays sound

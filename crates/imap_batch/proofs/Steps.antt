@@ -1,24 +1,19 @@
 -- What each part of a batch leaves as it was, and what it counts.
-use Rattle.std.proofs.Common.{◌≡◌, ℕ, suc, ◌+◌, ◌<◌, ◌≤◌, eqb, Bool, true, false, cond, not, ◌&&◌, ◌||◌, List, [], ◌∷◌, length, map, Option, Some, None, refl, sym, ap, ◌∙◌, arith}
+use Rattle.std.proofs.Common.{◌≡◌, ℕ, ◌+◌, ◌<◌, ◌≤◌, eqb, Bool, true, false, cond, not, ◌&&◌, ◌||◌, List, [], ◌∷◌, length, Option, Some, None, refl, ◌∙◌, arith}
 use Rattle.std.specs.Prelude.{nat_lt, nat_le, is_some}
-use Rattle.std.specs.List.{list_all}
-use Rattle.std.proofs.lemmas.Bool.{and_parts, and_from, eqb-true, leb-true, ltb-true, ltb-false}
+use Rattle.std.proofs.lemmas.Bool.{and_parts, eqb-true, leb-true, ltb-true, ltb-false}
 use Rattle.std.proofs.lemmas.List.{length_push}
 use Rattle.imap_modseq.specs.Numbers.{max_events}
 use Rattle.imap_mailbox.specs.declared.flags.SharedFlags.{SharedFlags}
-use Rattle.imap_mailbox.specs.declared.message.Message.{Message}
-use Rattle.imap_mailbox.specs.declared.message.GoneMessage.{GoneMessage}
 use Rattle.imap_mailbox.specs.Flags.{HasFewKeywords, has_too_many}
 use Rattle.imap_mailbox.specs.History.{end_uid, own_at}
-use Rattle.imap_mailbox.specs.Rows.{Added, WasGiven, first_uid, is_among}
+use Rattle.imap_mailbox.specs.Rows.{WasGiven, first_uid, is_among}
 use Rattle.imap_mailbox.specs.Summary.{Summary, Rises, AreRising, IsSound, is_there, uids_in, with_flags, with_seen}
-use Rattle.imap_mailbox.specs.Calls.{arrival, if_there}
-use Rattle.imap_mailbox.proofs.Fitting.{sound_step, sound_marked}
+use Rattle.imap_mailbox.specs.Calls.{if_there}
 use Rattle.imap_mailbox.proofs.Rising.{rises_end}
 use Rattle.imap_batch.specs.declared.batch.NewMessage.{NewMessage}
 use Rattle.imap_batch.specs.declared.batch.Mark.{Mark}
-use Rattle.imap_batch.specs.declared.batch.Batch.{Batch}
-use Rattle.imap_batch.specs.Batch.{one_if, are_few, are_known, has_uids, flag_count}
+use Rattle.imap_batch.specs.Batch.{one_if, are_known, has_uids, flag_count}
 use Rattle.imap_batch.specs.Written.{with_own, with_message, with_new, with_added, with_new_flags, with_new_seen, with_mark, with_marks}
 
 -- ---- UIDs

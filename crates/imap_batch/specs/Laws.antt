@@ -1,5 +1,5 @@
 -- What holds of every batch.
-use Rattle.std.specs.Prelude.{◌≡◌, ◌≢◌, ℕ, ◌≤◌, is_some, not, true, List, [], Option, None, Ok}
+use Rattle.std.specs.Prelude.{◌≡◌, ◌≢◌, ℕ, ◌≤◌, is_some, not, true, List, [], Ok}
 use Rattle.std.specs.List.{list_all}
 use Rattle.imap_mailbox.specs.Brought.{IsLater}
 use Rattle.imap_mailbox.specs.Held.{IsKept}

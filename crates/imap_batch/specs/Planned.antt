@@ -1,5 +1,5 @@
 -- The rows of a mailbox as a batch will leave them to its user, found along the rows that are there.
-use Rattle.std.specs.Prelude.{◌≡◌, ℕ, ◌+◌, ◌<◌, ◌≤◌, nat_lt, ◌==◌, not, Bool, true, if◌then◌else◌}
+use Rattle.std.specs.Prelude.{◌≡◌, ℕ, ◌+◌, ◌<◌, ◌≤◌, nat_lt, ◌==◌, not, Bool, true, false, if◌then◌else◌, ⊤}
 use Rattle.std.specs.Prelude.{List, [], ◌∷◌, ◌++◌, length, filter, Option, Some, None, is_some}
 use Rattle.imap_modseq.specs.Numbers.{max_events, number_after}
 use Rattle.imap_mailbox.specs.declared.flags.SharedFlags.{SharedFlags}
@@ -113,13 +113,27 @@ pub record CanAdd (a : AddedLeft) : Type 0 where
   pub own : a.own ≤ max_events
   pub uids : 0 < length a.added.now → a.uid + length a.added.now ≤ end_uid
 
+-- a row with the first of the marks, if that is of its UID
+abbrev pub row_with_first : (shared own : ℕ) → List Mark → Row → Row
+row_with_first shared own [] r = r
+row_with_first shared own (k ∷ marks) r = if k.uid == r.uid then row_marked shared own k r else r
+
+abbrev pub with_first : MarksLeft → Row → Row
+with_first m r = row_with_first m.shared m.own m.marks.now r
+
 abbrev pub marked_by : MarksLeft → List Row → List Row
 marked_by m rows = rows_marked m.shared m.own m.marks.now rows
 
 abbrev pub added_by : AddedLeft → List Row
 added_by a = rows_added a.uid a.shared a.own a.added.now
 
-pub record IsPlan (m : MarksLeft) (uids : List ℕ) (a : AddedLeft) : Type 0 where
+-- the first of the rows, if there is one, is not expunged
+abbrev pub StartsLeft : (expunged : List ℕ) → List Row → Type 0
+StartsLeft expunged [] = ⊤
+StartsLeft expunged (r ∷ rows) = is_among r.uid expunged ≡ false
+
+pub record IsPlan (m : MarksLeft) (uids : List ℕ) (a : AddedLeft) (rows : List Row) : Type 0 where
   pub marks : CanMark m
   pub expunged : AreRising uids
   pub added : CanAdd a
+  pub starts : StartsLeft uids rows

@@ -1,12 +1,12 @@
 //! Rows that are marked, one after another.
 
-ghost use Rattle.std.specs.Prelude.{◌≡◌, ◌+◌, ◌≤◌, ℕ, List, ◌∷◌, is_some};
+ghost use Rattle.std.specs.Prelude.{◌≡◌, ◌+◌, ◌≤◌, ℕ, List, ◌∷◌, false, is_some};
 ghost use Rattle.imap_modseq.specs.Numbers.{max_events};
 ghost use Rattle.imap_mailbox.specs.Lent.{row_shown};
 ghost use Rattle.imap_mailbox.specs.Rows as specs;
 ghost use Rattle.imap_batch.specs.Batch.{one_if};
 ghost use Rattle.imap_batch.specs.Planned.{own_after, row_with_flags, row_with_seen, row_marked};
-ghost use Rattle.imap_batch.specs.Planned.{marked_by, CanMark};
+ghost use Rattle.imap_batch.specs.Planned.{marked_by, with_first, CanMark};
 
 use crate::batch::Mark;
 use imap_mailbox::{Row, SharedFlags};
@@ -123,25 +123,50 @@ fn mark_row<'a>(row: &Row<'a>, mark: &'a Mark, shared: u64, own: u64) -> Row<'a>
     with_seen(&flagged, own, number_after(later, own), mark.seen)
 }
 
-/// Returns the row with the first of the marks, if that is of its UID, and the marks that are left then.
-pub(crate) fn pass<'a>(row: &Row<'a>, marks: &MarksLeft<'a>) -> (Row<'a>, MarksLeft<'a>)
+/// Returns the row with the first of the marks, if that is of its UID.
+pub(crate) fn with_first<'a>(row: &Row<'a>, marks: &MarksLeft<'a>) -> Row<'a>
     requires { CanMark marks.now }
-    ensures rows { (rows : List specs.Row) → marked_by marks.now (row_shown row.now ∷ rows)
-        ≡ row_shown result.0 ∷ marked_by result.1 rows }
-    ensures marks { CanMark result.1 }
+    ensures { row_shown result ≡ with_first marks.now (row_shown row.now) }
+{
+    match marks.marks.first() {
+        Some(mark) => {
+            if mark.uid != row.uid {
+                return same_row(row);
+            }
+            mark_row(row, mark, marks.shared, marks.own)
+        }
+        None => same_row(row),
+    }
+}
+
+/// Whether the first of the marks is of the UID.
+pub(crate) fn is_marked(uid: u32, marks: &MarksLeft) -> bool
+    ensures { (row : specs.Row) → row.uid ≡ uid → result ≡ false → with_first marks.now row ≡ row }
+{
+    match marks.marks.first() {
+        Some(mark) => mark.uid == uid,
+        None => false,
+    }
+}
+
+/// Returns the marks that are left after the message with the UID.
+pub(crate) fn marks_after<'a>(uid: u32, marks: &MarksLeft<'a>) -> MarksLeft<'a>
+    requires { CanMark marks.now }
+    ensures rows { (row : specs.Row) (rows : List specs.Row) → row.uid ≡ uid
+        → marked_by marks.now (row ∷ rows) ≡ with_first marks.now row ∷ marked_by result rows }
+    ensures marks { CanMark result }
 {
     match marks.marks.split_first() {
         Some((mark, rest)) => {
-            if mark.uid != row.uid {
-                return (same_row(row), *marks);
+            if mark.uid != uid {
+                return *marks;
             }
-            let left = MarksLeft {
+            MarksLeft {
                 marks: rest,
                 shared: marks.shared + flag_events(mark),
                 own: own_after(marks.own, mark.seen),
-            };
-            (mark_row(row, mark, marks.shared, marks.own), left)
+            }
         }
-        None => (same_row(row), *marks),
+        None => *marks,
     }
 }

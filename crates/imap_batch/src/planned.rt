@@ -1,30 +1,32 @@
 //! The messages of a mailbox as a batch will leave them, before it is written.
 
-ghost use Rattle.std.specs.Prelude.{◌≡◌, [], ◌∷◌, drop, MatchOption, IfSome, ◌≤◌};
+ghost use Rattle.std.specs.Prelude.{◌≡◌, ◌<◌, ◌≤◌, [], ◌∷◌, List, drop, length, nat_lt, MatchOption};
 ghost use Rattle.imap_modseq.specs.Numbers.{max_events};
 ghost use Rattle.imap_mailbox.specs.Held.{summary_in};
 ghost use Rattle.imap_mailbox.specs.Lent.{row_shown};
+ghost use Rattle.imap_mailbox.specs.Rows as specs;
 ghost use Rattle.imap_mailbox.specs.Rows.{is_among};
 ghost use Rattle.imap_mailbox.specs.Summary.{AreRising, rows_of};
 ghost use Rattle.imap_batch.specs.Written.{with_batch, MayWrite};
-ghost use Rattle.imap_batch.specs.Planned.{own_after_all, rows_left, marked_by, CanMark};
+ghost use Rattle.imap_batch.specs.Planned.{own_after_all, rows_left, marked_by, StartsLeft, CanMark};
 
 use crate::added_left::{AddedLeft, next_added};
 use crate::batch::NewMessage;
-use crate::marks_left::{MarksLeft, pass};
+use crate::marks_left::{MarksLeft, is_marked, marks_after, with_first};
 use crate::write::BatchWrite;
 use crate::writing::added_seen_count;
-use imap_mailbox::{Mailbox, Near, Row, Rows};
+use imap_mailbox::{Mailbox, Row, Rows};
 use imap_modseq::MAX_EVENTS;
 use std::marker::Model;
 
-/// The messages of a mailbox as a batch will leave them to its user, in the order of UIDs. They are lent one
-/// after another, and take no memory. Contracts see those that are left.
+/// A cursor over the messages of a mailbox as a batch will leave them to its user, in the order of UIDs. It
+/// takes no memory, and a step past a message takes no look-up of the user's own changes. Contracts see the
+/// rows from the next one on.
 #[derive(Drop)]
 pub struct Planned<'a> {
     rows: Rows<'a>,
+    /// The place of the next row in `rows`, which isn't expunged.
     place: usize,
-    near: Near,
     marks: MarksLeft<'a>,
     expunged: &'a [u32],
     added: AddedLeft<'a>,
@@ -44,7 +46,7 @@ impl<'a> Model for Planned<'a> {
     ghost view = { λ p.
         rows_left p.expunged.now (marked_by p.marks (drop p.place p.rows)) ++ added_by p.added };
 
-    ghost invariant = { λ p. IsPlan p.marks p.expunged.now p.added };
+    ghost invariant = { λ p. IsPlan p.marks p.expunged.now p.added (drop p.place p.rows) };
 }
 
 impl<'a> Planned<'a> {
@@ -61,16 +63,19 @@ impl<'a> Planned<'a> {
         let uid = mailbox.next_uid();
         let shared = mailbox.shared_len();
         let own = mailbox.own_len(user);
+        let marks = MarksLeft {
+            marks: batch.marks.as_slice(),
+            shared: shared + added.len() as u64,
+            own: own_after_all(own, added),
+        };
+        let rows = mailbox.rows(user);
+        let expunged = batch.expunged.as_slice();
+        let (place, marks) = first_left(&rows, 0, &marks, expunged);
         Planned {
-            rows: mailbox.rows(user),
-            place: 0,
-            near: Near::start(),
-            marks: MarksLeft {
-                marks: batch.marks.as_slice(),
-                shared: shared + added.len() as u64,
-                own: own_after_all(own, added),
-            },
-            expunged: batch.expunged.as_slice(),
+            rows,
+            place,
+            marks,
+            expunged,
             added: AddedLeft {
                 added,
                 uid,
@@ -79,39 +84,62 @@ impl<'a> Planned<'a> {
             },
         }
     }
-}
 
-impl<'a> Iterator for Planned<'a> {
-    ghost use Rattle.std.specs.Iterator.{YieldsFirstBy, item_count};
-    ghost use Rattle.imap_mailbox.specs.Lent.{row_shown};
+    /// Returns the UID of the next message, if there is one.
+    pub fn uid(&self) -> Option<u32>
+        ensures { MatchOption result (self.now ≡ []) (λ uid. (row : specs.Row) (later : List specs.Row)
+            → self.now ≡ row ∷ later → uid ≡ row.uid) }
+    {
+        if self.place < self.rows.len() {
+            return Some(self.rows.uid(self.place));
+        }
+        match self.row() {
+            Some(row) => Some(row.uid),
+            None => None,
+        }
+    }
 
-    type Item = Row<'a>;
+    /// Whether the mod-sequence of the next message is above `number`.
+    pub fn is_above(&self, number: u64) -> bool
+        requires { 0 < length self.now }
+        ensures { (row : specs.Row) (later : List specs.Row) → self.now ≡ row ∷ later
+            → result ≡ nat_lt number row.number }
+    {
+        if self.place < self.rows.len() && !is_marked(self.rows.uid(self.place), &self.marks) {
+            return self.rows.is_above(self.place, number);
+        }
+        match self.row() {
+            Some(row) => row.number > number,
+            None => unreachable!(),
+        }
+    }
 
-    ghost next_gives = { YieldsFirstBy (λ row. row_shown row) (λ rows. rows) };
+    /// Returns the next message, if there is one.
+    pub fn row(&self) -> Option<Row<'a>>
+        ensures { MatchOption result (self.now ≡ []) (λ row. self.now ≡ row_shown row ∷ drop 1 self.now) }
+    {
+        if self.place < self.rows.len() {
+            return Some(with_first(&self.rows.get(self.place), &self.marks));
+        }
+        match next_added(&self.added) {
+            Some((row, _)) => Some(row),
+            None => None,
+        }
+    }
 
-    ghost remaining = { item_count (λ rows. rows) };
-
-    fn next(&mut self) -> Option<Row<'a>> {
-        match next_left(
-            &self.rows,
-            self.place,
-            &mut self.near,
-            &self.marks,
-            self.expunged,
-        ) {
-            Some((row, place, marks)) => {
-                self.place = place;
-                self.marks = marks;
-                Some(row)
-            }
-            None => match next_added(&self.added) {
-                Some((row, added)) => {
-                    self.place = self.rows.len();
-                    self.added = added;
-                    Some(row)
-                }
-                None => None,
-            },
+    /// Moves past the next message, if there is one.
+    pub fn skip(&mut self)
+        ensures { self.new ≡ drop 1 self.old }
+    {
+        if self.place < self.rows.len() {
+            let marks = marks_after(self.rows.uid(self.place), &self.marks);
+            let (place, marks) = first_left(&self.rows, self.place + 1, &marks, self.expunged);
+            self.place = place;
+            self.marks = marks;
+            return;
+        }
+        if let Some((_, added)) = next_added(&self.added) {
+            self.added = added;
         }
     }
 }
@@ -134,28 +162,28 @@ fn is_expunged(expunged: &[u32], uid: u32) -> bool
     expunged.binary_search(&uid).is_ok()
 }
 
-/// Returns the first row from `place` on that is not expunged, marked, and the place and the marks after it.
-fn next_left<'a>(
+/// Returns the place of the first row from `place` on that is not expunged, and the marks that are left for
+/// it and those after it.
+fn first_left<'a>(
     rows: &Rows<'a>,
     place: usize,
-    near: &mut Near,
     marks: &MarksLeft<'a>,
     expunged: &[u32],
-) -> Option<(Row<'a>, usize, MarksLeft<'a>)>
+) -> (usize, MarksLeft<'a>)
     requires marks { CanMark marks.now }
     requires expunged { AreRising expunged.now }
-    ensures rows { let left = rows_left expunged.now (marked_by marks.now (drop place rows.now)) in
-        MatchOption result (left ≡ []) (λ found. left
-        ≡ row_shown found.0 ∷ rows_left expunged.now (marked_by found.2 (drop found.1 rows.now))) }
-    ensures marks { IfSome result (λ found. CanMark found.2) }
+    ensures rows { rows_left expunged.now (marked_by result.1 (drop result.0 rows.now))
+        ≡ rows_left expunged.now (marked_by marks.now (drop place rows.now)) }
+    ensures starts { StartsLeft expunged.now (drop result.0 rows.now) }
+    ensures marks { CanMark result.1 }
 {
     let mut later = *marks;
     for at in place..rows.len() {
-        let (row, next) = pass(&rows.get_near(at, near), &later);
-        if !is_expunged(expunged, row.uid) {
-            return Some((row, at + 1, next));
+        let uid = rows.uid(at);
+        if !is_expunged(expunged, uid) {
+            return (at, later);
         }
-        later = next;
+        later = marks_after(uid, &later);
     }
-    None
+    (rows.len(), later)
 }

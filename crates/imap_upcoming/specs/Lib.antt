@@ -3,5 +3,4 @@ pub mod Changed
 pub mod InStep
 pub mod Left
 pub mod Readable
-pub mod Rows
 pub mod Sources

@@ -7,18 +7,16 @@ ghost use Rattle.imap_mailbox.specs.Summary.{rows_of};
 
 use crate::counts::len_after;
 use imap_batch::{BatchWrite, Planned};
-use imap_mailbox::{KnownMessage, Mailbox, Row};
+use imap_mailbox::{KnownMessage, Mailbox};
 use imap_session::RowCursor;
 use std::alloc::{AllocError, Global};
 use std::marker::Model;
 
-/// A cursor over the messages as a batch will leave them to its user. Contracts see those from the next one
-/// on.
+/// A cursor over the messages as a batch will leave them to its user, which knows their number. Contracts see
+/// those from the next one on.
 #[derive(Drop)]
 pub struct PlannedRows<'a> {
-    next: Option<Row<'a>>,
-    /// Those after the next one.
-    later: Planned<'a>,
+    rows: Planned<'a>,
     /// The number of messages from the next one on.
     len: usize,
 }
@@ -28,15 +26,14 @@ impl<'a> Model for PlannedRows<'a> {
     ghost use Rattle.std.specs.Coded.{coded_list};
     ghost use Rattle.imap_mailbox.specs.Lent.{row_code};
     ghost use Rattle.imap_mailbox.specs.Rows.{Row};
-    ghost use Rattle.imap_upcoming.specs.Rows.{rows_from};
 
     ghost Value = { List Row };
 
     ghost coded = { coded_list row_code };
 
-    ghost view = { λ c. rows_from c.next c.later };
+    ghost view = { λ c. c.rows };
 
-    ghost invariant = { λ c. c.len ≡ length (rows_from c.next c.later) };
+    ghost invariant = { λ c. c.len ≡ length c.rows };
 }
 
 impl<'a> PlannedRows<'a> {
@@ -46,10 +43,10 @@ impl<'a> PlannedRows<'a> {
         ensures { let batch = write.now.batch in
             result ≡ rows_of (with_batch batch (summary_in mailbox.now)) batch.user }
     {
-        let len = len_after(mailbox, write);
-        let mut later = Planned::new(mailbox, write);
-        let next = later.next();
-        PlannedRows { next, later, len }
+        PlannedRows {
+            rows: Planned::new(mailbox, write),
+            len: len_after(mailbox, write),
+        }
     }
 }
 
@@ -61,29 +58,29 @@ impl<'a> RowCursor for PlannedRows<'a> {
     }
 
     fn is_next(&self, uid: u32) -> bool {
-        match &self.next {
-            Some(row) => row.uid == uid,
+        if self.len == 0 {
+            return false;
+        }
+        match self.rows.uid() {
+            Some(next) => uid == next,
             None => false,
         }
     }
 
     fn is_above(&self, number: u64) -> bool {
-        match &self.next {
-            Some(row) => row.number > number,
-            None => unreachable!(),
-        }
+        self.rows.is_above(number)
     }
 
     fn message(&self, alloc: Global) -> Result<KnownMessage, AllocError> {
-        match &self.next {
-            Some(row) => KnownMessage::of_row(alloc, row),
+        match self.rows.row() {
+            Some(row) => KnownMessage::of_row(alloc, &row),
             None => unreachable!(),
         }
     }
 
     fn skip(&mut self) {
         if self.len > 0 {
-            self.next = self.later.next();
+            self.rows.skip();
             self.len -= 1;
         }
     }

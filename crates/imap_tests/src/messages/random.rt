@@ -138,11 +138,13 @@ fn are_left(mailbox: &Mailbox, write: &BatchWrite, wanted: &[PlainRow]) -> bool
     requires { MayWrite write.now (summary_in mailbox.now) }
 {
     let mut left = wanted;
-    for row in Planned::new(mailbox, write) {
+    let mut planned = Planned::new(mailbox, write);
+    while let Some(row) = planned.row() {
         match left.split_first() {
             Some((first, others)) if is_row(&row, first) => left = others,
             _ => return false,
         }
+        planned.skip();
     }
     left.is_empty()
 }

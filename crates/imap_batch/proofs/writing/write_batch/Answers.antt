@@ -1,9 +1,8 @@
-use Rattle.std.proofs.Common.{◌≡◌, ◌≤◌, ◌+◌, List, length, true, sym, ap, subst, ◌∙◌, arith}
+use Rattle.std.proofs.Common.{length, sym, ap, subst, arith}
 use Rattle.std.proofs.lemmas.Bool.{and_parts}
 use Rattle.imap_mailbox.specs.Held.{summary_in}
 use Rattle.imap_mailbox.specs.Summary.{Summary, AreRising, uids_in}
 use Rattle.imap_batch.specs.Batch.{are_known, mark_uids, flag_count}
-use Rattle.imap_batch.specs.Written.{with_added, with_marks}
 use Rattle.imap_batch.proofs.Kept.{events_left}
 use Rattle.imap_batch.proofs.Steps.{all_added, known_rising, marks_fewer}
 use Rattle.imap_batch.proofs.writing.write_batch.Goals as goal

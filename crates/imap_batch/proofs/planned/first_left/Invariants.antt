@@ -1,6 +1,6 @@
 use Rattle.std.proofs.Common.{◌≡◌, drop}
 use Rattle.imap_batch.specs.Planned.{rows_left, marked_by, CanMark}
-use Rattle.imap_batch.proofs.planned.next_left.Given as goal
+use Rattle.imap_batch.proofs.planned.first_left.Given as goal
 
 abbrev pub invariant-loop-at : goal.invariant-loop-at
 invariant-loop-at l = record {
