@@ -28,10 +28,10 @@ use Rattle.imap_view.specs.View.{View}
 use Rattle.imap_world.specs.declared.effect.Effect.{Effect}
 use Rattle.imap_targets.specs.declared.message_numbers.Numbered.{Numbered}
 use Rattle.imap_targets.specs.Left.{events_left}
-use Rattle.imap_targets.specs.MessageNumbers.{is_by_uid, is_refused}
+use Rattle.imap_targets.specs.MessageNumbers.{has_known_numbers, is_by_uid, is_refused}
 use Rattle.imap_targets.proofs.Possible.{known_more, may_change, rows_rise}
 use Rattle.imap_changes.specs.declared.stored.Stored.{Stored}
-use Rattle.imap_changes.specs.Store.{Store, are_many, event_count, flag_changes, full_line, has_known_numbers, is_impossible, lacks_events, lacks_right, line_of, lines_from, marks_of, message_after, messages_of, number_with, short_line, store_answer, store_effect, store_events, store_if_readable, store_if_selected, store_messages, stored_all, stored_if_named, stored_of, storing_rights}
+use Rattle.imap_changes.specs.Store.{Store, are_many, event_count, flag_changes, full_line, is_impossible, lacks_events, lacks_right, line_of, lines_from, marks_of, message_after, messages_of, number_with, short_line, store_answer, store_effect, store_events, store_if_readable, store_if_selected, store_messages, stored_all, stored_if_named, stored_of, storing_rights}
 
 -- ---- marks of messages
 
@@ -199,7 +199,7 @@ store_fits view own tag asked = by own.selected
   where
     by : (s : Option Selection) → IsFit view (store_if_selected view own.enabled tag asked s)
     by None = fits_alone view _ _ refl
-    by (Some s) = selected_by view own.enabled tag asked s (has_known_numbers (length s.known) asked) (is_impossible asked) (lacks_right (storing_rights view s) asked.spec.flags)
+    by (Some s) = selected_by view own.enabled tag asked s (has_known_numbers asked.numbering (length s.known) asked.messages) (is_impossible asked) (lacks_right (storing_rights view s) asked.spec.flags)
 
 -- ---- alike
 

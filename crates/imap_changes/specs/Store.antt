@@ -34,7 +34,7 @@ use Rattle.imap_world.specs.declared.effect.Effect.TheVariants as effect
 use Rattle.imap_targets.specs.Left.{events_left}
 use Rattle.imap_changes.specs.declared.stored.Stored.{Stored}
 use Rattle.imap_targets.specs.declared.message_numbers.Numbered.{Numbered}
-use Rattle.imap_targets.specs.MessageNumbers.{are_numbers, is_by_uid, is_refused, is_saved, known_with, messages_named, ranges_of}
+use Rattle.imap_targets.specs.MessageNumbers.{has_known_numbers, is_by_uid, is_refused, is_saved, known_with, messages_named, ranges_of}
 use Rattle.imap_targets.specs.NewFlags.{is_seen, right_for, with_permitted}
 
 -- the arguments of STORE
@@ -264,16 +264,13 @@ store_if_readable view enabled tag asked s None = refusal tag NonExistent
 store_if_readable view enabled tag asked s (Some mailbox) =
     store_named view enabled tag asked s mailbox (messages_of asked mailbox.next_uid s.known)
 
-abbrev pub has_known_numbers : (count : ℕ) → Store → Bool
-has_known_numbers count asked = is_by_uid asked.numbering || are_numbers count (ranges_of asked.messages)
-
 -- `$` isn't served, and UNCHANGEDSINCE isn't built yet
 abbrev pub is_impossible : Store → Bool
 is_impossible asked = is_saved asked.messages || is_some asked.spec.unchanged_since
 
 abbrev pub store_selected : View → EnabledCapabilities → (tag : List ℕ) → Store → Selection → Answer
 store_selected view enabled tag asked s =
-    if not (has_known_numbers (length s.known) asked) then refusal tag Malformed
+    if not (has_known_numbers asked.numbering (length s.known) asked.messages) then refusal tag Malformed
     else if is_impossible asked then refusal tag Cannot
     else if lacks_right (storing_rights view s) asked.spec.flags then refusal tag NoPerm
     else store_if_readable view enabled tag asked s (readable_in view s.name)

@@ -7,7 +7,6 @@ ghost use Rattle.imap_mailbox.specs.Summary.{AreRising};
 ghost use Rattle.imap_modseq.specs.Numbers.{max_events, max_number};
 ghost use Rattle.imap_rights.specs.Rights.{bits};
 ghost use Rattle.imap_session.specs.State.{selection_of, state_of};
-ghost use Rattle.imap_targets.specs.MessageNumbers.{is_by_uid, is_refused, uids_of};
 
 use crate::store_flags::lacks_right;
 use crate::store_lines::store_lines;
@@ -16,16 +15,14 @@ use bitflags::Flags;
 use imap_answer::{Answer, Call};
 use imap_batch::{Batch, Mark};
 use imap_grammar::StoreSpec;
-use imap_mailbox::Rows;
 use imap_modseq::MAX_EVENTS;
 use imap_names::{Name, UserName};
 use imap_print::{EnabledCapabilities, Refusal};
 use imap_rights::Rights;
-use imap_session::{KnownList, Selected, Session};
+use imap_session::{Selected, Session};
 use imap_syntax::{Items, MessageSet, Numbering};
 use imap_targets::{
-    MessageNumbers, Numbered, are_numbers, events_left, is_any_gone, is_by_uid, is_saved,
-    known_count, last_of, messages_named, ranges_of,
+    events_left, has_known_numbers, is_refused, is_saved, known_count, messages_named,
 };
 use imap_view::{Readable, View};
 use imap_world::{Effect, NamedBatch};
@@ -91,7 +88,8 @@ fn store_selected(
     ensures { let answer = specs.store_selected call.now.view enabled call.now.tag asked.now in
         IfOk result (λ given. given ≡ answer (selection_of selected.now)) }
 {
-    if !has_known_numbers(known_count(&selected.known), asked) {
+    let count = known_count(&selected.known);
+    if !has_known_numbers(asked.numbering, count, asked.messages) {
         return call.refuse(Refusal::Malformed);
     }
     if is_impossible(asked) {
@@ -107,12 +105,6 @@ fn store_selected(
         Some(mailbox) => store_readable(call, enabled, asked, selected, &mailbox),
         None => call.refuse(Refusal::NonExistent),
     }
-}
-
-fn has_known_numbers(count: u32, asked: &Store<'_>) -> bool
-    ensures { result ≡ specs.has_known_numbers count asked.now }
-{
-    is_by_uid(asked.numbering) || are_numbers(count, ranges_of(asked.messages))
 }
 
 /// Whether the set is `$`, or UNCHANGEDSINCE is asked for, which isn't built yet.
@@ -145,8 +137,14 @@ fn store_readable(
     ensures { let answer = specs.store_if_readable call.now.view enabled call.now.tag asked.now in
         IfOk result (λ given. given ≡ answer (selection_of selected.now) (Some mailbox.now)) }
 {
-    let named = named_messages(call.alloc(), asked, mailbox.next_uid, &selected.known)?;
-    if is_refused(asked, named.as_slice(), &mailbox.rows) {
+    let named = messages_named(
+        call.alloc(),
+        asked.numbering,
+        asked.messages,
+        mailbox.next_uid,
+        &selected.known,
+    )?;
+    if is_refused(asked.numbering, named.as_slice(), &mailbox.rows) {
         return call.refuse(Refusal::ExpungeIssued);
     }
     let rights = storing_rights(call.view(), selected);
@@ -161,32 +159,6 @@ fn store_readable(
         Some(stored) => store_messages(call, enabled, asked, selected, mailbox, stored.as_slice()),
         None => call.refuse(Refusal::Limit),
     }
-}
-
-/// The messages that the command names.
-fn named_messages(
-    alloc: Global,
-    asked: &Store<'_>,
-    next_uid: u32,
-    known: &KnownList,
-) -> Result<Vec<Numbered>, AllocError>
-    ensures named { let messages = specs.messages_of asked.now next_uid known.now.list in
-        IfOk result (λ named. named.items ≡ messages) }
-    ensures rise { IfOk result (λ named. AreRising (uids_of named.items)) }
-{
-    let messages = MessageNumbers {
-        numbering: asked.numbering,
-        last: last_of(asked.numbering, next_uid, known),
-        ranges: ranges_of(asked.messages),
-    };
-    messages_named(alloc, &messages, known)
-}
-
-/// Whether one of the messages is gone, and is named by its number.
-fn is_refused(asked: &Store<'_>, named: &[Numbered], rows: &Rows<'_>) -> bool
-    ensures { result ≡ is_refused (is_by_uid asked.now.numbering) rows.now named.now }
-{
-    !is_by_uid(asked.numbering) && is_any_gone(named, rows)
 }
 
 /// Whether the mailbox has no event left for one of the changes.

@@ -15,7 +15,7 @@ use Rattle.imap_print.specs.declared.response.Refusal.TheVariants.{Cannot, Expun
 use Rattle.imap_rights.specs.Rights.{has_any, insert, lookup}
 use Rattle.imap_session.specs.State.{Selection, SessionState}
 use Rattle.imap_targets.specs.declared.message_numbers.Numbered.{Numbered}
-use Rattle.imap_targets.specs.MessageNumbers.{is_by_uid, is_refused, is_saved, uids_of}
+use Rattle.imap_targets.specs.MessageNumbers.{has_known_numbers, is_by_uid, is_refused, is_saved, uids_of}
 use Rattle.imap_targets.specs.Target.{holds_create_above, target_refusal}
 use Rattle.imap_view.specs.declared.readable.Readable.{Readable}
 use Rattle.imap_view.specs.Readable.{readable_in}
@@ -27,7 +27,7 @@ use Rattle.imap_copies.specs.declared.kind.TransferKind.{TransferKind}
 use Rattle.imap_copies.specs.declared.kind.TransferKind.TheVariants.{Copy, Move}
 use Rattle.imap_copies.specs.Copies.{copies_of, rows_named}
 use Rattle.imap_copies.specs.CopiedUids.{copied_uids}
-use Rattle.imap_copies.specs.Transfer.{Transfer, copy_code, copy_effect, has_known_numbers, lacks_events, lacks_room, may_take, messages_of, move_effect, moved_lines, transfer_answer, transfer_if_readable, transfer_if_selected, transfer_named, transfer_rows, transfer_to_name, transfer_to_seen}
+use Rattle.imap_copies.specs.Transfer.{Transfer, copy_code, copy_effect, lacks_events, lacks_room, may_take, messages_of, move_effect, moved_lines, transfer_answer, transfer_if_readable, transfer_if_selected, transfer_named, transfer_rows, transfer_to_name, transfer_to_seen}
 use Rattle.imap_copies.proofs.Asking.{may_copy, may_transfer}
 
 module _ (view : View) (tag : List ℕ) where
@@ -98,7 +98,7 @@ transfer_fits view own tag asked = by own.selected
   where
     by : (s : Option Selection) → IsFit view (transfer_if_selected view tag asked s)
     by None = fits_alone view _ _ refl
-    by (Some s) = selected_by view tag asked s (has_known_numbers (length s.known) asked) (is_saved asked.messages) (may_take asked.kind view s)
+    by (Some s) = selected_by view tag asked s (has_known_numbers asked.numbering (length s.known) asked.messages) (is_saved asked.messages) (may_take asked.kind view s)
 
 -- ---- alike
 

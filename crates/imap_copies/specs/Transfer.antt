@@ -23,7 +23,7 @@ use Rattle.imap_syntax.specs.declared.set.MessageSet.{MessageSet}
 use Rattle.imap_syntax.specs.declared.set.Numbering.{Numbering}
 use Rattle.imap_targets.specs.declared.message_numbers.Numbered.{Numbered}
 use Rattle.imap_targets.specs.Left.{events_left}
-use Rattle.imap_targets.specs.MessageNumbers.{are_numbers, is_by_uid, is_refused, is_saved, messages_named}
+use Rattle.imap_targets.specs.MessageNumbers.{has_known_numbers, is_by_uid, is_refused, is_saved, messages_named}
 use Rattle.imap_targets.specs.MessageNumbers.{ranges_of}
 use Rattle.imap_targets.specs.Target.{target_refusal}
 use Rattle.imap_view.specs.declared.readable.Readable.{Readable}
@@ -178,13 +178,10 @@ abbrev pub may_take : TransferKind → View → Selection → Bool
 may_take Copy view s = true
 may_take Move view s = not s.read_only && holds_move_rights view s
 
-abbrev pub has_known_numbers : (count : ℕ) → Transfer → Bool
-has_known_numbers count asked = is_by_uid asked.numbering || are_numbers count (ranges_of asked.messages)
-
 -- `$` isn't served
 abbrev pub transfer_selected : View → (tag : List ℕ) → Transfer → Selection → Answer
 transfer_selected view tag asked s =
-    if not (has_known_numbers (length s.known) asked) then refusal tag Malformed
+    if not (has_known_numbers asked.numbering (length s.known) asked.messages) then refusal tag Malformed
     else if is_saved asked.messages then refusal tag Cannot
     else if not (may_take asked.kind view s) then refusal tag NoPerm
     else transfer_if_readable view tag asked s (readable_in view s.name)

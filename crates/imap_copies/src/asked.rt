@@ -1,20 +1,8 @@
 //! The arguments of COPY and MOVE.
 
-ghost use Rattle.std.specs.Prelude.{◌≡◌, IfOk};
-ghost use Rattle.imap_copies.specs.Transfer as specs;
-ghost use Rattle.imap_mailbox.specs.Summary.{AreRising};
-ghost use Rattle.imap_targets.specs.MessageNumbers.{is_by_uid, is_refused, uids_of};
-
 use crate::kind::TransferKind;
 use imap_lex::Octets;
-use imap_mailbox::Rows;
-use imap_session::KnownList;
 use imap_syntax::{MessageSet, Numbering};
-use imap_targets::{
-    MessageNumbers, Numbered, are_numbers, is_any_gone, is_by_uid, last_of, messages_named,
-    ranges_of,
-};
-use std::alloc::{AllocError, Global};
 use std::marker::Model;
 
 /// The arguments of COPY or MOVE, as they stand in the command.
@@ -51,37 +39,4 @@ impl<'a> Model for Transfer<'a> {
       messages = t.messages.now;
       mailbox = t.mailbox.now;
     } };
-}
-
-/// Whether all messages that are named by numbers are known to the session.
-pub(crate) fn has_known_numbers(count: u32, asked: &Transfer<'_>) -> bool
-    ensures { result ≡ specs.has_known_numbers count asked.now }
-{
-    is_by_uid(asked.numbering) || are_numbers(count, ranges_of(asked.messages))
-}
-
-/// The messages that the command names.
-pub(crate) fn named_messages(
-    alloc: Global,
-    asked: &Transfer<'_>,
-    next_uid: u32,
-    known: &KnownList,
-) -> Result<Vec<Numbered>, AllocError>
-    ensures named { let messages = specs.messages_of asked.now next_uid known.now.list in
-        IfOk result (λ named. named.items ≡ messages) }
-    ensures rise { IfOk result (λ named. AreRising (uids_of named.items)) }
-{
-    let messages = MessageNumbers {
-        numbering: asked.numbering,
-        last: last_of(asked.numbering, next_uid, known),
-        ranges: ranges_of(asked.messages),
-    };
-    messages_named(alloc, &messages, known)
-}
-
-/// Whether one of the messages is gone, and is named by its number.
-pub(crate) fn is_refused(asked: &Transfer<'_>, named: &[Numbered], rows: &Rows<'_>) -> bool
-    ensures { result ≡ is_refused (is_by_uid asked.now.numbering) rows.now named.now }
-{
-    !is_by_uid(asked.numbering) && is_any_gone(named, rows)
 }

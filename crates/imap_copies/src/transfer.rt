@@ -9,7 +9,7 @@ ghost use Rattle.imap_modseq.specs.Numbers.{max_events};
 ghost use Rattle.imap_session.specs.State.{selection_of, state_of};
 ghost use Rattle.imap_view.specs.Seen.{shown};
 
-use crate::asked::{Transfer, has_known_numbers, is_refused, named_messages};
+use crate::asked::Transfer;
 use crate::copies::{Copies, copies_of_named};
 use crate::copying::copy_messages;
 use crate::kind::TransferKind;
@@ -19,7 +19,9 @@ use imap_names::Name;
 use imap_print::Refusal;
 use imap_rights::Rights;
 use imap_session::{Selected, Session};
-use imap_targets::{is_saved, known_count, target_refusal};
+use imap_targets::{
+    has_known_numbers, is_refused, is_saved, known_count, messages_named, target_refusal,
+};
 use imap_view::{Readable, Seen, View};
 use std::alloc::AllocError;
 
@@ -48,7 +50,8 @@ fn transfer_selected(
     ensures { let answer = specs.transfer_selected call.now.view call.now.tag asked.now in
         IfOk result (λ given. given ≡ answer (selection_of selected.now)) }
 {
-    if !has_known_numbers(known_count(&selected.known), asked) {
+    let count = known_count(&selected.known);
+    if !has_known_numbers(asked.numbering, count, asked.messages) {
         return call.refuse(Refusal::Malformed);
     }
     if is_saved(asked.messages) {
@@ -134,8 +137,14 @@ fn transfer_to_seen(
     if !target.rights().has_any(Rights::INSERT) {
         return call.refuse(target_refusal(call.view(), &name));
     }
-    let named = named_messages(call.alloc(), asked, mailbox.next_uid, &selected.known)?;
-    if is_refused(asked, named.as_slice(), &mailbox.rows) {
+    let named = messages_named(
+        call.alloc(),
+        asked.numbering,
+        asked.messages,
+        mailbox.next_uid,
+        &selected.known,
+    )?;
+    if is_refused(asked.numbering, named.as_slice(), &mailbox.rows) {
         return call.refuse(Refusal::ExpungeIssued);
     }
     let copies = copies_of_named(

@@ -22,7 +22,7 @@ use Rattle.imap_view.specs.Readable.{readable_in}
 use Rattle.imap_view.specs.View.{View, rights_in}
 use Rattle.imap_messages.specs.Fetched.{wanted_of}
 use Rattle.imap_targets.specs.declared.message_numbers.Numbered.{Numbered}
-use Rattle.imap_targets.specs.MessageNumbers.{are_numbers, is_by_uid, is_refused, is_saved, messages_named, ranges_of, row_with}
+use Rattle.imap_targets.specs.MessageNumbers.{has_known_numbers, is_by_uid, is_refused, is_saved, messages_named, ranges_of, row_with}
 use Rattle.imap_messages.specs.Reading.{lines_from, read_effect, uids_told}
 
 -- the arguments of FETCH
@@ -40,13 +40,10 @@ abbrev pub may_ask_vanished : EnabledCapabilities → Fetch → Bool
 may_ask_vanished enabled asked =
     enabled.qresync && (is_by_uid asked.numbering && is_some asked.changed_since)
 
--- each number is that of a message (RFC 9051, section 9, `seq-number`)
-abbrev pub has_known_numbers : (count : ℕ) → Fetch → Bool
-has_known_numbers count asked = is_by_uid asked.numbering || are_numbers count (ranges_of asked.messages)
-
 abbrev pub is_malformed : EnabledCapabilities → (count : ℕ) → Fetch → Bool
 is_malformed enabled count asked =
-    (asked.vanished && not (may_ask_vanished enabled asked)) || not (has_known_numbers count asked)
+    (asked.vanished && not (may_ask_vanished enabled asked))
+    || not (has_known_numbers asked.numbering count asked.messages)
 
 -- ---- what can't be done
 

@@ -29,8 +29,8 @@ use imap_rights::Rights;
 use imap_session::{KnownList, Selected, Session};
 use imap_syntax::{Items, MessageSet, Numbering};
 use imap_targets::{
-    MessageNumbers, are_numbers, is_by_uid, is_saved, known_count, last_of, number_at, ranges_of,
-    row_with,
+    MessageNumbers, has_known_numbers, is_by_uid, is_saved, known_count, last_of, number_at,
+    ranges_of, row_with,
 };
 use imap_view::{Readable, View};
 use std::alloc::{AllocError, Global};
@@ -123,19 +123,14 @@ fn fetch_selected(
 fn is_malformed(enabled: EnabledCapabilities, count: u32, asked: &Fetch<'_>) -> bool
     ensures { result ≡ specs.is_malformed enabled count asked.now }
 {
-    (asked.vanished && !may_ask_vanished(enabled, asked)) || !has_known_numbers(count, asked)
+    (asked.vanished && !may_ask_vanished(enabled, asked))
+        || !has_known_numbers(asked.numbering, count, asked.messages)
 }
 
 fn may_ask_vanished(enabled: EnabledCapabilities, asked: &Fetch<'_>) -> bool
     ensures { result ≡ specs.may_ask_vanished enabled asked.now }
 {
     enabled.qresync && (is_by_uid(asked.numbering) && asked.changed_since.is_some())
-}
-
-fn has_known_numbers(count: u32, asked: &Fetch<'_>) -> bool
-    ensures { result ≡ specs.has_known_numbers count asked.now }
-{
-    is_by_uid(asked.numbering) || are_numbers(count, ranges_of(asked.messages))
 }
 
 /// Whether an item isn't served, or a modifier not built yet.

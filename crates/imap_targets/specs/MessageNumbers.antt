@@ -57,6 +57,10 @@ has_numbers count range =
 abbrev pub are_numbers : (count : ℕ) → List SeqRange → Bool
 are_numbers count ranges = list_all (has_numbers count) ranges
 
+-- each message that is named by its number is known (RFC 9051, section 9, `seq-number`)
+abbrev pub has_known_numbers : Numbering → (count : ℕ) → MessageSet → Bool
+has_known_numbers by count messages = is_by_uid by || are_numbers count (ranges_of messages)
+
 -- ---- messages of a session
 
 -- the last UID that the session knows, or UIDNEXT if it knows none

@@ -11,7 +11,7 @@ mod target;
 pub use flags::{has_seen, has_too_many, is_new_seen, new_flags, right_for, with_permitted};
 pub use left::events_left;
 pub use message_numbers::{
-    MessageNumbers, Numbered, are_numbers, in_set, is_any_gone, is_by_uid, is_saved, known_count,
-    known_with, last_of, messages_named, number_at, ranges_of, row_with,
+    MessageNumbers, Numbered, has_known_numbers, in_set, is_by_uid, is_refused, is_saved,
+    known_count, known_with, last_of, messages_named, number_at, ranges_of, row_with,
 };
 pub use target::target_refusal;

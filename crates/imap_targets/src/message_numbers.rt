@@ -59,9 +59,28 @@ impl MessageNumbers<'_> {
     }
 }
 
-/// The known messages of the set, in the order of their numbers. Tests each known message between the first and
-/// the last of the set.
+/// Returns the known messages that a command names, in the order of their numbers. Tests each known message
+/// between the first and the last of the set.
 pub fn messages_named(
+    alloc: Global,
+    numbering: Numbering,
+    messages: &MessageSet,
+    next_uid: u32,
+    known: &KnownList,
+) -> Result<Vec<Numbered>, AllocError>
+    ensures named { let named_in = specs.messages_named numbering next_uid (specs.ranges_of messages.now) in
+        IfOk result (λ named. named.items ≡ named_in known.now.list) }
+    ensures rise { IfOk result (λ named. AreRising (specs.uids_of named.items)) }
+{
+    let numbers = MessageNumbers {
+        numbering,
+        last: last_of(numbering, next_uid, known),
+        ranges: ranges_of(messages),
+    };
+    numbers_named(alloc, &numbers, known)
+}
+
+fn numbers_named(
     alloc: Global,
     messages: &MessageNumbers<'_>,
     known: &KnownList,
@@ -93,8 +112,14 @@ fn numbered_at(known: &KnownList, place: usize) -> Numbered
     }
 }
 
-/// Whether one of the messages is gone.
-pub fn is_any_gone(messages: &[Numbered], rows: &Rows<'_>) -> bool
+/// Whether one of the messages is gone, and is named by its number.
+pub fn is_refused(numbering: Numbering, messages: &[Numbered], rows: &Rows<'_>) -> bool
+    ensures { result ≡ specs.is_refused (specs.is_by_uid numbering) rows.now messages.now }
+{
+    !is_by_uid(numbering) && is_any_gone(messages, rows)
+}
+
+fn is_any_gone(messages: &[Numbered], rows: &Rows<'_>) -> bool
     ensures { result ≡ list_any (specs.is_gone rows.now) messages.now }
 {
     messages.iter().any(|message| is_gone(message, rows))
@@ -191,10 +216,17 @@ fn has_numbers(count: u32, range: &SeqRange) -> bool
 }
 
 /// Whether all numbers of the set are numbers of messages, of which there are `count`.
-pub fn are_numbers(count: u32, ranges: &[SeqRange]) -> bool
+fn are_numbers(count: u32, ranges: &[SeqRange]) -> bool
     ensures { result ≡ specs.are_numbers count ranges.now }
 {
     ranges.iter().all(|range| has_numbers(count, range))
+}
+
+/// Whether all messages that the set names by their numbers are known, of which there are `count`.
+pub fn has_known_numbers(numbering: Numbering, count: u32, messages: &MessageSet) -> bool
+    ensures { result ≡ specs.has_known_numbers numbering count messages.now }
+{
+    is_by_uid(numbering) || are_numbers(count, ranges_of(messages))
 }
 
 /// The number of messages that the session knows.

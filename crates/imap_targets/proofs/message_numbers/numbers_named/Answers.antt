@@ -1,6 +1,6 @@
 use Rattle.std.proofs.Common.{◌<◌, ◌≡◌, ◌∙◌, arith, length, sym}
 use Rattle.imap_targets.proofs.Listed.{all_rise, pushed, skipped}
-use Rattle.imap_targets.proofs.message_numbers.messages_named.Goals as goal
+use Rattle.imap_targets.proofs.message_numbers.numbers_named.Goals as goal
 
 pub loop-place-preserved-then-not-has : goal.loop-place-preserved-then-not-has
 loop-place-preserved-then-not-has c =
