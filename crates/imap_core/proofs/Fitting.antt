@@ -53,8 +53,9 @@ use Rattle.imap_core.specs.Planned.{MayOpen}
 use Rattle.imap_core.specs.Commands.Session.{enabled_by_names, named_by}
 use Rattle.imap_core.specs.Laws.{is_idling, is_line, selects}
 use Rattle.imap_core.specs.Notices.{idle_lines, idle_telling, mailbox_after, mailbox_left, may_tell_expunges, notice_lines, notice_options, notice_telling, options_after, selected_mailbox}
-use Rattle.imap_core.specs.Reply.{command_answer, command_outcome, enables_nothing, has_parameters, highest_line, idle_outcome, if_selected, kept, newly_enables_condstore, noting, opened, outcome_of_answer, outcome_of_selecting, reply_by_idle, reply_by_session, reply_when_closed, reply_when_open, request_outcome}
-use Rattle.imap_core.specs.Reply.{select_outcome, unbuilt_answer, unbuilt_refusal, unless_lost, unselect_outcome, close_outcome, with_notices}
+use Rattle.imap_core.specs.Answers.{command_answer, unbuilt_answer, unbuilt_refusal}
+use Rattle.imap_core.specs.Reply.{command_outcome, enables_nothing, has_parameters, highest_line, idle_outcome, if_selected, kept, newly_enables_condstore, noting, opened, outcome_of_answer, outcome_of_selecting, reply_by_idle, reply_by_session, reply_when_closed, reply_when_open, request_outcome}
+use Rattle.imap_core.specs.Reply.{select_outcome, unless_lost, unselect_outcome, close_outcome, with_notices}
 use Rattle.imap_core.proofs.Noticed.{no_line_refuses}
 use Rattle.imap_session.specs.Telling.{Telling}
 use Rattle.imap_core.specs.Sessions.{Own, max_sessions}

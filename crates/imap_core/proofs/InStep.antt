@@ -48,7 +48,8 @@ use Rattle.imap_core.specs.declared.step.Step.{Step}
 use Rattle.imap_core.specs.Machine.{accounts_after, outcome, outcome_for, own_in}
 use Rattle.imap_core.specs.Outcome.{Outcome, answered, said}
 use Rattle.imap_changes.specs.Expunge.{close_answer}
-use Rattle.imap_core.specs.Reply.{command_answer, command_outcome, enables_nothing, has_parameters, highest_line, idle_outcome, if_selected, newly_enables_condstore, noting, opened, outcome_of_answer, outcome_of_selecting, reply_by_idle, reply_by_session}
+use Rattle.imap_core.specs.Answers.{command_answer}
+use Rattle.imap_core.specs.Reply.{command_outcome, enables_nothing, has_parameters, highest_line, idle_outcome, if_selected, newly_enables_condstore, noting, opened, outcome_of_answer, outcome_of_selecting, reply_by_idle, reply_by_session}
 use Rattle.imap_core.specs.Reply.{reply_when_closed, reply_when_open, request_outcome, select_outcome, unless_lost, unselect_outcome, close_outcome, with_notices}
 use Rattle.imap_core.proofs.Fitting.{command_fits, highest_fits}
 use Rattle.imap_world.proofs.Growing.{messages_grow}

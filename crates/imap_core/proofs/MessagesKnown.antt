@@ -37,7 +37,8 @@ use Rattle.imap_core.specs.Laws.{KnowsMessages, MessagesAreKnown, may_be_told}
 use Rattle.imap_core.specs.Machine.{next, outcome, own_in, view_in}
 use Rattle.imap_core.specs.Notices.{idle_telling, is_bad, mailbox_after, mailbox_left, may_tell_expunges, notice_lines, notice_options, notice_telling, options_after, selected_mailbox}
 use Rattle.imap_core.specs.Outcome.{Outcome, answered}
-use Rattle.imap_core.specs.Reply.{command_answer, command_outcome, enables_nothing, has_parameters, idle_outcome, if_selected, noting, outcome_of_answer, outcome_of_selecting, reply_by_idle, reply_by_session, reply_when_open, select_outcome, unless_lost, with_highest, with_notices}
+use Rattle.imap_core.specs.Answers.{command_answer}
+use Rattle.imap_core.specs.Reply.{command_outcome, enables_nothing, has_parameters, idle_outcome, if_selected, noting, outcome_of_answer, outcome_of_selecting, reply_by_idle, reply_by_session, reply_when_open, select_outcome, unless_lost, with_highest, with_notices}
 use Rattle.imap_core.specs.Sessions.{Own, edited}
 use Rattle.imap_core.proofs.InStep.{session_there, session_with, some_same, told_selection}
 use Rattle.imap_core.proofs.Preparing.{outcome_known}

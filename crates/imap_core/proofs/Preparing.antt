@@ -1,6 +1,6 @@
 -- What the machine prepares: what comes of a step, by the change that was found for it.
 use Rattle.std.proofs.Common.{◌≡◌, ℕ, true, List, Option, Some, None, refl, sym, ap, subst, ◌∙◌}
-use Rattle.std.specs.Prelude.{option_and_then, Ok}
+use Rattle.std.specs.Prelude.{option_and_then, Result, Ok, IfOk, OnOk}
 use Rattle.std.specs.Ordering.{nat_cmp}
 use Rattle.std.specs.FinMap as map
 use Rattle.std.specs.FinMap.{get-empty}
@@ -31,6 +31,17 @@ use Rattle.imap_core.specs.Reply.{idle_outcome, reply}
 use Rattle.imap_core.specs.Sessions.{Own}
 use Rattle.imap_core.proofs.Fitting.{outcome_fits}
 use Rattle.imap_core.proofs.InStep.{all_stay_in_step}
+
+-- ---- what was tried
+
+-- what holds of what is found holds of what was found
+pub found_so : {A E : Type 0} (P : A → Type 0) (found : Result A E) (x : A) → found ≡ Ok x → IfOk found P → P x
+found_so P found x is h = subst (λ r. IfOk r P) is h
+
+pub tried_so : {A E : Type 0} (P : Type 0) (tried : Result A E) (x : A) → tried ≡ Ok x → OnOk tried P → P
+tried_so P tried x is h = subst (λ r. OnOk r P) is h
+
+-- ---- the step
 
 -- a user who is known
 module _ (state : State) (step : Step) (own : Own) (known : map.get state.accounts step.who.user ≡ Some own) where

@@ -1,5 +1,6 @@
 -- The machine: its state, one step, traces, and isolation over all runs.
 pub mod Accounts
+pub mod Answers
 pub mod Commands
 pub mod Frames
 pub mod Held

@@ -10,18 +10,10 @@ use Rattle.imap_grammar.specs.declared.request.Request.TheVariants as request
 use Rattle.imap_grammar.specs.declared.command.Command.{Command}
 use Rattle.imap_grammar.specs.declared.commands.select.SelectParameters.{SelectParameters}
 use Rattle.imap_grammar.specs.declared.command.Command.TheVariants as command
-use Rattle.imap_list.specs.ListCommand.{list_answer, namespace_answer}
-use Rattle.imap_list.specs.Status.{status_answer}
-use Rattle.imap_list.specs.Subscriptions.{subscribe_answer, unsubscribe_answer}
 use Rattle.imap_syntax.specs.Moments.{Moment}
 use Rattle.imap_print.specs.declared.response.Response.{Response}
 use Rattle.imap_print.specs.declared.response.Response.TheVariants as response
-use Rattle.imap_changes.specs.Expunge.{close_answer, expunge_answer}
-use Rattle.imap_changes.specs.Store.{store_answer}
-use Rattle.imap_copies.specs.declared.kind.TransferKind.TheVariants as transfer
-use Rattle.imap_copies.specs.Transfer.{transfer_answer}
-use Rattle.imap_messages.specs.Append.{append_answer}
-use Rattle.imap_messages.specs.Fetch.{fetch_answer}
+use Rattle.imap_changes.specs.Expunge.{close_answer}
 use Rattle.imap_print.specs.declared.response.Farewell.TheVariants.{LimitReached, MailboxUnavailable}
 use Rattle.imap_print.specs.declared.enabled.EnabledCapabilities.{EnabledCapabilities}
 use Rattle.imap_print.specs.declared.response.Refusal.{Refusal}
@@ -29,15 +21,8 @@ use Rattle.imap_print.specs.declared.response.Refusal.TheVariants.{Cannot, Limit
 use Rattle.imap_session.specs.declared.select.Selecting.{Selecting}
 use Rattle.imap_session.specs.Lost.{is_lost}
 use Rattle.imap_session.specs.Select.{refused_selecting, select_answer}
-use Rattle.imap_session.specs.State.{Selection, SessionState, selected_name}
+use Rattle.imap_session.specs.State.{Selection, SessionState}
 use Rattle.imap_session.specs.Telling.{Telling}
-use Rattle.imap_tree.specs.Create.{create_answer}
-use Rattle.imap_tree.specs.Delete.{delete_answer}
-use Rattle.imap_tree.specs.GetAcl.{get_acl_answer}
-use Rattle.imap_tree.specs.ListRights.{list_rights_answer}
-use Rattle.imap_tree.specs.MyRights.{my_rights_answer}
-use Rattle.imap_tree.specs.Rename.{rename_answer}
-use Rattle.imap_tree.specs.SetAcl.{delete_acl_answer, set_acl_answer}
 use Rattle.imap_view.specs.declared.readable.Readable.{Readable}
 use Rattle.imap_view.specs.View.{View}
 use Rattle.imap_core.specs.declared.idling.Idling.{Idling}
@@ -47,86 +32,12 @@ use Rattle.imap_core.specs.declared.sessions.SessionEffect.TheVariants as sessio
 use Rattle.imap_core.specs.declared.step.Act.{Act}
 use Rattle.imap_core.specs.declared.step.Act.TheVariants as act
 use Rattle.imap_core.specs.declared.step.Step.{Step}
-use Rattle.imap_core.specs.Commands.Session.{capability_answer, noop_answer, logout_answer}
-use Rattle.imap_core.specs.Commands.Session.{authenticate_answer, enable_answer}
+use Rattle.imap_core.specs.Commands.Session.{logout_answer}
 use Rattle.imap_core.specs.Notices.{idle_lines, idle_telling, may_tell_expunges, mailbox_after, notice_lines}
 use Rattle.imap_core.specs.Notices.{notice_telling, options_after, selected_mailbox}
 use Rattle.imap_core.specs.Outcome.{Outcome, answered, said, silence}
 use Rattle.imap_core.specs.Sessions.{Own, max_sessions}
-
--- what isn't built yet can't be done, if a mailbox is selected, which it needs (RFC 9051, section 3)
-abbrev pub unbuilt_refusal : Option Selection → Refusal
-unbuilt_refusal None = WrongState
-unbuilt_refusal (Some s) = Cannot
-
-abbrev pub unbuilt_answer : SessionState → (tag : List ℕ) → Answer
-unbuilt_answer own tag = refusal tag (unbuilt_refusal own.selected)
-
--- a command that isn't built yet can't be done
-abbrev pub command_answer : View → SessionState → (tag : List ℕ) → (at : Moment) → Command → Answer
-command_answer view own tag at command.Capability = capability_answer tag
-command_answer view own tag at command.Noop = noop_answer tag
-command_answer view own tag at command.Authenticate = authenticate_answer tag
-command_answer view own tag at command.Namespace = namespace_answer tag
-command_answer view own tag at (command.List selection reference patterns returns) =
-    list_answer view tag (record {
-      selection = selection;
-      reference = reference;
-      patterns = patterns;
-      returns = returns;
-    })
-command_answer view own tag at (command.Subscribe mailbox) = subscribe_answer view tag mailbox
-command_answer view own tag at (command.Unsubscribe mailbox) = unsubscribe_answer view tag mailbox
-command_answer view own tag at (command.Create mailbox) = create_answer view tag mailbox
-command_answer view own tag at (command.Delete mailbox) =
-    delete_answer view (selected_name own) tag mailbox
-command_answer view own tag at (command.Rename from to) =
-    rename_answer view (selected_name own) tag from to
-command_answer view own tag at (command.Enable words) = enable_answer own.enabled tag words
-command_answer view own tag at (command.Status mailbox items) = status_answer view tag mailbox items
-command_answer view own tag at (command.Append mailbox flags date message) =
-    append_answer view tag at (record {
-      mailbox = mailbox;
-      flags = flags;
-      date = date;
-      message = message;
-    })
-command_answer view own tag at (command.Fetch numbering messages items since vanished) =
-    fetch_answer view own tag (record {
-      numbering = numbering;
-      messages = messages;
-      items = items;
-      changed_since = since;
-      vanished = vanished;
-    })
-command_answer view own tag at (command.SetAcl mailbox identifier rights) =
-    set_acl_answer view tag mailbox identifier rights
-command_answer view own tag at (command.DeleteAcl mailbox identifier) =
-    delete_acl_answer view tag mailbox identifier
-command_answer view own tag at (command.GetAcl mailbox) = get_acl_answer view tag mailbox
-command_answer view own tag at (command.ListRights mailbox identifier) =
-    list_rights_answer view tag mailbox identifier
-command_answer view own tag at (command.MyRights mailbox) = my_rights_answer view tag mailbox
-command_answer view own tag at command.Expunge = expunge_answer view own tag None
-command_answer view own tag at (command.UidExpunge messages) = expunge_answer view own tag (Some messages)
-command_answer view own tag at (command.Search numbering returns charset keys) = unbuilt_answer own tag
-command_answer view own tag at (command.Store numbering messages store) =
-    store_answer view own tag (record { numbering = numbering; messages = messages; spec = store })
-command_answer view own tag at (command.Copy numbering messages mailbox) =
-    transfer_answer view own tag (record {
-      kind = transfer.Copy;
-      numbering = numbering;
-      messages = messages;
-      mailbox = mailbox;
-    })
-command_answer view own tag at (command.Move numbering messages mailbox) =
-    transfer_answer view own tag (record {
-      kind = transfer.Move;
-      numbering = numbering;
-      messages = messages;
-      mailbox = mailbox;
-    })
-command_answer view own tag at _ = refusal tag Cannot
+use Rattle.imap_core.specs.Answers.{command_answer}
 
 -- ---- commands, with what becomes of the session
 

@@ -1,39 +1,36 @@
 //! What each command is answered.
 
 ghost use Rattle.std.specs.Prelude.{◌≡◌, ◌≢◌, false, Some, IfOk};
+ghost use Rattle.std.specs.List.{AllByRecursion};
 ghost use Rattle.imap_grammar.specs.declared.command.Command.TheVariants.{Idle};
 ghost use Rattle.imap_core.specs.declared.pending.Pending.TheVariants as pending;
 ghost use Rattle.imap_core.specs.Notices.{may_tell_expunges, selected_mailbox};
 ghost use Rattle.imap_core.specs.Outcome.{answered};
 ghost use Rattle.imap_core.specs.Pending.{IsCompletable, completed};
 ghost use Rattle.imap_core.specs.Reply as specs;
-ghost use Rattle.imap_core.specs.Reply.{command_answer, command_outcome};
+ghost use Rattle.imap_core.specs.Answers.{command_answer};
+ghost use Rattle.imap_core.specs.Reply.{command_outcome};
+ghost use Rattle.imap_print.specs.Lines.{IsPrintable};
 ghost use Rattle.imap_session.specs.Lost.{is_lost};
 ghost use Rattle.imap_session.specs.State.{state_of};
 
+mod answers;
 mod session;
 
 use crate::notices::may_tell_expunges;
 use crate::outcome::Outcome;
 use crate::pending::Pending;
 use crate::sessions::SessionEffect;
+use crate::tried::with_found;
+use answers::command_answer;
 use imap_answer::{Answer, Call};
-use imap_changes::{Store, close_answer, expunge_answer, store_answer, uid_expunge_answer};
-use imap_copies::{Transfer, TransferKind, transfer_answer};
+use imap_changes::close_answer;
 use imap_grammar::{Command, SelectParameters};
 use imap_lex::Octets;
-use imap_list::{
-    Query, list_answer, namespace_answer, status_answer, subscribe_answer, unsubscribe_answer,
-};
-use imap_messages::{Append, Fetch, append_answer, fetch_answer};
 use imap_print::{Refusal, Response};
 use imap_session::{NewSelection, Selecting, Session, refuse_selecting, select_answer};
-use imap_tree::{
-    create_answer, delete_acl_answer, delete_answer, get_acl_answer, list_rights_answer,
-    my_rights_answer, rename_answer, set_acl_answer,
-};
 use imap_view::{Readable, View};
-use session::{capability_answer, enable_answer, logout_answer};
+use session::logout_answer;
 use std::alloc::AllocError;
 
 /// Finds what comes of a command other than IDLE, but for the notices of its session.
@@ -100,12 +97,22 @@ fn with_highest(call: &Call<'_>, session: &Session, answer: Answer) -> Result<An
     if !answer.enables().condstore || session.enabled.condstore {
         return Ok(answer);
     }
+    let (answer, front) = with_found(answer, highest_line(call, session))?;
+    answer.preceded_by(front)
+}
+
+/// The line that tells HIGHESTMODSEQ of the selected mailbox, if one is selected that the user may read.
+fn highest_line(call: &Call<'_>, session: &Session) -> Result<Vec<Response>, AllocError>
+    ensures lines { let mailbox = selected_mailbox call.now.view (state_of session.now).selected in
+        IfOk result (λ lines. lines.items ≡ specs.highest_line mailbox) }
+    ensures printable { IfOk result (λ lines. AllByRecursion IsPrintable lines.items) }
+{
     match selected_mailbox(call.view(), session) {
         Some(mailbox) => {
             let line = Response::HighestModSeq(mailbox.highest);
-            answer.preceded_by(vec![in call.alloc(); line]?)
+            Ok(vec![in call.alloc(); line]?)
         }
-        None => Ok(answer),
+        None => Ok(Vec::new(call.alloc())),
     }
 }
 
@@ -163,143 +170,5 @@ fn close_pending(call: &Call<'_>, session: &Session) -> Result<Pending, AllocErr
             SessionEffect::Select(NewSelection::none()),
         ),
         None => whole(call.refuse(Refusal::WrongState)?, SessionEffect::Keep),
-    }
-}
-
-/// What isn't built yet can't be done, if a mailbox is selected, which it needs.
-fn unbuilt_answer(call: &Call<'_>, session: &Session) -> Result<Answer, AllocError>
-    ensures { let meant = specs.unbuilt_answer (state_of session.now) call.now.tag in
-        IfOk result (λ answer. answer ≡ meant) }
-{
-    match &session.selected {
-        Some(_) => call.refuse(Refusal::Cannot),
-        None => call.refuse(Refusal::WrongState),
-    }
-}
-
-fn command_answer(
-    call: &Call<'_>,
-    session: &Session,
-    command: &Command,
-) -> Result<Answer, AllocError>
-    ensures { let answer = command_answer call.now.view (state_of session.now) call.now.tag call.now.at in
-        IfOk result (λ given. given ≡ answer command.now) }
-{
-    match command {
-        Command::Capability => capability_answer(call),
-        Command::Noop => call.done(),
-        Command::Authenticate => call.refuse(Refusal::WrongState),
-        Command::Namespace => namespace_answer(call),
-        Command::List {
-            selection,
-            reference,
-            patterns,
-            returns,
-        } => {
-            let query = Query {
-                selection,
-                reference,
-                patterns,
-                returns,
-            };
-            list_answer(call, &query)
-        }
-        Command::Subscribe { mailbox } => subscribe_answer(call, mailbox),
-        Command::Unsubscribe { mailbox } => unsubscribe_answer(call, mailbox),
-        Command::Create { mailbox } => create_answer(call, mailbox),
-        Command::Delete { mailbox } => delete_answer(call, session.selected_name(), mailbox),
-        Command::Rename { from, to } => rename_answer(call, session.selected_name(), from, to),
-        Command::Enable { capabilities } => {
-            enable_answer(call, session.enabled, capabilities.as_slice())
-        }
-        Command::Status { mailbox, items } => status_answer(call, mailbox, items),
-        Command::Append {
-            mailbox,
-            flags,
-            date,
-            message,
-        } => {
-            let asked = Append {
-                mailbox,
-                flags,
-                date: *date,
-                message,
-            };
-            append_answer(call, &asked)
-        }
-        Command::Fetch {
-            numbering,
-            messages,
-            items,
-            changed_since,
-            vanished,
-        } => {
-            let asked = Fetch {
-                numbering: *numbering,
-                messages,
-                items,
-                changed_since: *changed_since,
-                vanished: *vanished,
-            };
-            fetch_answer(call, session, &asked)
-        }
-        Command::SetAcl {
-            mailbox,
-            identifier,
-            rights,
-        } => set_acl_answer(call, mailbox, identifier, rights),
-        Command::DeleteAcl {
-            mailbox,
-            identifier,
-        } => delete_acl_answer(call, mailbox, identifier),
-        Command::GetAcl { mailbox } => get_acl_answer(call, mailbox),
-        Command::ListRights {
-            mailbox,
-            identifier,
-        } => list_rights_answer(call, mailbox, identifier),
-        Command::MyRights { mailbox } => my_rights_answer(call, mailbox),
-        Command::Expunge => expunge_answer(call, session),
-        Command::UidExpunge { messages } => uid_expunge_answer(call, session, messages),
-        Command::Store {
-            numbering,
-            messages,
-            store,
-        } => {
-            let asked = Store {
-                numbering: *numbering,
-                messages,
-                spec: store,
-            };
-            store_answer(call, session, &asked)
-        }
-        Command::Copy {
-            numbering,
-            messages,
-            mailbox,
-        } => {
-            let asked = Transfer {
-                kind: TransferKind::Copy,
-                numbering: *numbering,
-                messages,
-                mailbox,
-            };
-            transfer_answer(call, session, &asked)
-        }
-        Command::Move {
-            numbering,
-            messages,
-            mailbox,
-        } => {
-            let asked = Transfer {
-                kind: TransferKind::Move,
-                numbering: *numbering,
-                messages,
-                mailbox,
-            };
-            transfer_answer(call, session, &asked)
-        }
-        Command::Search { .. } => unbuilt_answer(call, session),
-        // What isn't built yet can't be done.
-        _ => call.refuse(Refusal::Cannot),
     }
 }

@@ -24,6 +24,7 @@ mod reply;
 mod session_id;
 mod sessions;
 mod step;
+mod tried;
 
 pub use imap_answer::Moment;
 pub use machine::{Core, Prepared};

@@ -30,6 +30,7 @@ use crate::reply::step_pending;
 use crate::session_id::SessionId;
 use crate::sessions::{OwnSessions, SessionEffect, room_needed};
 use crate::step::Step;
+use crate::tried::with_found;
 use imap_names::{UserName, inbox_ref};
 use imap_print::Response;
 use imap_user_map::UserMap;
@@ -179,16 +180,20 @@ impl Core {
     {
         let who = step.who.try_copy()?;
         let pending = self.pending(alloc, step)?;
-        let change = self.resolve(alloc, pending.effects())?;
-        let outcome = self.complete(alloc, step, pending, &change)?;
+        let found = self.resolve(alloc, pending.effects());
+        let (pending, change) = with_found(pending, found)?;
+        let found = self.complete(alloc, step, pending, &change);
+        let (change, outcome) = with_found(change, found)?;
         let (replies, session) = outcome.into_parts();
-        self.make_room(&who, room_needed(&session))?;
-        Ok(Prepared {
+        let prepared = Prepared {
             who,
             replies,
             session,
             change,
-        })
+        };
+        let room = self.make_room(&prepared.who, room_needed(&prepared.session));
+        let (prepared, ()) = with_found(prepared, room)?;
+        Ok(prepared)
     }
 
     /// Makes the steps in their order. After a refusal the steps before the refused one stand.

@@ -20,6 +20,7 @@ use crate::idling::idle_outcome;
 use crate::outcome::Outcome;
 use crate::pending::Pending;
 use crate::sessions::SessionEffect;
+use crate::tried::with_found;
 use imap_answer::Answer;
 use imap_grammar::Command;
 use imap_names::UserName;
@@ -87,10 +88,12 @@ fn outcome_of_answer(
     ensures told { let own = state_of session.now in
         IfOk result (λ outcome. MayTell (Some own) outcome.session) }
 {
-    let found = notices_of(alloc, asked, session, expunges, &answer)?;
+    let found = notices_of(alloc, asked, session, expunges, &answer);
+    let (answer, found) = with_found(answer, found)?;
     let SessionNotices { lines, told } = found;
     let effect = noting(answer.enables(), told);
-    Outcome::answered(answer.followed_by(lines)?, effect)
+    let (effect, answer) = with_found(effect, answer.followed_by(lines))?;
+    Outcome::answered(answer, effect)
 }
 
 /// The lines before the last one, and what the session then knows.

@@ -6,6 +6,7 @@ ghost use Rattle.imap_print.specs.Lines.{IsPrintable};
 ghost use Rattle.imap_core.specs.Outcome as specs;
 
 use crate::sessions::SessionEffect;
+use crate::tried::{pushed, with_found};
 use imap_answer::Answer;
 use imap_print::Response;
 use imap_world::Effect;
@@ -55,8 +56,9 @@ impl Outcome {
     pub(crate) fn answered(answer: Answer, session: SessionEffect) -> Result<Outcome, AllocError>
         ensures { IfOk result (λ outcome. outcome ≡ specs.answered answer session) }
     {
-        let (mut replies, last, effect) = answer.into_parts();
-        replies.push(last)?;
+        let (untagged, last, effect) = answer.into_parts();
+        let replies = with_found(session, pushed(untagged, last));
+        let (effect, (session, replies)) = with_found(effect, replies)?;
         Ok(Outcome {
             replies,
             effect,

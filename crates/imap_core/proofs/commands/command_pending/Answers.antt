@@ -9,7 +9,8 @@ use Rattle.imap_view.specs.View.{View}
 use Rattle.imap_core.specs.Notices.{may_tell_expunges}
 use Rattle.imap_core.specs.Outcome.{Outcome}
 use Rattle.imap_core.specs.Pending.{completed}
-use Rattle.imap_core.specs.Reply.{command_answer, command_outcome, outcome_of_answer}
+use Rattle.imap_core.specs.Answers.{command_answer}
+use Rattle.imap_core.specs.Reply.{command_outcome, outcome_of_answer}
 use Rattle.imap_core.proofs.commands.command_pending.Goals as goal
 
 -- a command that doesn't begin an IDLE, end its session or select a mailbox, or none
