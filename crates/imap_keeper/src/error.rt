@@ -29,7 +29,7 @@ impl From<AllocError> for KeepError {
 }
 
 /// The count of failures after an error.
-pub(crate) fn count_after(failures: u64, error: KeepError) -> u64
+pub fn count_after(failures: u64, error: KeepError) -> u64
     ensures { result ≡ count_after error failures }
 {
     match error {

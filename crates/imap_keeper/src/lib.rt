@@ -9,7 +9,7 @@ pub mod laws;
 mod list_keeper;
 mod refuser;
 
-pub use error::KeepError;
+pub use error::{KeepError, count_after};
 pub use keeper::Keeper;
 pub use list_keeper::ListKeeper;
 pub use refuser::Refuser;

@@ -1,0 +1,4 @@
+pub mod Counting
+pub mod Kept
+pub mod Stepped
+pub mod Users

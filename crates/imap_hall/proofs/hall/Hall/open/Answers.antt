@@ -1,0 +1,12 @@
+use Rattle.imap_hall.proofs.Kept.{fresh, fresh_kept}
+use Rattle.imap_hall.proofs.hall.Hall.open.Goals as goal
+
+pub invariant_of-result : goal.invariant_of-result
+invariant_of-result g c =
+    fresh_kept g.K.Keeper.content c.in-Ok.field-0.core c.in-Ok.field-0.base c.new.result.map c.new-in-Ok.result.map c.new-in-Ok-2.result.items c.begin.new.keeper
+    c.in-Ok.ensures.base c.new.ensures c.new-in-Ok.ensures c.new-in-Ok-2.ensures.items c.in-Ok.ensures.stored
+
+pub returns-in-Ok-clause-fresh : goal.returns-in-Ok-clause-fresh
+returns-in-Ok-clause-fresh g c =
+    fresh g.K.Keeper.content c.in-Ok.field-0.core c.in-Ok.field-0.base c.new.result.map c.new-in-Ok.result.map c.new-in-Ok-2.result.items c.begin.new.keeper
+    c.in-Ok.ensures.base c.new.ensures c.new-in-Ok.ensures c.new-in-Ok-2.ensures.items

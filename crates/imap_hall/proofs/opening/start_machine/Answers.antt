@@ -1,0 +1,6 @@
+use Rattle.imap_world.specs.Stored.{world_of}
+use Rattle.imap_hall.proofs.Stepped.{started}
+use Rattle.imap_hall.proofs.opening.start_machine.Goals as goal
+
+pub returns-clause-current : goal.returns-clause-current
+returns-clause-current c = started (world_of c.args.world) c.args.administrator c.args.users.now c.in_ok-core.change c.in_ok-core.ensures.change

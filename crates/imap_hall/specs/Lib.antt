@@ -1,0 +1,7 @@
+-- The journal of a hall, and what its calls leave.
+pub mod Counts
+pub mod Hall
+pub mod Journal
+pub mod Performing
+pub mod Opening
+pub mod Receipts

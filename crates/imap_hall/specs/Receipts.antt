@@ -1,0 +1,17 @@
+-- What a room has of the steps that were made in it.
+use Rattle.std.specs.Prelude.{◌≡◌, Bool, true, List, [], ◌∷◌, ◌++◌}
+use Rattle.imap_core.specs.declared.step.Step.{Step}
+use Rattle.imap_hall.specs.declared.journal.Receipt.{Receipt}
+use Rattle.imap_hall.specs.Hall.{entry_of}
+use Rattle.imap_hall.specs.Journal.{JournalEntry}
+
+-- These are the last of all the entries; or all of them, if none is let go.
+pub record AreLast (keeps_all : Bool) (whole kept : List JournalEntry) : Type 0 where
+  pub before : List JournalEntry
+  pub parts : whole ≡ before ++ kept
+  pub all : keeps_all ≡ true → before ≡ []
+
+-- the entry of the receipt is the newest
+abbrev pub IsAdded :
+    (keeps_all : Bool) → (old : List JournalEntry) → Step → Receipt → (new : List JournalEntry) → Type 0
+IsAdded keeps_all old step receipt new = AreLast keeps_all (old ++ entry_of step receipt ∷ []) new

@@ -1,0 +1,123 @@
+//! One entry more.
+
+ghost use Rattle.std.specs.Prelude.{◌≡◌, ◌⊎◌, ◌+◌, ◌<◌, ◌≤◌, ◌++◌, ◌∷◌, [], map, vec_len};
+ghost use Rattle.std.specs.Prelude.{IfErr, IfOk, OnErr, OnOk};
+ghost use Rattle.std.specs.Vec.{vec_capacity};
+ghost use Rattle.imap_core.specs.Machine.{next};
+ghost use Rattle.imap_keeper.specs.Keeping.{LeavesOnly, LeavesOr};
+ghost use Rattle.imap_hall.specs.declared.error.HallError.TheVariants as error;
+ghost use Rattle.imap_hall.specs.Counts.{AreSameCounts, IsCounted, count_of};
+ghost use Rattle.imap_hall.specs.Hall.{HasRisen, IsStepped, IsUnwritten, entry_of, noted};
+ghost use Rattle.imap_hall.specs.Journal.{max_entries, point};
+
+use crate::counts::{count_of, raise_count};
+use crate::error::HallError;
+use crate::journal::{Entry, Receipt};
+use crate::own_counts::OwnCounts;
+use crate::performing::perform;
+use crate::ready::{make_ready, make_room};
+use crate::replies::Replies;
+use imap_core::{Core, Step};
+use imap_keeper::Keeper;
+use imap_user_map::UserMap;
+use std::alloc::Global;
+
+/// Makes a step, saves its change, and appends its entry to the journal, which is the entry after `count` others.
+/// Returns its receipt twice.
+#[tactic(auto, using(crate::proofs::Stepped::stepped, crate::proofs::Stepped::entry_is, crate::proofs::Stepped::second_is))]
+pub(crate) fn advance<K: Keeper>(
+    core: &mut Core,
+    counts: &mut UserMap<OwnCounts>,
+    keeper: &mut K,
+    journal: &mut Vec<Entry>,
+    count: u64,
+    alloc: Global,
+    step: &Step,
+) -> Result<(Receipt, Receipt), HallError>
+    requires stored { K.content keeper.old core.old.state.world }
+    requires bound { count_of counts.old.map step.now.who.user step.now.who.number ≤ count }
+    requires room { count < max_entries }
+    ensures entries { IfOk result (λ r.
+        map noted journal.new.items ≡ map noted journal.old.items ++ entry_of step.now r.0 ∷ []) }
+    ensures place { IfOk result (λ r. r.0.place ≡ count + 1) }
+    ensures own { IfOk result (λ r.
+        r.0.own ≡ count_of counts.old.map step.now.who.user step.now.who.number + 1) }
+    ensures counts { OnOk result (IsCounted step.now.who counts.old.map counts.new.map) }
+    ensures made { IfOk result (λ r. IsStepped (point core.old.state counts.old.map) (K.failed keeper.old)
+        (entry_of step.now r.0) (point core.new.state counts.new.map) (K.failed keeper.new)) }
+    ensures same { IfOk result (λ r. (r.1.place ≡ r.0.place) × (r.1.own ≡ r.0.own)
+        × (r.1.replies.items ≡ r.0.replies.items)) }
+    ensures err { OnErr result ((core.new.state ≡ core.old.state)
+        × AreSameCounts counts.old.map counts.new.map
+        × (journal.new.items ≡ journal.old.items)
+        × (K.failed keeper.new ≡ K.failed keeper.old)) }
+    ensures memory { IfErr result (λ e. e ≡ error.Memory) }
+    ensures stored { K.content keeper.new core.new.state.world }
+    ensures unwritten { IsUnwritten core.old.state step.now → keeper.new ≡ keeper.old }
+    ensures honest { K.is_honest keeper.new → K.is_honest keeper.old }
+    ensures crash { K.is_honest keeper.new → LeavesOr (K.leaves keeper.old) (K.leaves keeper.new)
+        (λ image. K.stands image (next core.old.state step.now).world) }
+    ensures alone { K.is_honest keeper.new → (IsUnwritten core.old.state step.now → ⊥)
+        → OnOk result (LeavesOnly (K.leaves keeper.new) (λ image. K.stands image core.new.state.world)
+        ⊎ HasRisen (K.failed keeper.old) (K.failed keeper.new)) }
+{
+    make_room(counts, journal, alloc, step)?;
+    let own = count_of(counts, &step.who) + 1;
+    let copy = step.try_copy(alloc)?;
+    match make_ready(core, alloc, step) {
+        Ok(ready) => match perform(core, keeper, alloc, step, ready) {
+            Ok(replies) => {
+                raise_count(counts, &step.who);
+                Ok(append_entry(journal, copy, own, count + 1, replies))
+            }
+            Err(error) => {
+                drop(copy);
+                Err(error)
+            }
+        },
+        Err(_) => {
+            drop(copy);
+            Err(HallError::Memory)
+        }
+    }
+}
+
+/// Appends an entry. Returns its receipt twice.
+fn append_entry(
+    journal: &mut Vec<Entry>,
+    step: Step,
+    own: u64,
+    place: u64,
+    replies: Replies,
+) -> (Receipt, Receipt)
+    requires { vec_len journal.old < vec_capacity journal.old }
+    ensures items { map noted journal.new.items
+        ≡ map noted journal.old.items
+        ++ record { step = step; own = own; replies = replies.entry.items } ∷ [] }
+    ensures first { (result.0.place ≡ place) × (result.0.own ≡ own)
+        × (result.0.replies.items ≡ replies.receipt.items) }
+    ensures second { (result.1.place ≡ place) × (result.1.own ≡ own)
+        × (result.1.replies.items ≡ replies.second.items) }
+{
+    let Replies {
+        entry,
+        receipt,
+        second,
+    } = replies;
+    journal.push_reserved(Entry {
+        step,
+        own,
+        replies: entry,
+    });
+    let first = Receipt {
+        place,
+        own,
+        replies: receipt,
+    };
+    let second = Receipt {
+        place,
+        own,
+        replies: second,
+    };
+    (first, second)
+}

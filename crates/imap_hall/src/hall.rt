@@ -1,0 +1,223 @@
+//! The hall.
+
+ghost use Rattle.std.specs.Prelude.{◌≡◌, ◌⊎◌, ◌+◌, ◌↔◌, length, map};
+ghost use Rattle.std.specs.Prelude.{IfErr, IfOk, IsErrOf, OnErr, OnOk};
+ghost use Rattle.imap_core.specs.Machine.{next};
+ghost use Rattle.imap_core.specs.Opening.{state_at_start};
+ghost use Rattle.imap_keeper.specs.Keeping.{LeavesOnly, LeavesOr};
+ghost use Rattle.imap_world.specs.World.{World as Mailboxes};
+ghost use Rattle.imap_hall.specs.declared.error.OpenError.TheVariants as error;
+ghost use Rattle.imap_hall.specs.Hall.{HasRisen, HasStepped, IsFresh, IsKept, IsTurnedOver, IsUntouched};
+ghost use Rattle.imap_hall.specs.Hall.{IsUnwritten, noted};
+ghost use Rattle.imap_hall.specs.Journal.{max_entries};
+
+use crate::advancing::advance;
+use crate::error::{HallError, OpenError};
+use crate::journal::{Entry, Receipt};
+use crate::opening::{Start, begin};
+use crate::own_counts::OwnCounts;
+use crate::room::Room;
+use imap_core::{Core, Step};
+use imap_keeper::Keeper;
+use imap_names::UserName;
+use imap_user_map::UserMap;
+use imap_world::Limits;
+use std::alloc::{AllocError, Global};
+use std::marker::Model;
+
+/// The most entries that are ever made.
+const MAX_ENTRIES: u64 = 1 << 63;
+
+/// A machine with its keeper, and the journal since its base.
+///
+/// The entries of the journal, made one after another from the base, lead to where the machine is. The keeper
+/// has the mailboxes of the machine, as long as the store gives back what was written.
+#[derive(Drop)]
+pub struct Hall<K: Keeper> {
+    core: Core,
+    counts: UserMap<OwnCounts>,
+    keeper: K,
+    base: Core,
+    base_counts: UserMap<OwnCounts>,
+    before: u64,
+    journal: Vec<Entry>,
+}
+
+impl<K: Keeper> Model for Hall<K> {
+    ghost use Rattle.imap_core.specs.contracts.step.Step.{the_row as step_row};
+    ghost use Rattle.imap_print.specs.contracts.response.Response.{the_row as response_row};
+    ghost use Rattle.imap_hall.specs.Hall.{HallState, IsKept, hall_code, hall_state};
+
+    ghost Value = { HallState K };
+
+    ghost coded = { hall_code step_row.coded response_row.coded K.code };
+
+    ghost view = { λ h.
+        hall_state h.core h.counts.map h.base h.base_counts.map h.before h.journal.items h.keeper };
+
+    ghost invariant = { λ h. IsKept K.content
+        (hall_state h.core h.counts.map h.base h.base_counts.map h.before h.journal.items h.keeper) };
+}
+
+impl<K: Keeper> Hall<K> {
+    /// Loads the mailboxes that are kept, and makes and saves the INBOX of each of the users who has none. The
+    /// administrator is one of them. Each refusal hands the keeper back, which keeps what it kept.
+    pub fn open(
+        alloc: Global,
+        keeper: K,
+        administrator: UserName,
+        users: &[UserName],
+        limits: Limits,
+    ) -> Result<Hall<K>, (OpenError, K)>
+        ensures fresh { IfOk result IsFresh }
+        ensures state { IfOk result (λ h. (world : Mailboxes)
+            × (h.now.state ≡ state_at_start world administrator users.now limits)) }
+        ensures known { (world : Mailboxes) → K.content keeper world
+            → IfOk result (λ h. K.is_honest h.keeper
+            → h.now.state ≡ state_at_start world administrator users.now limits) }
+        ensures stored { IfOk result (λ h. K.content h.keeper h.now.state.world) }
+        ensures kept { (world : Mailboxes) → K.content keeper world
+            → IfErr result (λ e. K.content e.1 world) }
+        ensures store { IfErr result (λ e. e.0 ≡ error.Store → HasRisen (K.failed keeper) (K.failed e.1)) }
+        ensures damaged { (world : Mailboxes) → K.content keeper world
+            → IfErr result (λ e. K.is_honest e.1 → e.0 ≡ error.Damaged → ⊥) }
+    {
+        let mut keeper = keeper;
+        match begin(&mut keeper, alloc, administrator, users, limits) {
+            Ok(Start { core, base }) => Ok(Hall {
+                core,
+                counts: UserMap::new(alloc),
+                keeper,
+                base,
+                base_counts: UserMap::new(alloc),
+                before: 0,
+                journal: Vec::new(alloc),
+            }),
+            Err(error) => Err((error, keeper)),
+        }
+    }
+
+    /// Makes a step, saves its change, and appends its entry to the journal. If the store refuses, the receipt
+    /// says UNAVAILABLE (RFC 5530), and nothing else changed. Fails with `Memory`, and with `Exhausted` after
+    /// 2^63 entries.
+    pub fn step(&mut self, alloc: Global, step: &Step) -> Result<Receipt, HallError>
+        ensures ok { IfOk result (λ r. HasStepped K.failed self.old step.now r self.new) }
+        ensures err { OnErr result (IsUntouched K.failed self.old self.new) }
+        ensures exhausted { IsErrOf result HallError.Exhausted
+            ↔ (self.old.before + length self.old.entries ≡ max_entries) }
+        ensures stored { K.content self.new.keeper self.new.now.state.world }
+        ensures unwritten { IsUnwritten self.old.now.state step.now → self.new.keeper ≡ self.old.keeper }
+        ensures honest { K.is_honest self.new.keeper → K.is_honest self.old.keeper }
+        ensures crash { K.is_honest self.new.keeper → LeavesOr (K.leaves self.old.keeper)
+            (K.leaves self.new.keeper) (λ image. K.stands image (next self.old.now.state step.now).world) }
+        ensures alone { K.is_honest self.new.keeper → (IsUnwritten self.old.now.state step.now → ⊥)
+            → OnOk result (LeavesOnly (K.leaves self.new.keeper)
+            (λ image. K.stands image self.new.now.state.world)
+            ⊎ HasRisen (K.failed self.old.keeper) (K.failed self.new.keeper)) }
+    {
+        let (first, _second) = self.step_pair(alloc, step)?;
+        Ok(first)
+    }
+
+    /// As [`Hall::step`]. Returns the receipt twice.
+    pub fn step_pair(&mut self, alloc: Global, step: &Step) -> Result<(Receipt, Receipt), HallError>
+        ensures ok { IfOk result (λ r. HasStepped K.failed self.old step.now r.0 self.new) }
+        ensures same { IfOk result (λ r. (r.1.place ≡ r.0.place) × (r.1.own ≡ r.0.own)
+            × (r.1.replies.items ≡ r.0.replies.items)) }
+        ensures err { OnErr result (IsUntouched K.failed self.old self.new) }
+        ensures exhausted { IsErrOf result HallError.Exhausted
+            ↔ (self.old.before + length self.old.entries ≡ max_entries) }
+        ensures stored { K.content self.new.keeper self.new.now.state.world }
+        ensures unwritten { IsUnwritten self.old.now.state step.now → self.new.keeper ≡ self.old.keeper }
+        ensures honest { K.is_honest self.new.keeper → K.is_honest self.old.keeper }
+        ensures crash { K.is_honest self.new.keeper → LeavesOr (K.leaves self.old.keeper)
+            (K.leaves self.new.keeper) (λ image. K.stands image (next self.old.now.state step.now).world) }
+        ensures alone { K.is_honest self.new.keeper → (IsUnwritten self.old.now.state step.now → ⊥)
+            → OnOk result (LeavesOnly (K.leaves self.new.keeper)
+            (λ image. K.stands image self.new.now.state.world)
+            ⊎ HasRisen (K.failed self.old.keeper) (K.failed self.new.keeper)) }
+    {
+        let count = self.before + self.journal.len() as u64;
+        if count >= MAX_ENTRIES {
+            return Err(HallError::Exhausted);
+        }
+        advance(
+            &mut self.core,
+            &mut self.counts,
+            &mut self.keeper,
+            &mut self.journal,
+            count,
+            alloc,
+            step,
+        )
+    }
+
+    /// Makes the state of the machine the base, and empties the journal.
+    pub fn turn_over(&mut self, alloc: Global) -> Result<(), AllocError>
+        ensures ok { OnOk result (IsTurnedOver self.old self.new) }
+        ensures err { OnErr result (self.new ≡ self.old) }
+    {
+        let base = self.core.try_copy(alloc)?;
+        let counts = self.counts.try_copy(alloc)?;
+        self.before += self.journal.len() as u64;
+        self.base = base;
+        self.base_counts = counts;
+        self.journal.clear();
+        Ok(())
+    }
+
+    /// How many entries were made, those before the base too.
+    pub fn count(&self) -> u64
+        ensures count { result ≡ self.now.before + length self.now.entries }
+        ensures kept { IsKept K.content self.now }
+    {
+        self.before + self.journal.len() as u64
+    }
+
+    /// How many entries were made before the base.
+    pub fn before(&self) -> u64
+        ensures { result ≡ self.now.before }
+    {
+        self.before
+    }
+
+    /// The entries since the base.
+    pub fn entries(&self) -> &[Entry]
+        ensures { map noted result.now ≡ self.now.entries }
+    {
+        self.journal.as_slice()
+    }
+
+    /// Ends the hall, and hands its keeper back.
+    pub fn into_keeper(self) -> K
+        ensures keeper { result ≡ self.keeper }
+        ensures stored { K.content result self.now.state.world }
+    {
+        let Hall {
+            core: _,
+            counts: _,
+            keeper,
+            base: _,
+            base_counts: _,
+            before: _,
+            journal: _,
+        } = self;
+        keeper
+    }
+}
+
+impl<K: Keeper> Room for Hall<K> {
+    ghost use Rattle.std.specs.Prelude.{true};
+
+    ghost entries = { λ h. h.entries };
+
+    ghost keeps_all = { true };
+
+    fn step(&mut self, alloc: Global, step: &Step) -> Result<Receipt, HallError> {
+        self.step(alloc, step)
+    }
+
+    fn rung(&self) -> u64 {
+        self.count()
+    }
+}

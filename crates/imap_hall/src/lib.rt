@@ -1,0 +1,23 @@
+//! The machine with its keeper, and the journal of all steps that were made.
+//!
+//! A [`Hall`] makes each step whole: the change is saved before it is committed, and the journal has an entry
+//! for it. A change that the store refused is answered UNAVAILABLE (RFC 5530), and changes nothing.
+#![tactic(auto)]
+
+mod advancing;
+mod counts;
+mod error;
+mod hall;
+mod journal;
+mod opening;
+mod own_counts;
+mod performing;
+mod ready;
+mod replies;
+mod room;
+mod saving;
+
+pub use error::{HallError, OpenError};
+pub use hall::Hall;
+pub use journal::{Entry, Receipt};
+pub use room::Room;

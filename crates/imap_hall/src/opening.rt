@@ -1,0 +1,87 @@
+//! What a hall opens with.
+
+ghost use Rattle.std.specs.Prelude.{◌≡◌, IfErr, IfOk, OnErr};
+ghost use Rattle.imap_core.specs.Opening.{state_at_start};
+ghost use Rattle.imap_hall.specs.declared.error.OpenError.TheVariants as error;
+ghost use Rattle.imap_hall.specs.Hall.{HasRisen};
+ghost use Rattle.imap_hall.specs.Opening.{open_error};
+ghost use Rattle.imap_world.specs.Effects.{after_writes};
+ghost use Rattle.imap_world.specs.Ready.{IsCurrent};
+ghost use Rattle.imap_world.specs.Stored.{world_of};
+ghost use Rattle.imap_world.specs.World.{World as Mailboxes};
+
+use crate::error::OpenError;
+use crate::saving::save_change;
+use imap_core::Core;
+use imap_keeper::{KeepError, Keeper};
+use imap_names::UserName;
+use imap_world::{Change, Limits, World};
+use std::alloc::{AllocError, Global};
+
+/// A machine, and an equal one as the base of its journal.
+#[derive(Drop)]
+pub(crate) struct Start {
+    pub(crate) core: Core,
+    pub(crate) base: Core,
+}
+
+/// Loads what is kept, starts a machine, and saves the INBOXes that were made.
+pub(crate) fn begin<K: Keeper>(
+    keeper: &mut K,
+    alloc: Global,
+    administrator: UserName,
+    users: &[UserName],
+    limits: Limits,
+) -> Result<Start, OpenError>
+    ensures state { IfOk result (λ start. (world : Mailboxes)
+        × (start.core.state ≡ state_at_start world administrator users.now limits)) }
+    ensures known { K.is_honest keeper.new → (world : Mailboxes) → K.content keeper.old world
+        → IfOk result (λ start. start.core.state ≡ state_at_start world administrator users.now limits) }
+    ensures base { IfOk result (λ start. start.base.state ≡ start.core.state) }
+    ensures stored { IfOk result (λ start. K.content keeper.new start.core.state.world) }
+    ensures kept { (world : Mailboxes) → K.content keeper.old world
+        → OnErr result (K.content keeper.new world) }
+    ensures store { IfErr result
+        (λ e. e ≡ error.Store → HasRisen (K.failed keeper.old) (K.failed keeper.new)) }
+    ensures damaged { K.is_honest keeper.new → (world : Mailboxes) → K.content keeper.old world
+        → IfErr result (λ e. e ≡ error.Damaged → ⊥) }
+    ensures honest { K.is_honest keeper.new → K.is_honest keeper.old }
+{
+    let world = match keeper.load(alloc) {
+        Ok(world) => world,
+        Err(error) => return Err(open_error(error)),
+    };
+    let (start, change) = start_machine(alloc, world, administrator, users, limits)?;
+    match save_change(keeper, alloc, &change) {
+        Ok(()) => Ok(start),
+        Err(error) => Err(open_error(error)),
+    }
+}
+
+fn start_machine(
+    alloc: Global,
+    world: World,
+    administrator: UserName,
+    users: &[UserName],
+    limits: Limits,
+) -> Result<(Start, Change), AllocError>
+    ensures state { IfOk result (λ made.
+        made.0.core.state ≡ state_at_start (world_of world) administrator users.now limits) }
+    ensures base { IfOk result (λ made. made.0.base.state ≡ made.0.core.state) }
+    ensures current { IfOk result (λ made. IsCurrent made.1 (world_of world)) }
+    ensures change { IfOk result (λ made. made.0.core.state.world ≡ after_writes made.1 (world_of world)) }
+{
+    let (core, change) = Core::open(alloc, world, administrator, users, limits)?;
+    let base = core.try_copy(alloc)?;
+    Ok((Start { core, base }, change))
+}
+
+fn open_error(error: KeepError) -> OpenError
+    ensures { result ≡ open_error error }
+{
+    match error {
+        KeepError::Refused => OpenError::Store,
+        KeepError::Memory => OpenError::Memory,
+        KeepError::Damaged => OpenError::Damaged,
+    }
+}

@@ -1,0 +1,72 @@
+//! Saving and committing.
+
+ghost use Rattle.std.specs.Prelude.{◌≡◌, ◌⊎◌, [], IfErr, IfOk, OnErr, OnOk};
+ghost use Rattle.imap_core.specs.Machine.{answer, next};
+ghost use Rattle.imap_core.specs.Planned.{IsReady, change_of, replies_of, state_after};
+ghost use Rattle.imap_keeper.specs.Keeping.{LeavesOnly, LeavesOr};
+ghost use Rattle.imap_world.specs.Ready.{IsCurrent};
+ghost use Rattle.imap_hall.specs.declared.error.HallError.TheVariants as error;
+ghost use Rattle.imap_hall.specs.Hall.{HasRisen};
+ghost use Rattle.imap_hall.specs.Journal.{unavailable};
+ghost use Rattle.imap_hall.specs.Performing.{AreReplies, Performs};
+
+use crate::error::HallError;
+use crate::ready::Ready;
+use crate::replies::Replies;
+use crate::saving::save_step;
+use imap_core::{Core, Step};
+use imap_keeper::{KeepError, Keeper};
+use std::alloc::Global;
+
+/// Saves the change of a step, and commits it. If the store refuses, nothing changes, and the replies say so.
+pub(crate) fn perform<K: Keeper>(
+    core: &mut Core,
+    keeper: &mut K,
+    alloc: Global,
+    step: &Step,
+    ready: Ready,
+) -> Result<Replies, HallError>
+    requires stored { K.content keeper.old core.old.state.world }
+    requires current { IsCurrent (change_of ready.prepared) core.old.state.world }
+    requires ready { IsReady ready.prepared core.old }
+    requires next { state_after ready.prepared core.old.state ≡ next core.old.state step.now }
+    requires replies { replies_of ready.prepared ≡ answer core.old.state step.now }
+    requires entry { ready.entry.items ≡ answer core.old.state step.now }
+    requires second { ready.second.items ≡ answer core.old.state step.now }
+    requires refusal { AreReplies ready.refusal (unavailable step.now) }
+    ensures ok { IfOk result (λ replies. Performs core.old.state (K.failed keeper.old) step.now replies
+        core.new.state (K.failed keeper.new)) }
+    ensures stored { K.content keeper.new core.new.state.world }
+    ensures err { OnErr result
+        ((core.new.state ≡ core.old.state) × (K.failed keeper.new ≡ K.failed keeper.old)) }
+    ensures memory { IfErr result (λ e. e ≡ error.Memory) }
+    ensures unwritten { change_of ready.prepared ≡ [] → keeper.new ≡ keeper.old }
+    ensures honest { K.is_honest keeper.new → K.is_honest keeper.old }
+    ensures crash { K.is_honest keeper.new → LeavesOr (K.leaves keeper.old) (K.leaves keeper.new)
+        (λ image. K.stands image (next core.old.state step.now).world) }
+    ensures alone { K.is_honest keeper.new → (change_of ready.prepared ≡ [] → ⊥)
+        → OnOk result (LeavesOnly (K.leaves keeper.new) (λ image. K.stands image core.new.state.world)
+        ⊎ HasRisen (K.failed keeper.old) (K.failed keeper.new)) }
+{
+    let Ready {
+        prepared,
+        entry,
+        second,
+        refusal,
+    } = ready;
+    match save_step(keeper, alloc, core, prepared.change()) {
+        Ok(()) => Ok(Replies {
+            entry,
+            receipt: core.commit(prepared),
+            second,
+        }),
+        Err(KeepError::Refused) => {
+            drop(prepared);
+            Ok(refusal)
+        }
+        Err(KeepError::Memory | KeepError::Damaged) => {
+            drop(prepared);
+            Err(HallError::Memory)
+        }
+    }
+}

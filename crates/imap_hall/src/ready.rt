@@ -1,0 +1,73 @@
+//! Steps that are ready to be made.
+
+ghost use Rattle.std.specs.Prelude.{◌≡◌, ◌<◌, ◌↔◌, [], IfOk, OnOk, vec_len};
+ghost use Rattle.std.specs.Vec.{vec_capacity};
+ghost use Rattle.imap_core.specs.Machine.{answer, next};
+ghost use Rattle.imap_core.specs.Planned.{IsReady, change_of, replies_of, state_after};
+ghost use Rattle.imap_world.specs.Ready.{IsCurrent};
+ghost use Rattle.imap_hall.specs.Counts.{AreSameCounts, HasSession, count_of};
+ghost use Rattle.imap_hall.specs.Hall.{IsUnwritten};
+ghost use Rattle.imap_hall.specs.Journal.{unavailable};
+ghost use Rattle.imap_hall.specs.Performing.{AreReplies};
+
+use crate::counts::{count_of, reserve_count};
+use crate::journal::Entry;
+use crate::own_counts::OwnCounts;
+use crate::replies::{Replies, copy_replies, refusal};
+use imap_core::{Core, Prepared, Step};
+use imap_print::Response;
+use imap_user_map::UserMap;
+use std::alloc::{AllocError, Global};
+
+/// A step that needs no more memory, but for what its keeper needs.
+#[derive(Drop)]
+pub(crate) struct Ready {
+    pub(crate) prepared: Prepared,
+    /// The replies, for the entry of the journal and for a second receipt.
+    pub(crate) entry: Vec<Response>,
+    pub(crate) second: Vec<Response>,
+    /// The replies if the store refuses the change.
+    pub(crate) refusal: Replies,
+}
+
+/// Prepares the step, and copies its replies.
+#[tactic(auto, using(crate::proofs::Stepped::current, crate::proofs::Stepped::unwritten))]
+pub(crate) fn make_ready(core: &mut Core, alloc: Global, step: &Step) -> Result<Ready, AllocError>
+    ensures state { core.new.state ≡ core.old.state }
+    ensures ready { IfOk result (λ r. IsReady r.prepared core.new) }
+    ensures next { IfOk result (λ r. state_after r.prepared core.old.state ≡ next core.old.state step.now) }
+    ensures current { IfOk result (λ r. IsCurrent (change_of r.prepared) core.old.state.world) }
+    ensures unwritten { IfOk result
+        (λ r. IsUnwritten core.old.state step.now ↔ (change_of r.prepared ≡ [])) }
+    ensures replies { IfOk result (λ r. replies_of r.prepared ≡ answer core.old.state step.now) }
+    ensures entry { IfOk result (λ r. r.entry.items ≡ answer core.old.state step.now) }
+    ensures second { IfOk result (λ r. r.second.items ≡ answer core.old.state step.now) }
+    ensures refusal { IfOk result (λ r. AreReplies r.refusal (unavailable step.now)) }
+{
+    let refusal = refusal(alloc, step)?;
+    let prepared = core.prepare(alloc, step)?;
+    let entry = copy_replies(alloc, prepared.replies())?;
+    let second = copy_replies(alloc, prepared.replies())?;
+    Ok(Ready {
+        prepared,
+        entry,
+        second,
+        refusal,
+    })
+}
+
+/// Makes room for an entry of the session.
+pub(crate) fn make_room(
+    counts: &mut UserMap<OwnCounts>,
+    journal: &mut Vec<Entry>,
+    alloc: Global,
+    step: &Step,
+) -> Result<(), AllocError>
+    ensures same { AreSameCounts counts.old.map counts.new.map }
+    ensures items { journal.new.items ≡ journal.old.items }
+    ensures session { OnOk result (HasSession counts.new.map step.now.who) }
+    ensures room { OnOk result (vec_len journal.new < vec_capacity journal.new) }
+{
+    journal.reserve(1)?;
+    reserve_count(counts, alloc, &step.who)
+}

@@ -1,0 +1,75 @@
+//! The replies to one step.
+
+ghost use Rattle.std.specs.Prelude.{◌≡◌, IfOk};
+ghost use Rattle.imap_hall.specs.Journal.{tag_in, tag_of, unavailable};
+ghost use Rattle.imap_hall.specs.Performing.{AreReplies};
+
+use imap_core::{Act, Step};
+use imap_grammar::Request;
+use imap_lex::Tag;
+use imap_print::{Refusal, Response};
+use imap_values::TryCopy;
+use std::alloc::{AllocError, Global};
+
+/// The replies to one step, for the entry of the journal and for two receipts.
+#[derive(Drop)]
+pub(crate) struct Replies {
+    pub(crate) entry: Vec<Response>,
+    pub(crate) receipt: Vec<Response>,
+    pub(crate) second: Vec<Response>,
+}
+
+/// Returns equal copies. They share octets.
+pub(crate) fn copy_replies(alloc: Global, replies: &[Response]) -> Result<Vec<Response>, AllocError>
+    ensures { IfOk result (λ copy. copy.items ≡ replies.now) }
+{
+    let mut copy = Vec::with_capacity(alloc, replies.len())?;
+    for reply in replies {
+        copy.push(reply.try_copy(alloc)?)?;
+    }
+    Ok(copy)
+}
+
+/// What is replied to a step whose change the store refused (RFC 5530, UNAVAILABLE).
+pub(crate) fn refusal(alloc: Global, step: &Step) -> Result<Replies, AllocError>
+    ensures { IfOk result (λ replies. AreReplies replies (unavailable step.now)) }
+{
+    Ok(Replies {
+        entry: unavailable(alloc, step)?,
+        receipt: unavailable(alloc, step)?,
+        second: unavailable(alloc, step)?,
+    })
+}
+
+fn unavailable(alloc: Global, step: &Step) -> Result<Vec<Response>, AllocError>
+    ensures { IfOk result (λ replies. replies.items ≡ unavailable step.now) }
+{
+    let mut replies = Vec::with_capacity(alloc, 1)?;
+    let tag = tag_of(alloc, &step.act)?;
+    replies.push_reserved(Response::Refused {
+        tag,
+        refusal: Refusal::Unavailable,
+    });
+    Ok(replies)
+}
+
+/// The tag of the command that is sent, if there is one.
+fn tag_of(alloc: Global, act: &Act) -> Result<Option<Tag>, AllocError>
+    ensures { IfOk result (λ tag. tag ≡ tag_of act.now) }
+{
+    match act {
+        Act::Do(request) => tag_in(alloc, request),
+        Act::Open | Act::Poll | Act::Done | Act::Leave => Ok(None),
+    }
+}
+
+fn tag_in(alloc: Global, request: &Request) -> Result<Option<Tag>, AllocError>
+    ensures { IfOk result (λ tag. tag ≡ tag_in request.now) }
+{
+    match request {
+        Request::Command { tag, body: _ } | Request::TooBig { tag } => {
+            Ok(Some(tag.try_copy(alloc)?))
+        }
+        Request::Malformed { tag } => tag.try_copy(alloc),
+    }
+}
