@@ -1,0 +1,26 @@
+use Rattle.std.proofs.Common.{rules, subst, sym, true, [], ◌∷◌, map}
+use Rattle.imap_serve.specs.Asked.{asked}
+use Rattle.imap_serve.specs.Served.{Scene, scene, Site, site, Breaks, Closes, GoesOrCloses}
+use Rattle.imap_serve.proofs.Scenes.{frames_close, frames_break}
+use Rattle.imap_serve.proofs.exchange.take_frames.Goals as goal
+
+pub returns-then-flow-clause-ok : goal.returns-then-flow-clause-ok
+returns-then-flow-clause-ok g c =
+    let a : Scene = scene (g.R.Room.entries c.args.room.now) (g.O.Write.contents c.args.output.now.inner) in
+    let b : Scene = scene (g.R.Room.entries c.loop-frame.room) (g.O.Write.contents c.loop-frame.output.inner) in
+    let d : Scene = scene (g.R.Room.entries c.take_frame.new.room) (g.O.Write.contents c.take_frame.new.output.inner) in
+    let x = c.frame-item.result in
+    let s : Site = site c.args.who.now g.R.Room.keeps_all in
+    let xs = c.args.frames.now in
+    let last : Closes s b d (asked x ∷ []) = subst (λ closed. GoesOrCloses closed s b d (asked x ∷ [])) c.if-flow.true c.in-Ok.ensures.ok in
+    subst (λ closed. GoesOrCloses closed s a d (map asked xs)) (sym c.if-flow.true)
+    (frames_close s a b d xs c.loop-frame.frame-index x (search rules) c.loop-frame.invariant (subst (λ y. Closes s b d (asked y ∷ [])) c.frame-item.is last))
+
+pub returns-in-Err-clause-err : goal.returns-in-Err-clause-err
+returns-in-Err-clause-err g c =
+    let a : Scene = scene (g.R.Room.entries c.args.room.now) (g.O.Write.contents c.args.output.now.inner) in
+    let b : Scene = scene (g.R.Room.entries c.loop-frame.room) (g.O.Write.contents c.loop-frame.output.inner) in
+    let d : Scene = scene (g.R.Room.entries c.take_frame.new.room) (g.O.Write.contents c.take_frame.new.output.inner) in
+    let x = c.frame-item.result in
+    let s : Site = site c.args.who.now g.R.Room.keeps_all in
+    frames_break s a b d c.args.frames.now c.loop-frame.frame-index x (search rules) c.loop-frame.invariant (subst (λ y. Breaks s b d (asked y ∷ [])) c.frame-item.is c.in-Err.ensures.err)

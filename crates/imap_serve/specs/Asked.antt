@@ -1,0 +1,19 @@
+-- What the frames of a stream ask for.
+use Rattle.imap_lex.specs.declared.frame.Frame.{Frame}
+use Rattle.imap_lex.specs.declared.frame.Frame.TheVariants as frame
+use Rattle.imap_core.specs.declared.step.Act.{Act}
+use Rattle.imap_core.specs.declared.step.Act.TheVariants as act
+use Rattle.imap_core.specs.Frames.{act_of_command, rejected}
+
+-- a step of the session; a continuation request (RFC 9051, section 7); or the end of a connection whose line or
+-- literal is too long
+pub data Asked : Type 0 where
+  step : (act : Act) → Asked
+  ready : Asked
+  hangup : Asked
+
+abbrev pub asked : Frame → Asked
+asked (frame.Whole octets) = step (act_of_command octets)
+asked frame.Continue = ready
+asked (frame.Reject tag) = step (act.Do (rejected tag))
+asked frame.Hangup = hangup

@@ -1,0 +1,9 @@
+//! The time of day.
+
+use imap_core::Moment;
+
+/// A clock.
+pub trait Moments {
+    /// The moment of a step.
+    fn now(&self) -> Moment;
+}

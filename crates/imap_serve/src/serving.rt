@@ -1,0 +1,156 @@
+//! A session from its Open to its Leave.
+
+ghost use Rattle.std.specs.Prelude.{◌≡◌, ◌≤◌, false, IfErr, IfOk, OnErr};
+ghost use Rattle.imap_core.specs.declared.step.Act.TheVariants as specs;
+ghost use Rattle.imap_serve.specs.declared.error.End.TheVariants.{Idle};
+ghost use Rattle.imap_serve.specs.Served.{Breaks, BrokeOffAfter, EndedAfter, GivesUp, GoesOrCloses, IsAllRead};
+ghost use Rattle.imap_serve.specs.Served.{IsCaused, Leaves, Serves, opening, scene, site};
+
+use crate::error::{End, ServeError};
+use crate::exchange::{make, step_of};
+use crate::gate::Gate;
+use crate::moments::Moments;
+use crate::talking::talk;
+use crate::telling::Flow;
+use crate::watched::Watched;
+use imap_core::{Act, SessionId, Step};
+use imap_hall::Room;
+use std::alloc::Global;
+use std::io::{Read, Write};
+use std::sync::Wait;
+
+/// Opens the session, and writes the greeting.
+fn open_session<R: Room, O: Write, C: Moments>(
+    alloc: Global,
+    room: &mut R,
+    who: &SessionId,
+    clock: &C,
+    output: &mut Watched<O>,
+) -> Result<Flow, ServeError>
+    ensures ok { IfOk result (λ flow. GoesOrCloses flow.closed (site who.now R.keeps_all)
+        (scene (R.entries room.old) (O.contents output.old.inner))
+        (scene (R.entries room.new) (O.contents output.new.inner)) opening) }
+    ensures err { OnErr result (Breaks (site who.now R.keeps_all)
+        (scene (R.entries room.old) (O.contents output.old.inner))
+        (scene (R.entries room.new) (O.contents output.new.inner)) opening) }
+    ensures cause { IfErr result (λ e. IsCaused e false output.new.failed) }
+{
+    let flow = Flow {
+        closed: false,
+        idles: false,
+        calls: 0,
+    };
+    make(alloc, room, who, clock.now(), Act::Open, flow, output)
+}
+
+/// Opens the session and talks.
+#[tactic(auto, using(crate::proofs::Scenes::opened_closes, crate::proofs::Scenes::opened_breaks, crate::proofs::Scenes::opened_ended, crate::proofs::Scenes::opened_broke))]
+fn converse<R: Room, I: Read, O: Write, C: Moments, G: Gate, W: Wait>(
+    rt: &W,
+    alloc: Global,
+    room: &mut R,
+    who: &SessionId,
+    clock: &C,
+    gate: &G,
+    max_octets: u64,
+    idle_turns: u64,
+    input: &mut Watched<I>,
+    output: &mut Watched<O>,
+) -> Result<End, ServeError>
+    ensures ended { IfOk result (λ end. EndedAfter max_octets end (site who.now R.keeps_all)
+        (I.remaining input.old.inner) (I.remaining input.new.inner)
+        (scene (R.entries room.old) (O.contents output.old.inner))
+        (scene (R.entries room.new) (O.contents output.new.inner)) opening) }
+    ensures broke { IfErr result (λ e. BrokeOffAfter max_octets e (site who.now R.keeps_all)
+        (I.remaining input.old.inner) (I.remaining input.new.inner)
+        (scene (R.entries room.old) (O.contents output.old.inner))
+        (scene (R.entries room.new) (O.contents output.new.inner)) opening) }
+    ensures cause { IfErr result (λ e. IsCaused e input.new.failed output.new.failed) }
+    ensures read { IfOk result (λ end. IsAllRead end (I.remaining input.new.inner)) }
+    ensures idle { IfOk result (λ end. end ≡ Idle → idle_turns ≤ input.new.quiet) }
+{
+    match open_session(alloc, room, who, clock, output) {
+        Ok(flow) => {
+            if flow.closed {
+                return Ok(End::Closed);
+            }
+            match talk(
+                rt, alloc, room, who, clock, gate, max_octets, idle_turns, input, output,
+            ) {
+                Ok(end) => Ok(end),
+                Err(error) => Err(error),
+            }
+        }
+        Err(error) => Err(error),
+    }
+}
+
+/// Leaves the room. If the room refuses that, the next Open begins the session anew.
+fn leave<R: Room, C: Moments>(alloc: Global, room: &mut R, who: &SessionId, clock: &C)
+    ensures { Leaves (site who.now R.keeps_all) (R.entries room.old) (R.entries room.new) }
+{
+    match step_of(who, clock.now(), Act::Leave) {
+        Ok(step) => {
+            leave_by(alloc, room, &step);
+            drop(step);
+        }
+        Err(_) => {}
+    }
+}
+
+#[tactic(auto, using(crate::proofs::Scenes::left, crate::proofs::Scenes::stayed))]
+fn leave_by<R: Room>(alloc: Global, room: &mut R, step: &Step)
+    requires { step.now.act ≡ specs.Leave }
+    ensures { Leaves (site step.now.who R.keeps_all) (R.entries room.old) (R.entries room.new) }
+{
+    match room.step(alloc, step) {
+        Ok(_) => {}
+        Err(_) => {}
+    }
+}
+
+/// Serves a session over a connection: opens it, writes the greeting, does what the input asks for, and leaves.
+///
+/// If a read fails with `WouldBlock` or `TimedOut`, an idling session is told what changed (RFC 2177). After
+/// `idle_turns` of these in a row the session is closed. The literals of a command may have `max_octets` octets
+/// together.
+///
+/// What was written after a failure is a beginning of the replies; all of them if the reader failed.
+#[tactic(auto, using(crate::proofs::Scenes::serves, crate::proofs::Scenes::gives_up))]
+pub fn serve<R: Room, I: Read, O: Write, C: Moments, G: Gate, W: Wait>(
+    rt: &W,
+    alloc: Global,
+    room: &mut R,
+    who: &SessionId,
+    clock: &C,
+    gate: &G,
+    max_octets: u64,
+    idle_turns: u64,
+    input: &mut Watched<I>,
+    output: &mut Watched<O>,
+) -> Result<End, ServeError>
+    ensures ended { IfOk result (λ end. Serves max_octets end (site who.now R.keeps_all)
+        (I.remaining input.old.inner) (I.remaining input.new.inner)
+        (scene (R.entries room.old) (O.contents output.old.inner))
+        (scene (R.entries room.new) (O.contents output.new.inner))) }
+    ensures broke { IfErr result (λ e. GivesUp max_octets e (site who.now R.keeps_all)
+        (I.remaining input.old.inner) (I.remaining input.new.inner)
+        (scene (R.entries room.old) (O.contents output.old.inner))
+        (scene (R.entries room.new) (O.contents output.new.inner))) }
+    ensures cause { IfErr result (λ e. IsCaused e input.new.failed output.new.failed) }
+    ensures read { IfOk result (λ end. IsAllRead end (I.remaining input.new.inner)) }
+    ensures idle { IfOk result (λ end. end ≡ Idle → idle_turns ≤ input.new.quiet) }
+{
+    match converse(
+        rt, alloc, room, who, clock, gate, max_octets, idle_turns, input, output,
+    ) {
+        Ok(end) => {
+            leave(alloc, room, who, clock);
+            Ok(end)
+        }
+        Err(error) => {
+            leave(alloc, room, who, clock);
+            Err(error)
+        }
+    }
+}

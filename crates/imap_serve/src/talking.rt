@@ -1,0 +1,130 @@
+//! A session from its first read to its last.
+
+ghost use Rattle.std.specs.Prelude.{◌≡◌, ◌≤◌, [], false, IfErr, IfOk, OnErr};
+ghost use Rattle.imap_serve.specs.declared.error.End.TheVariants.{Idle};
+ghost use Rattle.imap_serve.specs.Served.{Breaks, BrokeOffAfter, EndedAfter, GoesOrCloses, IsAllRead, IsCaused};
+ghost use Rattle.imap_serve.specs.Served.{scene, site};
+
+use crate::error::{End, ServeError};
+use crate::exchange::{make, take_piece};
+use crate::gate::Gate;
+use crate::moments::Moments;
+use crate::telling::{Flow, say};
+use crate::watched::{Taken, Watched};
+use imap_core::{Act, SessionId};
+use imap_hall::Room;
+use imap_lex::Framer;
+use imap_print::{Farewell, Response};
+use std::alloc::Global;
+use std::io::{Read, Write};
+use std::sync::Wait;
+
+/// The most octets that one read takes.
+const PIECE_OCTETS: usize = 4096;
+
+/// Tells an idling session what changed (RFC 2177).
+fn poll<R: Room, O: Write, C: Moments>(
+    alloc: Global,
+    room: &mut R,
+    who: &SessionId,
+    clock: &C,
+    flow: Flow,
+    output: &mut Watched<O>,
+) -> Result<Flow, ServeError>
+    ensures ok { IfOk result (λ flow. GoesOrCloses flow.closed (site who.now R.keeps_all)
+        (scene (R.entries room.old) (O.contents output.old.inner))
+        (scene (R.entries room.new) (O.contents output.new.inner)) []) }
+    ensures err { OnErr result (Breaks (site who.now R.keeps_all)
+        (scene (R.entries room.old) (O.contents output.old.inner))
+        (scene (R.entries room.new) (O.contents output.new.inner)) []) }
+    ensures cause { IfErr result (λ e. IsCaused e false output.new.failed) }
+{
+    make(alloc, room, who, clock.now(), Act::Poll, flow, output)
+}
+
+/// Reads, and does what is asked for, until the input ends, the session is closed, or it idled too long.
+#[tactic(auto, using(crate::proofs::Scenes::heard_nothing, crate::proofs::Scenes::heard_more, crate::proofs::Scenes::heard_all, crate::proofs::Scenes::heard_unread, crate::proofs::Scenes::heard_still, crate::proofs::Scenes::heard_poll))]
+pub(crate) fn talk<R: Room, I: Read, O: Write, C: Moments, G: Gate, W: Wait>(
+    rt: &W,
+    alloc: Global,
+    room: &mut R,
+    who: &SessionId,
+    clock: &C,
+    gate: &G,
+    max_octets: u64,
+    idle_turns: u64,
+    input: &mut Watched<I>,
+    output: &mut Watched<O>,
+) -> Result<End, ServeError>
+    ensures ended { IfOk result (λ end. EndedAfter max_octets end (site who.now R.keeps_all)
+        (I.remaining input.old.inner) (I.remaining input.new.inner)
+        (scene (R.entries room.old) (O.contents output.old.inner))
+        (scene (R.entries room.new) (O.contents output.new.inner)) []) }
+    ensures broke { IfErr result (λ e. BrokeOffAfter max_octets e (site who.now R.keeps_all)
+        (I.remaining input.old.inner) (I.remaining input.new.inner)
+        (scene (R.entries room.old) (O.contents output.old.inner))
+        (scene (R.entries room.new) (O.contents output.new.inner)) []) }
+    ensures cause { IfErr result (λ e. IsCaused e input.new.failed output.new.failed) }
+    ensures read { IfOk result (λ end. IsAllRead end (I.remaining input.new.inner)) }
+    ensures idle { IfOk result (λ end. end ≡ Idle → idle_turns ≤ input.new.quiet) }
+{
+    let mut framer = Framer::new(alloc, max_octets);
+    let mut piece = [0u8; PIECE_OCTETS];
+    let mut rung = room.rung();
+    let mut idles = false;
+    let mut calls = 0;
+    for _ in rt.forever() {
+        let flow = Flow {
+            closed: false,
+            idles,
+            calls,
+        };
+        match input.read(&mut piece) {
+            Ok(Taken::End) => return Ok(End::InputEnded),
+            Ok(Taken::Octets(count)) => {
+                match take_piece(
+                    alloc,
+                    room,
+                    who,
+                    clock,
+                    gate,
+                    &mut framer,
+                    &piece[..count],
+                    flow,
+                    output,
+                ) {
+                    Ok(flow) => {
+                        if flow.closed {
+                            return Ok(End::Closed);
+                        }
+                        idles = flow.idles;
+                        calls = flow.calls;
+                    }
+                    Err(error) => return Err(error),
+                }
+            }
+            Ok(Taken::Occasion) => {
+                if input.quiet() >= idle_turns {
+                    match say(alloc, output, &[Response::Bye(Farewell::IdleTooLong)]) {
+                        Ok(()) => return Ok(End::Idle),
+                        Err(error) => return Err(error),
+                    }
+                }
+                let now = room.rung();
+                if idles && now != rung {
+                    rung = now;
+                    match poll(alloc, room, who, clock, flow, output) {
+                        Ok(flow) => {
+                            if flow.closed {
+                                return Ok(End::Closed);
+                            }
+                        }
+                        Err(error) => return Err(error),
+                    }
+                }
+            }
+            Err(_) => return Err(ServeError::Read),
+        }
+    }
+    unreachable!()
+}
