@@ -137,16 +137,14 @@ fn is_right_to_all(
 fn are_left(mailbox: &Mailbox, write: &BatchWrite, wanted: &[PlainRow]) -> bool
     requires { MayWrite write.now (summary_in mailbox.now) }
 {
-    let mut left = wanted;
     let mut planned = Planned::new(mailbox, write);
-    while let Some(row) = planned.row() {
-        match left.split_first() {
-            Some((first, others)) if is_row(&row, first) => left = others,
+    for row in wanted {
+        match planned.row() {
+            Some(next) if is_row(&next, row) => planned.skip(),
             _ => return false,
         }
-        planned.skip();
     }
-    left.is_empty()
+    planned.row().is_none()
 }
 
 fn leaves(alloc: Global, mailbox: &Mailbox, batch: &Batch, wanted: &[PlainRow]) -> bool {
