@@ -1,25 +1,16 @@
 //! The head of a script: the users, the limits, and the mailboxes at the start.
 
-use crate::line::{LineError, read_number};
+use crate::error::ScriptError;
+use crate::limits::{DEFAULT_LIMITS, read_max_messages, read_max_octets};
+use crate::line::LineError;
 use crate::mailboxes::Mailboxes;
-use imap_core::Core;
+use imap_hall::Hall;
+use imap_keeper::ListKeeper;
 use imap_names::{Name, UserName, read_full};
 use imap_rights::{Identifier, read_rights};
 use imap_world::{Limits, World};
-use std::alloc::{AllocError, Global};
+use std::alloc::Global;
 use std::collections::HashSet;
-
-/// The greatest `max_messages` of a script.
-const MAX_MESSAGES: u64 = 1_000_000;
-
-/// `max_messages` if the script names none.
-const DEFAULT_MESSAGES: u64 = 10_000;
-
-/// The greatest `max_octets` of a script.
-const MAX_OCTETS: u64 = 1_073_741_824;
-
-/// `max_octets` if the script names none.
-const DEFAULT_OCTETS: u64 = 33_554_432;
 
 /// The first word of a head line.
 #[derive(Clone, Copy, Debug, PartialEq, Eq)]
@@ -60,15 +51,19 @@ impl Start {
     }
 
     /// Starts the host.
-    pub(crate) fn open(self, alloc: Global) -> Result<Core, AllocError> {
+    pub(crate) fn open(self, alloc: Global) -> Result<Hall<ListKeeper>, ScriptError> {
         let Start {
             administrator,
             users,
             limits,
             world,
         } = self;
-        let (core, _) = Core::open(alloc, world, administrator, users.as_slice(), limits)?;
-        Ok(core)
+        let keeper = ListKeeper::new(world);
+        // A keeper in memory refuses for want of memory alone.
+        match Hall::open(alloc, keeper, administrator, users.as_slice(), limits) {
+            Ok(hall) => Ok(hall),
+            Err(_) => Err(ScriptError::Memory),
+        }
     }
 }
 
@@ -93,10 +88,7 @@ impl Head {
         Ok(Head {
             administrator,
             users: Vec::new(alloc),
-            limits: Limits {
-                max_messages: DEFAULT_MESSAGES,
-                max_octets: DEFAULT_OCTETS,
-            },
+            limits: DEFAULT_LIMITS,
             mailboxes: Mailboxes::new(alloc),
             known,
         })
@@ -148,12 +140,10 @@ impl Head {
         let (limit, number) = text.split_once(' ').ok_or(LineError::Bad)?;
         match limit {
             "max_messages" => {
-                self.limits.max_messages = read_number(number, 1, MAX_MESSAGES).ok_or(
-                    LineError::Bad,
-                )?;
+                self.limits.max_messages = read_max_messages(number).ok_or(LineError::Bad)?;
             }
             "max_octets" => {
-                self.limits.max_octets = read_number(number, 1, MAX_OCTETS).ok_or(LineError::Bad)?;
+                self.limits.max_octets = read_max_octets(number).ok_or(LineError::Bad)?;
             }
             _ => return Err(LineError::Bad),
         }

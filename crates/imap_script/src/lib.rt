@@ -4,6 +4,7 @@
 mod error;
 mod head;
 mod input;
+mod limits;
 mod line;
 mod mailboxes;
 mod run;
@@ -15,6 +16,7 @@ use crate::run::run_scenario;
 use crate::scenario::Scenario;
 pub use error::ScriptError;
 pub use input::read_all;
+pub use limits::{DEFAULT_LIMITS, read_max_messages, read_max_octets, read_number};
 use std::io::{Read, Write};
 
 /// The most reads of a script's input.

@@ -1,6 +1,4 @@
-//! The errors and numbers of a script's lines.
-
-ghost use Rattle.std.specs.Prelude.{◌≤◌, IfSome};
+//! The errors of a script's lines.
 
 use crate::error::ScriptError;
 use hex::FromHexError;
@@ -81,20 +79,5 @@ impl From<FromHexError> for LineError {
             FromHexError::OutOfMemory => LineError::Memory,
             _ => LineError::Bad,
         }
-    }
-}
-
-/// Reads a decimal number from `least` to `most`. Leading zeros are allowed.
-pub(crate) fn read_number(text: &str, least: u64, most: u64) -> Option<u64>
-    ensures { IfSome result (λ n. (least ≤ n) × (n ≤ most)) }
-{
-    if !text.bytes().all(|octet| octet.is_ascii_digit()) {
-        return None;
-    }
-    let number = text.parse::<u64>().ok()?;
-    if least <= number && number <= most {
-        Some(number)
-    } else {
-        None
     }
 }

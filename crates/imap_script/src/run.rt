@@ -4,7 +4,9 @@ use crate::error::ScriptError;
 use crate::scenario::Scenario;
 use crate::step::{Event, ScriptStep};
 use crate::transcript::Transcript;
-use imap_core::{Act, Core, SessionId, Step};
+use imap_core::{Act, SessionId, Step};
+use imap_hall::{Hall, HallError, Receipt};
+use imap_keeper::ListKeeper;
 use imap_lex::{Frame, Framer, LexError};
 use imap_print::{Farewell, Response};
 use std::alloc::Global;
@@ -20,7 +22,7 @@ pub(crate) fn run_scenario<O: Write + Drop>(
     let Scenario { start, steps } = scenario;
     let max_octets = start.max_octets();
     let mut run = Run {
-        core: start.open(alloc)?,
+        hall: start.open(alloc)?,
         max_octets,
         framers: HashMap::new(alloc),
         transcript: Transcript::new(alloc, output)?,
@@ -31,10 +33,10 @@ pub(crate) fn run_scenario<O: Write + Drop>(
     run.transcript.finish()
 }
 
-/// The machine, the framers of its connections, and the transcript.
+/// The hall, the framers of its connections, and the transcript.
 #[derive(Drop)]
 struct Run<O: Write + Drop> {
-    core: Core,
+    hall: Hall<ListKeeper>,
     /// The most octets that the literals of one command may have together.
     max_octets: u64,
     /// A framer for each open session, by its label.
@@ -54,14 +56,14 @@ impl<O: Write + Drop> Run<O> {
 
     /// Begins a stream, unless the session is refused.
     fn open(&mut self, alloc: Global, step: &ScriptStep) -> Result<(), ScriptError> {
-        let made = self.made(alloc, step, Act::Open)?;
-        if made.opens_session {
+        let replies = self.made(alloc, step, Act::Open)?;
+        if opens_session(replies.as_slice()) {
             let label = String::from_str(alloc, step.label.as_str())?;
             self.framers
                 .insert(label, Framer::new(alloc, self.max_octets))?;
         }
         self.transcript
-            .tell(alloc, step.label.as_str(), made.replies.as_slice())
+            .tell(alloc, step.label.as_str(), replies.as_slice())
     }
 
     fn leave(&mut self, alloc: Global, step: &ScriptStep) -> Result<(), ScriptError> {
@@ -139,45 +141,58 @@ impl<O: Write + Drop> Run<O> {
 
     /// Makes an act of an open session.
     fn act(&mut self, alloc: Global, step: &ScriptStep, act: Act) -> Result<(), ScriptError> {
-        let made = self.made(alloc, step, act)?;
-        if made.ends_session {
+        let replies = self.made(alloc, step, act)?;
+        if ends_session(replies.as_slice()) {
             self.framers.remove(step.label.as_str());
         }
         self.transcript
-            .tell(alloc, step.label.as_str(), made.replies.as_slice())
+            .tell(alloc, step.label.as_str(), replies.as_slice())
     }
 
-    /// Makes the act, and returns what came of it.
-    fn made(&mut self, alloc: Global, step: &ScriptStep, act: Act) -> Result<Made, ScriptError> {
+    /// Makes the act, and returns the replies.
+    fn made(
+        &mut self,
+        alloc: Global,
+        step: &ScriptStep,
+        act: Act,
+    ) -> Result<Vec<Response>, ScriptError> {
         let (who, act) = beside(&step.who, act)?;
         let step = Step {
             who,
             at: step.at,
             act,
         };
-        let made = self.made_of(alloc, &step);
+        let replies = self.replies_to(alloc, &step);
         drop(step);
-        made
+        replies
     }
 
-    fn made_of(&mut self, alloc: Global, step: &Step) -> Result<Made, ScriptError> {
-        let prepared = self.core.prepare(alloc, step)?;
-        let opens_session = prepared.opens_session();
-        let ends_session = prepared.ends_session();
-        Ok(Made {
-            replies: self.core.commit(prepared),
-            opens_session,
-            ends_session,
-        })
+    fn replies_to(&mut self, alloc: Global, step: &Step) -> Result<Vec<Response>, ScriptError> {
+        match self.hall.step(alloc, step) {
+            Ok(
+                Receipt {
+                    place: _,
+                    own: _,
+                    replies,
+                },
+            ) => Ok(replies),
+            // No script has as many steps as a journal has room for.
+            Err(HallError::Memory | HallError::Exhausted) => Err(ScriptError::Memory),
+        }
     }
 }
 
-/// What came of an act.
-#[derive(Drop)]
-struct Made {
-    replies: Vec<Response>,
-    opens_session: bool,
-    ends_session: bool,
+fn opens_session(replies: &[Response]) -> bool {
+    replies
+        .iter()
+        .any(|reply| matches!(reply, Response::Greeting))
+}
+
+/// A BYE ends the session (RFC 9051, section 7.1.5).
+fn ends_session(replies: &[Response]) -> bool {
+    replies
+        .iter()
+        .any(|reply| matches!(reply, Response::Bye(_)))
 }
 
 /// A copy of `who` beside `act`. It is generic, since the proof that a request is dropped is long.

@@ -2,7 +2,8 @@
 
 use crate::error::ScriptError;
 use crate::head::{Head, HeadWord, Start};
-use crate::line::{LineError, read_number};
+use crate::limits::read_number;
+use crate::line::LineError;
 use crate::step::ScriptStep;
 use imap_core::Moment;
 use std::alloc::Global;

@@ -1,6 +1,7 @@
 //! Step lines of a script.
 
-use crate::line::{LineError, read_number};
+use crate::limits::read_number;
+use crate::line::LineError;
 use imap_core::{Moment, SessionId, SessionNumber};
 use imap_names::UserName;
 use std::alloc::Global;
