@@ -1,0 +1,197 @@
+//! What a session writes, and how it ends.
+
+use crate::connection::{Behaviour, OCTETS, Sink, Source, WHOLE};
+use crate::wanted::expect;
+use imap_core::{Act, Moment, SessionId, SessionNumber};
+use imap_hall::Hall;
+use imap_keeper::{Keeper, ListKeeper};
+use imap_names::UserName;
+use imap_serve::{End, Gate, Moments, OpenGate, ServeError, Watched, serve};
+use imap_world::{Limits, World};
+use std::alloc::{AllocError, Global};
+use std::process::Abort;
+use std::sync::Wait;
+
+pub(crate) const LIMITS: Limits = Limits {
+    max_messages: 10_000,
+    max_octets: 33_554_432,
+};
+
+/// After how many quiet turns a session ends.
+const IDLE_TURNS: u64 = 3;
+
+/// A clock that stands.
+struct Standing;
+
+impl Moments for Standing {
+    fn now(&self) -> Moment {
+        Moment::epoch()
+    }
+}
+
+pub(crate) fn ann(alloc: Global) -> Result<UserName, AllocError> {
+    UserName::read(alloc, "ann")?.ok_or(AllocError)
+}
+
+/// ann's first session.
+fn session(alloc: Global) -> Result<SessionId, AllocError> {
+    let number = SessionNumber::new(1).ok_or(AllocError)?;
+    Ok(SessionId {
+        user: ann(alloc)?,
+        number,
+    })
+}
+
+/// What became of a session.
+#[derive(Debug, Drop)]
+pub(crate) struct Served {
+    pub(crate) written: Vec<u8>,
+    pub(crate) end: Result<End, ServeError>,
+}
+
+/// Serves ann's session over this text.
+pub(crate) fn serve_in<W: Wait + AllocGlobal, K: Keeper, G: Gate>(
+    rt: &W,
+    hall: &mut Hall<K>,
+    gate: &G,
+    text: &[u8],
+    behaviour: Behaviour,
+) -> Result<Served, AllocError> {
+    let alloc = rt.alloc();
+    let who = session(alloc)?;
+    let mut input = Watched::new(Source::new(text, behaviour));
+    let mut output = Watched::new(Sink::new(alloc, behaviour));
+    let end = serve(
+        rt,
+        alloc,
+        hall,
+        &who,
+        &Standing,
+        gate,
+        LIMITS.max_octets,
+        IDLE_TURNS,
+        &mut input,
+        &mut output,
+    );
+    let Sink { taken, .. } = output.into_inner();
+    Ok(Served {
+        written: taken,
+        end,
+    })
+}
+
+/// A new host whose administrator is ann, kept in memory.
+pub(crate) fn new_hall(alloc: Global) -> Result<Hall<ListKeeper>, AllocError> {
+    let administrator = ann(alloc)?;
+    let keeper = ListKeeper::new(World::new(alloc));
+    match Hall::open(alloc, keeper, administrator, &[], LIMITS) {
+        Ok(hall) => Ok(hall),
+        Err(_) => Err(AllocError),
+    }
+}
+
+/// The same in a new host. The session must have left.
+pub(crate) fn serve_anew<W: Wait + AllocGlobal>(
+    rt: &W,
+    text: &[u8],
+    behaviour: Behaviour,
+) -> Result<Served, AllocError> {
+    let mut hall = new_hall(rt.alloc())?;
+    let served = serve_in(rt, &mut hall, &OpenGate, text, behaviour);
+    let has_left = ends_with_leave(&hall);
+    drop(hall);
+    if has_left { served } else { Err(AllocError) }
+}
+
+pub(crate) fn ends_with_leave<K: Keeper>(hall: &Hall<K>) -> bool {
+    match hall.entries().last() {
+        Some(entry) => matches!(entry.step.act, Act::Leave),
+        None => false,
+    }
+}
+
+/// What was written, and how the session ended.
+pub(crate) fn shown(
+    alloc: Global,
+    served: Result<Served, AllocError>,
+) -> Result<Vec<u8>, AllocError> {
+    let Served { mut written, end } = served?;
+    let end = format!(in alloc; "{end:?}")?;
+    written.extend_from_slice(end.as_bytes())?;
+    Ok(written)
+}
+
+const GREETING: &[u8] =
+    b"* PREAUTH [CAPABILITY IMAP4rev2 ACL RIGHTS=texk CONDSTORE ENABLE IDLE QRESYNC] \
+    shared mailbox profile ready\r\n";
+
+/// Asserts that this stands after the greeting.
+pub(crate) fn expect_after_greeting(
+    rt: &(impl Abort + AllocGlobal),
+    made: Result<Vec<u8>, AllocError>,
+    wanted: &[u8],
+) {
+    match made {
+        Ok(octets) => match octets.strip_prefix(GREETING) {
+            Some(rest) => expect::<AllocError>(rt, Vec::from_slice(rt.alloc(), rest), wanted),
+            None => panic!(rt; "no greeting"),
+        },
+        Err(_) => panic!(rt; "out of memory"),
+    }
+}
+
+/// The behaviour of the connection, what is sent, and what is written and answered after the greeting.
+const ROWS: [(Behaviour, &[u8], &[u8]); 8] = [
+    (
+        WHOLE,
+        b"a1 NOOP\r\na2 LOGOUT\r\n",
+        b"a1 OK done\r\n* BYE logging out\r\na2 OK done\r\nOk(Closed)",
+    ),
+    (WHOLE, b"a1 NOOP\r\n", b"a1 OK done\r\nOk(InputEnded)"),
+    // What follows the end of a session is dropped.
+    (
+        WHOLE,
+        b"a1 LOGOUT\r\na2 NOOP\r\n",
+        b"* BYE logging out\r\na1 OK done\r\nOk(Closed)",
+    ),
+    (
+        OCTETS,
+        b"a1 MYRIGHTS {5}\r\nINBOX\r\n",
+        b"+ ready\r\n* MYRIGHTS INBOX lrswipkxtea\r\na1 OK done\r\nOk(InputEnded)",
+    ),
+    (
+        WHOLE,
+        b"a1 CREATE {4097+}\r\n",
+        b"* BYE limit reached\r\nOk(Closed)",
+    ),
+    (
+        Behaviour {
+            is_silent: true,
+            ..WHOLE
+        },
+        b"",
+        b"* BYE idle too long\r\nOk(Idle)",
+    ),
+    // A session that idles ends too.
+    (
+        Behaviour {
+            is_silent: true,
+            ..OCTETS
+        },
+        b"a1 IDLE\r\n",
+        b"+ idling\r\n* BYE idle too long\r\nOk(Idle)",
+    ),
+    (
+        OCTETS,
+        b"a1 IDLE\r\ndone\r\na2 NOOP\r\n",
+        b"+ idling\r\na1 OK done\r\na2 OK done\r\nOk(InputEnded)",
+    ),
+];
+
+#[test]
+fn sessions_are_served(rt: HostRuntime) {
+    for &(behaviour, text, wanted) in &ROWS {
+        let served = serve_anew(&rt, text, behaviour);
+        expect_after_greeting(&rt, shown(rt.alloc(), served), wanted);
+    }
+}
