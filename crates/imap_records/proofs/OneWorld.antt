@@ -28,7 +28,7 @@ use Rattle.imap_user_map.specs.Rows.{Users}
 use Rattle.imap_user_map.proofs.Entries.{same_answers}
 use Rattle.imap_world.specs.Effects.{if_filled}
 use Rattle.imap_world.specs.Mailbox.{Mailbox}
-use Rattle.imap_world.specs.Stored.{Subscriptions, filled_sets, names_in, world_of}
+use Rattle.imap_world.specs.Stored.{Subscriptions, filled_sets, names_in}
 use Rattle.imap_world.specs.World.{World, set_of, subscribed_by}
 use Rattle.imap_world.proofs.Sets.{get_filled, if_filled-empty, names_in_filled}
 use Rattle.imap_records.specs.Columns.{entry_values, epoch_values, gone_values, mark_values, message_values, row_of_mailbox, subscription_values, tree_text}
@@ -196,7 +196,7 @@ module _ (db : Trees) (s t : World) (ks : (q : Name) (m : Mailbox) → map.get s
   messages_also q m n hm hn ids x there =
       let h = below_also messages q m n hm hn ids (message_values (a.id q) x) (record { message = x; there = there; shown = refl }) in
       subst (λ (y : Message). Has n.messages.messages y)
-      (sym (same_message (a.id q) (b.id q) x h.message ((vs.mailboxes q m hm).messages x there) ((vt.mailboxes q n hn).messages h.message h.there) h.shown)) h.there
+      (sym (same_message (a.id q) (b.id q) x h.message ((vs.mailboxes q m hm).messages.messages x there) ((vt.mailboxes q n hn).messages.messages h.message h.there) h.shown)) h.there
 
   gone_also : (q : Name) (m n : Mailbox) → map.get s.mailboxes q ≡ Some m → map.get t.mailboxes q ≡ Some n → a.id q ≡ b.id q → (x : GoneMessage) → Has m.messages.gone x → Has n.messages.gone x
   gone_also q m n hm hn ids x there =
@@ -257,7 +257,7 @@ module _ (db : Trees) (s t : World) (ks : (q : Name) (m : Mailbox) → map.get s
         messages = record { messages = messages_are i; gone = gone_are i; next = o.next i; shared = o.shared i; own = own_are i };
       }))
 
-filled_again : (s : Subscriptions) (q : List ℕ) → map.get (filled_sets s) q ≡ if_filled (set_of (map.get (filled_sets s) q))
+pub filled_again : (s : Subscriptions) (q : List ℕ) → map.get (filled_sets s) q ≡ if_filled (set_of (map.get (filled_sets s) q))
 filled_again s q = get_filled s q ∙ by (map.get s.map q) ∙ ap if_filled (names_in_filled s q)
   where
     by : (o : Option (name.Rows (Unit {0}))) → option_and_then (λ (rows : name.Rows (Unit {0})). if_filled rows.map) o ≡ if_filled (names_in o)
@@ -265,14 +265,12 @@ filled_again s q = get_filled s q ∙ by (map.get s.map q) ∙ ap if_filled (nam
     by (Some rows) = refl
 
 pub stand_for_one : StandForOne
-stand_for_one db s t ks kt vs vt a b =
-    let x : World = world_of s in
-    let y : World = world_of t in
+stand_for_one db x y ks kt vs vt a b =
     let mailboxes = same_names x.mailboxes y.mailboxes (λ q. same_options (map.get x.mailboxes q) (map.get y.mailboxes q) (same_mailbox db x y ks.at kt.at vs vt a b q) (same_mailbox db y x kt.at ks.at vt vs b a q)) in
     let epochs = same_names x.epochs y.epochs (λ q. same_options (map.get x.epochs q) (map.get y.epochs q) (epochs_also db x y ks.at kt.at vs vt a b q) (epochs_also db y x kt.at ks.at vt vs b a q)) in
     let sets = λ (user : List ℕ). same_names (subscribed_by x user) (subscribed_by y user) (λ q. same_units (map.get (subscribed_by x user) q) (map.get (subscribed_by y user) q)
     (same_tests (map.contains_key (subscribed_by x user) q) (map.contains_key (subscribed_by y user) q) (names_also db x y ks.at kt.at vs vt a b user q) (names_also db y x kt.at ks.at vt vs b a user q))) in
-    let subscriptions = same_answers x.subscriptions y.subscriptions (λ user. filled_again s.subscriptions user ∙ ap if_filled (sets user) ∙ sym (filled_again t.subscriptions user)) in
+    let subscriptions = same_answers x.subscriptions y.subscriptions (λ user. vs.filled user ∙ ap if_filled (sets user) ∙ sym (vt.filled user)) in
     λ i. record { mailboxes = mailboxes i; epochs = epochs i; subscriptions = subscriptions i }
   where
     same_units : (o p : Option (Unit {0})) → is_some o ≡ is_some p → o ≡ p

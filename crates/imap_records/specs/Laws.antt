@@ -6,7 +6,6 @@ use Rattle.imap_records.specs.Standing.{StandFor}
 use Rattle.imap_records.specs.Values.{WorldHasValues}
 use Rattle.imap_tables.specs.Steps.{IsNewStore}
 use Rattle.imap_world.specs.Kept.{AreKept}
-use Rattle.imap_world.specs.Stored.{Stored, world_of}
 use Rattle.imap_world.specs.World.{World}
 
 -- new tables stand for the world without mailboxes
@@ -19,7 +18,6 @@ NewStoresStand =
 -- tables stand for one world at most
 abbrev pub StandForOne : Type 0
 StandForOne =
-    (db : Trees) (s t : Stored)
-    → AreKept (world_of s).mailboxes → AreKept (world_of t).mailboxes
-    → WorldHasValues (world_of s) → WorldHasValues (world_of t)
-    → StandFor db (world_of s) → StandFor db (world_of t) → world_of s ≡ world_of t
+    (db : Trees) (s t : World)
+    → AreKept s.mailboxes → AreKept t.mailboxes → WorldHasValues s → WorldHasValues t
+    → StandFor db s → StandFor db t → s ≡ t

@@ -11,6 +11,8 @@ ghost use Rattle.imap_records.specs.Columns.{tree_text};
 ghost use Rattle.imap_records.specs.Steps.{Below, acl_steps, arrival_steps, below_of, epoch_step};
 ghost use Rattle.imap_records.specs.Steps.{move_steps};
 ghost use Rattle.imap_records.specs.Steps.{step_of, steps_for, steps_in};
+ghost use Rattle.imap_records.specs.Values.{WriteHasValues};
+ghost use Rattle.imap_tables.specs.Stored.{IsShort};
 ghost use Rattle.imap_world.specs.declared.change.Write.TheVariants as write;
 
 use crate::columns::{key_of, text_with_front, tree_at};
@@ -53,9 +55,12 @@ pub(crate) fn push_mailbox(
     ensures rows { OnOk result (steps_in changes.new.items
         ≡ steps_in changes.old.items ++ steps_for (write.Put row.now)) }
     ensures valid { OnOk result (IsNamedWrite (write.Put row.now)) }
+    ensures values { OnOk result (WriteHasValues (write.Put row.now)) }
 {
     let name = row.name();
     let mailbox = row.mailbox();
+    // Each list is one.
+    let _ = mailbox.acl.len();
     let key = key_of(alloc, &name.as_ref())?;
     push(changes, RowChange::AddMailbox(key, mailbox.validity))?;
     push_list(changes, alloc, name, Vec::new(alloc), &mailbox.acl)?;
@@ -90,7 +95,10 @@ pub(crate) fn push_new_list(
     ensures rows { OnOk result (steps_in changes.new.items
         ≡ steps_in changes.old.items ++ steps_for (write.SetAcl name.now acl.now)) }
     ensures valid { OnOk result (IsNamedWrite (write.SetAcl name.now acl.now)) }
+    ensures values { OnOk result (WriteHasValues (write.SetAcl name.now acl.now)) }
 {
+    // Each list is one.
+    let _ = acl.len();
     let mut below = Vec::new(alloc);
     below.push(ChangeBelow::RemoveAcl)?;
     push_list(changes, alloc, name, below, acl)
@@ -134,6 +142,7 @@ fn push_moved(
     ensures rows { OnOk result (steps_in changes.new.items ≡ steps_in changes.old.items
         ++ move_steps (moved new.now old.now to.now) to.now validity) }
     ensures valid { OnOk result (IsName to.now) }
+    ensures short { IsShort validity }
 {
     let key = key_before(alloc, to, old, new)?;
     let path = String::from_str(alloc, to.path())?;
@@ -153,6 +162,7 @@ pub(crate) fn push_arrivals(
     ensures rows { OnOk result (steps_in changes.new.items
         ≡ steps_in changes.old.items ++ arrival_steps old.now new.now arrivals.now) }
     ensures valid { OnOk result (IsNamedWrite (write.Move old.now new.now arrivals.now)) }
+    ensures values { OnOk result (WriteHasValues (write.Move old.now new.now arrivals.now)) }
 {
     for arrival in arrivals {
         push_moved(changes, alloc, &arrival.0, arrival.1, old, new)?;

@@ -2,3 +2,27 @@ mod Full
 mod Words
 mod Kept
 mod Zipped
+mod Matching
+mod Forms
+mod Unique
+pub mod Listed
+mod TableRows
+mod Owners
+mod Children
+mod Marks
+mod Standing
+mod Held
+mod Orderly
+mod Known
+mod Restored
+mod Made
+mod Keyed
+mod Rowids
+mod Shown
+mod Same
+mod Told
+mod Parted
+mod Flat
+mod Again
+mod Whole
+mod Refused

@@ -1,1 +1,3 @@
 pub mod Restored
+pub mod Parts
+pub mod Holding

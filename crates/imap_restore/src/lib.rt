@@ -5,11 +5,16 @@
 
 mod below;
 mod lists;
+mod making;
 mod names;
+mod parts;
+mod restoring;
 mod rows;
 mod values;
 
 pub use below::{Restore, read_below};
 pub use lists::{read_epochs, read_subscriptions};
 pub use names::read_key;
+pub use parts::read_parts;
+pub use restoring::restore;
 pub use rows::{read_change, read_entry, read_gone, read_message};

@@ -20,5 +20,7 @@ mod Found
 mod Read
 mod Chain
 mod Utf8
-mod Zipped
+pub mod Zipped
 mod Distinct
+mod Eight
+mod Few

@@ -174,7 +174,7 @@ abbrev pub HasReadTo : (n : ℕ) (old now : State) (tables : List (Vec Row Globa
 HasReadTo n old now tables =
     Survives old now (λ _. ⊥) × HasSchema store_schema now
     × (HasCleanDisk now → AreAllRead n old.now.trees tables × (now.now.trees ≡ old.now.trees)
-    × (IsTrue now.is_open → now.committed ≡ old.committed) × IsTrue now.in_transaction)
+    × KeepsCommit old now × IsTrue now.in_transaction × (0 < n → IsTrue old.is_open))
 
 pub reads_on : (n : ℕ) (old mid new : State) (tables all : List (Vec Row Global)) (rows : Vec Row Global) → HasReadTo n old mid tables
     → IsCall mid new (AreRead n mid.now.trees rows.items × IsUnchanged mid new) → all ≡ tables ++ rows ∷ [] → HasReadTo (n + 1) old new all
@@ -190,8 +190,9 @@ reads_on n old mid new tables all rows h call is = (
       let it = call.made clean was.3 in (
         subst (AreAllRead (n + 1) old.now.trees) (sym is) (next_read n old.now.trees tables rows was.0 (subst (λ db. AreRead n db rows.items) was.1 it.0)),
         ap (λ (d : Database). d.trees) it.1.0.now_is ∙ was.1,
-        λ live. it.1.0.committed_is ∙ was.2 it.1.0.was_open,
+        record { was_open = λ live. was.2.was_open it.1.0.was_open; committed = λ live. it.1.0.committed_is ∙ was.2.committed it.1.0.was_open },
         subst IsTrue (sym it.1.0.mode) was.3,
+        λ some. was.2.was_open it.1.0.was_open,
       ),
 )
   where

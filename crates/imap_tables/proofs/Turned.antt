@@ -33,7 +33,7 @@ turned old new sql params Makes r store survives runs makes = record {
     by (Err e) clean h = tt
     by (Ok count) clean h =
         let it = makes count (store clean h.1.was_open) h.0 in
-        record { made = λ order. let done = it.made (order h.1.was_open) in (done.0, λ live. done.1); schema = λ late live. it.schema; mode = h.1.mode }
+        record { was_open = h.1.was_open; made = λ order. let done = it.made (order h.1.was_open) in (done.0, λ live. done.1); schema = λ late live. it.schema; mode = h.1.mode }
 
 pub on_ok : {X E A B : Type 0} (r : Result X E) → (A → B) → OnOk r A → OnOk r B
 on_ok (Ok x) f a = f a

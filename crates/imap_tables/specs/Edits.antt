@@ -5,7 +5,7 @@ use Rattle.sqlite.specs.Order.{Row, column}
 use Rattle.sqlite.specs.Table.{Table}
 use Rattle.sqlite.specs.Tree.{Trees, has_rowid}
 use Rattle.sqlite_rules.specs.Lists.{Has}
-use Rattle.imap_tables.specs.Tables.{store_tables, tables_below}
+use Rattle.imap_tables.specs.Tables.{epoch_tree, mailbox_tree, meta_tree, store_tables, sub_tree, tables_below}
 
 module _ (old new : Trees) where
   abbrev pub KeepsOthers : (tree : ℕ) → Type 0
@@ -36,16 +36,16 @@ module _ (old new : Trees) where
 
   -- the row is below a mailbox with P
   abbrev pub IsUnder : (P : Row → Type 0) → Row → Type 0
-  IsUnder P row = (parent : Row) × Has (old 0) parent × P parent × (column row 1 ≡ column parent 0)
+  IsUnder P row = (parent : Row) × Has (old mailbox_tree) parent × P parent × (column row 1 ≡ column parent 0)
 
   -- each mailbox with P goes, with all that is below it
   pub record RemovesMailboxes (P : Row → Type 0) : Type 0 where
-    pub left : (row : Row) → Has (new 0) row ↔ (Has (old 0) row × ¬ P row)
+    pub left : (row : Row) → Has (new mailbox_tree) row ↔ (Has (old mailbox_tree) row × ¬ P row)
     pub below : (table : Table) → Has tables_below table
         → (row : Row) → Has (new table.tree) row ↔ (Has (old table.tree) row × ¬ IsUnder P row)
-    pub epochs : new 10 ≡ old 10
-    pub subs : new 12 ≡ old 12
-    pub meta : new 14 ≡ old 14
+    pub epochs : new epoch_tree ≡ old epoch_tree
+    pub subs : new sub_tree ≡ old sub_tree
+    pub meta : new meta_tree ≡ old meta_tree
 
 -- the row of a mailbox has this name
 abbrev pub IsNamed : (tree path : List ℕ) → Row → Type 0
@@ -65,12 +65,12 @@ HasId mailbox row = column row 0 ≡ Int mailbox
 
 -- this is the id of the mailbox with this name
 abbrev pub IsIdOf : (db : Trees) (tree path : List ℕ) (id : ℤ) → Type 0
-IsIdOf db tree path id = (row : Row) × Has (db 0) row × IsNamed tree path row × HasId id row
+IsIdOf db tree path id = (row : Row) × Has (db mailbox_tree) row × IsNamed tree path row × HasId id row
 
 -- the row shows it
 abbrev pub ShowsId : (db : Trees) (tree path : List ℕ) (shown : Row) → Type 0
 ShowsId db tree path shown =
-    (row : Row) × Has (db 0) row × IsNamed tree path row × (shown ≡ column row 0 ∷ [])
+    (row : Row) × Has (db mailbox_tree) row × IsNamed tree path row × (shown ≡ column row 0 ∷ [])
 
 -- the row is of the UIDVALIDITYs under this name
 abbrev pub IsEpochOf : (tree path : List ℕ) → Row → Type 0

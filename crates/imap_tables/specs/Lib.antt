@@ -6,3 +6,4 @@ pub mod Steps
 pub mod Reading
 pub mod Changes
 pub mod Stored
+pub mod Contents

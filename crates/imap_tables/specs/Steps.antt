@@ -10,12 +10,16 @@ use Rattle.sqlite.specs.Tree.{Trees}
 use Rattle.sqlite_rules.specs.Lists.{Has}
 use Rattle.sqlite_trees.specs.declared.store.Store.{Ghosts}
 use Rattle.imap_tables.specs.Rows.{IsOrderly, meta_row}
-use Rattle.imap_tables.specs.Tables.{store_schema, store_tables}
+use Rattle.imap_tables.specs.Tables.{meta_tree, store_schema, store_tables}
 use Rattle.imap_tables.specs.Texts.{schema_at}
 
 -- while the disk returns what was written, an open connection has the schema
 abbrev pub HasSchema : Schema → State → Type 0
 HasSchema schema s = HasCleanDisk s → IsTrue s.is_open → s.now.schema ≡ schema
+
+-- while the disk returns what was written, the connection is open
+abbrev pub IsLive : State → Type 0
+IsLive s = HasCleanDisk s → IsTrue s.is_open
 
 -- a transaction has begun, and goes on while the disk returns what was written
 abbrev pub IsBegun : State → Type 0
@@ -35,8 +39,9 @@ Calls g old new Made = IsCall (state g old) (state g new) (Made (state g old) (s
 abbrev pub HasOrder : State → Type 0
 HasOrder s = IsTrue s.is_open → IsOrderly s.now.trees
 
--- tables that are in order stay so, and Makes is done to them; the transaction goes on
+-- the connection is open: tables that are in order stay so, and Makes is done to them; the transaction goes on
 pub record Turns (Makes : Trees → Trees → Type 0) (old new : State) : Type 0 where
+  pub was_open : IsTrue old.is_open
   pub made : HasOrder old → Makes old.now.trees new.now.trees × HasOrder new
   pub schema : HasSchema store_schema new
   pub mode : IsTrue new.in_transaction
@@ -53,6 +58,7 @@ pub record Saves (Makes : Trees → Trees → Type 0) (old new : State) : Type 0
   pub orderly : IsOrderly new.now.trees
   pub schema : new.now.schema ≡ store_schema
   pub committed : new.committed ≡ new.now
+  pub was_open : IsTrue old.is_open
   pub is_open : IsTrue new.is_open
 
 -- nothing was committed, and what was done is undone
@@ -84,8 +90,8 @@ store_version = 1
 
 -- the tables have a version, and no other row
 pub record IsNewStore (db : Trees) : Type 0 where
-  pub version : (id : ℤ) × Has (db 14) (meta_row (codes "version") store_version id)
-  pub only : (row : Row) → Has (db 14) row → (id : ℤ) × (row ≡ meta_row (codes "version") store_version id)
+  pub version : (id : ℤ) × Has (db meta_tree) (meta_row (codes "version") store_version id)
+  pub only : (row : Row) → Has (db meta_tree) row → (id : ℤ) × (row ≡ meta_row (codes "version") store_version id)
   pub empty : AreEmpty (take 7 store_tables) db
 
 -- and they are made inside a transaction

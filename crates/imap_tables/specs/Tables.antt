@@ -11,6 +11,34 @@ use Rattle.sqlite_schema.specs.declared.schema.Action.TheVariants.{Cascade, NoAc
 use Rattle.sqlite_schema.specs.declared.schema.Reference.{Reference}
 use Rattle.sqlite_schema.specs.declared.schema.Index.{Index}
 
+-- ---- the trees of the tables; the one after each is that of its index
+
+abbrev pub mailbox_tree : ℕ
+mailbox_tree = 0
+
+abbrev pub acl_tree : ℕ
+acl_tree = 2
+
+abbrev pub message_tree : ℕ
+message_tree = 4
+
+abbrev pub gone_tree : ℕ
+gone_tree = 6
+
+abbrev pub mark_tree : ℕ
+mark_tree = 8
+
+abbrev pub epoch_tree : ℕ
+epoch_tree = 10
+
+abbrev pub sub_tree : ℕ
+sub_tree = 12
+
+abbrev pub meta_tree : ℕ
+meta_tree = 14
+
+-- ---- the tables
+
 abbrev pub column_of : Kind → List ℕ → Column
 column_of kind name = record {
   name = name;
@@ -53,7 +81,7 @@ id_column = record {
 abbrev pub mailbox_table : Table
 mailbox_table = record {
   name = codes "mailbox";
-  tree = 0;
+  tree = mailbox_tree;
   columns = id_column ∷ column_of Text (codes "tree") ∷ column_of Text (codes "path")
       ∷ column_of Integer (codes "validity") ∷ column_of Integer (codes "uidnext")
       ∷ column_of Integer (codes "shared") ∷ [];
@@ -87,13 +115,13 @@ child_table name tree columns key =
 -- an entry of an access control list
 abbrev pub acl_table : Table
 acl_table =
-    child_table (codes "acl") 2
+    child_table (codes "acl") acl_tree
     (column_of Text (codes "identifier") ∷ column_of Integer (codes "rights") ∷ []) (2 ∷ [])
 
 -- a message that is there
 abbrev pub message_table : Table
 message_table =
-    child_table (codes "message") 4
+    child_table (codes "message") message_tree
     (column_of Integer (codes "uid") ∷ column_of Text (codes "date") ∷ column_of Blob (codes "octets")
     ∷ column_of Integer (codes "flags") ∷ column_of Text (codes "keywords")
     ∷ column_of Integer (codes "place") ∷ []) (2 ∷ [])
@@ -101,34 +129,34 @@ message_table =
 -- a message that was expunged
 abbrev pub gone_table : Table
 gone_table =
-    child_table (codes "gone") 6
+    child_table (codes "gone") gone_tree
     (column_of Integer (codes "uid") ∷ column_of Integer (codes "place") ∷ []) (2 ∷ [])
 
 -- a user's change of his own \Seen
 abbrev pub mark_table : Table
 mark_table =
-    child_table (codes "mark") 8
+    child_table (codes "mark") mark_tree
     (column_of Text (codes "user") ∷ column_of Integer (codes "own") ∷ column_of Integer (codes "before")
     ∷ column_of Integer (codes "uid") ∷ column_of Integer (codes "seen") ∷ []) (2 ∷ 3 ∷ [])
 
 -- the greatest UIDVALIDITY that was used under a name
 abbrev pub epoch_table : Table
 epoch_table =
-    table_of (codes "epoch") 10
+    table_of (codes "epoch") epoch_tree
     (column_of Text (codes "tree") ∷ column_of Text (codes "path")
     ∷ column_of Integer (codes "greatest") ∷ []) (1 ∷ 2 ∷ []) []
 
 -- a name to which a user subscribed
 abbrev pub sub_table : Table
 sub_table =
-    table_of (codes "sub") 12
+    table_of (codes "sub") sub_tree
     (column_of Text (codes "user") ∷ column_of Text (codes "tree") ∷ column_of Text (codes "path") ∷ [])
     (1 ∷ 2 ∷ 3 ∷ []) []
 
 -- what is said of the store as a whole
 abbrev pub meta_table : Table
 meta_table =
-    table_of (codes "meta") 14 (column_of Text (codes "key") ∷ column_of Integer (codes "value") ∷ [])
+    table_of (codes "meta") meta_tree (column_of Text (codes "key") ∷ column_of Integer (codes "value") ∷ [])
     (1 ∷ []) []
 
 abbrev pub index_of : List ℕ → ℕ → ℕ → List ℕ → Index
@@ -148,14 +176,14 @@ store_tables =
 
 abbrev pub store_indexes : List Index
 store_indexes =
-    index_of (codes "sqlite_autoindex_mailbox_1") 1 0 (2 ∷ 3 ∷ [])
-    ∷ index_of (codes "sqlite_autoindex_acl_1") 3 2 (1 ∷ 2 ∷ [])
-    ∷ index_of (codes "sqlite_autoindex_message_1") 5 4 (1 ∷ 2 ∷ [])
-    ∷ index_of (codes "sqlite_autoindex_gone_1") 7 6 (1 ∷ 2 ∷ [])
-    ∷ index_of (codes "sqlite_autoindex_mark_1") 9 8 (1 ∷ 2 ∷ 3 ∷ [])
-    ∷ index_of (codes "sqlite_autoindex_epoch_1") 11 10 (1 ∷ 2 ∷ [])
-    ∷ index_of (codes "sqlite_autoindex_sub_1") 13 12 (1 ∷ 2 ∷ 3 ∷ [])
-    ∷ index_of (codes "sqlite_autoindex_meta_1") 15 14 (1 ∷ []) ∷ []
+    index_of (codes "sqlite_autoindex_mailbox_1") 1 mailbox_tree (2 ∷ 3 ∷ [])
+    ∷ index_of (codes "sqlite_autoindex_acl_1") 3 acl_tree (1 ∷ 2 ∷ [])
+    ∷ index_of (codes "sqlite_autoindex_message_1") 5 message_tree (1 ∷ 2 ∷ [])
+    ∷ index_of (codes "sqlite_autoindex_gone_1") 7 gone_tree (1 ∷ 2 ∷ [])
+    ∷ index_of (codes "sqlite_autoindex_mark_1") 9 mark_tree (1 ∷ 2 ∷ 3 ∷ [])
+    ∷ index_of (codes "sqlite_autoindex_epoch_1") 11 epoch_tree (1 ∷ 2 ∷ [])
+    ∷ index_of (codes "sqlite_autoindex_sub_1") 13 sub_tree (1 ∷ 2 ∷ 3 ∷ [])
+    ∷ index_of (codes "sqlite_autoindex_meta_1") 15 meta_tree (1 ∷ []) ∷ []
 
 abbrev pub store_schema : Schema
 store_schema = record { tables = store_tables; indexes = store_indexes; views = [] }

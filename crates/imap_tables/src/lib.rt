@@ -5,13 +5,16 @@
 #![tactic(auto)]
 
 mod changes;
+mod columns;
 mod deletes;
 mod finding;
 mod inserts;
 mod making;
 mod reading;
 mod saving;
+mod schema;
 mod stored;
+mod tables;
 mod updates;
 
 pub use changes::{ChangeBelow, FlagsRow, MailboxKey, MarkRow, MessageRow, RowChange};
@@ -22,10 +25,12 @@ pub use inserts::{
     insert_meta, insert_subscription,
 };
 pub use making::{STORE_VERSION, make_store};
-pub use reading::read_tables;
+pub use reading::{check_open, read_meta, read_tables};
 pub use saving::save_rows;
+pub use schema::{is_blank, is_store};
 pub use stored::{
     Stored, StoredEntry, StoredEpoch, StoredGone, StoredMailbox, StoredMark, StoredMessage,
     StoredMeta, StoredSubscription, read_rows,
 };
+pub use tables::{StoredTables, are_all_apart, read_stored};
 pub use updates::{count_mailbox, flag_message, move_mailbox};

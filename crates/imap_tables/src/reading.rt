@@ -1,11 +1,11 @@
 //! The rows of all tables, as they are read.
 
-ghost use Rattle.std.specs.Prelude.{◌<◌, ◌≡◌, IfOk, false, IsTrue};
+ghost use Rattle.std.specs.Prelude.{◌<◌, ◌≡◌, IfOk, false, IsTrue, OnOk};
 ghost use Rattle.imap_tables.specs.Reading.{AreAllRead, AreRead, select_at};
-ghost use Rattle.imap_tables.specs.Steps.{Calls, HasSchema};
+ghost use Rattle.imap_tables.specs.Steps.{Calls, HasSchema, IsBack};
 ghost use Rattle.imap_tables.specs.Tables.{store_schema};
 ghost use Rattle.sqlite.specs.Held.{state};
-ghost use Rattle.sqlite.specs.State.{HasCleanDisk, IsUnchanged, Survives};
+ghost use Rattle.sqlite.specs.State.{HasCleanDisk, IsUnchanged, KeepsCommit, Survives};
 
 use sqlite::{Alter, Connection, Error, Row, Transaction};
 use std::alloc::Global;
@@ -46,9 +46,10 @@ fn read_all<S: Alter>(tx: &mut Transaction<'_, S>, alloc: Global) -> Result<Vec<
     ensures same_reference { tx.new.conn.ghost_name ≡ tx.old.conn.ghost_name }
     ensures read { HasCleanDisk (state S.Store tx.new.conn.now)
         → IfOk result (λ tables. AreAllRead 8 (state S.Store tx.old.conn.now).now.trees tables.items) }
+    ensures was_open { HasCleanDisk (state S.Store tx.new.conn.now)
+        → OnOk result (IsTrue (state S.Store tx.old.conn.now).is_open) }
     ensures kept { HasCleanDisk (state S.Store tx.new.conn.now)
-        → IsTrue (state S.Store tx.new.conn.now).is_open
-        → (state S.Store tx.new.conn.now).committed ≡ (state S.Store tx.old.conn.now).committed }
+        → KeepsCommit (state S.Store tx.old.conn.now) (state S.Store tx.new.conn.now) }
     ensures survives { Survives (state S.Store tx.old.conn.now) (state S.Store tx.new.conn.now) (λ _. ⊥) }
 {
     let mut tables = Vec::new(alloc);
@@ -68,9 +69,9 @@ pub fn read_tables<S: Alter>(
     requires autocommit { conn.old.in_transaction ≡ false }
     ensures read { HasCleanDisk (state S.Store conn.new)
         → IfOk result (λ tables. AreAllRead 8 (state S.Store conn.old).now.trees tables.items) }
+    ensures was_open { HasCleanDisk (state S.Store conn.new) → OnOk result (IsTrue (state S.Store conn.old).is_open) }
     ensures kept { HasCleanDisk (state S.Store conn.new) → IsTrue (state S.Store conn.new).is_open
-        → ((state S.Store conn.new).committed ≡ (state S.Store conn.old).committed)
-        × ((state S.Store conn.new).now ≡ (state S.Store conn.old).committed) }
+        → IsBack (state S.Store conn.old) (state S.Store conn.new) }
     ensures autocommit { conn.new.in_transaction ≡ false }
     ensures crash { Survives (state S.Store conn.old) (state S.Store conn.new) (λ _. ⊥) }
 {
@@ -78,4 +79,46 @@ pub fn read_tables<S: Alter>(
     let tables = read_all(&mut tx, alloc)?;
     tx.rollback();
     Ok(tables)
+}
+
+/// Reads the rows of the table `meta`. Changes nothing.
+pub fn read_meta<S: Alter>(conn: &mut Connection<S>) -> Result<Vec<Row>, Error>
+    requires schema { HasSchema store_schema (state S.Store conn.old) }
+    requires autocommit { conn.old.in_transaction ≡ false }
+    ensures read { HasCleanDisk (state S.Store conn.new)
+        → IfOk result (λ rows. AreRead 7 (state S.Store conn.old).now.trees rows.items) }
+    ensures was_open { HasCleanDisk (state S.Store conn.new) → OnOk result (IsTrue (state S.Store conn.old).is_open) }
+    ensures kept { HasCleanDisk (state S.Store conn.new) → IsTrue (state S.Store conn.new).is_open
+        → IsBack (state S.Store conn.old) (state S.Store conn.new) }
+    ensures autocommit { conn.new.in_transaction ≡ false }
+    ensures crash { Survives (state S.Store conn.old) (state S.Store conn.new) (λ _. ⊥) }
+{
+    let mut tx = conn.transaction();
+    let rows = read_table(&mut tx, 7)?;
+    tx.rollback();
+    Ok(rows)
+}
+
+/// Understands a text, which an open connection does.
+fn understand<S: Alter>(tx: &mut Transaction<'_, S>) -> Result<(), Error>
+    ensures same_reference { tx.new.conn.ghost_name ≡ tx.old.conn.ghost_name }
+    ensures call { Calls S.Store tx.old.conn.now tx.new.conn.now (λ old new. OnOk result (IsUnchanged old new)) }
+{
+    tx.prepare("SELECT 1")?;
+    Ok(())
+}
+
+/// Fails if the connection is shut. Changes nothing.
+pub fn check_open<S: Alter>(conn: &mut Connection<S>) -> Result<(), Error>
+    requires autocommit { conn.old.in_transaction ≡ false }
+    ensures was_open { HasCleanDisk (state S.Store conn.new) → OnOk result (IsTrue (state S.Store conn.old).is_open) }
+    ensures kept { HasCleanDisk (state S.Store conn.new) → IsTrue (state S.Store conn.new).is_open
+        → IsBack (state S.Store conn.old) (state S.Store conn.new) }
+    ensures autocommit { conn.new.in_transaction ≡ false }
+    ensures crash { Survives (state S.Store conn.old) (state S.Store conn.new) (λ _. ⊥) }
+{
+    let mut tx = conn.transaction();
+    understand(&mut tx)?;
+    tx.rollback();
+    Ok(())
 }

@@ -1,9 +1,9 @@
 //! Changes of rows are made.
 
-ghost use Rattle.std.specs.Prelude.{◌≡◌, false, Err, IsOk, IsTrue, MatchResult, OnErr, OnOk};
+ghost use Rattle.std.specs.Prelude.{◌≡◌, ◌≢◌, [], false, Err, IsOk, IsTrue, MatchResult, OnErr, OnOk};
 ghost use Rattle.imap_tables.specs.Changes.{Makes, MakesAll, MakesAllBelow, MakesBelow, MakesUnder};
 ghost use Rattle.imap_tables.specs.Changes.{PutsEpoch, PutsSubscription};
-ghost use Rattle.imap_tables.specs.Steps.{Calls, HasSchema, IsBack, IsBegun, IsStore, Saves, Turns};
+ghost use Rattle.imap_tables.specs.Steps.{Calls, HasSchema, IsBack, IsBegun, IsLive, IsStore, Saves, Turns};
 ghost use Rattle.imap_tables.specs.Tables.{store_schema};
 ghost use Rattle.sqlite.specs.Held.{state};
 ghost use Rattle.sqlite.specs.State.{HasCleanDisk, Survives};
@@ -71,6 +71,7 @@ fn make_all_below<S: Alter>(
 ) -> Result<(), Error>
     requires schema { HasSchema store_schema (state S.Store tx.old.conn.now) }
     requires begun { IsBegun (state S.Store tx.old.conn.now) }
+    requires live { IsLive (state S.Store tx.old.conn.now) }
     ensures same_reference { tx.new.conn.ghost_name ≡ tx.old.conn.ghost_name }
     ensures call { Calls S.Store tx.old.conn.now tx.new.conn.now (λ old new.
         OnOk result (Turns (MakesAllBelow mailbox.now changes.now) old new)) }
@@ -168,6 +169,7 @@ fn make_change<S: Alter>(tx: &mut Transaction<'_, S>, change: &RowChange) -> Res
 
 /// Makes changes in turn.
 fn make_changes<S: Alter>(tx: &mut Transaction<'_, S>, changes: &[RowChange]) -> Result<(), Error>
+    requires some { changes.now ≢ [] }
     requires schema { HasSchema store_schema (state S.Store tx.old.conn.now) }
     requires begun { IsBegun (state S.Store tx.old.conn.now) }
     ensures same_reference { tx.new.conn.ghost_name ≡ tx.old.conn.ghost_name }
@@ -182,6 +184,7 @@ fn make_changes<S: Alter>(tx: &mut Transaction<'_, S>, changes: &[RowChange]) ->
 
 /// Makes changes in one transaction. If it fails, none is made.
 pub fn save_rows<S: Alter>(conn: &mut Connection<S>, changes: &[RowChange]) -> Result<(), Error>
+    requires some { changes.now ≢ [] }
     requires store { IsStore (state S.Store conn.old) }
     requires autocommit { conn.old.in_transaction ≡ false }
     ensures after { HasCleanDisk (state S.Store conn.new)
@@ -191,8 +194,8 @@ pub fn save_rows<S: Alter>(conn: &mut Connection<S>, changes: &[RowChange]) -> R
     ensures autocommit { conn.new.in_transaction ≡ false }
     ensures alone { HasCleanDisk (state S.Store conn.new) → OnOk result ((db : Trees)
         → (state S.Store conn.new).may_leave db → db ≡ (state S.Store conn.new).committed.trees) }
-    ensures crash { Survives (state S.Store conn.old) (state S.Store conn.new)
-        (MakesAll changes.now (state S.Store conn.old).now.trees) }
+    ensures crash { Survives (state S.Store conn.old) (state S.Store conn.new) (λ db.
+        IsTrue (state S.Store conn.old).is_open × MakesAll changes.now (state S.Store conn.old).now.trees db) }
 {
     let mut tx = conn.transaction();
     make_changes(&mut tx, changes)?;

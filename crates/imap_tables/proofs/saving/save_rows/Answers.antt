@@ -1,4 +1,4 @@
-use Rattle.std.proofs.Common.{◌≡◌, rules, true, OnOk, refl, subst}
+use Rattle.std.proofs.Common.{◌≡◌, rules, true, IsTrue, OnOk, refl, subst}
 use Rattle.sqlite.specs.Tree.{Trees}
 use Rattle.sqlite.specs.State.{HasCleanDisk, Survives}
 use Rattle.sqlite.specs.Held.{state}
@@ -26,6 +26,7 @@ returns-clause-crash g c =
     let P = MakesAll c.args.changes.now in
     let call : IsCall (state g.S.Store begun) (state g.S.Store mid) (Turns P (state g.S.Store begun) (state g.S.Store mid)) =
     subst (λ h. IsCall (state g.S.Store h) (state g.S.Store mid) (Turns P (state g.S.Store h) (state g.S.Store mid))) c.transaction-tx.ensures.begun c.in_ok-make_changes.ensures.call in
-    subst (λ h. Survives (state g.S.Store start) (state g.S.Store h) (P (state g.S.Store start).now.trees)) same
-    (survives_begin g.S.Store start (state g.S.Store end) (P (state g.S.Store start).now.trees)
+    let Q : Trees → Type 0 = λ db. IsTrue (state g.S.Store start).is_open × P (state g.S.Store start).now.trees db in
+    subst (λ h. Survives (state g.S.Store start) (state g.S.Store h) Q) same
+    (survives_begin g.S.Store start (state g.S.Store end) Q
     (saves_whole P (state g.S.Store begun) (state g.S.Store mid) (state g.S.Store end) c.requires.store (λ _. refl) call c.commit.ensures.survives))

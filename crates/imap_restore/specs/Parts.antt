@@ -1,0 +1,112 @@
+-- What a store keeps of a world, by its tables.
+use Rattle.std.specs.Prelude.{◌≡◌, ℕ, ℤ, pos, Bool, true, List, filter, string_bytes}
+use Rattle.std.specs.List.{AllByRecursion, AllZip, list_all}
+use Rattle.std.specs.Ordering.{int_eq}
+use Rattle.std.specs.Str.{is_utf8}
+use Rattle.sqlite_rules.specs.Lists.{Has}
+use Rattle.imap_mailbox.specs.declared.message.GoneMessage.{GoneMessage}
+use Rattle.imap_mailbox.specs.declared.message.Message.{Message}
+use Rattle.imap_mailbox.specs.declared.parts.MailboxParts.{MailboxParts}
+use Rattle.imap_mailbox.specs.UserChange.{UserChange}
+use Rattle.imap_names.specs.Name.{Name}
+use Rattle.imap_names.specs.Valid.{IsName}
+use Rattle.imap_restore.specs.Restored.{HasKeyOf, HasRights, IsAnEntry, IsEpochFor, IsFit, IsGoneFor}
+use Rattle.imap_restore.specs.Restored.{IsMarkFor, IsRowFor, IsSubscriptionFor}
+use Rattle.imap_rights.specs.declared.acl.Entry.{Entry}
+use Rattle.imap_tables.specs.declared.stored.StoredEntry.{StoredEntry}
+use Rattle.imap_tables.specs.declared.stored.StoredGone.{StoredGone}
+use Rattle.imap_tables.specs.declared.stored.StoredMailbox.{StoredMailbox}
+use Rattle.imap_tables.specs.declared.stored.StoredMark.{StoredMark}
+use Rattle.imap_tables.specs.declared.stored.StoredMessage.{StoredMessage}
+use Rattle.imap_tables.specs.declared.tables.StoredTables.{StoredTables}
+use Rattle.imap_world.specs.Subscription.{Subscription}
+use Rattle.imap_world.specs.declared.world_parts.MailboxRow.{MailboxRow}
+use Rattle.imap_world.specs.declared.world_parts.WorldParts.{WorldParts}
+
+-- ---- of a row below a mailbox
+
+abbrev pub IsEntryFor : StoredEntry → Entry → Type 0
+IsEntryFor row it = HasRights (string_bytes row.identifier) row.rights it × IsAnEntry it
+
+abbrev pub IsMessageFor : StoredMessage → Message → Type 0
+IsMessageFor row it = IsRowFor row.row it × IsFit it
+
+abbrev pub IsGoneMessageFor : StoredGone → GoneMessage → Type 0
+IsGoneMessageFor row it = IsGoneFor row.uid row.place it
+
+abbrev pub IsChangeFor : StoredMark → UserChange → Type 0
+IsChangeFor row it = IsMarkFor row.row it × (is_utf8 it.user ≡ true)
+
+-- of the rows those below the mailbox with this id
+abbrev pub below : {R : Type 0} → (mailbox : R → ℤ) → (id : ℤ) → List R → List R
+below mailbox id rows = filter (λ row. int_eq (mailbox row) id) rows
+
+-- ---- of a mailbox
+
+module _ (t : StoredTables) (s : StoredMailbox) where
+  pub record AreOf (parts : MailboxParts) : Type 0 where
+    pub next : parts.next ≡ s.uidnext
+    pub shared : pos parts.shared ≡ s.shared
+    pub messages : AllZip IsMessageFor (below (λ r. r.mailbox) s.id t.messages.items) parts.messages.items
+    pub gone : AllZip IsGoneMessageFor (below (λ r. r.mailbox) s.id t.gone.items) parts.gone.items
+    pub own : AllZip IsChangeFor (below (λ r. r.mailbox) s.id t.marks.items) parts.own.items
+
+  pub record IsMailboxFor (row : MailboxRow) : Type 0 where
+    pub name : HasKeyOf s.key row.name × IsName row.name
+    pub validity : row.validity ≡ s.validity
+    pub acl : AllZip IsEntryFor (below (λ r. r.mailbox) s.id t.entries.items) row.acl.items
+    pub messages : AreOf row.messages
+
+-- ---- of all
+
+-- each row is below a mailbox whose id passes the test
+abbrev pub AreKnown : {R : Type 0} → (mailbox : R → ℤ) → (test : ℤ → Bool) → List R → Type 0
+AreKnown mailbox test rows = list_all (λ row. test (mailbox row)) rows ≡ true
+
+-- a mailbox has the id
+abbrev pub IsOneOf : List StoredMailbox → ℤ → Type 0
+IsOneOf mailboxes id = (s : StoredMailbox) × Has mailboxes s × (s.id ≡ id)
+
+-- the mailbox of each row is one of these
+abbrev pub AreBelow : {R : Type 0} → (mailbox : R → ℤ) → List StoredMailbox → List R → Type 0
+AreBelow {R} mailbox mailboxes rows = (row : R) → Has rows row → IsOneOf mailboxes (mailbox row)
+
+-- each row below a mailbox is below one that is there
+pub record HaveMailboxes (t : StoredTables) : Type 0 where
+  pub entries : AreBelow (λ r. r.mailbox) t.mailboxes.items t.entries.items
+  pub messages : AreBelow (λ r. r.mailbox) t.mailboxes.items t.messages.items
+  pub gone : AreBelow (λ r. r.mailbox) t.mailboxes.items t.gone.items
+  pub marks : AreBelow (λ r. r.mailbox) t.mailboxes.items t.marks.items
+
+-- what is read again of the tables
+pub record ArePartsFor (t : StoredTables) (parts : WorldParts) : Type 0 where
+  pub known : HaveMailboxes t
+  pub mailboxes : AllZip (IsMailboxFor t) t.mailboxes.items parts.mailboxes.items
+  pub epochs : AllZip IsEpochFor t.epochs.items parts.epochs.items
+  pub subscriptions : AllZip IsSubscriptionFor t.subscriptions.items parts.subscriptions.items
+
+-- ---- tables of which parts can be read
+
+module _ (t : StoredTables) where
+  -- the rows below the mailbox keep something
+  pub record HaveMessages (s : StoredMailbox) : Type 0 where
+    pub shared : (n : ℕ) × (pos n ≡ s.shared)
+    pub messages : (items : List Message)
+        × AllZip IsMessageFor (below (λ r. r.mailbox) s.id t.messages.items) items
+    pub gone : (items : List GoneMessage)
+        × AllZip IsGoneMessageFor (below (λ r. r.mailbox) s.id t.gone.items) items
+    pub own : (items : List UserChange)
+        × AllZip IsChangeFor (below (λ r. r.mailbox) s.id t.marks.items) items
+
+  pub record HasMailbox (s : StoredMailbox) : Type 0 where
+    pub name : (name : Name) × HasKeyOf s.key name × IsName name
+    pub acl : (items : List Entry)
+        × AllZip IsEntryFor (below (λ r. r.mailbox) s.id t.entries.items) items
+    pub messages : HaveMessages s
+
+  pub record HasParts : Type 0 where
+    pub known : HaveMailboxes t
+    pub mailboxes : AllByRecursion HasMailbox t.mailboxes.items
+    pub epochs : (items : List (Name × ℕ)) × AllZip IsEpochFor t.epochs.items items
+    pub subscriptions : (items : List Subscription)
+        × AllZip IsSubscriptionFor t.subscriptions.items items
