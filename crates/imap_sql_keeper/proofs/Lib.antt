@@ -1,0 +1,6 @@
+mod Saved
+mod Meta
+mod Changed
+mod Version
+mod Loaded
+mod Fresh

@@ -1,0 +1,10 @@
+//! Keeps the mailboxes in a SQL database, which outlives the program.
+#![tactic(auto)]
+
+mod adopting;
+mod loading;
+mod refusal;
+mod saving;
+mod sql_keeper;
+
+pub use sql_keeper::SqlKeeper;

@@ -1,0 +1,132 @@
+//! A keeper in a SQL database.
+
+ghost use Rattle.std.specs.Prelude.{◌≡◌, Err, IfErr, IfOk, IsTrue};
+ghost use Rattle.std.specs.FinMap as map;
+ghost use Rattle.imap_keeper.specs.declared.error.KeepError.TheVariants.{Damaged};
+ghost use Rattle.imap_restore.specs.Holding.{Stand};
+ghost use Rattle.imap_sql_keeper.specs.Adopting.{FindsStore, IsDamaged};
+ghost use Rattle.imap_sql_keeper.specs.Keeping.{Keeps};
+ghost use Rattle.imap_tables.specs.Steps.{IsNewStore};
+ghost use Rattle.imap_tables.specs.Tables.{no_schema};
+ghost use Rattle.imap_world.specs.World.{World as Mailboxes};
+ghost use Rattle.sqlite.specs.Held.{state};
+ghost use Rattle.sqlite.specs.State.{HasCleanDisk, Survives};
+ghost use Rattle.sqlite.specs.Tree.{Trees};
+
+use crate::adopting::find_store;
+use crate::loading::load_world;
+use crate::saving::save_change;
+use imap_keeper::{KeepError, Keeper, count_after};
+use imap_world::{Change, World};
+use sqlite::{Alter, Connection};
+use std::alloc::Global;
+use std::marker::Model;
+
+/// Keeps a world in the tables of a database.
+pub struct SqlKeeper<S: Alter> {
+    conn: Connection<S>,
+    failures: u64,
+}
+
+// It is written out, as that of a connection.
+impl<S: Alter + Drop> Drop for SqlKeeper<S> {
+    fn drop(self) {
+        let SqlKeeper {
+            conn: _,
+            failures: _,
+        } = self;
+    }
+}
+
+impl<S: Alter> Model for SqlKeeper<S> {
+    ghost use Rattle.imap_sql_keeper.specs.Keeping.{IsAtRest, Keeping, keeping_code};
+    ghost use Rattle.sqlite.specs.Held.{state};
+
+    ghost Value = { Keeping S };
+
+    ghost coded = { keeping_code S.code };
+
+    ghost view = { λ k. record { conn = k.conn; failures = k.failures } };
+
+    ghost invariant = { λ k. IsAtRest (state S.Store k.conn) };
+}
+
+impl<S: Alter> SqlKeeper<S> {
+    /// Takes a database over. If nothing was made in it so far, the tables of a store are made in one transaction. Fails
+    /// with `Damaged` if it has other tables, or these say that they are of another version. A refusal hands the
+    /// connection back, and has committed nothing.
+    pub fn adopt(mut conn: Connection<S>) -> Result<SqlKeeper<S>, (Connection<S>, KeepError)>
+        ensures finds { IfOk result (λ k. HasCleanDisk (state S.Store k.conn) → IsTrue (state S.Store k.conn).is_open
+            → FindsStore (state S.Store conn) (state S.Store k.conn)) }
+        ensures new { IfOk result (λ k. (state S.Store conn).now.schema ≡ no_schema
+            → (world : Mailboxes) → world.mailboxes ≡ map.empty → world.epochs ≡ map.empty
+            → world.subscriptions ≡ map.empty → Keeps (state S.Store k.conn) world) }
+        ensures failures { IfOk result (λ k. k.failures ≡ 0) }
+        ensures before { IfErr result (λ e. HasCleanDisk (state S.Store e.0) → IsTrue (state S.Store e.0).is_open
+            → (state S.Store e.0).committed ≡ (state S.Store conn).committed) }
+        ensures damaged { IfErr result (λ e. HasCleanDisk (state S.Store e.0) → e.1 ≡ Damaged
+            → IsDamaged (state S.Store conn)) }
+        ensures crash { IfOk result (λ k. Survives (state S.Store conn) (state S.Store k.conn) IsNewStore) }
+        ensures refused_crash { IfErr result (λ e. Survives (state S.Store conn) (state S.Store e.0) IsNewStore) }
+        ensures alone { IfOk result (λ k. HasCleanDisk (state S.Store k.conn)
+            → (state S.Store conn).now.schema ≡ no_schema
+            → (db : Trees) → (state S.Store k.conn).may_leave db → IsNewStore db) }
+    {
+        match find_store(&mut conn) {
+            Ok(()) => Ok(SqlKeeper { conn, failures: 0 }),
+            Err(error) => Err((conn, error)),
+        }
+    }
+
+    /// Hands the connection back.
+    pub fn release(self) -> Connection<S>
+        ensures { result ≡ self.conn }
+    {
+        let SqlKeeper { conn, failures: _ } = self;
+        conn
+    }
+}
+
+impl<S: Alter> Keeper for SqlKeeper<S> {
+    ghost use Rattle.imap_restore.specs.Holding.{Stand};
+    ghost use Rattle.imap_sql_keeper.specs.Keeping.{Keeps};
+    ghost use Rattle.sqlite.specs.Held.{state};
+    ghost use Rattle.sqlite.specs.State.{HasCleanDisk};
+    ghost use Rattle.sqlite.specs.Tree.{Trees};
+
+    ghost content = { λ k world. Keeps (state S.Store k.conn) world };
+
+    ghost failed = { λ k. k.failures };
+
+    ghost is_honest = { λ k. HasCleanDisk (state S.Store k.conn) };
+
+    ghost Image = { Trees };
+
+    ghost leaves = { λ k. (state S.Store k.conn).may_leave };
+
+    ghost stands = { Stand };
+
+    fn save(&mut self, alloc: Global, change: &Change) -> Result<(), KeepError> {
+        match save_change(&mut self.conn, alloc, change) {
+            Ok(()) => Ok(()),
+            Err(error) => {
+                self.failures = count_after(self.failures, error);
+                Err(error)
+            }
+        }
+    }
+
+    fn load(&mut self, alloc: Global) -> Result<World, KeepError> {
+        match load_world(&mut self.conn, alloc) {
+            Ok(world) => Ok(world),
+            Err(error) => {
+                self.failures = count_after(self.failures, error);
+                Err(error)
+            }
+        }
+    }
+
+    fn failures(&self) -> u64 {
+        self.failures
+    }
+}
