@@ -1,14 +1,19 @@
 //! The program `imapd`: an IMAP server for shared mailboxes.
 //!
-//! `imapd script` reads a script from standard input, runs it on the server's machine, and writes what
-//! each session was told to standard output.
+//! `imapd serve` serves users over TCP. `imapd script` reads a script from standard input, runs it on the
+//! server's machine, and writes what each session was told to standard output.
 #![tactic(auto)]
 
+mod clock;
 mod command_line;
+mod listening;
+mod service;
+mod store;
 #[cfg(test)]
 mod tests;
 
 use crate::command_line::{CommandLineError, Task};
+use crate::service::{Service, ServiceError};
 use imap_script::{ScriptError, script};
 use std::process::ExitCode;
 
@@ -19,11 +24,21 @@ const BROKEN_STREAM: u8 = 3;
 
 const OUT_OF_MEMORY: u8 = 4;
 
+const NO_STORE: u8 = 5;
+
 fn main(rt: HostRuntime) -> ExitCode {
     match command_line::read(&rt) {
         Ok(Task::Script) => match script(&rt, rt.stdin(), rt.stdout()) {
             Ok(()) => ExitCode::SUCCESS,
             Err(error) => script_failed(&rt, &error),
+        },
+        Ok(Task::Serve(service)) => match store::open(&rt, service.database.as_str()) {
+            Ok(keeper) => {
+                let (keeper, error) = service::run(&rt, keeper, service);
+                drop(keeper);
+                service_ended(&rt, error)
+            }
+            Err(error) => service_ended(&rt, error),
         },
         Err(error) => misused(&rt, &error),
     }
@@ -48,4 +63,19 @@ fn script_failed(rt: &impl Eprint, error: &ScriptError) -> ExitCode {
     };
     let _ = eprintln!(rt; "imapd: {error}");
     ExitCode::from(status)
+}
+
+/// Tells why serving ended, as far as standard error takes it.
+fn service_ended(rt: &impl Eprint, error: ServiceError) -> ExitCode {
+    match error {
+        ServiceError::Io => ExitCode::from(BROKEN_STREAM),
+        ServiceError::Memory => {
+            let _ = eprintln!(rt; "imapd: out of memory");
+            ExitCode::from(OUT_OF_MEMORY)
+        }
+        ServiceError::Store => {
+            let _ = eprintln!(rt; "imapd: store unusable");
+            ExitCode::from(NO_STORE)
+        }
+    }
 }

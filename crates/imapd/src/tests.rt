@@ -4,7 +4,8 @@
 mod faults;
 
 use crate::command_line::{CommandLineError, Task, task_of};
-use crate::{misused, script_failed};
+use crate::service::{Service, ServiceError};
+use crate::{misused, script_failed, service_ended};
 use imap_script::{ScriptError, script};
 use std::alloc::{AllocError, Global};
 use std::io::Read;
@@ -68,9 +69,61 @@ fn task(alloc: Global, texts: &[&str]) -> Result<Task, CommandLineError> {
     }
 }
 
+/// What is to be served: the administrator, the limits, and the users with their ports.
+fn shown_service(alloc: Global, service: &Service) -> Result<Vec<u8>, AllocError> {
+    let limits = service.limits;
+    let name = service.administrator.as_str();
+    let database = service.database.as_str();
+    let mut text = format!(in alloc;
+        "{database} {name} {} {}",
+        limits.max_messages, limits.max_octets
+    )?;
+    for port in &service.ports {
+        let shown = format!(in alloc; " {}={}", port.user.as_str(), port.number)?;
+        text.push_str(shown.as_str())?;
+    }
+    Ok(text.into_bytes())
+}
+
+/// What is asked for, or that nothing is.
+fn shown(alloc: Global, texts: &[&str]) -> Result<Vec<u8>, AllocError> {
+    match task(alloc, texts) {
+        Ok(Task::Script) => Vec::from_slice(alloc, b"script"),
+        Ok(Task::Serve(service)) => shown_service(alloc, &service),
+        Err(_) => Vec::from_slice(alloc, b"none"),
+    }
+}
+
 #[test]
 fn reads_command_lines(rt: HostRuntime) {
-    assert!(rt; matches!(task(rt.alloc(), &["imapd", "script"]), Ok(Task::Script)));
+    const ROWS: [(&[&str], &[u8]); 3] = [
+        (&["imapd", "script"], b"script"),
+        (
+            &[
+                "imapd", "serve", "--db", "mail.db", "--admin", "root", "--listen", "ann=1143",
+            ],
+            b"mail.db root 10000 33554432 ann=1143",
+        ),
+        (
+            &[
+                "imapd",
+                "serve",
+                "--listen",
+                "a=b=1",
+                "--max-octets",
+                "1073741824",
+                "--admin",
+                "root",
+                "--listen=root=065535",
+                "--max-messages=1",
+                "--db=/x y",
+            ],
+            b"/x y root 1 1073741824 a=b=1 root=65535",
+        ),
+    ];
+    for &(texts, wanted) in &ROWS {
+        expect(&rt, shown(rt.alloc(), texts), wanted);
+    }
 }
 
 /// Asserts that these words are refused with the status 2, by the parser if `by_parser`.
@@ -90,15 +143,61 @@ fn check_refused(rt: &(impl Abort + Eprint), alloc: Global, texts: &[&str], by_p
 
 #[test]
 fn refuses_command_lines(rt: HostRuntime) {
-    const ROWS: [(&[&str], bool); 5] = [
+    const ROWS: [(&[&str], bool); 9] = [
         (&["imapd", "frob"], true),
         (&["imapd", "script", "x"], true),
         (&["imapd", "--help"], true),
         (&["imapd", "help"], true),
         (&["imapd"], false),
+        (&["imapd", "serve", "--db=x", "--admin=root"], true),
+        (&["imapd", "serve", "--db=x", "--listen=ann=1143"], true),
+        (
+            &["imapd", "serve", "--admin=root", "--listen=ann=1143"],
+            true,
+        ),
+        (
+            &[
+                "imapd",
+                "serve",
+                "--db=x",
+                "--admin=root",
+                "--listen=ann=1143",
+                "--listen=ann=1144",
+            ],
+            false,
+        ),
     ];
     for &(texts, by_parser) in &ROWS {
         check_refused(&rt, rt.alloc(), texts, by_parser);
+    }
+}
+
+/// Options, of which each is refused beside `--admin root --listen ann=1143`.
+#[test]
+fn refuses_options(rt: HostRuntime) {
+    const ROWS: [&str; 11] = [
+        "--listen=bob",
+        "--listen=bob=",
+        "--listen=bob=0",
+        "--listen=bob=65536",
+        "--listen=bob=x",
+        "--listen==1144",
+        "--listen=anyone=1144",
+        "--max-messages=0",
+        "--max-messages=1000001",
+        "--max-octets=0",
+        "--max-octets=1073741825",
+    ];
+    for &option in &ROWS {
+        let texts = [
+            "imapd",
+            "serve",
+            "--db=x",
+            "--admin=root",
+            "--listen=ann=1143",
+            option,
+        ];
+        check_refused(&rt, rt.alloc(), &texts, false);
     }
 }
 
@@ -113,4 +212,12 @@ fn ends_with_a_status(rt: HostRuntime) {
         assert!(rt; script_failed(&rt, error) == ExitCode::from(*status));
     }
     assert!(rt; misused(&rt, &CommandLineError::Memory) == ExitCode::from(4));
+    const ENDS: [(ServiceError, u8); 3] = [
+        (ServiceError::Io, 3),
+        (ServiceError::Memory, 4),
+        (ServiceError::Store, 5),
+    ];
+    for &(error, status) in &ENDS {
+        assert!(rt; service_ended(&rt, error) == ExitCode::from(status));
+    }
 }
