@@ -21,6 +21,9 @@ const IDLE_SECONDS: u64 = 1800;
 /// How many times in a row no connection can be had before all listeners are given up.
 const MAX_FAULTS: u32 = 16;
 
+/// From how many entries on a journal is long.
+const LONG_JOURNAL: usize = 10_000;
+
 /// How many milliseconds pass between two looks at the ports.
 const PAUSE_MILLIS: u64 = 2;
 
@@ -209,6 +212,7 @@ fn serve_round<K: Keeper, R: Wait + Clock + AllocGlobal>(
         match listening.accept() {
             Ok(connection) => {
                 serve_one(rt, hall, &listening.who, connection, max_octets);
+                shorten_journal(rt.alloc(), hall);
                 round = Round::Served;
             }
             Err(error) if error.kind() == io::ErrorKind::WouldBlock => {}
@@ -216,6 +220,14 @@ fn serve_round<K: Keeper, R: Wait + Clock + AllocGlobal>(
         }
     }
     round
+}
+
+/// Lets go of the entries of a long journal, if there is memory for a new base.
+fn shorten_journal<K: Keeper>(alloc: Global, hall: &mut Hall<K>) {
+    if hall.entries().len() >= LONG_JOURNAL {
+        // It goes on growing without.
+        let _shortened = hall.turn_over(alloc);
+    }
 }
 
 /// Serves a connection to its end.
