@@ -1,12 +1,12 @@
 -- The rows that a batch will leave, one row further.
-use Rattle.std.proofs.Common.{◌≡◌, ℕ, zero, suc, ◌+◌, ◌<◌, ◌≤◌, eqb, not, Bool, true, false, cond, List, [], ◌∷◌, ◌++◌, length, drop, get_or, refl, sym, ap, subst, ◌∙◌, arith}
+use Rattle.std.proofs.Common.{◌≡◌, ℕ, zero, suc, ◌+◌, ◌<◌, ◌≤◌, eqb, not, Bool, true, false, cond, List, [], ◌∷◌, ◌++◌, Some, length, drop, get_or, refl, sym, ap, subst, ◌∙◌, arith}
 use Rattle.std.specs.Prelude.{is_some}
 use Rattle.std.proofs.lemmas.List.{drop_more, drop_all}
 use Rattle.imap_mailbox.specs.Rows.{Row, is_among}
 use Rattle.imap_batch.specs.declared.batch.Mark.{Mark}
 use Rattle.imap_batch.specs.declared.marks_left.MarksLeft.{MarksLeft}
 use Rattle.imap_batch.specs.Batch.{one_if}
-use Rattle.imap_batch.specs.Planned.{own_after, rows_left, rows_marked, marked_by, row_marked, row_with_first, with_first, StartsLeft}
+use Rattle.imap_batch.specs.Planned.{own_after, rows_left, rows_marked, marked_by, row_marked, first_uid, row_with_first, with_first, StartsLeft}
 use Rattle.imap_batch.proofs.Planning.{none_marked, uid_marked}
 
 -- the row at a place, and those from it on
@@ -97,17 +97,27 @@ first_of shared own (k ∷ marks) r rows = by (eqb k.uid r.uid)
     by true = refl
     by false = refl
 
-pub head_is : (uids : List ℕ) (rows : List Row) (p : ℕ) (m : MarksLeft) (added : List Row) (lt : p < length rows) → StartsLeft uids (drop p rows)
-    → (row : Row) (later : List Row) → rows_left uids (marked_by m (drop p rows)) ++ added ≡ row ∷ later → with_first m (row_at rows p lt).row ≡ row
-head_is uids rows p m added lt starts row later e =
+left_from : (uids : List ℕ) (rows : List Row) (p : ℕ) (m : MarksLeft) (lt : p < length rows) → StartsLeft uids (drop p rows)
+    → rows_left uids (marked_by m (drop p rows))
+    ≡ with_first m (row_at rows p lt).row ∷ rows_left uids (later_of m.shared m.own m.marks.now (row_at rows p lt).row (drop (p + 1) rows))
+left_from uids rows p m lt starts =
     let at = row_at rows p lt in
     let here : is_among at.row.uid uids ≡ false = subst (StartsLeft uids) at.left starts in
     let stays : is_among (with_first m at.row).uid uids ≡ false = ap (λ u. is_among u uids) (uid_with_first m at.row) ∙ here in
     let left = later_of m.shared m.own m.marks.now at.row (drop (p + 1) rows) in
-    let whole : rows_left uids (marked_by m (drop p rows)) ≡ with_first m at.row ∷ rows_left uids left =
     ap (rows_left uids) (ap (marked_by m) at.left ∙ first_of m.shared m.own m.marks.now at.row (drop (p + 1) rows))
-    ∙ first_stays uids (with_first m at.row) left stays in
-    cc (sym (ap (λ rs. rs ++ added) whole) ∙ e)
+    ∙ first_stays uids (with_first m at.row) left stays
+
+pub head_is : (uids : List ℕ) (rows : List Row) (p : ℕ) (m : MarksLeft) (added : List Row) (lt : p < length rows) → StartsLeft uids (drop p rows)
+    → (row : Row) (later : List Row) → rows_left uids (marked_by m (drop p rows)) ++ added ≡ row ∷ later → with_first m (row_at rows p lt).row ≡ row
+head_is uids rows p m added lt starts row later e =
+    cc (sym (ap (λ rs. rs ++ added) (left_from uids rows p m lt starts)) ∙ e)
+
+pub first_uid_left : (uids : List ℕ) (rows : List Row) (p : ℕ) (m : MarksLeft) (added : List Row) (lt : p < length rows) → StartsLeft uids (drop p rows)
+    → first_uid (rows_left uids (marked_by m (drop p rows)) ++ added) ≡ Some (row_at rows p lt).row.uid
+first_uid_left uids rows p m added lt starts =
+    let at = row_at rows p lt in
+    ap (λ rs. first_uid (rs ++ added)) (left_from uids rows p m lt starts) ∙ ap Some (uid_with_first m at.row)
 
 -- past all rows those that are added are left
 pub ended : (uids : List ℕ) (rows : List Row) (p : ℕ) (m : MarksLeft) (added : List Row) → length rows ≤ p → rows_left uids (marked_by m (drop p rows)) ++ added ≡ added

@@ -100,6 +100,11 @@ BatchIsPlanned =
     (s : Summary) (w : BatchWrite) → MayWrite w s → IsKept s
     → rows_planned w (rows_of s w.batch.user) ≡ rows_of (with_batch w.batch s) w.batch.user
 
+-- the UID of the first, if there is one
+abbrev pub first_uid : List Row → Option ℕ
+first_uid [] = None
+first_uid (r ∷ rows) = Some r.uid
+
 -- ---- what is left of them, while they are lent in turn
 
 -- events are left for the marks

@@ -8,7 +8,7 @@ ghost use Rattle.imap_mailbox.specs.Rows as specs;
 ghost use Rattle.imap_mailbox.specs.Rows.{is_among};
 ghost use Rattle.imap_mailbox.specs.Summary.{AreRising, rows_of};
 ghost use Rattle.imap_batch.specs.Written.{with_batch, MayWrite};
-ghost use Rattle.imap_batch.specs.Planned.{own_after_all, rows_left, marked_by, StartsLeft, CanMark};
+ghost use Rattle.imap_batch.specs.Planned.{own_after_all, rows_left, marked_by, first_uid, StartsLeft, CanMark};
 
 use crate::added_left::{AddedLeft, next_added};
 use crate::batch::NewMessage;
@@ -87,8 +87,7 @@ impl<'a> Planned<'a> {
 
     /// Returns the UID of the next message, if there is one.
     pub fn uid(&self) -> Option<u32>
-        ensures { MatchOption result (self.now ≡ []) (λ uid. (row : specs.Row) (later : List specs.Row)
-            → self.now ≡ row ∷ later → uid ≡ row.uid) }
+        ensures { result ≡ first_uid self.now }
     {
         if self.place < self.rows.len() {
             return Some(self.rows.uid(self.place));

@@ -4,7 +4,6 @@ ghost use Rattle.std.specs.Prelude.{◌≡◌, ◌++◌, ◌∷◌, [], Some, No
 ghost use Rattle.std.specs.Prelude.{◌≤◌, length, if◌then◌else◌};
 ghost use Rattle.imap_changes.specs.Store as specs;
 ghost use Rattle.imap_changes.specs.Storing.{AddsStored, Stores, stored_if_there, stored_named};
-ghost use Rattle.imap_mailbox.specs.Calls.{same_flags};
 ghost use Rattle.imap_mailbox.specs.Lent.{row_shown, row_uids};
 ghost use Rattle.imap_mailbox.specs.Summary.{AreRising};
 ghost use Rattle.imap_rights.specs.Rights.{bits};
@@ -17,7 +16,7 @@ use imap_mailbox::{KnownMessage, Row, Rows, SharedFlags};
 use imap_rights::Rights;
 use imap_session::KnownList;
 use imap_targets::{Numbered, known_with, row_with};
-use imap_values::{Same, TryCopy};
+use imap_values::TryCopy;
 use std::alloc::{AllocError, Global};
 
 /// A message with the flags that STORE gives it.
@@ -128,7 +127,7 @@ fn add(
                 uid: row.uid,
                 before: row.number,
                 behind,
-                flags_change: !are_same(row.flags, &flags),
+                flags_change: !row.flags.is_equal(&flags),
                 seen_changes: row.seen != seen,
                 flags,
                 seen,
@@ -137,12 +136,6 @@ fn add(
         }
         None => Ok(false),
     }
-}
-
-fn are_same(flags: &SharedFlags, other: &SharedFlags) -> bool
-    ensures { result ≡ same_flags flags.now other.now }
-{
-    flags.is_same(other)
 }
 
 /// Whether the session knows an older state of the message.

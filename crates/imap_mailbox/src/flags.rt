@@ -83,7 +83,7 @@ impl SharedFlags {
 
 impl SharedFlags {
     /// Whether both are the same flags.
-    pub(crate) fn is_equal(&self, other: &SharedFlags) -> bool
+    pub fn is_equal(&self, other: &SharedFlags) -> bool
         ensures { result ≡ same_flags self.now other.now }
     {
         self.is_same(other)

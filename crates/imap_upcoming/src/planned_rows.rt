@@ -58,9 +58,6 @@ impl<'a> RowCursor for PlannedRows<'a> {
     }
 
     fn is_next(&self, uid: u32) -> bool {
-        if self.len == 0 {
-            return false;
-        }
         match self.rows.uid() {
             Some(next) => uid == next,
             None => false,
