@@ -61,4 +61,5 @@ IsUnread tables = (AllShow tables → ⊥) ⊎ ((t : StoredTables) × AreStored 
 -- nothing is kept by one of the rows, or no world is made of what is
 abbrev pub IsUnmade : StoredTables → Type 0
 IsUnmade t =
-    (HasParts t → ⊥) ⊎ ((kept : WorldParts) × ArePartsFor t kept × ((world : World) → IsMadeOf kept world → ⊥))
+    (HasParts t → ⊥)
+    ⊎ ((kept : WorldParts) × ArePartsFor t kept × ((world : World) → IsMadeOf kept world → ⊥))

@@ -30,7 +30,8 @@ fn ids_of(alloc: Global, mailboxes: &[StoredMailbox]) -> Result<Vec<i64>, AllocE
 }
 
 fn set_of(alloc: Global, ids: Vec<i64>) -> Result<BTreeSet<i64>, AllocError>
-    ensures { IfOk result (λ set. (id : ℤ) → IsTrue (sorted.contains int_cmp set id) ↔ Contains ids.items id) }
+    ensures { IfOk result (λ set. (id : ℤ)
+        → IsTrue (sorted.contains int_cmp set id) ↔ Contains ids.items id) }
 {
     let set: BTreeSet<i64> = ids.into_iter().collect(alloc)?;
     Ok(set)

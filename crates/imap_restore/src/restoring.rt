@@ -56,7 +56,8 @@ fn read_checked(alloc: Global, tables: Vec<Vec<Row>>) -> Result<StoredTables, Pa
 
 /// Makes a world of rows that were read. Fails with `Bad` if they stand for none.
 fn restore_read(alloc: Global, stored: StoredTables) -> Result<World, PartsError>
-    ensures ok { IfOk result (λ world. (kept : Parts) × ArePartsFor stored kept × IsMadeOf kept (world_of world)) }
+    ensures ok { IfOk result (λ world.
+        (kept : Parts) × ArePartsFor stored kept × IsMadeOf kept (world_of world)) }
     ensures bad { result ≡ Err parts.Bad → IsUnmade stored }
 {
     match read_parts(alloc, stored) {

@@ -4,7 +4,7 @@ use Rattle.sqlite.specs.State.{State, HasCleanDisk}
 use Rattle.sqlite.specs.Tree.{Trees}
 use Rattle.imap_records.specs.Standing.{StandFor}
 use Rattle.imap_records.specs.Values.{WorldHasValues}
-use Rattle.imap_restore.specs.Holding.{Stand}
+use Rattle.imap_restore.specs.Holding.{Hold, Stand}
 use Rattle.imap_sql_keeper.specs.Keeping.{Keeps, LeavesMade, Made}
 use Rattle.imap_tables.specs.Changes.{MakesAll}
 use Rattle.imap_tables.specs.declared.changes.RowChange.{RowChange}
@@ -29,15 +29,13 @@ module _ (change : List Write) (rows : List RowChange)
   }
 
   module _ (old new : State) (early : HasCleanDisk new → HasCleanDisk old) (world : World) (kept : Keeps old world) (current : IsCurrent change world) where
-    pub made_stands : HasCleanDisk new → (db : Trees) → IsTrue old.is_open → MakesAll rows old.now.trees db → Stand db (after_writes change world)
-    made_stands clean db live made = changed world old.now.trees db current (kept (early clean) live).0 made
+    pub made_holds : HasCleanDisk new → (db : Trees) → Made rows old db → Hold db (after_writes change world)
+    made_holds clean db it =
+        let was = kept (early clean) it.was_open in
+        (changed world old.now.trees db current was.0 it.made, it.orderly, still_shows rows old.now.trees db it.made was.2)
 
     pub made_keeps : (HasCleanDisk new → IsTrue new.is_open → Made rows old new.now.trees) → Keeps new (after_writes change world)
-    made_keeps after clean live = let it = after clean live in (
-      made_stands clean new.now.trees it.was_open it.made,
-      it.orderly,
-      still_shows rows old.now.trees new.now.trees it.made (kept (early clean) it.was_open).2,
-    )
+    made_keeps after clean live = made_holds clean new.now.trees (after clean live)
 
-    pub made_leaves : HasCleanDisk new → LeavesMade rows old new → LeavesOr old.may_leave new.may_leave (λ db. Stand db (after_writes change world))
-    made_leaves clean leaves db may = elim (leaves db may) [ inl was ↦ inl was | inr it ↦ inr (made_stands clean db it.0 it.1) ]
+    pub made_leaves : HasCleanDisk new → LeavesMade rows old new → LeavesOr old.may_leave new.may_leave (λ db. Hold db (after_writes change world))
+    made_leaves clean leaves db may = elim (leaves db may) [ inl was ↦ inl was | inr it ↦ inr (made_holds clean db it) ]

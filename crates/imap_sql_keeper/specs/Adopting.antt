@@ -19,6 +19,10 @@ IsVersion shown = (column shown 1 ≡ Words (codes "version")) × (column shown 
 abbrev pub SaysVersion : Trees → Type 0
 SaysVersion db = (row : Row) × Has (db meta_tree) row × IsVersion (shown_at 7 row)
 
+-- the tables are new, and in order
+abbrev pub IsNew : Trees → Type 0
+IsNew db = IsNewStore db × IsOrderly db
+
 -- the tables were made, where there were none; or they are as before, and of this version
 abbrev pub FindsStore : (old new : State) → Type 0
 FindsStore old new =

@@ -42,4 +42,4 @@ pub record Made (rows : List RowChange) (old : State) (db : Trees) : Type 0 wher
 abbrev pub LeavesMade : (rows : List RowChange) → (old new : State) → Type 0
 LeavesMade rows old new =
     (db : Trees) → new.may_leave db
-    → old.may_leave db ⊎ (IsTrue old.is_open × MakesAll rows old.now.trees db)
+    → old.may_leave db ⊎ Made rows old db

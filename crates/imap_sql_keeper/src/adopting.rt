@@ -3,7 +3,7 @@
 ghost use Rattle.std.specs.Prelude.{◌≡◌, ◌≢◌, ◌↔◌, false, Err, IfErr, IfOk, IsTrue, OnErr, OnOk};
 ghost use Rattle.std.specs.List.{AllByRecursion};
 ghost use Rattle.imap_keeper.specs.declared.error.KeepError.TheVariants.{Damaged};
-ghost use Rattle.imap_sql_keeper.specs.Adopting.{FindsStore, IsDamaged, IsVersion, SaysVersion};
+ghost use Rattle.imap_sql_keeper.specs.Adopting.{FindsStore, IsDamaged, IsNew, IsVersion, SaysVersion};
 ghost use Rattle.imap_restore.specs.Holding.{MetaShows};
 ghost use Rattle.imap_sql_keeper.specs.Keeping.{IsAtRest};
 ghost use Rattle.imap_tables.specs.Rows.{IsOrderly};
@@ -78,13 +78,14 @@ fn make_new<S: Alter>(conn: &mut Connection<S>) -> Result<(), KeepError>
         → (state S.Store conn.old).now ≡ (state S.Store conn.old).committed }
     ensures rest { OnOk result (IsAtRest (state S.Store conn.new)) }
     ensures made { HasCleanDisk (state S.Store conn.new) → IsTrue (state S.Store conn.new).is_open
-        → OnOk result (IsNewStore (state S.Store conn.new).now.trees × IsOrderly (state S.Store conn.new).now.trees) }
+        → OnOk result (IsNewStore (state S.Store conn.new).now.trees
+        × IsOrderly (state S.Store conn.new).now.trees) }
     ensures before { HasCleanDisk (state S.Store conn.new) → IsTrue (state S.Store conn.new).is_open
         → OnErr result ((state S.Store conn.new).committed ≡ (state S.Store conn.old).committed) }
     ensures undamaged { result ≡ Err Damaged → ⊥ }
-    ensures crash { Survives (state S.Store conn.old) (state S.Store conn.new) IsNewStore }
+    ensures crash { Survives (state S.Store conn.old) (state S.Store conn.new) IsNew }
     ensures alone { HasCleanDisk (state S.Store conn.new) → OnOk result ((db : Trees)
-        → (state S.Store conn.new).may_leave db → IsNewStore db) }
+        → (state S.Store conn.new).may_leave db → IsNew db) }
 {
     match make_store(conn) {
         Ok(()) => {
@@ -105,10 +106,10 @@ pub(crate) fn find_store<S: Alter>(conn: &mut Connection<S>) -> Result<(), KeepE
         → OnErr result ((state S.Store conn.new).committed ≡ (state S.Store conn.old).committed) }
     ensures damaged { HasCleanDisk (state S.Store conn.new) → result ≡ Err Damaged
         → IsDamaged (state S.Store conn.old) }
-    ensures crash { Survives (state S.Store conn.old) (state S.Store conn.new) IsNewStore }
+    ensures crash { Survives (state S.Store conn.old) (state S.Store conn.new) IsNew }
     ensures alone { HasCleanDisk (state S.Store conn.new)
         → OnOk result ((state S.Store conn.old).now.schema ≡ no_schema
-        → (db : Trees) → (state S.Store conn.new).may_leave db → IsNewStore db) }
+        → (db : Trees) → (state S.Store conn.new).may_leave db → IsNew db) }
 {
     if !conn.is_autocommit() {
         return Err(KeepError::Refused);

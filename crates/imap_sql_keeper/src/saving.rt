@@ -3,7 +3,7 @@
 ghost use Rattle.std.specs.Prelude.{◌≡◌, ◌≢◌, [], Err, IsTrue, OnErr, OnOk};
 ghost use Rattle.imap_keeper.specs.declared.error.KeepError.TheVariants.{Damaged};
 ghost use Rattle.imap_keeper.specs.Keeping.{LeavesOnly, LeavesOr};
-ghost use Rattle.imap_restore.specs.Holding.{Stand};
+ghost use Rattle.imap_restore.specs.Holding.{Hold};
 ghost use Rattle.imap_sql_keeper.specs.Keeping.{IsAtRest, Keeps, LeavesMade, Made};
 ghost use Rattle.imap_tables.specs.Steps.{IsBack, IsStore};
 ghost use Rattle.imap_world.specs.Effects.{after_writes};
@@ -97,11 +97,11 @@ pub(crate) fn save_change<S: Alter>(
     ensures crash { HasCleanDisk (state S.Store conn.new)
         → (world : World) → Keeps (state S.Store conn.old) world → IsCurrent change.now world
         → LeavesOr (state S.Store conn.old).may_leave (state S.Store conn.new).may_leave
-        (λ db. Stand db (after_writes change.now world)) }
+        (λ db. Hold db (after_writes change.now world)) }
     ensures alone { HasCleanDisk (state S.Store conn.new)
         → (world : World) → Keeps (state S.Store conn.old) world → IsCurrent change.now world
         → OnOk result (LeavesOnly (state S.Store conn.new).may_leave
-        (λ db. Stand db (after_writes change.now world))) }
+        (λ db. Hold db (after_writes change.now world))) }
 {
     let rows = row_changes(alloc, change)?;
     match make_rows(conn, rows.as_slice()) {

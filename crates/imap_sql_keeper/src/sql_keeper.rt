@@ -3,10 +3,9 @@
 ghost use Rattle.std.specs.Prelude.{◌≡◌, Err, IfErr, IfOk, IsTrue};
 ghost use Rattle.std.specs.FinMap as map;
 ghost use Rattle.imap_keeper.specs.declared.error.KeepError.TheVariants.{Damaged};
-ghost use Rattle.imap_restore.specs.Holding.{Stand};
-ghost use Rattle.imap_sql_keeper.specs.Adopting.{FindsStore, IsDamaged};
+ghost use Rattle.imap_restore.specs.Holding.{Hold};
+ghost use Rattle.imap_sql_keeper.specs.Adopting.{FindsStore, IsDamaged, IsNew};
 ghost use Rattle.imap_sql_keeper.specs.Keeping.{Keeps};
-ghost use Rattle.imap_tables.specs.Steps.{IsNewStore};
 ghost use Rattle.imap_tables.specs.Tables.{no_schema};
 ghost use Rattle.imap_world.specs.World.{World as Mailboxes};
 ghost use Rattle.sqlite.specs.Held.{state};
@@ -56,21 +55,24 @@ impl<S: Alter> SqlKeeper<S> {
     /// with `Damaged` if it has other tables, or these say that they are of another version. A refusal hands the
     /// connection back, and has committed nothing.
     pub fn adopt(mut conn: Connection<S>) -> Result<SqlKeeper<S>, (Connection<S>, KeepError)>
-        ensures finds { IfOk result (λ k. HasCleanDisk (state S.Store k.conn) → IsTrue (state S.Store k.conn).is_open
+        ensures finds { IfOk result (λ k. HasCleanDisk (state S.Store k.conn)
+            → IsTrue (state S.Store k.conn).is_open
             → FindsStore (state S.Store conn) (state S.Store k.conn)) }
         ensures new { IfOk result (λ k. (state S.Store conn).now.schema ≡ no_schema
             → (world : Mailboxes) → world.mailboxes ≡ map.empty → world.epochs ≡ map.empty
             → world.subscriptions ≡ map.empty → Keeps (state S.Store k.conn) world) }
         ensures failures { IfOk result (λ k. k.failures ≡ 0) }
-        ensures before { IfErr result (λ e. HasCleanDisk (state S.Store e.0) → IsTrue (state S.Store e.0).is_open
+        ensures before { IfErr result (λ e. HasCleanDisk (state S.Store e.0)
+            → IsTrue (state S.Store e.0).is_open
             → (state S.Store e.0).committed ≡ (state S.Store conn).committed) }
         ensures damaged { IfErr result (λ e. HasCleanDisk (state S.Store e.0) → e.1 ≡ Damaged
             → IsDamaged (state S.Store conn)) }
-        ensures crash { IfOk result (λ k. Survives (state S.Store conn) (state S.Store k.conn) IsNewStore) }
-        ensures refused_crash { IfErr result (λ e. Survives (state S.Store conn) (state S.Store e.0) IsNewStore) }
+        ensures crash { IfOk result (λ k. Survives (state S.Store conn) (state S.Store k.conn) IsNew) }
+        ensures refused_crash { IfErr result (λ e.
+            Survives (state S.Store conn) (state S.Store e.0) IsNew) }
         ensures alone { IfOk result (λ k. HasCleanDisk (state S.Store k.conn)
             → (state S.Store conn).now.schema ≡ no_schema
-            → (db : Trees) → (state S.Store k.conn).may_leave db → IsNewStore db) }
+            → (db : Trees) → (state S.Store k.conn).may_leave db → IsNew db) }
     {
         match find_store(&mut conn) {
             Ok(()) => Ok(SqlKeeper { conn, failures: 0 }),
@@ -88,7 +90,7 @@ impl<S: Alter> SqlKeeper<S> {
 }
 
 impl<S: Alter> Keeper for SqlKeeper<S> {
-    ghost use Rattle.imap_restore.specs.Holding.{Stand};
+    ghost use Rattle.imap_restore.specs.Holding.{Hold};
     ghost use Rattle.imap_sql_keeper.specs.Keeping.{Keeps};
     ghost use Rattle.sqlite.specs.Held.{state};
     ghost use Rattle.sqlite.specs.State.{HasCleanDisk};
@@ -104,7 +106,7 @@ impl<S: Alter> Keeper for SqlKeeper<S> {
 
     ghost leaves = { λ k. (state S.Store k.conn).may_leave };
 
-    ghost stands = { Stand };
+    ghost stands = { Hold };
 
     fn save(&mut self, alloc: Global, change: &Change) -> Result<(), KeepError> {
         match save_change(&mut self.conn, alloc, change) {

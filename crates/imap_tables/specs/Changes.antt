@@ -25,7 +25,8 @@ MakesBelow mailbox (below.AddMessage m) old new =
     Adds old new message_tree
     (message_row mailbox m.uid (string_bytes m.date) m.octets m.flags (string_bytes m.keywords) m.place)
 MakesBelow mailbox (below.FlagMessage m) old new =
-    Replaces old new message_tree (IsMessageOf mailbox m.uid) (flagged_row m.flags (string_bytes m.keywords) m.place)
+    Replaces old new message_tree (IsMessageOf mailbox m.uid)
+    (flagged_row m.flags (string_bytes m.keywords) m.place)
 MakesBelow mailbox (below.RemoveMessage uid) old new = Removes old new message_tree (IsMessageOf mailbox uid)
 MakesBelow mailbox (below.AddGone uid place) old new = Adds old new gone_tree (gone_row mailbox uid place)
 MakesBelow mailbox (below.AddMark m) old new =
@@ -60,7 +61,8 @@ PutsSubscription user key =
 
 abbrev pub Makes : RowChange → (old new : Trees) → Type 0
 Makes (change.AddMailbox key validity) old new =
-    Adds old new mailbox_tree (λ id. mailbox_row id (string_bytes key.tree) (string_bytes key.path) validity 1 (pos 0))
+    Adds old new mailbox_tree
+    (λ id. mailbox_row id (string_bytes key.tree) (string_bytes key.path) validity 1 (pos 0))
 Makes (change.MoveMailbox key to validity) old new =
     Replaces old new mailbox_tree (IsNamed (string_bytes key.tree) (string_bytes key.path))
     (moved_row (string_bytes to) validity)

@@ -37,7 +37,8 @@ module _ (tables : List (Vec Row Global)) where
 
   -- one is read of each row of the table at a place
   abbrev pub AllShowAt : (at : ℕ) → (Shows : Row → Type 0) → Type 0
-  AllShowAt at Shows = (rows : Vec Row Global) → slice_get tables at ≡ Some rows → AllByRecursion Shows rows.items
+  AllShowAt at Shows =
+      (rows : Vec Row Global) → slice_get tables at ≡ Some rows → AllByRecursion Shows rows.items
 
   pub record AllShow : Type 0 where
     pub mailboxes : AllShowAt 0 ShowsMailbox

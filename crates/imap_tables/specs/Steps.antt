@@ -42,7 +42,7 @@ HasOrder s = IsTrue s.is_open → IsOrderly s.now.trees
 -- the connection is open: tables that are in order stay so, and Makes is done to them; the transaction goes on
 pub record Turns (Makes : Trees → Trees → Type 0) (old new : State) : Type 0 where
   pub was_open : IsTrue old.is_open
-  pub made : HasOrder old → Makes old.now.trees new.now.trees × HasOrder new
+  pub made : HasOrder old → Makes old.now.trees new.now.trees × IsOrderly new.now.trees
   pub schema : HasSchema store_schema new
   pub mode : IsTrue new.in_transaction
 
@@ -91,12 +91,13 @@ store_version = 1
 -- the tables have a version, and no other row
 pub record IsNewStore (db : Trees) : Type 0 where
   pub version : (id : ℤ) × Has (db meta_tree) (meta_row (codes "version") store_version id)
-  pub only : (row : Row) → Has (db meta_tree) row → (id : ℤ) × (row ≡ meta_row (codes "version") store_version id)
+  pub only : (row : Row) → Has (db meta_tree) row
+      → (id : ℤ) × (row ≡ meta_row (codes "version") store_version id)
   pub empty : AreEmpty (take 7 store_tables) db
 
 -- and they are made inside a transaction
 pub record MakesStore (new : State) : Type 0 where
   pub schema : HasSchema store_schema new
   pub made : IsNewStore new.now.trees
-  pub order : HasOrder new
+  pub order : IsOrderly new.now.trees
   pub mode : IsTrue new.in_transaction

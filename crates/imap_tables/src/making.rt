@@ -111,7 +111,8 @@ pub fn make_store<S: Alter>(conn: &mut Connection<S>) -> Result<(), Error>
     ensures autocommit { conn.new.in_transaction ≡ false }
     ensures alone { HasCleanDisk (state S.Store conn.new) → OnOk result ((db : Trees)
         → (state S.Store conn.new).may_leave db → db ≡ (state S.Store conn.new).committed.trees) }
-    ensures crash { Survives (state S.Store conn.old) (state S.Store conn.new) IsNewStore }
+    ensures crash { Survives (state S.Store conn.old) (state S.Store conn.new) (λ db.
+        IsNewStore db × IsOrderly db) }
 {
     let mut tx = conn.transaction();
     make_all_of(&mut tx)?;

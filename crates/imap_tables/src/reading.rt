@@ -69,7 +69,8 @@ pub fn read_tables<S: Alter>(
     requires autocommit { conn.old.in_transaction ≡ false }
     ensures read { HasCleanDisk (state S.Store conn.new)
         → IfOk result (λ tables. AreAllRead 8 (state S.Store conn.old).now.trees tables.items) }
-    ensures was_open { HasCleanDisk (state S.Store conn.new) → OnOk result (IsTrue (state S.Store conn.old).is_open) }
+    ensures was_open { HasCleanDisk (state S.Store conn.new)
+        → OnOk result (IsTrue (state S.Store conn.old).is_open) }
     ensures kept { HasCleanDisk (state S.Store conn.new) → IsTrue (state S.Store conn.new).is_open
         → IsBack (state S.Store conn.old) (state S.Store conn.new) }
     ensures autocommit { conn.new.in_transaction ≡ false }
@@ -87,7 +88,8 @@ pub fn read_meta<S: Alter>(conn: &mut Connection<S>) -> Result<Vec<Row>, Error>
     requires autocommit { conn.old.in_transaction ≡ false }
     ensures read { HasCleanDisk (state S.Store conn.new)
         → IfOk result (λ rows. AreRead 7 (state S.Store conn.old).now.trees rows.items) }
-    ensures was_open { HasCleanDisk (state S.Store conn.new) → OnOk result (IsTrue (state S.Store conn.old).is_open) }
+    ensures was_open { HasCleanDisk (state S.Store conn.new)
+        → OnOk result (IsTrue (state S.Store conn.old).is_open) }
     ensures kept { HasCleanDisk (state S.Store conn.new) → IsTrue (state S.Store conn.new).is_open
         → IsBack (state S.Store conn.old) (state S.Store conn.new) }
     ensures autocommit { conn.new.in_transaction ≡ false }
@@ -102,7 +104,8 @@ pub fn read_meta<S: Alter>(conn: &mut Connection<S>) -> Result<Vec<Row>, Error>
 /// Understands a text, which an open connection does.
 fn understand<S: Alter>(tx: &mut Transaction<'_, S>) -> Result<(), Error>
     ensures same_reference { tx.new.conn.ghost_name ≡ tx.old.conn.ghost_name }
-    ensures call { Calls S.Store tx.old.conn.now tx.new.conn.now (λ old new. OnOk result (IsUnchanged old new)) }
+    ensures call { Calls S.Store tx.old.conn.now tx.new.conn.now
+        (λ old new. OnOk result (IsUnchanged old new)) }
 {
     tx.prepare("SELECT 1")?;
     Ok(())
@@ -111,7 +114,8 @@ fn understand<S: Alter>(tx: &mut Transaction<'_, S>) -> Result<(), Error>
 /// Fails if the connection is shut. Changes nothing.
 pub fn check_open<S: Alter>(conn: &mut Connection<S>) -> Result<(), Error>
     requires autocommit { conn.old.in_transaction ≡ false }
-    ensures was_open { HasCleanDisk (state S.Store conn.new) → OnOk result (IsTrue (state S.Store conn.old).is_open) }
+    ensures was_open { HasCleanDisk (state S.Store conn.new)
+        → OnOk result (IsTrue (state S.Store conn.old).is_open) }
     ensures kept { HasCleanDisk (state S.Store conn.new) → IsTrue (state S.Store conn.new).is_open
         → IsBack (state S.Store conn.old) (state S.Store conn.new) }
     ensures autocommit { conn.new.in_transaction ≡ false }

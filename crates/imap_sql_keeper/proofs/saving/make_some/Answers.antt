@@ -1,4 +1,4 @@
-use Rattle.std.proofs.Common.{subst, sym, ap, ◌∙◌}
+use Rattle.std.proofs.Common.{inl, inr, subst, sym, ap, ◌∙◌}
 use Rattle.sqlite.specs.Effect.{Database}
 use Rattle.sqlite.specs.Held.{state}
 use Rattle.imap_tables.specs.Changes.{MakesAll}
@@ -19,7 +19,7 @@ pub returns-clause-honest : goal.returns-clause-honest
 returns-clause-honest g c = early (state g.S.Store c.args.conn.now) (state g.S.Store c.save_rows.new.conn) _ c.requires.rest c.save_rows.ensures.crash
 
 pub returns-clause-crash : goal.returns-clause-crash
-returns-clause-crash g c = c.save_rows.ensures.crash.crash
+returns-clause-crash g c clean db leaves = elim (c.save_rows.ensures.crash.crash clean db leaves) [ inl before ↦ inl before | inr it ↦ inr (record { was_open = it.0; made = it.1; orderly = it.2 }) ]
 
 pub returns-clause-alone : goal.returns-clause-alone
 returns-clause-alone g c clean =
