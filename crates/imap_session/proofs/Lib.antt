@@ -8,7 +8,9 @@ pub mod Differing
 pub mod Alike
 pub mod Listing
 pub mod Finding
+pub mod Unchanged
 pub mod Walking
+pub mod Comparing
 pub mod OneLines
 pub mod Telling
 pub mod RowsRise

@@ -39,7 +39,7 @@ rises_length low high (n ∷ ns) h = let first : low ≤ n = h.0 in let rest = r
 pub length_fits : (known : List KnownMessage) (next : ℕ) → Rises first_uid next (known_uids known) → length known + 1 ≤ next
 length_fits known next h = let len = length-map known (λ (k : KnownMessage). k.uid) in let most = rises_length first_uid next (known_uids known) h in omega (arith, len, most)
 
-rises_gone : (b low high : ℕ) (cs : List Comparison) → b < low → Rises low high (known_uids (known_in cs)) → rise_above b (expunged_uids cs) ≡ true
+pub rises_gone : (b low high : ℕ) (cs : List Comparison) → b < low → Rises low high (known_uids (known_in cs)) → rise_above b (expunged_uids cs) ≡ true
 rises_gone b low high [] lt h = refl
 rises_gone b low high (Expunged k ∷ cs) lt h = let first : low ≤ k.uid = h.0 in (λ i. lt-ltb b k.uid (omega arith) i && rise_above k.uid (expunged_uids cs)) ∙ rises_gone k.uid (k.uid + 1) high cs (omega arith) h.1
 rises_gone b low high (Present k r ∷ cs) lt h = let first : low ≤ k.uid = h.0 in rises_gone b (k.uid + 1) high cs (omega arith) h.1

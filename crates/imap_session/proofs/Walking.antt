@@ -1,6 +1,6 @@
 -- A walk along known messages and rows.
-use Rattle.std.proofs.Common.{◌≡◌, ℕ, zero, suc, Result, Ok, Err, OnOk, ◌+◌, ◌<◌, ◌≤◌, eqb, not, ◌&&◌, Bool, true, false, cond, MatchBool, List, [], ◌∷◌, ◌++◌, length, drop, get_or, refl, sym, ap, subst, ◌∙◌, arith}
-use Rattle.std.proofs.lemmas.Bool.{eq-eqb, eqb-true}
+use Rattle.std.proofs.Common.{◌≡◌, ℕ, zero, suc, Result, Ok, Err, OnOk, ◌+◌, ◌<◌, ◌≤◌, eqb, ltb, not, ◌&&◌, Bool, true, false, cond, MatchBool, List, [], ◌∷◌, ◌++◌, length, drop, get_or, refl, sym, ap, subst, ◌∙◌, arith}
+use Rattle.std.proofs.lemmas.Bool.{eq-eqb, eqb-true, ltb-true, ltb-false, and_parts}
 use Rattle.std.specs.declared.alloc.AllocError.{AllocError}
 use Rattle.std.proofs.lemmas.List.{append_assoc, append-nil, drop_more, drop-map}
 use Rattle.imap_print.specs.declared.response.Response.{Response}
@@ -16,9 +16,10 @@ use Rattle.imap_session.specs.Compared.{Comparison, Expunged, Present, compariso
 use Rattle.imap_session.specs.Notices.{expunge_lines, expunged_uids, fetch_line}
 use Rattle.imap_session.specs.Retold.{other_lines}
 use Rattle.imap_session.specs.Delta.{changes_from, expunged_from}
-use Rattle.imap_session.specs.Cursors.{is_next}
+use Rattle.imap_session.specs.Cursors.{is_next, is_unchanged}
 use Rattle.imap_session.specs.Held.{list_in}
-use Rattle.imap_session.specs.Walked.{Findings, collected, by_number, by_uid, finished, found, Passes, PassesExpunged, FindsPresent}
+use Rattle.imap_session.proofs.Matching.{known_below, changed_above}
+use Rattle.imap_session.specs.Walked.{Findings, collected, by_number, by_uid, finished, found, Passes, PassesChanged, PassesExpunged}
 
 -- ---- lists that are collected
 
@@ -26,7 +27,7 @@ collect_step : {X : Type 0} (b : Bool) (front : List X) (x : X) (rest : List X) 
 collect_step true front x rest = append_assoc front (x ∷ []) rest
 collect_step false front x rest = append-nil (front ++ [])
 
-choose_step : {X : Type 0} (b : Bool) (front : List X) (x : X) (rest : List X) → (front ++ collected (not b) (x ∷ [])) ++ rest ≡ front ++ cond b rest (x ∷ rest)
+pub choose_step : {X : Type 0} (b : Bool) (front : List X) (x : X) (rest : List X) → (front ++ collected (not b) (x ∷ [])) ++ rest ≡ front ++ cond b rest (x ∷ rest)
 choose_step true front x rest = ap (λ l. l ++ rest) (append-nil front)
 choose_step false front x rest = append_assoc front (x ∷ []) rest
 
@@ -56,7 +57,7 @@ out told o p n gone expunges vanished changed fetches cs new = record {
   number = n + length (messages_after o.expunges cs);
 }
 
-longer : (n m : ℕ) → n + 1 + m ≡ n + suc m
+pub longer : (n m : ℕ) → n + 1 + m ≡ n + suc m
 longer n m = omega arith
 
 after_longer : (may : Bool) (n : ℕ) (k : KnownMessage) (t : List KnownMessage) → cond may n (n + 1) + length t ≡ n + length (cond may t (k ∷ t))
@@ -98,12 +99,12 @@ present_out told o p n gone expunges vanished changed fetches k r cs new = λ j.
 }
 
 -- the known message is not the first row
-record IsGone (k : KnownMessage) (rows : List Row) : Type 0 where
-  fate : (known : List KnownMessage) → comparisons (k ∷ known) rows ≡ Expunged k ∷ comparisons known rows
-  new : (known : List KnownMessage) → new_rows (k ∷ known) rows ≡ new_rows known rows
-  agree : (n : ℕ) (known : List KnownMessage) → Agree n (k ∷ known) rows → Agree n known rows
+pub record IsGone (k : KnownMessage) (rows : List Row) : Type 0 where
+  pub fate : (known : List KnownMessage) → comparisons (k ∷ known) rows ≡ Expunged k ∷ comparisons known rows
+  pub new : (known : List KnownMessage) → new_rows (k ∷ known) rows ≡ new_rows known rows
+  pub agree : (n : ℕ) (known : List KnownMessage) → Agree n (k ∷ known) rows → Agree n known rows
 
-gone_here : (k : KnownMessage) (rows : List Row) → is_next k.uid rows ≡ false → IsGone k rows
+pub gone_here : (k : KnownMessage) (rows : List Row) → is_next k.uid rows ≡ false → IsGone k rows
 gone_here k [] is = record { fate = λ known. refl; new = λ known. refl; agree = λ n known h. h }
 gone_here k (r ∷ rows) is = record {
   fate = λ known. ap (λ b. cond b (Present k r ∷ comparisons known rows) (Expunged k ∷ comparisons known (r ∷ rows))) is;
@@ -129,7 +130,16 @@ passes_expunged told o n p k rows old new is h = record {
     gone : IsGone k rows
     gone = gone_here k rows is
 
-pub passes_present : (told : List ℕ) (o : NoticeOptions) (n p : ℕ) (k : KnownMessage) (rows left : List Row) (r : Row) (later : List Row) (old mid : Walk)
+-- what is found of a message that is there, before its number is passed
+record FindsPresent (told : List ℕ) (o : NoticeOptions) (p : ℕ) (k : KnownMessage) (r : Row) (old new : Walk) : Type 0 where
+  gone : new.gone.items ≡ old.gone.items
+  expunges : new.expunges.items ≡ old.expunges.items
+  vanished : new.vanished.items ≡ old.vanished.items
+  changed : new.changed.items ≡ old.changed.items ++ collected (not (is_known k r)) (record { place = p; message = told_of r } ∷ [])
+  fetches : new.fetches ≡ old.fetches ++ collected (not (is_among r.uid told) && not (is_known k r)) (fetch_line o old.number (told_of r) ∷ [])
+  number : new.number ≡ old.number
+
+passes_present : (told : List ℕ) (o : NoticeOptions) (n p : ℕ) (k : KnownMessage) (rows left : List Row) (r : Row) (later : List Row) (old mid : Walk)
     → rows ≡ r ∷ later → left ≡ later → k.uid ≡ r.uid → FindsPresent told o p k r old mid → Passes told o n p k rows left old (record mid { number = mid.number + 1 })
 passes_present told o n p k rows left r later old mid is is_left same h = record {
   finds = λ known.
@@ -161,6 +171,32 @@ first_is uid (r ∷ rows) e = record { row = r; later = rows; is = refl; same = 
 pub next_there : (uid : ℕ) (rows : List Row) → is_next uid rows ≡ true → 0 < length rows
 next_there uid [] e = absurd (cc e)
 next_there uid (r ∷ rows) e = omega arith
+
+-- the first row is known
+pub record IsUnchanged (uid n : ℕ) (rows : List Row) : Type 0 where
+  pub row : Row
+  pub later : List Row
+  pub is : rows ≡ row ∷ later
+  pub same : uid ≡ row.uid
+  pub low : row.number ≤ n
+
+not_true : (b : Bool) → not b ≡ true → b ≡ false
+not_true true e = absurd (cc e)
+not_true false e = refl
+
+not_false : (b : Bool) → not b ≡ false → b ≡ true
+not_false true e = refl
+not_false false e = absurd (cc e)
+
+pub first_unchanged : (uid n : ℕ) (rows : List Row) → is_unchanged uid n rows ≡ true → IsUnchanged uid n rows
+first_unchanged uid n [] e = absurd (cc e)
+first_unchanged uid n (r ∷ rows) e =
+    let both = and_parts (eqb uid r.uid) (not (ltb n r.number)) e in
+    record { row = r; later = rows; is = refl; same = eqb-true uid r.uid both.0; low = ltb-false n r.number (not_true (ltb n r.number) both.1) }
+
+first_changed : (uid n : ℕ) (r : Row) (later : List Row) → uid ≡ r.uid → is_unchanged uid n (r ∷ later) ≡ false → n < r.number
+first_changed uid n r later same e =
+    ltb-true n r.number (not_false (ltb n r.number) (ap (λ b. b && not (ltb n r.number)) (sym (eq-eqb uid r.uid same)) ∙ e))
 
 pub first_agrees : (n : ℕ) (k : KnownMessage) (others : List KnownMessage) (rows : List Row) (r : Row) (later : List Row) → rows ≡ r ∷ later → is_next k.uid rows ≡ true
     → Agree n (k ∷ others) rows → r.number ≤ n → told_of r ≡ k
@@ -199,7 +235,7 @@ ended told o p w rows = λ j. record {
 -- ---- what is found of a message that is there
 
 -- all of it is known
-pub none_changed : (told : List ℕ) (o : NoticeOptions) (p : ℕ) (k : KnownMessage) (r : Row) (w : Walk) → is_known k r ≡ true → FindsPresent told o p k r w w
+none_changed : (told : List ℕ) (o : NoticeOptions) (p : ℕ) (k : KnownMessage) (r : Row) (w : Walk) → is_known k r ≡ true → FindsPresent told o p k r w w
 none_changed told o p k r w is = record {
   gone = refl;
   expunges = refl;
@@ -215,7 +251,7 @@ none_changed told o p k r w is = record {
     none false false e = absurd (cc e)
 
 -- it changed
-pub one_changed : (told : List ℕ) (o : NoticeOptions) (p : ℕ) (k : KnownMessage) (r : Row) (old new : Walk) (m : KnownMessage) (t : Bool) → is_known k r ≡ false → m ≡ told_of r → t ≡ is_among r.uid told
+one_changed : (told : List ℕ) (o : NoticeOptions) (p : ℕ) (k : KnownMessage) (r : Row) (old new : Walk) (m : KnownMessage) (t : Bool) → is_known k r ≡ false → m ≡ told_of r → t ≡ is_among r.uid told
     → new.gone.items ≡ old.gone.items → new.expunges.items ≡ old.expunges.items → new.vanished.items ≡ old.vanished.items
     → new.changed.items ≡ old.changed.items ++ record { place = p; message = m } ∷ []
     → new.fetches ≡ old.fetches ++ collected (not t) (fetch_line o old.number m ∷ []) → new.number ≡ old.number
@@ -235,8 +271,31 @@ one_changed told o p k r old new m t is is_m is_t gone expunges vanished changed
     both false true e = absurd (cc e)
     both false false e = refl
 
+-- ---- the walk passes a message that is there
+
+pub passes_unchanged : (told : List ℕ) (o : NoticeOptions) (n p : ℕ) (k : KnownMessage) (rows left : List Row) (old : Walk) → ((others : List KnownMessage) × Agree n (k ∷ others) rows)
+    → is_unchanged k.uid n rows ≡ true → left ≡ drop 1 rows → Passes told o n p k rows left old (record old { number = old.number + 1 })
+passes_unchanged told o n p k rows left old agree e is_left =
+    let first = first_unchanged k.uid n rows e in
+    let next = ap (is_next k.uid) first.is ∙ eq-eqb k.uid first.row.uid first.same in
+    let same = known_below n k first.row (first_agrees n k agree.0 rows first.row first.later first.is next agree.1) first.low in
+    passes_present told o n p k rows left first.row first.later old old first.is (is_left ∙ ap (drop 1) first.is) first.same (none_changed told o p k first.row old same)
+
+pub passes_changed : (told : List ℕ) (o : NoticeOptions) (n p : ℕ) (k : KnownMessage) (rows left : List Row) (old new : Walk) → k.number ≤ n
+    → is_next k.uid rows ≡ true → is_unchanged k.uid n rows ≡ false → left ≡ drop 1 rows
+    → ((r : Row) (later : List Row) → rows ≡ r ∷ later → PassesChanged told o p r old new) → Passes told o n p k rows left old new
+passes_changed told o n p k rows left old new told_by next changed is_left found =
+    let first = first_is k.uid rows next in
+    let r = first.row in
+    let h = found r first.later first.is in
+    let above = first_changed k.uid n r first.later first.same (sym (ap (is_unchanged k.uid n) first.is) ∙ changed) in
+    let mid : Walk = record new { number = old.number } in
+    let one = one_changed told o p k r old mid (told_of r) (is_among r.uid told) (changed_above n k r told_by above) refl refl h.gone h.expunges h.vanished h.changed h.fetches refl in
+    subst (Passes told o n p k rows left old) (λ j. record new { number = sym h.number j })
+    (passes_present told o n p k rows left r first.later old mid first.is (is_left ∙ ap (drop 1) first.is) first.same one)
+
 -- ---- results
 
-pub on_ok : {A B C D E F P : Type 0} (r : Result (Unit {0}) AllocError) → OnOk r A → OnOk r B → OnOk r C → OnOk r D → OnOk r E → OnOk r F → (A → B → C → D → E → F → P) → OnOk r P
-on_ok (Ok x) a b c d e f all = all a b c d e f
-on_ok (Err x) a b c d e f all = tt
+pub on_ok_both : {A B P : Type 0} (r : Result (Unit {0}) AllocError) → OnOk r A → OnOk r B → (A → B → P) → OnOk r P
+on_ok_both (Ok x) a b both = both a b
+on_ok_both (Err x) a b both = tt

@@ -8,7 +8,7 @@ use Rattle.imap_mailbox.specs.Brought.{Agree, told_of}
 use Rattle.imap_session.specs.declared.options.NoticeOptions.{NoticeOptions}
 use Rattle.imap_session.specs.declared.delta.ChangedMessage.{ChangedMessage}
 use Rattle.imap_session.specs.declared.walk.Walk.{Walk}
-use Rattle.imap_session.specs.Compared.{Comparison, comparisons, new_rows, messages_after, is_known}
+use Rattle.imap_session.specs.Compared.{Comparison, comparisons, new_rows, messages_after}
 use Rattle.imap_session.specs.Notices.{expunge_lines, expunged_uids, fetch_line}
 use Rattle.imap_session.specs.Retold.{other_lines}
 use Rattle.imap_session.specs.Delta.{changes_from, expunged_from}
@@ -82,18 +82,14 @@ pub record PassesExpunged (o : NoticeOptions) (p : ℕ) (k : KnownMessage) (old 
   pub fetches : new.fetches ≡ old.fetches
   pub number : new.number ≡ (if o.expunges then old.number else old.number + 1)
 
-pub record FindsPresent (told : List ℕ) (o : NoticeOptions) (p : ℕ) (k : KnownMessage) (r : Row)
-    (old new : Walk) : Type 0 where
+pub record PassesChanged (told : List ℕ) (o : NoticeOptions) (p : ℕ) (r : Row) (old new : Walk) : Type 0 where
   pub gone : new.gone.items ≡ old.gone.items
   pub expunges : new.expunges.items ≡ old.expunges.items
   pub vanished : new.vanished.items ≡ old.vanished.items
-  pub changed : new.changed.items
-      ≡ old.changed.items ++ collected (not (is_known k r)) (record { place = p; message = told_of r } ∷ [])
+  pub changed : new.changed.items ≡ old.changed.items ++ record { place = p; message = told_of r } ∷ []
   pub fetches : new.fetches
-      ≡ old.fetches
-      ++ collected (not (is_among r.uid told) && not (is_known k r))
-      (fetch_line o old.number (told_of r) ∷ [])
-  pub number : new.number ≡ old.number
+      ≡ old.fetches ++ collected (not (is_among r.uid told)) (fetch_line o old.number (told_of r) ∷ [])
+  pub number : new.number ≡ old.number + 1
 
 -- so does a walk from `rows` to `left`
 pub record Passes (told : List ℕ) (o : NoticeOptions) (up_to p : ℕ) (k : KnownMessage) (rows left : List Row)

@@ -47,8 +47,15 @@ impl<'a> RowCursor for MailboxRows<'a> {
         self.place < self.rows.len() && uid == self.rows.uid(self.place)
     }
 
-    fn is_above(&self, number: u64) -> bool {
-        self.rows.is_above(self.place, number)
+    fn skip_unchanged(&mut self, uid: u32, number: u64) -> bool {
+        if !self.is_next(uid) {
+            return false;
+        }
+        if self.rows.is_above(self.place, number) {
+            return false;
+        }
+        self.skip();
+        true
     }
 
     fn message(&self, alloc: Global) -> Result<KnownMessage, AllocError> {

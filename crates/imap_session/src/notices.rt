@@ -138,7 +138,7 @@ fn expunge_lines(
     }
 }
 
-fn joined(front: Vec<Response>, back: Vec<Response>) -> Result<Vec<Response>, AllocError>
+pub(crate) fn joined(front: Vec<Response>, back: Vec<Response>) -> Result<Vec<Response>, AllocError>
     ensures { IfOk result (λ lines. lines.items ≡ front.items ++ back.items) }
 {
     let mut lines = front;

@@ -1,9 +1,9 @@
 //! The messages of a mailbox, one after another.
 
-ghost use Rattle.std.specs.Prelude.{◌≡◌, ◌<◌, ◌∷◌, List, length, drop, nat_lt, IfOk};
+ghost use Rattle.std.specs.Prelude.{◌≡◌, ◌<◌, ◌∷◌, List, length, drop, IfOk, if◌then◌else◌};
 ghost use Rattle.imap_mailbox.specs.Rows.{Row};
 ghost use Rattle.imap_mailbox.specs.Brought.{told_of};
-ghost use Rattle.imap_session.specs.Cursors.{is_next};
+ghost use Rattle.imap_session.specs.Cursors.{is_next, is_unchanged};
 
 use imap_mailbox::KnownMessage;
 use std::alloc::{AllocError, Global};
@@ -21,11 +21,11 @@ pub trait RowCursor {
     fn is_next(&self, uid: u32) -> bool
         ensures { result ≡ is_next uid (rest self.now) };
 
-    /// Whether the mod-sequence of the next message is above `number`.
-    fn is_above(&self, number: u64) -> bool
-        requires { 0 < length (rest self.now) }
-        ensures { (r : Row) (later : List Row) → rest self.now ≡ r ∷ later
-            → result ≡ nat_lt number r.number };
+    /// Moves past the next message if it has the UID and its mod-sequence is not above `number`. Returns
+    /// whether it did.
+    fn skip_unchanged(&mut self, uid: u32, number: u64) -> bool
+        ensures unchanged { result ≡ is_unchanged uid number (rest self.old) }
+        ensures rest { rest self.new ≡ (if result then drop 1 (rest self.old) else rest self.old) };
 
     /// Returns what a session is told of the next message.
     fn message(&self, alloc: Global) -> Result<KnownMessage, AllocError>

@@ -1,6 +1,6 @@
 //! A walk along known messages and the messages that are there.
 
-ghost use Rattle.std.specs.Prelude.{◌≡◌, ◌+◌, ◌-◌, ◌^◌, ◌<◌, ◌≤◌, true, not, length, map, OnOk, IfOk};
+ghost use Rattle.std.specs.Prelude.{◌≡◌, ◌+◌, ◌-◌, ◌^◌, ◌<◌, ◌≤◌, not, drop, length, map, OnOk, IfOk};
 ghost use Rattle.std.specs.Prelude.{List, [], ◌∷◌, ◌++◌};
 ghost use Rattle.imap_print.specs.declared.response.Response.TheVariants as response;
 ghost use Rattle.imap_mailbox.specs.declared.known.KnownMessage as known_message;
@@ -9,8 +9,7 @@ ghost use Rattle.imap_mailbox.specs.Rows.{Row, is_among};
 ghost use Rattle.imap_mailbox.specs.Brought.{Agree, AreToldBy, told_of};
 ghost use Rattle.imap_session.specs.Held.{list_in};
 ghost use Rattle.imap_session.specs.Notices as specs;
-ghost use Rattle.imap_session.specs.Cursors.{is_next};
-ghost use Rattle.imap_session.specs.Walked.{Passes, PassesExpunged, FindsPresent, collected, findings, found};
+ghost use Rattle.imap_session.specs.Walked.{Passes, PassesChanged, PassesExpunged, collected, findings, found};
 
 use crate::delta::ChangedMessage;
 use crate::entry::Entry;
@@ -109,61 +108,31 @@ impl Walk {
         Ok(())
     }
 
-    /// Adds the next message of `rows`, which is the known one at `place`, if it changed. All up to the
-    /// mod-sequence `up_to` is known.
-    fn compare_present<C: RowCursor>(
+    /// Passes the next message of `rows`, which is the known one at `place` and changed.
+    fn pass_changed<C: RowCursor>(
         &mut self,
         alloc: Global,
         place: usize,
-        known: &KnownMessage,
-        rows: &C,
-        up_to: u64,
-        options: &NoticeOptions,
-        told: &[u32],
-    ) -> Result<(), AllocError>
-        requires next { is_next known.now.uid (C.rest rows.now) ≡ true }
-        requires agree { (others : List known_message.KnownMessage)
-            × Agree up_to (known.now ∷ others) (C.rest rows.now) }
-        requires known { known.now.number ≤ up_to }
-        requires told { AreRising told.now }
-        ensures { OnOk result ((r : Row) (later : List Row) → C.rest rows.now ≡ r ∷ later
-            → FindsPresent told.now options.now place known.now r self.old self.new) }
-    {
-        if !rows.is_above(up_to) {
-            return Ok(());
-        }
-        let message = rows.message(alloc)?;
-        let is_told = is_told(told, message.uid);
-        self.add_changed(alloc, ChangedMessage { place, message }, options, is_told)
-    }
-
-    /// Passes the known message at `place`, which is the next of `rows`.
-    fn pass_present<C: RowCursor>(
-        &mut self,
-        alloc: Global,
-        place: usize,
-        known: &KnownMessage,
         rows: &mut C,
-        up_to: u64,
         options: &NoticeOptions,
         told: &[u32],
     ) -> Result<(), AllocError>
-        requires next { is_next known.now.uid (C.rest rows.old) ≡ true }
-        requires agree { (others : List known_message.KnownMessage)
-            × Agree up_to (known.now ∷ others) (C.rest rows.old) }
-        requires known { known.now.number ≤ up_to }
+        requires there { 0 < length (C.rest rows.old) }
         requires told { AreRising told.now }
         requires number { self.old.number < 2 ^ 32 - 1 }
-        ensures { OnOk result (Passes told.now options.now up_to place known.now
-            (C.rest rows.old) (C.rest rows.new) self.old self.new) }
+        ensures found { OnOk result ((r : Row) (later : List Row) → C.rest rows.old ≡ r ∷ later
+            → PassesChanged told.now options.now place r self.old self.new) }
+        ensures rest { OnOk result (C.rest rows.new ≡ drop 1 (C.rest rows.old)) }
     {
-        self.compare_present(alloc, place, known, &*rows, up_to, options, told)?;
+        let message = rows.message(alloc)?;
+        let is_told = is_told(told, message.uid);
+        self.add_changed(alloc, ChangedMessage { place, message }, options, is_told)?;
         rows.skip();
         self.number += 1;
         Ok(())
     }
 
-    /// Passes the known message at `place`.
+    /// Passes the known message at `place`. All up to the mod-sequence `up_to` is known.
     fn pass<C: RowCursor>(
         &mut self,
         alloc: Global,
@@ -182,8 +151,12 @@ impl Walk {
         ensures { OnOk result (Passes told.now options.now up_to place known.now
             (C.rest rows.old) (C.rest rows.new) self.old self.new) }
     {
+        if rows.skip_unchanged(known.uid, up_to) {
+            self.number += 1;
+            return Ok(());
+        }
         if rows.is_next(known.uid) {
-            self.pass_present(alloc, place, known, rows, up_to, options, told)
+            self.pass_changed(alloc, place, rows, options, told)
         } else {
             self.pass_expunged(place, known, options)
         }

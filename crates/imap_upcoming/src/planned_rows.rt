@@ -64,8 +64,15 @@ impl<'a> RowCursor for PlannedRows<'a> {
         }
     }
 
-    fn is_above(&self, number: u64) -> bool {
-        self.rows.is_above(number)
+    fn skip_unchanged(&mut self, uid: u32, number: u64) -> bool {
+        if !self.is_next(uid) {
+            return false;
+        }
+        if self.rows.is_above(number) {
+            return false;
+        }
+        self.skip();
+        true
     }
 
     fn message(&self, alloc: Global) -> Result<KnownMessage, AllocError> {

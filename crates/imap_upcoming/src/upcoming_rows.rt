@@ -33,10 +33,10 @@ impl<'a> RowCursor for UpcomingRows<'a> {
         }
     }
 
-    fn is_above(&self, number: u64) -> bool {
+    fn skip_unchanged(&mut self, uid: u32, number: u64) -> bool {
         match self {
-            UpcomingRows::There(rows) => rows.is_above(number),
-            UpcomingRows::Planned(rows) => rows.is_above(number),
+            UpcomingRows::There(rows) => rows.skip_unchanged(uid, number),
+            UpcomingRows::Planned(rows) => rows.skip_unchanged(uid, number),
         }
     }
 
