@@ -1,8 +1,9 @@
 //! The machine.
 
-ghost use Rattle.std.specs.Prelude.{◌≡◌, ℕ, Ok, IfOk, OnOk, OnErr, List};
+ghost use Rattle.std.specs.Prelude.{◌≡◌, ℕ, Ok, IfOk, OnOk, OnErr, List, option_copied, option_map};
 ghost use Rattle.std.specs.FinMap as map;
 ghost use Rattle.std.specs.List.{AllByRecursion};
+ghost use Rattle.imap_session.specs.State.{state_of};
 ghost use Rattle.imap_world.specs.Effects.{after_writes, writes_of};
 ghost use Rattle.imap_world.specs.Ready as world;
 ghost use Rattle.imap_world.specs.Ready.{AreApart};
@@ -33,6 +34,7 @@ use crate::step::Step;
 use crate::tried::with_found;
 use imap_names::{UserName, inbox_ref};
 use imap_print::Response;
+use imap_session::Session;
 use imap_user_map::UserMap;
 use imap_view::View;
 use imap_world::{Change, Effect, Limits, Site, World};
@@ -155,6 +157,21 @@ impl Core {
             world: self.world.try_copy(alloc)?,
             accounts: self.accounts.try_copy(alloc)?,
         })
+    }
+
+    /// The mailboxes.
+    pub fn world(&self) -> &World
+        ensures { world_of result.now ≡ self.now.state.world }
+    {
+        &self.world
+    }
+
+    /// The session, if it is open.
+    pub fn session(&self, who: &SessionId) -> Option<&Session>
+        ensures { option_map state_of (option_copied result)
+            ≡ session_at self.now.state.accounts who.now.user who.now.number }
+    {
+        open_session(&self.accounts, who)
     }
 
     /// Does nothing: its contract hands on what the type keeps.

@@ -18,6 +18,8 @@ mod machine;
 #[cfg(test)]
 mod messages;
 #[cfg(test)]
+mod notices;
+#[cfg(test)]
 mod parts;
 #[cfg(test)]
 mod wanted;

@@ -20,14 +20,14 @@ enum Doing {
     Sends(&'static [u8]),
 }
 
-/// Root's first session.
-fn session(alloc: Global) -> Result<SessionId, AllocError> {
-    let number = SessionNumber::new(1).ok_or(AllocError)?;
+/// Root's session with this number.
+pub(crate) fn session(alloc: Global, number: u32) -> Result<SessionId, AllocError> {
+    let number = SessionNumber::new(number).ok_or(AllocError)?;
     let user = user(alloc, "root")?;
     Ok(SessionId { user, number })
 }
 
-fn command(alloc: Global, octets: &[u8]) -> Result<Act, AllocError> {
+pub(crate) fn command(alloc: Global, octets: &[u8]) -> Result<Act, AllocError> {
     let octets = Octets::from_slice(alloc, octets)?;
     parse(alloc, &octets).map(Act::Do)
 }
@@ -42,7 +42,7 @@ fn act(alloc: Global, doing: Doing) -> Result<Act, AllocError> {
 
 // What is large is handed to functions that are generic, since the proof that it is dropped is long.
 
-fn both<A: Drop, B: Drop>(
+pub(crate) fn both<A: Drop, B: Drop>(
     one: Result<A, AllocError>,
     other: Result<B, AllocError>,
 ) -> Result<(A, B), AllocError> {
@@ -66,7 +66,7 @@ fn push<T: Drop>(items: &mut Vec<T>, item: Result<T, AllocError>) -> Result<(), 
 }
 
 fn step(alloc: Global, doing: Doing) -> Result<Step, AllocError> {
-    let (who, act) = both(session(alloc), act(alloc, doing))?;
+    let (who, act) = both(session(alloc, 1), act(alloc, doing))?;
     Ok(Step {
         who,
         at: Moment::epoch(),
@@ -115,7 +115,7 @@ fn world(alloc: Global, count: u32) -> Result<World, AllocError> {
 }
 
 /// A machine over this world, where root is the administrator.
-fn machine(alloc: Global, count: u32) -> Result<Core, AllocError> {
+pub(crate) fn machine(alloc: Global, count: u32) -> Result<Core, AllocError> {
     let (world, root) = both(world(alloc, count), user(alloc, "root"))?;
     first(Core::open(alloc, world, root, &[], LIMITS))
 }

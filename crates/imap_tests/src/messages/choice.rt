@@ -32,7 +32,7 @@ const LETTERS: [&[u8]; 10] = [
 ];
 
 /// One of `many` numbers from 0 on. It looks random, and is the same in each run.
-fn pick(step: u32, salt: u32, many: u32) -> usize {
+pub(crate) fn pick(step: u32, salt: u32, many: u32) -> usize {
     let mixed = step.wrapping_mul(0x9e37_79b1) ^ salt.wrapping_mul(0x85eb_ca6b);
     let spread = (mixed ^ (mixed >> 15)).wrapping_mul(0xc2b2_ae35);
     (spread >> 8).checked_rem(many).unwrap_or(0) as usize
