@@ -1,4 +1,5 @@
--- What each change meets that was found for some world: its numbers are small, and mailboxes move where it says.
+-- What each change meets that was found for some world: its numbers are small, and mailboxes move where it
+-- says.
 use Rattle.std.specs.Prelude.{◌≡◌, ◌≤◌, ◌+◌, true, List, length, Option, Some, None}
 use Rattle.std.specs.List.{AllByRecursion, list_all}
 use Rattle.imap_batch.specs.Batch.{event_count, has_uids}

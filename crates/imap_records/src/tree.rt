@@ -1,6 +1,7 @@
 //! Rows of mailboxes, of the UIDVALIDITYs that were used, and of subscriptions.
 
-ghost use Rattle.std.specs.Prelude.{◌≡◌, ◌++◌, ◌∷◌, [], ℕ, List, IfOk, OnOk, drop, length, map as map_list, string_bytes, true};
+ghost use Rattle.std.specs.Prelude.{◌≡◌, ◌++◌, ◌∷◌, [], ℕ, List, IfOk, OnOk, drop, length, true};
+ghost use Rattle.std.specs.Prelude.{map as map_list, string_bytes};
 ghost use Rattle.std.specs.List.{list_all};
 ghost use Rattle.std.specs.Str.{is_utf8};
 ghost use Rattle.imap_names.specs.Name.{Name, path_of};

@@ -26,3 +26,5 @@ mod Flat
 mod Again
 mod Whole
 mod Refused
+mod Grouped
+mod InOrder

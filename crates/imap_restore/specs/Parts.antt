@@ -1,7 +1,8 @@
 -- What a store keeps of a world, by its tables.
-use Rattle.std.specs.Prelude.{◌≡◌, ℕ, ℤ, pos, Bool, true, List, filter, string_bytes}
+use Rattle.std.specs.Prelude.{◌≡◌, ℕ, ℤ, pos, Bool, true, false, List, filter, string_bytes}
 use Rattle.std.specs.List.{AllByRecursion, AllZip, list_all}
-use Rattle.std.specs.Ordering.{int_eq}
+use Rattle.std.specs.List.Sorted.{IsSortedByKey}
+use Rattle.std.specs.Ordering.{int_cmp, int_eq, is_lt}
 use Rattle.std.specs.Str.{is_utf8}
 use Rattle.sqlite_rules.specs.Lists.{Has}
 use Rattle.imap_mailbox.specs.declared.message.GoneMessage.{GoneMessage}
@@ -40,6 +41,36 @@ IsChangeFor row it = IsMarkFor row.row it × (is_utf8 it.user ≡ true)
 -- of the rows those below the mailbox with this id
 abbrev pub below : {R : Type 0} → (mailbox : R → ℤ) → (id : ℤ) → List R → List R
 below mailbox id rows = filter (λ row. int_eq (mailbox row) id) rows
+
+-- the rows are in the order of their mailboxes
+abbrev pub AreGrouped : {R : Type 0} → (mailbox : R → ℤ) → List R → Type 0
+AreGrouped mailbox rows = IsSortedByKey mailbox int_cmp rows
+
+-- none of the rows is of a mailbox with a lower id
+abbrev pub IsFrom : {R : Type 0} → (mailbox : R → ℤ) → (id : ℤ) → List R → Type 0
+IsFrom {R} mailbox id rows = AllByRecursion (λ row. is_lt (int_cmp (mailbox row) id) ≡ false) rows
+
+-- the rows of the second are those of the first, in the order of their mailboxes
+abbrev pub IsInOrder : {R : Type 0} → (mailbox : R → ℤ) → List R → List R → Type 0
+IsInOrder mailbox rows grouped =
+    AreGrouped mailbox grouped × ((id : ℤ) → below mailbox id grouped ≡ below mailbox id rows)
+
+-- the tables of the second are those of the first, with the rows in the order of their mailboxes
+pub record IsGrouped (t g : StoredTables) : Type 0 where
+  pub mailboxes : g.mailboxes ≡ t.mailboxes
+  pub entries : IsInOrder (λ r. r.mailbox) t.entries.items g.entries.items
+  pub messages : IsInOrder (λ r. r.mailbox) t.messages.items g.messages.items
+  pub gone : IsInOrder (λ r. r.mailbox) t.gone.items g.gone.items
+  pub marks : IsInOrder (λ r. r.mailbox) t.marks.items g.marks.items
+  pub epochs : g.epochs ≡ t.epochs
+  pub subscriptions : g.subscriptions ≡ t.subscriptions
+
+-- the rows below mailboxes are in the order of these
+pub record HaveGroups (t : StoredTables) : Type 0 where
+  pub entries : AreGrouped (λ r. r.mailbox) t.entries.items
+  pub messages : AreGrouped (λ r. r.mailbox) t.messages.items
+  pub gone : AreGrouped (λ r. r.mailbox) t.gone.items
+  pub marks : AreGrouped (λ r. r.mailbox) t.marks.items
 
 -- ---- of a mailbox
 

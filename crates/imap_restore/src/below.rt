@@ -1,11 +1,12 @@
 //! The rows below one mailbox.
 
-ghost use Rattle.std.specs.Prelude.{◌≡◌, ℤ, true, List, Err, IfOk, filter, string_bytes};
+ghost use Rattle.std.specs.Prelude.{◌≡◌, ℤ, true, List, Err, IfOk, string_bytes};
 ghost use Rattle.std.specs.List.{AllZip};
-ghost use Rattle.std.specs.Ordering.{int_eq};
 ghost use Rattle.std.specs.Str.{is_utf8};
+ghost use Rattle.imap_restore.specs.Parts.{AreGrouped, below};
 ghost use Rattle.imap_restore.specs.Restored.{HasRights, IsAnEntry, IsFit, IsGoneFor, IsMarkFor, IsRowFor};
 
+use crate::grouping::rows_of;
 use crate::rows::{read_change, read_entry, read_gone, read_message};
 use imap_mailbox::{GoneMessage, Message, PartsError, UserChange};
 use imap_rights::Entry;
@@ -89,31 +90,15 @@ impl Restore<StoredMark> for UserChange {
     }
 }
 
-fn is_same(mailbox: i64, id: i64) -> bool
-    ensures { result ≡ int_eq mailbox id }
-{
-    mailbox == id
-}
-
-/// Reads all that is below a mailbox, in the order of the rows. Fails with `Bad` if one of its rows keeps nothing.
-///
-/// It goes over the rows of all mailboxes, the plain form.
+/// Reads the rows, in their order. Fails with `Bad` if one of them keeps nothing.
 #[tactic(auto, using(crate::proofs::Zipped::read_start))]
-pub fn read_below<R, T: Restore<R>>(
-    alloc: Global,
-    rows: &[R],
-    id: i64,
-) -> Result<Vec<T>, PartsError>
-    ensures ok { IfOk result (λ items. AllZip T.Restore.is_for
-        (filter (λ row. int_eq (T.Restore.mailbox row) id) rows.now) items.items) }
-    ensures bad { result ≡ Err PartsError.Bad → (items : List T) → AllZip T.Restore.is_for
-        (filter (λ row. int_eq (T.Restore.mailbox row) id) rows.now) items → ⊥ }
+fn read_all<R, T: Restore<R>>(alloc: Global, rows: &[R]) -> Result<Vec<T>, PartsError>
+    ensures ok { IfOk result (λ items. AllZip T.Restore.is_for rows.now items.items) }
+    ensures bad { result ≡ Err PartsError.Bad
+        → (items : List T) → AllZip T.Restore.is_for rows.now items → ⊥ }
 {
     let mut items = Vec::new(alloc);
     'rows: for row in rows {
-        if !is_same(T::mailbox(row), id) {
-            continue;
-        }
         let item = match T::restore(alloc, row) {
             Ok(item) => item,
             Err(error) => return Err(error),
@@ -123,4 +108,20 @@ pub fn read_below<R, T: Restore<R>>(
         };
     }
     Ok(items)
+}
+
+/// Reads all that is below a mailbox, in the order of the rows. Fails with `Bad` if one of its rows keeps
+/// nothing. The rows are in the order of their mailboxes, so that those of one are found by two searches.
+pub fn read_below<R, T: Restore<R>>(
+    alloc: Global,
+    rows: &[R],
+    id: i64,
+) -> Result<Vec<T>, PartsError>
+    requires { AreGrouped T.Restore.mailbox rows.now }
+    ensures ok { IfOk result (λ items.
+        AllZip T.Restore.is_for (below T.Restore.mailbox id rows.now) items.items) }
+    ensures bad { result ≡ Err PartsError.Bad → (items : List T)
+        → AllZip T.Restore.is_for (below T.Restore.mailbox id rows.now) items → ⊥ }
+{
+    read_all(alloc, rows_of::<R, T>(rows, id))
 }

@@ -4,6 +4,7 @@
 #![tactic(auto)]
 
 mod below;
+mod grouping;
 mod lists;
 mod making;
 mod names;

@@ -13,7 +13,8 @@ use imap_tables::{StoredEpoch, StoredSubscription};
 use imap_world::Subscription;
 use std::alloc::Global;
 
-/// Reads the greatest UIDVALIDITY that was ever used under each name. Fails with `Bad` if a row names no mailbox.
+/// Reads the greatest UIDVALIDITY that was ever used under each name. Fails with `Bad` if a row names no
+/// mailbox.
 #[tactic(auto, using(crate::proofs::Zipped::read_start, crate::proofs::Zipped::read_next))]
 pub fn read_epochs(alloc: Global, rows: Vec<StoredEpoch>) -> Result<Vec<(Name, u32)>, PartsError>
     ensures ok { IfOk result (λ epochs. AllZip IsEpochFor rows.items epochs.items) }

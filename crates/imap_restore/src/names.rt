@@ -12,8 +12,8 @@ use imap_names::{Name, NameError, NameRef, read_full};
 use imap_tables::MailboxKey;
 use std::alloc::{AllocError, Global};
 
-/// Reads the name of a mailbox from its tree, `s` or `u/` and the owner's name, and its path. Fails with `Bad` if no
-/// mailbox has them.
+/// Reads the name of a mailbox from its tree, `s` or `u/` and the owner's name, and its path. Fails with
+/// `Bad` if no mailbox has them.
 pub fn read_key(alloc: Global, key: &MailboxKey) -> Result<Name, PartsError>
     ensures { Restores (HasKeyOf key.now) IsName result }
 {

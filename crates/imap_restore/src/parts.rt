@@ -5,9 +5,10 @@ ghost use Rattle.std.specs.BTreeSet as sorted;
 ghost use Rattle.std.specs.List.{AllByRecursion, AllZip};
 ghost use Rattle.std.specs.Ordering.{int_cmp};
 ghost use Rattle.imap_restore.specs.Parts.{AreKnown, AreOf, ArePartsFor, HasMailbox, HasParts, HaveMailboxes};
-ghost use Rattle.imap_restore.specs.Parts.{HaveMessages, IsMailboxFor};
+ghost use Rattle.imap_restore.specs.Parts.{HaveGroups, HaveMessages, IsMailboxFor};
 
 use crate::below::{Restore, read_below};
+use crate::grouping::grouped;
 use crate::lists::{read_epochs, read_subscriptions};
 use crate::names::read_key;
 use crate::values::read_count;
@@ -73,13 +74,14 @@ fn have_mailboxes(alloc: Global, tables: &StoredTables) -> Result<bool, AllocErr
     Ok(are_known::<_, UserChange>(&tables.marks, &ids))
 }
 
-/// Reads the messages of a mailbox. Fails with `Bad` if a row below it keeps nothing, or its number of events is
-/// none.
+/// Reads the messages of a mailbox. Fails with `Bad` if a row below it keeps nothing, or its number of events
+/// is none.
 fn read_messages(
     alloc: Global,
     tables: &StoredTables,
     mailbox: &StoredMailbox,
 ) -> Result<MailboxParts, PartsError>
+    requires { HaveGroups tables.now }
     ensures ok { IfOk result (AreOf tables.now mailbox.now) }
     ensures bad { result ≡ Err PartsError.Bad → HaveMessages tables.now mailbox.now → ⊥ }
 {
@@ -104,6 +106,7 @@ fn read_mailbox(
     tables: &StoredTables,
     mailbox: &StoredMailbox,
 ) -> Result<MailboxRow, PartsError>
+    requires { HaveGroups tables.now }
     ensures ok { IfOk result (IsMailboxFor tables.now mailbox.now) }
     ensures bad { result ≡ Err PartsError.Bad → HasMailbox tables.now mailbox.now → ⊥ }
 {
@@ -125,6 +128,7 @@ fn read_mailboxes(
     tables: &StoredTables,
     mailboxes: &[StoredMailbox],
 ) -> Result<Vec<MailboxRow>, PartsError>
+    requires { HaveGroups tables.now }
     ensures ok { IfOk result (λ rows. AllZip (IsMailboxFor tables.now) mailboxes.now rows.items) }
     ensures bad { result ≡ Err PartsError.Bad → AllByRecursion (HasMailbox tables.now) mailboxes.now → ⊥ }
 {
@@ -141,9 +145,10 @@ fn read_mailboxes(
     Ok(rows)
 }
 
-/// Reads what a store keeps of a world. Fails with `Bad` if a row keeps nothing, or is below a mailbox that is not
-/// there.
-pub fn read_parts(alloc: Global, tables: StoredTables) -> Result<WorldParts, PartsError>
+/// Reads what a store keeps of a world, with the rows of its tables in the order of mailboxes. Fails with `Bad`
+/// if a row keeps nothing, or is below a mailbox that is not there.
+fn read_grouped(alloc: Global, tables: StoredTables) -> Result<WorldParts, PartsError>
+    requires { HaveGroups tables }
     ensures ok { IfOk result (ArePartsFor tables) }
     ensures bad { result ≡ Err PartsError.Bad → HasParts tables → ⊥ }
 {
@@ -168,4 +173,16 @@ pub fn read_parts(alloc: Global, tables: StoredTables) -> Result<WorldParts, Par
         epochs,
         subscriptions,
     })
+}
+
+/// Reads what a store keeps of a world. Fails with `Bad` if a row keeps nothing, or is below a mailbox that
+/// is not there.
+pub fn read_parts(alloc: Global, tables: StoredTables) -> Result<WorldParts, PartsError>
+    ensures ok { IfOk result (ArePartsFor tables) }
+    ensures bad { result ≡ Err PartsError.Bad → HasParts tables → ⊥ }
+{
+    match grouped(tables) {
+        Ok(tables) => read_grouped(alloc, tables),
+        Err(_) => Err(PartsError::Memory),
+    }
 }

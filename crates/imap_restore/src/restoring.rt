@@ -66,8 +66,8 @@ fn restore_read(alloc: Global, stored: StoredTables) -> Result<World, PartsError
     }
 }
 
-/// Reads the world that the rows of all tables stand for, which come in the order in which tables are made. Fails with
-/// `Bad` if they stand for none.
+/// Reads the world that the rows of all tables stand for. The tables come in the order in which they are
+/// made. Fails with `Bad` if the rows stand for none.
 pub fn restore(alloc: Global, tables: Vec<Vec<Row>>) -> Result<World, PartsError>
     ensures ok { IfOk result (λ world. (db : Trees) → AreRowsOf db tables.items → Hold db (world_of world)) }
     ensures bad { result ≡ Err parts.Bad → (db : Trees) (world : Mailboxes)

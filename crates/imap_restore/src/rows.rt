@@ -3,7 +3,8 @@
 ghost use Rattle.std.specs.Prelude.{◌≡◌, ℕ, MatchOption, string_bytes, true};
 ghost use Rattle.std.specs.Str.{is_utf8};
 ghost use Rattle.imap_rights.specs.Identifier.{is_identifier};
-ghost use Rattle.imap_restore.specs.Restored.{HasRights, IsAnEntry, IsFit, IsGoneFor, IsMarkFor, IsRowFor, Restores};
+ghost use Rattle.imap_restore.specs.Restored.{HasRights, IsAnEntry, IsFit, IsGoneFor, IsMarkFor};
+ghost use Rattle.imap_restore.specs.Restored.{IsRowFor, Restores};
 
 use crate::values::{read_count, read_date, read_flags, read_place, read_rights};
 use imap_mailbox::{GoneMessage, Message, PartsError, SeenChange, UserChange};
@@ -11,8 +12,8 @@ use imap_rights::{Entry, Identifier, IdentifierError};
 use imap_tables::{MarkRow, MessageRow};
 use std::alloc::Global;
 
-/// Reads an entry of an access control list. Fails with `Bad` if there is no such identifier, or these are none of the
-/// eleven rights.
+/// Reads an entry of an access control list. Fails with `Bad` if there is no such identifier, or these are
+/// none of the eleven rights.
 pub fn read_entry(alloc: Global, identifier: &str, rights: u32) -> Result<Entry, PartsError>
     ensures { Restores (HasRights identifier.now rights) IsAnEntry result }
 {

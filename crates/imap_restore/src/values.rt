@@ -1,8 +1,10 @@
 //! Dates, keywords, flags and numbers.
 
-ghost use Rattle.std.specs.Prelude.{◌≡◌, ◌+◌, ◌<◌, ◌∷◌, ◌++◌, ℕ, pos, false, true, length, Err, IfOk, IfSome, MatchOption, OnOk, string_bytes};
+ghost use Rattle.std.specs.Prelude.{◌≡◌, ◌+◌, ◌<◌, ◌∷◌, ◌++◌, ℕ, pos, false, true, length, string_bytes};
+ghost use Rattle.std.specs.Prelude.{Err, IfOk, IfSome, MatchOption, OnOk};
 ghost use Rattle.imap_records.specs.Columns.{bit, date_text, place_value};
-ghost use Rattle.imap_restore.specs.Restored.{AreFlags, HasFlags, HasWords, IsFront, IsLast, IsNone, IsOnly, Restores};
+ghost use Rattle.imap_restore.specs.Restored.{AreFlags, HasFlags, HasWords, IsFront, IsLast, IsNone};
+ghost use Rattle.imap_restore.specs.Restored.{IsOnly, Restores};
 ghost use Rattle.imap_rights.specs.Acl.{is_some_rights};
 ghost use Rattle.imap_rights.specs.Rights.{bits};
 ghost use Rattle.imap_syntax.specs.Atoms.{IsAtom};

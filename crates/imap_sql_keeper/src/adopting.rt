@@ -47,7 +47,8 @@ fn have_version(rows: &[Row]) -> Result<bool, Error>
     Ok(false)
 }
 
-/// Reads which version the tables are of. Fails with `Damaged` if it is another than this, or a row of `meta` is not read.
+/// Reads which version the tables are of. Fails with `Damaged` if it is another than this, or a row of `meta`
+/// is not read.
 fn check_version<S: Alter>(conn: &mut Connection<S>) -> Result<(), KeepError>
     requires rest { IsAtRest (state S.Store conn.old) }
     ensures rest { IsAtRest (state S.Store conn.new) }

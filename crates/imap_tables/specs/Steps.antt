@@ -39,7 +39,8 @@ Calls g old new Made = IsCall (state g old) (state g new) (Made (state g old) (s
 abbrev pub HasOrder : State → Type 0
 HasOrder s = IsTrue s.is_open → IsOrderly s.now.trees
 
--- the connection is open: tables that are in order stay so, and Makes is done to them; the transaction goes on
+-- the connection is open: tables that are in order stay so, and Makes is done to them. The transaction goes
+-- on
 pub record Turns (Makes : Trees → Trees → Type 0) (old new : State) : Type 0 where
   pub was_open : IsTrue old.is_open
   pub made : HasOrder old → Makes old.now.trees new.now.trees × IsOrderly new.now.trees

@@ -28,7 +28,8 @@ pub struct StoredTables {
     pub meta: Vec<StoredMeta>,
 }
 
-/// Takes the first table away, and reads its rows. Fails if nothing is read of one of them, or for want of memory.
+/// Takes the first table away, and reads its rows. Fails if nothing is read of one of them, or for want of
+/// memory.
 fn read_next<R: Stored>(alloc: Global, tables: &mut VecDeque<Vec<Row>>) -> Result<Vec<R>, Error>
     ensures { (rows : Vec Values Memory) (rest : List (Vec Values Memory)) → tables.old.items ≡ rows ∷ rest
         → (tables.new.items ≡ rest) × ReadsRows R.Stored.is_of R.Stored.shows rows.items result }
@@ -39,8 +40,8 @@ fn read_next<R: Stored>(alloc: Global, tables: &mut VecDeque<Vec<Row>>) -> Resul
     }
 }
 
-/// Reads the rows of all tables, which come in the order in which tables are made. Fails if nothing is read of one of
-/// them, or for want of memory.
+/// Reads the rows of all tables. The tables come in the order in which they are made. Fails if nothing is
+/// read of one of the rows, or for want of memory.
 pub fn read_stored(alloc: Global, tables: Vec<Vec<Row>>) -> Result<StoredTables, Error>
     ensures ok { length tables.items ≡ 8 → IfOk result (AreStored tables.items) }
     ensures unread { length tables.items ≡ 8
