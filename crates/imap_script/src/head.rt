@@ -5,7 +5,7 @@ use crate::limits::{DEFAULT_LIMITS, read_max_messages, read_max_octets};
 use crate::line::LineError;
 use crate::mailboxes::Mailboxes;
 use imap_hall::Hall;
-use imap_keeper::ListKeeper;
+use imap_keeper::Keeper;
 use imap_names::{Name, UserName, read_full};
 use imap_rights::{Identifier, read_rights};
 use imap_world::{Limits, World};
@@ -42,7 +42,6 @@ pub(crate) struct Start {
     /// The other users, each once.
     users: Vec<UserName>,
     limits: Limits,
-    world: World,
 }
 
 impl Start {
@@ -50,19 +49,24 @@ impl Start {
         self.limits.max_octets
     }
 
-    /// Starts the host.
-    pub(crate) fn open(self, alloc: Global) -> Result<Hall<ListKeeper>, ScriptError> {
-        let Start {
+    /// Starts the host over what the keeper keeps. A refusal hands the keeper back.
+    pub(crate) fn open<K: Keeper>(
+        &self,
+        alloc: Global,
+        keeper: K,
+    ) -> Result<Hall<K>, (ScriptError, K)> {
+        let Ok(administrator) = self.administrator.try_copy() else {
+            return Err((ScriptError::Memory, keeper));
+        };
+        match Hall::open(
+            alloc,
+            keeper,
             administrator,
-            users,
-            limits,
-            world,
-        } = self;
-        let keeper = ListKeeper::new(world);
-        // A keeper in memory refuses for want of memory alone.
-        match Hall::open(alloc, keeper, administrator, users.as_slice(), limits) {
+            self.users.as_slice(),
+            self.limits,
+        ) {
             Ok(hall) => Ok(hall),
-            Err(_) => Err(ScriptError::Memory),
+            Err((error, keeper)) => Err((ScriptError::from(error), keeper)),
         }
     }
 }
@@ -111,8 +115,8 @@ impl Head {
         }
     }
 
-    /// What the host starts with after all lines of the head.
-    pub(crate) fn finish(self, alloc: Global) -> Result<Start, LineError> {
+    /// What the host starts with after all lines of the head, and the mailboxes that are there then.
+    pub(crate) fn finish(self, alloc: Global) -> Result<(Start, World), LineError> {
         let Head {
             administrator,
             users,
@@ -120,12 +124,13 @@ impl Head {
             mailboxes,
             known: _,
         } = self;
-        Ok(Start {
+        let world = mailboxes.into_world(alloc)?;
+        let start = Start {
             administrator,
             users,
             limits,
-            world: mailboxes.into_world(alloc)?,
-        })
+        };
+        Ok((start, world))
     }
 
     fn add_user(&mut self, alloc: Global, name: &str) -> Result<(), LineError> {

@@ -12,18 +12,18 @@ mod scenario;
 mod step;
 mod transcript;
 
-use crate::run::run_scenario;
-use crate::scenario::Scenario;
 pub use error::ScriptError;
+use imap_keeper::ListKeeper;
 pub use input::read_all;
 pub use limits::{DEFAULT_LIMITS, read_max_messages, read_max_octets, read_number};
+pub use scenario::Scenario;
 use std::io::{Read, Write};
 
 /// The most reads of a script's input.
 const MAX_READS: u32 = 16_777_216;
 
-/// Reads a script from `input`, runs it, and writes its transcript to `output`: a line for each line to
-/// a client, with the session before it, as `ann.1 > a1 OK done`.
+/// Reads a script from `input`, runs it over a keeper in memory, and writes its transcript to `output`: a
+/// line for each line to a client, with the session before it, as `ann.1 > a1 OK done`.
 ///
 /// The whole script is read before any of it runs. Fails with `Bad` at its first bad line, and then
 /// nothing was run. No clause speaks of this: tests show it.
@@ -34,6 +34,7 @@ pub fn script<R: AllocGlobal, I: Read + Drop, O: Write + Drop>(
 ) -> Result<(), ScriptError> {
     let alloc = rt.alloc();
     let text = read_all(alloc, input, MAX_READS)?;
-    let scenario = Scenario::read(alloc, text.as_slice())?;
-    run_scenario(alloc, scenario, output)
+    let (scenario, world) = Scenario::read(alloc, text.as_slice())?;
+    let (_keeper, ended) = scenario.run(alloc, ListKeeper::new(world), output);
+    ended
 }

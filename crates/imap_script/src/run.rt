@@ -1,42 +1,43 @@
 //! The run of a script.
 
 use crate::error::ScriptError;
-use crate::scenario::Scenario;
 use crate::step::{Event, ScriptStep};
 use crate::transcript::Transcript;
 use imap_core::{Act, SessionId, Step};
 use imap_hall::{Hall, HallError, Receipt};
-use imap_keeper::ListKeeper;
+use imap_keeper::Keeper;
 use imap_lex::{Frame, Framer, LexError};
 use imap_print::{Farewell, Response};
 use std::alloc::Global;
 use std::collections::HashMap;
 use std::io::Write;
 
-/// Makes the steps of a script, and writes the transcript.
-pub(crate) fn run_scenario<O: Write + Drop>(
+/// Makes the steps of a script, and writes the transcript. Hands the keeper back.
+pub(crate) fn run_steps<K: Keeper, O: Write + Drop>(
     alloc: Global,
-    scenario: Scenario,
+    hall: Hall<K>,
+    max_octets: u64,
+    steps: &[ScriptStep],
     output: O,
-) -> Result<(), ScriptError> {
-    let Scenario { start, steps } = scenario;
-    let max_octets = start.max_octets();
-    let mut run = Run {
-        hall: start.open(alloc)?,
-        max_octets,
-        framers: HashMap::new(alloc),
-        transcript: Transcript::new(alloc, output)?,
-    };
-    for step in steps.iter() {
-        run.make(alloc, step)?;
+) -> (K, Result<(), ScriptError>) {
+    match Transcript::new(alloc, output) {
+        Ok(transcript) => {
+            let mut run = Run {
+                hall,
+                max_octets,
+                framers: HashMap::new(alloc),
+                transcript,
+            };
+            let ended = run.make_all(alloc, steps);
+            (run.into_keeper(), ended)
+        }
+        Err(error) => (hall.into_keeper(), Err(error)),
     }
-    run.transcript.finish()
 }
 
 /// The hall, the framers of its connections, and the transcript.
-#[derive(Drop)]
-struct Run<O: Write + Drop> {
-    hall: Hall<ListKeeper>,
+struct Run<K: Keeper, O: Write + Drop> {
+    hall: Hall<K>,
     /// The most octets that the literals of one command may have together.
     max_octets: u64,
     /// A framer for each open session, by its label.
@@ -44,7 +45,24 @@ struct Run<O: Write + Drop> {
     transcript: Transcript<O>,
 }
 
-impl<O: Write + Drop> Run<O> {
+impl<K: Keeper, O: Write + Drop> Run<K, O> {
+    fn into_keeper(self) -> K {
+        let Run {
+            hall,
+            max_octets: _,
+            framers: _,
+            transcript: _,
+        } = self;
+        hall.into_keeper()
+    }
+
+    fn make_all(&mut self, alloc: Global, steps: &[ScriptStep]) -> Result<(), ScriptError> {
+        for step in steps {
+            self.make(alloc, step)?;
+        }
+        self.transcript.finish()
+    }
+
     fn make(&mut self, alloc: Global, step: &ScriptStep) -> Result<(), ScriptError> {
         match &step.event {
             Event::Open => self.open(alloc, step),

@@ -4,22 +4,26 @@ use crate::error::ScriptError;
 use crate::head::{Head, HeadWord, Start};
 use crate::limits::read_number;
 use crate::line::LineError;
+use crate::run::run_steps;
 use crate::step::ScriptStep;
 use imap_core::Moment;
+use imap_keeper::Keeper;
+use imap_world::World;
 use std::alloc::Global;
+use std::io::Write;
 use std::str;
 
-/// A whole script: what the host starts with, and the steps.
+/// A whole script: what the host starts with apart from its mailboxes, and the steps.
 #[derive(Drop)]
-pub(crate) struct Scenario {
-    pub(crate) start: Start,
-    pub(crate) steps: Vec<ScriptStep>,
+pub struct Scenario {
+    start: Start,
+    steps: Vec<ScriptStep>,
 }
 
 impl Scenario {
-    /// Reads a script. Fails with its first bad line. A script without an administrator is bad at the
-    /// line after its last.
-    pub(crate) fn read(alloc: Global, text: &[u8]) -> Result<Scenario, ScriptError> {
+    /// Reads a script. Returns it with the mailboxes at its start. Fails with its first bad line. A script
+    /// without an administrator is bad at the line after its last.
+    pub fn read(alloc: Global, text: &[u8]) -> Result<(Scenario, World), ScriptError> {
         let mut draft = Draft::new(alloc);
         let mut line = 1u64;
         for octets in text.split_inclusive(|octet| *octet == b'\n') {
@@ -29,6 +33,27 @@ impl Scenario {
             line = line.saturating_add(1);
         }
         draft.finish(alloc).map_err(|error| error.at(line))
+    }
+
+    /// Runs the script over a keeper of the mailboxes at its start, and writes its transcript to `output`.
+    /// Hands the keeper back. Fails with `Io` if the keeper refuses at the start. If it refuses later, the
+    /// transcript says UNAVAILABLE (RFC 5530).
+    pub fn run<K: Keeper, O: Write + Drop>(
+        &self,
+        alloc: Global,
+        keeper: K,
+        output: O,
+    ) -> (K, Result<(), ScriptError>) {
+        match self.start.open(alloc, keeper) {
+            Ok(hall) => run_steps(
+                alloc,
+                hall,
+                self.start.max_octets(),
+                self.steps.as_slice(),
+                output,
+            ),
+            Err((error, keeper)) => (keeper, Err(error)),
+        }
     }
 }
 
@@ -51,17 +76,15 @@ impl Draft {
     }
 
     /// The whole script. It is bad without an administrator.
-    fn finish(self, alloc: Global) -> Result<Scenario, LineError> {
+    fn finish(self, alloc: Global) -> Result<(Scenario, World), LineError> {
         let Draft {
             head,
             clock: _,
             steps,
         } = self;
         let head = head.ok_or(LineError::Bad)?;
-        Ok(Scenario {
-            start: head.finish(alloc)?,
-            steps,
-        })
+        let (start, world) = head.finish(alloc)?;
+        Ok((Scenario { start, steps }, world))
     }
 
     /// Takes a line, with or without the LF that ends it.
