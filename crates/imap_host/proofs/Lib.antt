@@ -1,0 +1,5 @@
+pub mod Counted
+pub mod LetGo
+pub mod Numbers
+pub mod Passed
+pub mod Sending

@@ -1,0 +1,3 @@
+-- Seats, what their receipts say, and how a host ends.
+pub mod Seats
+pub mod Settling

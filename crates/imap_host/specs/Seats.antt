@@ -1,0 +1,50 @@
+-- What a seat keeps of what it was given.
+use Rattle.std.specs.Prelude.{◌≡◌, ℕ, Bool, false, List, [], ◌∷◌, ◌++◌, Option, Some, None, nat_le, if◌then◌else◌}
+use Rattle.std.specs.FinMap as map
+use Rattle.imap_core.specs.declared.step.Step.{Step}
+use Rattle.imap_hall.specs.declared.journal.Receipt.{Receipt}
+use Rattle.imap_hall.specs.Hall.{entry_of}
+use Rattle.imap_hall.specs.Journal.{JournalEntry}
+use Rattle.imap_host.specs.declared.seat.Kept.{Kept}
+use Rattle.imap_user_map.specs.Rows.{Users}
+
+-- the entry of a receipt that is kept
+abbrev pub kept_entry : Kept → JournalEntry
+kept_entry k = entry_of k.step k.receipt
+
+-- both are receipts of one entry
+pub record IsSameReceipt (r s : Receipt) : Type 0 where
+  pub place : s.place ≡ r.place
+  pub own : s.own ≡ r.own
+  pub replies : s.replies.items ≡ r.replies.items
+
+-- what is kept is the receipt of the step
+pub record IsReceipt (k : Kept) (made : Step) (r : Receipt) : Type 0 where
+  pub step : k.step ≡ made
+  pub receipt : IsSameReceipt r k.receipt
+
+-- the first receipt is of an entry before the base
+abbrev pub begins_before : (base : ℕ) → List Kept → Bool
+begins_before base [] = false
+begins_before base (k ∷ ks) = nat_le k.receipt.place base
+
+-- without those at the front whose entries stand before the base
+abbrev pub from_base : (base : ℕ) → List Kept → List Kept
+from_base base [] = []
+from_base base (k ∷ ks) = if nat_le k.receipt.place base then from_base base ks else k ∷ ks
+
+-- the receipt was added, and old ones were let go
+pub record Remembers (base : ℕ) (old : List Kept) (step : Step) (r : Receipt) (new : List Kept) : Type 0 where
+  pub kept : Kept
+  pub is : IsReceipt kept step r
+  pub receipts : new ≡ from_base base old ++ kept ∷ []
+
+-- ---- seats of a user
+
+abbrev pub last_in : Option ℕ → ℕ
+last_in None = 0
+last_in (Some number) = number
+
+-- the number of the last seat of a user, 0 if there is none
+abbrev pub last_of : Users ℕ → (user : List ℕ) → ℕ
+last_of numbers user = last_in (map.get numbers user)

@@ -1,0 +1,84 @@
+//! Journals that are compared with what seats keep.
+
+ghost use Rattle.std.specs.Prelude.{◌≡◌, ◌↔◌, ◌<◌, IfSome, IsNone, IsTrue, length, map};
+ghost use Rattle.imap_hall.specs.Hall.{noted};
+ghost use Rattle.imap_host.specs.Seats.{kept_entry};
+ghost use Rattle.imap_host.specs.Settling.{AreSettled, IsOfEntry, IsSettled, notes_of, since};
+
+use crate::seat::{Kept, Seat};
+use imap_core::SessionId;
+use imap_hall::Entry;
+use imap_syntax::are_same;
+use std::collections::VecDeque;
+use std::sync::ledger::Ledger;
+
+/// Whether the journal and what the seats keep say the same: each entry since the base is that of one receipt,
+/// which stands at its place with its session, its number, its step and its replies, and the base is where the
+/// seats were told. `before` is how many entries were made before the base.
+pub(crate) fn are_settled<L: Ledger>(before: u64, entries: &[Entry], seats: &[Seat<L>]) -> bool
+    ensures { IsTrue result ↔ AreSettled before (map noted entries.now) (map notes_of seats.now) }
+{
+    let mut left = entries.len() as u64;
+    let mut base = 0;
+    for seat in seats {
+        match count_since(before, entries, &seat.who, &seat.receipts) {
+            Some(count) if count <= left => left -= count,
+            _ => return false,
+        }
+        base = base.max(seat.base);
+    }
+    left == 0 && base == before
+}
+
+/// How many receipts of entries since the base there are. `None` if one of them isn't of the session's entry at
+/// its place, or if their places don't rise.
+fn count_since(
+    before: u64,
+    entries: &[Entry],
+    session: &SessionId,
+    receipts: &VecDeque<Kept>,
+) -> Option<u64>
+    ensures settled { IfSome result (λ n.
+        IsSettled before (map noted entries.now) session.now receipts.now.items) }
+    ensures count { IfSome result (λ n. n ≡ length (since before receipts.now.items)) }
+    ensures unsettled { IsNone result
+        → IsSettled before (map noted entries.now) session.now receipts.now.items → ⊥ }
+{
+    let mut last = before;
+    let mut count: u64 = 0;
+    for kept in receipts {
+        let place = kept.receipt.place;
+        if place <= before {
+            continue;
+        }
+        if place <= last {
+            return None;
+        }
+        if !is_of_entry(before, entries, session, kept) {
+            return None;
+        }
+        last = place;
+        count += 1;
+    }
+    Some(count)
+}
+
+/// Whether the receipt is of the session, and of the entry at its place.
+fn is_of_entry(before: u64, entries: &[Entry], session: &SessionId, kept: &Kept) -> bool
+    requires { before < kept.now.receipt.place }
+    ensures { IsTrue result ↔ IsOfEntry before (map noted entries.now) session.now kept.now }
+{
+    match entries.get((kept.receipt.place - before - 1) as usize) {
+        Some(entry) => kept.step.who.is_same(session) && is_noted(entry, kept),
+        None => false,
+    }
+}
+
+/// Whether the receipt is of this entry.
+fn is_noted(entry: &Entry, kept: &Kept) -> bool
+    ensures { IsTrue result ↔ (noted entry.now ≡ kept_entry kept.now) }
+{
+    entry.own == kept.receipt.own
+        && entry.step.is_same(&kept.step)
+        && are_same(&entry.replies, &kept.receipt.replies)
+}

@@ -1,0 +1,13 @@
+//! Doors.
+
+use std::io::{Read, Write};
+
+/// Where connections come from.
+pub trait Door {
+    type In: Read + Drop + Send;
+
+    type Out: Write + Drop + Send;
+
+    /// The reader and the writer of the next connection, or `None` if none comes any more.
+    fn next(&mut self) -> Option<(Self::In, Self::Out)>;
+}

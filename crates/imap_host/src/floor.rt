@@ -1,0 +1,202 @@
+//! What lies under the lock.
+
+ghost use Rattle.std.specs.Prelude.{◌≡◌, ◌+◌, ◌<◌, ◌≤◌, ◌^◌, ℕ, [], length, List, IfErr, IfOk, OnErr, OnOk};
+ghost use Rattle.std.specs.FinMap as map;
+ghost use Rattle.imap_hall.specs.Hall.{HasStepped, IsTurnedOver, IsUntouched};
+ghost use Rattle.imap_host.specs.declared.seat.SeatError.TheVariants as error;
+ghost use Rattle.imap_host.specs.Seats.{IsSameReceipt, last_of};
+
+use crate::host::PARTS;
+use crate::seat::{Seat, SeatError};
+use imap_core::{SessionId, SessionNumber, Step};
+use imap_hall::{Hall, HallError, Receipt};
+use imap_keeper::Keeper;
+use imap_names::UserName;
+use imap_user_map::UserMap;
+use std::alloc::{AllocError, Global};
+use std::collections::VecDeque;
+use std::sync::ledger::{Blank, Book, Ledger, Share};
+
+/// A hall, a book that counts its entries, and the parts of the ledger that no seat has.
+#[derive(Drop)]
+pub struct Floor<K: Keeper, L: Ledger> {
+    pub hall: Hall<K>,
+    /// The number of each user's last seat.
+    pub numbers: UserMap<u64>,
+    /// How many parts are left.
+    pub left: u64,
+    pub(crate) book: Book<L>,
+    pub(crate) rest: Share<L>,
+    ghost parts: { rest.parts ≡ left },
+    ghost idle: { rest.amount ≡ 0 },
+    ghost few: { left ≤ 1048576 },
+    ghost seated: { (user : List ℕ) → last_of numbers.map user + left ≤ 1048576 },
+    ghost counted: { book.total ≡ hall.before + length hall.entries },
+}
+
+/// What a step was answered, in two equal receipts, and where the journal's base is.
+#[derive(Debug, Drop)]
+pub struct Called {
+    pub first: Receipt,
+    pub second: Receipt,
+    /// How many entries were made before the base.
+    pub base: u64,
+}
+
+impl<K: Keeper, L: Ledger> Floor<K, L> {
+    /// A floor without seats.
+    pub fn new(alloc: Global, hall: Hall<K>, blank: Blank) -> Floor<K, L>
+        requires name { blank.name ≡ L.name }
+        requires parts { (blank.parts ≡ L.parts) × (blank.parts ≡ 1048576) }
+        requires fresh { (hall.before ≡ 0) × (hall.entries ≡ []) }
+        ensures left { result.left ≡ 1048576 }
+        ensures hall { result.hall ≡ hall }
+    {
+        let (book, rest) = blank.open::<L>();
+        Floor {
+            hall,
+            numbers: UserMap::new(alloc),
+            left: PARTS,
+            book,
+            rest,
+        }
+    }
+
+    /// Gives the user one more seat. The seats of each user are numbered from 1. Fails with `Full` if only one
+    /// part is left.
+    pub fn seat(&mut self, alloc: Global, user: UserName) -> Result<Seat<L>, SeatError>
+        ensures user { IfOk result (λ s. s.who.user ≡ user) }
+        ensures number { IfOk result (λ s. s.who.number ≡ last_of self.old.numbers.map user + 1) }
+        ensures fresh { IfOk result (λ s. (s.base ≡ 0) × (s.receipts.items ≡ []) × (s.share.amount ≡ 0)) }
+        ensures left { OnOk result (self.new.left + 1 ≡ self.old.left) }
+        ensures full { IfErr result (λ e. e ≡ error.Full → self.old.left ≤ 1) }
+        ensures err { OnErr result (self.new.left ≡ self.old.left) }
+        ensures hall { self.new.hall ≡ self.old.hall }
+    {
+        if self.left <= 1 {
+            return Err(SeatError::Full);
+        }
+        let Floor {
+            hall: _,
+            numbers,
+            left,
+            book: _,
+            rest,
+        } = self;
+        let who = next_session(numbers, alloc, user)?;
+        let share = rest.split_off(1, 0);
+        *left -= 1;
+        Ok(Seat {
+            who,
+            base: 0,
+            receipts: VecDeque::new(alloc),
+            share,
+        })
+    }
+
+    /// Makes a step, and counts it in the share.
+    pub fn call(
+        &mut self,
+        alloc: Global,
+        share: &mut Share<L>,
+        step: &Step,
+    ) -> Result<Called, HallError>
+        requires { 0 < share.old.parts }
+        ensures stepped { IfOk result (λ c.
+            HasStepped K.failed self.old.hall step.now c.first self.new.hall) }
+        ensures same { IfOk result (λ c. IsSameReceipt c.first c.second) }
+        ensures base { IfOk result (λ c. c.base ≡ self.new.hall.before) }
+        ensures parts { share.new.parts ≡ share.old.parts }
+        ensures amount { OnOk result (share.new.amount ≡ share.old.amount + 1) }
+        ensures err { OnErr result (IsUntouched K.failed self.old.hall self.new.hall) }
+        ensures uncounted { OnErr result (share.new.amount ≡ share.old.amount) }
+    {
+        let Floor {
+            hall,
+            numbers: _,
+            left: _,
+            book,
+            rest: _,
+        } = self;
+        let (first, second) = hall.step_pair(alloc, step)?;
+        book.add(share, 1);
+        Ok(Called {
+            first,
+            second,
+            base: hall.before(),
+        })
+    }
+
+    /// Makes the state of the machine the journal's base, and returns how many entries were made before it.
+    pub fn turn_over(&mut self, alloc: Global) -> Result<u64, AllocError>
+        ensures ok { IfOk result (λ base. IsTurnedOver self.old.hall self.new.hall
+            × (base ≡ self.new.hall.before)) }
+        ensures err { OnErr result (self.new.hall ≡ self.old.hall) }
+    {
+        let Floor {
+            hall,
+            numbers: _,
+            left: _,
+            book: _,
+            rest: _,
+        } = self;
+        hall.turn_over(alloc)?;
+        Ok(hall.before())
+    }
+
+    /// Hands the hall back.
+    pub fn into_hall(self) -> Hall<K>
+        ensures { result ≡ self.hall }
+    {
+        let Floor {
+            hall,
+            numbers: _,
+            left: _,
+            book: _,
+            rest: _,
+        } = self;
+        hall
+    }
+}
+
+/// The next session of a user, whose number is noted.
+fn next_session(
+    numbers: &mut UserMap<u64>,
+    alloc: Global,
+    user: UserName,
+) -> Result<SessionId, AllocError>
+    requires { last_of numbers.old.map user < 1048576 }
+    ensures user { IfOk result (λ who. who.user ≡ user) }
+    ensures number { IfOk result (λ who. who.number ≡ last_of numbers.old.map user + 1) }
+    ensures noted { IfOk result (λ who. numbers.new.map ≡ map.insert numbers.old.map user who.number) }
+    ensures err { OnErr result (numbers.new.map ≡ numbers.old.map) }
+{
+    let number = last_of(numbers, &user) + 1;
+    let key = String::from_str(alloc, user.as_str())?;
+    numbers.reserve(1)?;
+    numbers.insert_reserved(key, number);
+    Ok(SessionId {
+        user,
+        number: session_number(number),
+    })
+}
+
+/// The number of the user's last seat, 0 if there is none.
+fn last_of(numbers: &UserMap<u64>, user: &UserName) -> u64
+    ensures { result ≡ last_of numbers.now.map user.now }
+{
+    match numbers.get(user.as_str()) {
+        Some(number) => *number,
+        None => 0,
+    }
+}
+
+fn session_number(number: u64) -> SessionNumber
+    requires { (1 ≤ number) × (number < 2 ^ 32) }
+    ensures { result ≡ number }
+{
+    match SessionNumber::new(number as u32) {
+        Some(number) => number,
+        None => unreachable!(),
+    }
+}

@@ -1,0 +1,156 @@
+//! Hosts.
+
+ghost use Rattle.std.specs.Prelude.{◌≡◌, ◌+◌, ◌<◌, ◌++◌, ◌∷◌, [], IfOk, OnErr, OnOk};
+ghost use Rattle.std.specs.VecDeque.{deque_capacity, deque_len};
+ghost use Rattle.imap_host.specs.Seats.{Remembers, from_base};
+
+use crate::floor::{Called, Floor};
+use crate::seat::{Kept, Seat, SeatError, let_go};
+use crate::telling::may_tell;
+use imap_core::{Act, Step};
+use imap_hall::{Hall, HallError, Receipt};
+use imap_keeper::Keeper;
+use imap_names::UserName;
+use std::alloc::{AllocError, Global};
+use std::collections::VecDeque;
+use std::sync::atomic::{AtomicU64, Ordering};
+use std::sync::ledger::{Blank, Ledger};
+use std::sync::{Mutex, Wait};
+
+/// Into how many parts a ledger is cut.
+pub const PARTS: u64 = 1_048_576;
+
+/// A hall under a lock.
+#[derive(Drop)]
+pub struct Host<K: Keeper, L: Ledger> {
+    floor: Mutex<Floor<K, L>>,
+    /// How many steps were made after which sessions may be told something. It is a hint alone.
+    rung: AtomicU64,
+}
+
+impl<K: Keeper, L: Ledger> Host<K, L> {
+    /// A host without seats, over a hall without entries.
+    pub fn new(alloc: Global, hall: Hall<K>, blank: Blank) -> Host<K, L>
+        requires name { blank.name ≡ L.name }
+        requires parts { (blank.parts ≡ L.parts) × (blank.parts ≡ 1048576) }
+        requires fresh { (hall.before ≡ 0) × (hall.entries ≡ []) }
+    {
+        Host::of_floor(Floor::new(alloc, hall, blank))
+    }
+
+    /// A host over this floor.
+    pub(crate) fn of_floor(floor: Floor<K, L>) -> Host<K, L> {
+        Host {
+            floor: Mutex::new(floor),
+            rung: AtomicU64::new(0),
+        }
+    }
+
+    /// Gives the user one more seat. The seats of each user are numbered from 1. Fails with `Full` if only one
+    /// part of the ledger is left.
+    pub fn seat(&mut self, alloc: Global, user: UserName) -> Result<Seat<L>, SeatError>
+        ensures user { IfOk result (λ s. s.who.user ≡ user) }
+        ensures fresh { IfOk result (λ s. (s.base ≡ 0) × (s.receipts.items ≡ []) × (s.share.amount ≡ 0)) }
+    {
+        self.floor.get_mut().seat(alloc, user)
+    }
+
+    /// Makes a step of the seat's own session, and returns its receipt. The seat keeps it too, and lets go of
+    /// those of entries from before the journal's base.
+    pub fn call<R: Wait>(
+        &self,
+        rt: &R,
+        alloc: Global,
+        seat: &mut Seat<L>,
+        step: &Step,
+    ) -> Result<Receipt, HallError>
+        requires { step.now.who ≡ seat.old.who }
+        ensures amount { OnOk result (seat.new.share.amount ≡ seat.old.share.amount + 1) }
+        ensures kept { IfOk result (λ r. Remembers seat.new.base seat.old.receipts.items step.now r
+            seat.new.receipts.items) }
+        ensures who { seat.new.who ≡ seat.old.who }
+        ensures receipts { OnErr result (seat.new.receipts.items ≡ seat.old.receipts.items) }
+        ensures base { OnErr result (seat.new.base ≡ seat.old.base) }
+        ensures uncounted { OnErr result (seat.new.share.amount ≡ seat.old.share.amount) }
+    {
+        let Seat {
+            who: _,
+            base,
+            receipts,
+            share,
+        } = seat;
+        receipts.reserve(1)?;
+        let copy = step.try_copy(alloc)?;
+        let called = self.floor.lock(rt).call(alloc, share, step);
+        match called {
+            Ok(called) => {
+                self.note(&step.act);
+                *base = called.base;
+                Ok(keep(receipts, copy, called))
+            }
+            Err(error) => {
+                drop(copy);
+                Err(error)
+            }
+        }
+    }
+
+    /// Makes the state of the machine the journal's base, as [`Hall::turn_over`] does.
+    pub fn turn_over<R: Wait>(
+        &self,
+        rt: &R,
+        alloc: Global,
+        seat: &mut Seat<L>,
+    ) -> Result<(), AllocError>
+        ensures who { seat.new.who ≡ seat.old.who }
+        ensures receipts { seat.new.receipts.items ≡ seat.old.receipts.items }
+        ensures amount { seat.new.share.amount ≡ seat.old.share.amount }
+        ensures err { OnErr result (seat.new.base ≡ seat.old.base) }
+    {
+        seat.base = self.floor.lock(rt).turn_over(alloc)?;
+        Ok(())
+    }
+
+    /// Notes a step, if sessions may be told something after it.
+    fn note(&self, act: &Act) {
+        if may_tell(act) {
+            self.rung.fetch_add(1, Ordering::SeqCst);
+        }
+    }
+
+    /// A number that changes with each step after which sessions may be told something. It is a hint.
+    pub fn rung(&self) -> u64 {
+        self.rung.load(Ordering::SeqCst)
+    }
+
+    /// Ends the host, and hands its hall back.
+    pub fn into_hall(self) -> Hall<K> {
+        self.into_floor().into_hall()
+    }
+
+    /// Ends the host, and hands back what lay under its lock.
+    pub(crate) fn into_floor(self) -> Floor<K, L> {
+        let Host { floor, rung: _ } = self;
+        floor.into_inner()
+    }
+}
+
+/// Keeps the second receipt with its step, and returns the first.
+fn keep(receipts: &mut VecDeque<Kept>, step: Step, called: Called) -> Receipt
+    requires { deque_len receipts.old < deque_capacity receipts.old }
+    ensures first { result ≡ called.first }
+    ensures kept { receipts.new.items ≡ from_base called.base receipts.old.items
+        ++ record { step = step; receipt = called.second } ∷ [] }
+{
+    let Called {
+        first,
+        second,
+        base,
+    } = called;
+    let_go(receipts, base);
+    receipts.push_back_reserved(Kept {
+        step,
+        receipt: second,
+    });
+    first
+}

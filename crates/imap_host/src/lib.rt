@@ -1,0 +1,25 @@
+//! Sessions of many users side by side over one hall.
+//!
+//! A [`Host`] has its [`Hall`](imap_hall::Hall) under a lock, which is held for the length of one step. Each
+//! session has a [`Seat`], which keeps its receipts. [`crew`] runs a worker for each seat, which serves the
+//! connections that come through a door, one after the other. [`Host::settle`] ends a host with all its seats, if
+//! the journal and the receipts say the same.
+#![tactic(auto)]
+
+mod comparing;
+mod desk;
+mod door;
+mod floor;
+mod host;
+mod seat;
+mod settling;
+mod telling;
+mod workers;
+
+pub use desk::Desk;
+pub use door::Door;
+pub use floor::{Called, Floor};
+pub use host::{Host, PARTS};
+pub use seat::{Kept, Seat, SeatError};
+pub use settling::SettleError;
+pub use workers::{CrewError, crew};

@@ -1,0 +1,182 @@
+//! Workers.
+
+use crate::desk::Desk;
+use crate::door::Door;
+use crate::host::Host;
+use crate::seat::Seat;
+use imap_keeper::Keeper;
+use imap_serve::{Gate, Moments, Watched, serve};
+use std::alloc::Global;
+use std::io::{Read, Write};
+use std::slice::IterMut;
+use std::sync::Wait;
+use std::sync::ledger::Ledger;
+use std::thread;
+use std::thread::{Scope, Threads};
+use thiserror::Error;
+
+/// Why not all workers ran.
+#[derive(Clone, Copy, Debug, Error, PartialEq, Eq)]
+pub enum CrewError {
+    #[error("a worker couldn't be started")]
+    Start,
+}
+
+/// Serves a connection by a seat.
+fn serve_one<K: Keeper, L: Ledger, I: Read + Drop, O: Write + Drop, C: Moments, G: Gate, R: Wait>(
+    rt: &R,
+    alloc: Global,
+    host: &Host<K, L>,
+    seat: &mut Seat<L>,
+    connection: (I, O),
+    clock: &C,
+    gate: &G,
+    max_octets: u64,
+    idle_turns: u64,
+) {
+    let (input, output) = connection;
+    let mut input = Watched::new(input);
+    let mut output = Watched::new(output);
+    // Without memory for the name the connection is closed.
+    if let Ok(who) = seat.who.try_copy() {
+        let mut desk = Desk { rt, host, seat };
+        // Whatever ended the session, the next one is served.
+        let _ended = serve(
+            rt,
+            alloc,
+            &mut desk,
+            &who,
+            clock,
+            gate,
+            max_octets,
+            idle_turns,
+            &mut input,
+            &mut output,
+        );
+    }
+}
+
+/// Serves the connections of a door one after the other.
+fn work<K: Keeper, L: Ledger, D: Door, C: Moments, G: Gate, R: Wait>(
+    rt: &R,
+    alloc: Global,
+    host: &Host<K, L>,
+    post: &mut (Seat<L>, D),
+    clock: &C,
+    gate: &G,
+    max_octets: u64,
+    idle_turns: u64,
+) {
+    for _ in rt.forever() {
+        let Some(connection) = post.1.next() else {
+            break;
+        };
+        serve_one(
+            rt,
+            alloc,
+            host,
+            &mut post.0,
+            connection,
+            clock,
+            gate,
+            max_octets,
+            idle_turns,
+        );
+    }
+}
+
+/// Starts a worker for a post. Returns whether it could be started.
+fn start<
+    's,
+    'e,
+    'r: 's,
+    'p: 's,
+    K: Keeper + Send,
+    L: Ledger + Send + Sync,
+    D: Door + Send,
+    C: Moments + Sync,
+    G: Gate + Sync,
+    R: Threads + Wait + Sync,
+>(
+    scope: &Scope<'s, &'e ()>,
+    rt: &'r R,
+    alloc: Global,
+    host: &'r Host<K, L>,
+    post: &'p mut (Seat<L>, D),
+    clock: &'r C,
+    gate: &'r G,
+    max_octets: u64,
+    idle_turns: u64,
+) -> bool {
+    scope
+        .spawn(move || work(rt, alloc, host, post, clock, gate, max_octets, idle_turns))
+        .is_ok()
+}
+
+/// Starts a worker for each post, until one can't be started. Returns whether all were started.
+fn start_all<
+    's,
+    'e,
+    'r: 's,
+    'p: 's,
+    K: Keeper + Send,
+    L: Ledger + Send + Sync,
+    D: Door + Send,
+    C: Moments + Sync,
+    G: Gate + Sync,
+    R: Threads + Wait + Sync,
+>(
+    scope: &Scope<'s, &'e ()>,
+    rt: &'r R,
+    alloc: Global,
+    host: &'r Host<K, L>,
+    posts: IterMut<'p, (Seat<L>, D)>,
+    clock: &'r C,
+    gate: &'r G,
+    max_octets: u64,
+    idle_turns: u64,
+) -> bool {
+    for post in posts {
+        if !start(
+            scope, rt, alloc, host, post, clock, gate, max_octets, idle_turns,
+        ) {
+            return false;
+        }
+    }
+    true
+}
+
+/// Runs a worker for each post, and returns when the doors of all have ended. A worker serves the connections
+/// of its door one after the other, however each ends. The literals of a command may have `max_octets` octets
+/// together. A session ends after `idle_turns` reads in a row that brought nothing.
+///
+/// Fails with `Start` if a worker can't be started. Those before it then ran to their end.
+pub fn crew<
+    K: Keeper + Send,
+    L: Ledger + Send + Sync,
+    D: Door + Send,
+    C: Moments + Sync,
+    G: Gate + Sync,
+    R: Threads + Wait + Sync,
+>(
+    rt: &R,
+    alloc: Global,
+    host: &Host<K, L>,
+    posts: &mut [(Seat<L>, D)],
+    clock: &C,
+    gate: &G,
+    max_octets: u64,
+    idle_turns: u64,
+) -> Result<(), CrewError> {
+    let each = posts.iter_mut();
+    let started = thread::scope(thread::scope_env(), rt, move |scope| {
+        start_all(
+            scope, rt, alloc, host, each, clock, gate, max_octets, idle_turns,
+        )
+    });
+    if started {
+        Ok(())
+    } else {
+        Err(CrewError::Start)
+    }
+}
