@@ -26,7 +26,8 @@ Rise place [] = ⊤
 Rise place (k ∷ ks) = (place < k.receipt.place) × Rise k.receipt.place ks
 
 -- the receipt is of the session, and of the entry at its place
-pub record IsOfEntry (before : ℕ) (journal : List JournalEntry) (session : SessionId) (k : Kept) : Type 0 where
+pub record IsOfEntry (before : ℕ) (journal : List JournalEntry) (session : SessionId) (k : Kept)
+    : Type 0 where
   pub who : k.step.who ≡ session
   pub entry : slice_get journal (k.receipt.place - before - 1) ≡ Some (kept_entry k)
 

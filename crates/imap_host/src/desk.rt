@@ -44,6 +44,6 @@ impl<'a, K: Keeper, L: Ledger, R: Wait> Room for Desk<'a, K, L, R> {
     }
 
     fn rung(&self) -> u64 {
-        self.host.rung()
+        self.host.changes().get()
     }
 }

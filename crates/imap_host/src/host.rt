@@ -4,16 +4,15 @@ ghost use Rattle.std.specs.Prelude.{◌≡◌, ◌+◌, ◌<◌, ◌++◌, ◌�
 ghost use Rattle.std.specs.VecDeque.{deque_capacity, deque_len};
 ghost use Rattle.imap_host.specs.Seats.{Remembers, from_base};
 
+use crate::change_count::ChangeCount;
 use crate::floor::{Called, Floor};
 use crate::seat::{Kept, Seat, SeatError, let_go};
-use crate::telling::may_tell;
-use imap_core::{Act, Step};
+use imap_core::Step;
 use imap_hall::{Hall, HallError, Receipt};
 use imap_keeper::Keeper;
 use imap_names::UserName;
 use std::alloc::{AllocError, Global};
 use std::collections::VecDeque;
-use std::sync::atomic::{AtomicU64, Ordering};
 use std::sync::ledger::{Blank, Ledger};
 use std::sync::{Mutex, Wait};
 
@@ -24,8 +23,7 @@ pub const PARTS: u64 = 1_048_576;
 #[derive(Drop)]
 pub struct Host<K: Keeper, L: Ledger> {
     floor: Mutex<Floor<K, L>>,
-    /// How many steps were made after which sessions may be told something. It is a hint alone.
-    rung: AtomicU64,
+    changes: ChangeCount,
 }
 
 impl<K: Keeper, L: Ledger> Host<K, L> {
@@ -42,7 +40,7 @@ impl<K: Keeper, L: Ledger> Host<K, L> {
     pub(crate) fn of_floor(floor: Floor<K, L>) -> Host<K, L> {
         Host {
             floor: Mutex::new(floor),
-            rung: AtomicU64::new(0),
+            changes: ChangeCount::new(),
         }
     }
 
@@ -84,7 +82,7 @@ impl<K: Keeper, L: Ledger> Host<K, L> {
         let called = self.floor.lock(rt).call(alloc, share, step);
         match called {
             Ok(called) => {
-                self.note(&step.act);
+                self.changes.note(&step.act);
                 *base = called.base;
                 Ok(keep(receipts, copy, called))
             }
@@ -111,16 +109,9 @@ impl<K: Keeper, L: Ledger> Host<K, L> {
         Ok(())
     }
 
-    /// Notes a step, if sessions may be told something after it.
-    fn note(&self, act: &Act) {
-        if may_tell(act) {
-            self.rung.fetch_add(1, Ordering::SeqCst);
-        }
-    }
-
-    /// A number that changes with each step after which sessions may be told something. It is a hint.
-    pub fn rung(&self) -> u64 {
-        self.rung.load(Ordering::SeqCst)
+    /// How many steps were made after which sessions may be told something.
+    pub fn changes(&self) -> &ChangeCount {
+        &self.changes
     }
 
     /// Ends the host, and hands its hall back.
@@ -130,7 +121,7 @@ impl<K: Keeper, L: Ledger> Host<K, L> {
 
     /// Ends the host, and hands back what lay under its lock.
     pub(crate) fn into_floor(self) -> Floor<K, L> {
-        let Host { floor, rung: _ } = self;
+        let Host { floor, changes: _ } = self;
         floor.into_inner()
     }
 }

@@ -6,6 +6,7 @@
 //! the journal and the receipts say the same.
 #![tactic(auto)]
 
+mod change_count;
 mod comparing;
 mod desk;
 mod door;
@@ -16,6 +17,7 @@ mod settling;
 mod telling;
 mod workers;
 
+pub use change_count::ChangeCount;
 pub use desk::Desk;
 pub use door::Door;
 pub use floor::{Called, Floor};

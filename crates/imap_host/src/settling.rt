@@ -49,7 +49,8 @@ impl<K: Keeper, L: Ledger> Floor<K, L> {
         requires { L.parts ≡ 1048576 }
         ensures hall { IfOk result (λ h. h ≡ self.hall) }
         ensures whole { OnOk result (self.left + vec_len seats ≡ 1048576) }
-        ensures settled { OnOk result (AreSettled self.hall.before self.hall.entries (map notes_of seats.items)) }
+        ensures settled { OnOk result
+            (AreSettled self.hall.before self.hall.entries (map notes_of seats.items)) }
         ensures counted { OnOk result (self.hall.before + length self.hall.entries
             ≡ sum_by (λ s. s.share.amount) seats.items) }
         ensures missing { IfErr result (λ e. e.0 ≡ error.Missing → self.left + vec_len seats < 1048576) }
