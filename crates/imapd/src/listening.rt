@@ -1,49 +1,49 @@
 //! Connections over TCP.
 
-use crate::service::Port;
-use imap_core::{SessionId, SessionNumber};
-use std::alloc::AllocError;
+use crate::bell::{Bell, Bells};
+use crate::belled::Belled;
+use imap_host::Door;
 use std::io;
-use std::net::{Ipv4Addr, Net, TcpListener, TcpStream};
+use std::net::{TcpListener, TcpStream};
+use std::rt::Clock;
+use std::sync::Wait;
 use std::time::Duration;
 
-/// How many seconds a read waits. An idling session is told of changes as often.
-const READ_SECONDS: u64 = 1;
+/// How many times in a row no connection can be had before a listener is given up.
+const MAX_FAULTS: u32 = 16;
 
-/// A user's port, which is listened to.
+/// A listener, as a door of a worker. Several may share one.
 #[derive(Drop)]
-pub(crate) struct Listening {
-    /// The session of the user's connections.
-    pub(crate) who: SessionId,
-    listener: TcpListener,
+pub(crate) struct Listening<'a, R: Wait + Clock> {
+    pub(crate) rt: &'a R,
+    pub(crate) listener: &'a TcpListener,
+    pub(crate) bells: &'a Bells,
+    /// The worker's own.
+    pub(crate) bell: &'a Bell,
 }
 
-impl Listening {
-    /// Listens at a port of this machine alone.
-    pub(crate) fn bind<R: Net<Listener = TcpListener, Stream = TcpStream>>(
-        rt: &R,
-        port: &Port,
-    ) -> io::Result<Listening> {
-        let who = session_of(port)?;
-        let listener = TcpListener::bind(rt, (Ipv4Addr::LOCALHOST, port.number))?;
-        listener.set_nonblocking(true)?;
-        Ok(Listening { who, listener })
-    }
-
-    /// Takes the next connection, as what is read of it and what is written to it. Fails with `WouldBlock` if none
-    /// waits.
-    pub(crate) fn accept(&self) -> io::Result<(TcpStream, TcpStream)> {
+impl<'a, R: Wait + Clock> Listening<'a, R> {
+    /// Waits for the next connection. Returns what is read of it and what is written to it.
+    fn accept(&self) -> io::Result<(Belled<'a, R>, TcpStream)> {
         let (input, _) = self.listener.accept()?;
-        input.set_read_timeout(Some(Duration::from_secs(READ_SECONDS)))?;
+        input.set_read_timeout(Some(Duration::from_secs(1)))?;
         input.set_nodelay(true)?;
         let output = input.try_clone()?;
-        Ok((input, output))
+        Ok((Belled::new(self.rt, self.bells, self.bell, input)?, output))
     }
 }
 
-/// The user's first session.
-fn session_of(port: &Port) -> io::Result<SessionId> {
-    let user = port.user.try_copy()?;
-    let number = SessionNumber::new(1).ok_or(AllocError)?;
-    Ok(SessionId { user, number })
+impl<'a, R: Wait + Clock + Sync> Door for Listening<'a, R> {
+    type In = Belled<'a, R>;
+
+    type Out = TcpStream;
+
+    fn next(&mut self) -> Option<(Belled<'a, R>, TcpStream)> {
+        for _ in 0..MAX_FAULTS {
+            if let Ok(connection) = self.accept() {
+                return Some(connection);
+            }
+        }
+        None
+    }
 }

@@ -4,18 +4,26 @@
 //! server's machine, and writes what each session was told to standard output.
 #![tactic(auto)]
 
+mod bell;
+mod belled;
 mod clock;
 mod command_line;
 mod listening;
+mod ringing;
 mod service;
 mod store;
 #[cfg(test)]
 mod tests;
+mod turns;
 
 use crate::command_line::{CommandLineError, Task};
 use crate::service::{Service, ServiceError};
+use crate::store::FileKeeper;
+use imap_host::PARTS;
 use imap_script::{ScriptError, script};
+use std::marker::Brand;
 use std::process::ExitCode;
+use std::sync::ledger::Blank;
 
 /// Exit statuses other than success.
 const MISUSED: u8 = 2;
@@ -34,7 +42,10 @@ fn main(rt: HostRuntime) -> ExitCode {
         },
         Ok(Task::Serve(service)) => match store::open(&rt, service.database.as_str()) {
             Ok(keeper) => {
-                let (keeper, error) = service::run(&rt, keeper, service);
+                let blank = Blank::new(PARTS);
+                let (keeper, error) = service::run::<FileKeeper, Brand, HostRuntime>(
+                    &rt, keeper, service, blank,
+                );
                 drop(keeper);
                 service_ended(&rt, error)
             }

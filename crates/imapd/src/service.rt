@@ -1,31 +1,31 @@
 //! Serving users over TCP.
 
+ghost use Rattle.std.specs.Prelude.{◌≡◌, IfOk};
+ghost use Rattle.imap_hall.specs.Hall.{IsFresh};
+
+use crate::bell::Bells;
 use crate::clock::SystemClock;
 use crate::listening::Listening;
-use imap_core::SessionId;
+use crate::ringing::Ringing;
+use crate::turns::TURNS_A_SECOND;
 use imap_hall::{Hall, OpenError};
+use imap_host::{Host, Seat, SeatError, crew};
 use imap_keeper::{KeepError, Keeper};
 use imap_names::UserName;
-use imap_serve::{OpenGate, Watched, serve};
 use imap_world::Limits;
 use std::alloc::{AllocError, AllocFailed, Global};
-use std::net::{Net, TcpListener, TcpStream};
+use std::io;
+use std::net::{Ipv4Addr, Net, TcpListener, TcpStream};
 use std::rt::Clock;
 use std::sync::Wait;
-use std::time::Duration;
-use std::{io, thread};
+use std::sync::ledger::{Blank, Ledger};
+use std::thread::Threads;
 
-/// After how many seconds without an octet a session ends.
-const IDLE_SECONDS: u64 = 1800;
+/// How many sessions each user may have at once.
+const SEATS: usize = 16;
 
-/// How many times in a row no connection can be had before all listeners are given up.
-const MAX_FAULTS: u32 = 16;
-
-/// From how many entries on a journal is long.
-const LONG_JOURNAL: usize = 10_000;
-
-/// How many milliseconds pass between two looks at the ports.
-const PAUSE_MILLIS: u64 = 2;
+/// After how many reads without an octet a session ends: 30 minutes.
+pub(crate) const IDLE_TURNS: u64 = 1800 * TURNS_A_SECOND;
 
 /// A user, and the port at which the user is served.
 #[derive(Debug, Drop)]
@@ -94,11 +94,28 @@ impl From<OpenError> for ServiceError {
     }
 }
 
+impl From<SeatError> for ServiceError {
+    fn from(_error: SeatError) -> ServiceError {
+        // A ledger has more parts than there are ports with all their seats.
+        ServiceError::Memory
+    }
+}
+
 /// Serves the users from what the keeper keeps. Returns the keeper, and why that ended.
 pub(crate) fn run<
-    K: Keeper,
-    R: Net<Listener = TcpListener, Stream = TcpStream> + Wait + Clock + Print + AllocGlobal,
->(rt: &R, keeper: K, service: Service) -> (K, ServiceError) {
+    K: Keeper + Send,
+    L: Ledger + Send + Sync,
+    R: Net<Listener = TcpListener, Stream = TcpStream>
+        + Threads
+        + Wait
+        + Clock
+        + Print
+        + AllocGlobal
+        + Sync,
+>(rt: &R, keeper: K, service: Service, blank: Blank) -> (K, ServiceError)
+    requires name { blank.name ≡ L.name }
+    requires parts { (blank.parts ≡ L.parts) × (blank.parts ≡ 1048576) }
+{
     let Service {
         database: _,
         administrator,
@@ -106,10 +123,7 @@ pub(crate) fn run<
         limits,
     } = service;
     match open(rt.alloc(), keeper, administrator, ports.as_slice(), limits) {
-        Ok(mut hall) => {
-            let ended = serve_ports(rt, &mut hall, ports.as_slice(), limits.max_octets);
-            (hall.into_keeper(), ended)
-        }
+        Ok(hall) => serve_hall::<K, L, R>(rt, hall, ports.as_slice(), limits.max_octets, blank),
         Err((error, keeper)) => (keeper, error),
     }
 }
@@ -121,7 +135,9 @@ fn open<K: Keeper>(
     administrator: UserName,
     ports: &[Port],
     limits: Limits,
-) -> Result<Hall<K>, (ServiceError, K)> {
+) -> Result<Hall<K>, (ServiceError, K)>
+    ensures fresh { IfOk result IsFresh }
+{
     let Ok(users) = users(alloc, ports) else {
         return Err((ServiceError::Memory, keeper));
     };
@@ -139,28 +155,39 @@ fn users(alloc: Global, ports: &[Port]) -> Result<Vec<UserName>, AllocError> {
     Ok(users)
 }
 
-/// Serves the users at their ports. Returns why that ended.
-fn serve_ports<
-    K: Keeper,
-    R: Net<Listener = TcpListener, Stream = TcpStream> + Wait + Clock + Print + AllocGlobal,
->(rt: &R, hall: &mut Hall<K>, ports: &[Port], max_octets: u64) -> ServiceError {
+/// Serves the users of a new hall at their ports.
+fn serve_hall<
+    K: Keeper + Send,
+    L: Ledger + Send + Sync,
+    R: Net<Listener = TcpListener, Stream = TcpStream>
+        + Threads
+        + Wait
+        + Clock
+        + Print
+        + AllocGlobal
+        + Sync,
+>(rt: &R, hall: Hall<K>, ports: &[Port], max_octets: u64, blank: Blank) -> (K, ServiceError)
+    requires name { blank.name ≡ L.name }
+    requires parts { (blank.parts ≡ L.parts) × (blank.parts ≡ 1048576) }
+    requires fresh { IsFresh hall }
+{
     match listen(rt, ports) {
         Ok(listeners) => {
-            serve_all(rt, hall, listeners.as_slice(), max_octets);
-            ServiceError::Io
+            let host: Host<K, L> = Host::new(rt.alloc(), hall, blank);
+            serve_host(rt, host, ports, listeners, max_octets)
         }
-        Err(error) => error,
+        Err(error) => (hall.into_keeper(), error),
     }
 }
 
-/// Listens at all ports, and then tells so.
+/// Listens at all ports of this machine alone, and then tells so.
 fn listen<R: Net<Listener = TcpListener, Stream = TcpStream> + Print + AllocGlobal>(
     rt: &R,
     ports: &[Port],
-) -> Result<Vec<Listening>, ServiceError> {
+) -> Result<Vec<TcpListener>, ServiceError> {
     let mut listeners = Vec::new(rt.alloc());
     for port in ports {
-        listeners.push(Listening::bind(rt, port)?)?;
+        listeners.push(TcpListener::bind(rt, (Ipv4Addr::LOCALHOST, port.number))?)?;
     }
     for port in ports {
         println!(rt; "listening {} {}", port.user.as_str(), port.number)?;
@@ -168,90 +195,112 @@ fn listen<R: Net<Listener = TcpListener, Stream = TcpStream> + Print + AllocGlob
     Ok(listeners)
 }
 
-/// Serves the connections that come to all ports, one after the other. Ends if none could be taken
-/// `MAX_FAULTS` times in a row.
-fn serve_all<K: Keeper, R: Wait + Clock + AllocGlobal>(
+/// Serves the users at these listeners, of which each is of the port at its place.
+fn serve_host<
+    K: Keeper + Send,
+    L: Ledger + Send + Sync,
+    R: Net<Listener = TcpListener, Stream = TcpStream>
+        + Threads
+        + Wait
+        + Clock
+        + AllocGlobal
+        + Sync,
+>(
     rt: &R,
-    hall: &mut Hall<K>,
-    listeners: &[Listening],
+    mut host: Host<K, L>,
+    ports: &[Port],
+    listeners: Vec<TcpListener>,
     max_octets: u64,
-) {
-    let mut faults: u32 = 0;
-    for _ in rt.forever() {
-        match serve_round(rt, hall, listeners, max_octets) {
-            Round::Served => faults = 0,
-            Round::Quiet => thread::sleep(rt, Duration::from_millis(PAUSE_MILLIS)),
-            Round::Failed => faults = faults.saturating_add(1),
-        }
-        if faults == MAX_FAULTS {
-            break;
-        }
+) -> (K, ServiceError) {
+    let ended = serve_belled(rt, &mut host, ports, listeners.as_slice(), max_octets);
+    (host.into_hall().into_keeper(), ended)
+}
+
+/// The same, with a bell for each worker.
+fn serve_belled<
+    K: Keeper + Send,
+    L: Ledger + Send + Sync,
+    R: Net<Listener = TcpListener, Stream = TcpStream>
+        + Threads
+        + Wait
+        + Clock
+        + AllocGlobal
+        + Sync,
+>(
+    rt: &R,
+    host: &mut Host<K, L>,
+    ports: &[Port],
+    listeners: &[TcpListener],
+    max_octets: u64,
+) -> ServiceError {
+    let count = ports.len().saturating_mul(SEATS);
+    match Bells::new(rt, rt.alloc(), count) {
+        Ok(bells) => match posts(rt, rt.alloc(), host, ports, listeners, &bells) {
+            Ok(posts) => serve_posts(rt, host, &bells, posts, max_octets),
+            Err(error) => error,
+        },
+        Err(error) => ServiceError::from(error),
     }
 }
 
-/// What came of a round along all listeners.
-#[derive(Clone, Copy, Debug, PartialEq, Eq)]
-enum Round {
-    /// A connection was served.
-    Served,
-    /// None waited.
-    Quiet,
-    /// One waited, and couldn't be taken.
-    Failed,
-}
-
-/// Serves a connection that waits at each of the ports, if one does.
-fn serve_round<K: Keeper, R: Wait + Clock + AllocGlobal>(
-    rt: &R,
-    hall: &mut Hall<K>,
-    listeners: &[Listening],
+/// Runs a worker for each post, until no connection comes any more.
+fn serve_posts<
+    'a,
+    K: Keeper + Send,
+    L: Ledger + Send + Sync,
+    R: Threads + Wait + Clock + AllocGlobal + Sync,
+>(
+    rt: &'a R,
+    host: &Host<K, L>,
+    bells: &'a Bells,
+    mut posts: Vec<(Seat<L>, Listening<'a, R>)>,
     max_octets: u64,
-) -> Round {
-    let mut round = Round::Quiet;
-    for listening in listeners {
-        match listening.accept() {
-            Ok(connection) => {
-                serve_one(rt, hall, &listening.who, connection, max_octets);
-                shorten_journal(rt.alloc(), hall);
-                round = Round::Served;
-            }
-            Err(error) if error.kind() == io::ErrorKind::WouldBlock => {}
-            Err(_) => round = Round::Failed,
-        }
-    }
-    round
-}
-
-/// Lets go of the entries of a long journal, if there is memory for a new base.
-fn shorten_journal<K: Keeper>(alloc: Global, hall: &mut Hall<K>) {
-    if hall.entries().len() >= LONG_JOURNAL {
-        // It goes on growing without.
-        let _shortened = hall.turn_over(alloc);
-    }
-}
-
-/// Serves a connection to its end.
-fn serve_one<K: Keeper, R: Wait + Clock + AllocGlobal>(
-    rt: &R,
-    hall: &mut Hall<K>,
-    who: &SessionId,
-    connection: (TcpStream, TcpStream),
-    max_octets: u64,
-) {
-    let (input, output) = connection;
-    let mut input = Watched::new(input);
-    let mut output = Watched::new(output);
-    // Whatever ended the session, the next one is served.
-    let _ended = serve(
+) -> ServiceError {
+    // Whether all workers ran or not, no connection comes any more.
+    let _ran = crew(
         rt,
         rt.alloc(),
-        hall,
-        who,
+        host,
+        posts.as_mut_slice(),
         &SystemClock { rt },
-        &OpenGate,
+        &Ringing::new(host.changes(), bells),
         max_octets,
-        IDLE_SECONDS,
-        &mut input,
-        &mut output,
+        IDLE_TURNS,
     );
+    ServiceError::Io
+}
+
+/// The seats of all users, each with a door to the user's port.
+fn posts<'a, K: Keeper, L: Ledger, R: Wait + Clock>(
+    rt: &'a R,
+    alloc: Global,
+    host: &mut Host<K, L>,
+    ports: &[Port],
+    listeners: &'a [TcpListener],
+    bells: &'a Bells,
+) -> Result<Vec<(Seat<L>, Listening<'a, R>)>, ServiceError> {
+    let mut posts = Vec::new(alloc);
+    for (place, bell) in bells.as_slice().iter().enumerate() {
+        let place = place / SEATS;
+        if let (Some(port), Some(listener)) = (ports.get(place), listeners.get(place)) {
+            let seat = seat(alloc, host, &port.user)?;
+            let listening = Listening {
+                rt,
+                listener,
+                bells,
+                bell,
+            };
+            posts.push((seat, listening))?;
+        }
+    }
+    Ok(posts)
+}
+
+fn seat<K: Keeper, L: Ledger>(
+    alloc: Global,
+    host: &mut Host<K, L>,
+    user: &UserName,
+) -> Result<Seat<L>, ServiceError> {
+    let user = user.try_copy()?;
+    Ok(host.seat(alloc, user)?)
 }

@@ -2,6 +2,7 @@
 //! fail. What scripts do is shown by the crate `imap_rows`.
 
 mod faults;
+mod idling;
 
 use crate::command_line::{CommandLineError, Task, task_of};
 use crate::service::{Service, ServiceError};
