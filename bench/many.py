@@ -1,0 +1,145 @@
+#!/usr/bin/env python3
+"""Times the server with many sessions, and with many messages.
+
+    python3 bench/many.py PROGRAM [PART]
+
+PROGRAM is `crates/imapd/out/imapd`. Times are of the clock on the wall in microseconds, the client's own time included. Where
+many sessions act at once, each sends its next command when the one before is answered, all from one loop of this program, and
+the time is that of all commands by their number. The memory is what the server has resident.
+
+For the turns of the journal python's sqlite3 fills a new store of the server with 100,000 messages of 2 KB in 1,000 mailboxes.
+The server copies its mailboxes after each 10,000 entries of the journal, so the longest of many NOOPs are those that a copy
+kept waiting. Sizes and rounds are divided by PART, for a quick run.
+"""
+
+import select
+import statistics
+import sys
+import tempfile
+import time
+
+import database
+from sessions import FIRST_PORT, Session, median_of, resident, serving, show
+
+PART = int(sys.argv[2]) if len(sys.argv) > 2 else 1
+USERS = ("ann", "bob", "cat", "dan")
+SEATS = 16
+MAILBOXES, EACH = 1_000 // PART, 100
+TURN = 10_000
+CALLS = 100_000 // PART
+
+
+def at_once(sessions, rounds, begin):
+    """The time of one command in microseconds, where each session makes so many, and all are at work."""
+    left = {session.fileno(): [session, rounds] for session in sessions}
+    waits = select.epoll()
+    start = time.perf_counter()
+    for session in sessions:
+        waits.register(session.fileno(), select.EPOLLIN)
+        begin(session)
+    while left:
+        for number, _ in waits.poll():
+            session, more = left[number]
+            session.end()
+            left[number][1] = more - 1
+            if more > 1:
+                begin(session)
+            else:
+                del left[number]
+    waits.close()
+    return (time.perf_counter() - start) / rounds / len(sessions) * 1e6
+
+
+def noop(session):
+    session.begin(b"NOOP")
+
+
+def append(session):
+    session.begin_append(b"INBOX")
+
+
+def told(idling, writer, rounds):
+    """The median time from an APPEND until all sessions that idle were told of it, and the longest, in microseconds."""
+    times = []
+    for session in idling:
+        session.ask(b"SELECT Told")
+        session.begin(b"IDLE")
+        session.take_until(b"+ idling\r\n")
+    for _ in range(rounds):
+        time.sleep(0.1)
+        start = time.perf_counter()
+        writer.begin_append(b"Told")
+        for session in idling:
+            session.take_until(b"EXISTS\r\n")
+        times.append(time.perf_counter() - start)
+        writer.end()
+    for session in idling:
+        session.send(b"DONE\r\n")
+        session.end()
+    return statistics.median(times) * 1e6, max(times) * 1e6
+
+
+def time_sessions(program, folder):
+    with serving(program, f"{folder}/mail.db"):
+        first, *others = sessions = [Session(FIRST_PORT) for _ in range(SEATS)]
+        first.ask(b"CREATE Told")
+        show("`NOOP`, one session", median_of(20_000 // PART, lambda: first.ask(b"NOOP")))
+        show("`NOOP`, one session, by the loop of many", at_once([first], 20_000 // PART, noop))
+        show(f"`NOOP`, {SEATS} sessions at once, each", at_once(sessions, 5_000 // PART, noop))
+        show("`APPEND` of 2 KB, one session", at_once([first], 1_000 // PART, append))
+        show("`APPEND` of 2 KB, 8 sessions at once, each", at_once(sessions[:8], 250 // PART, append))
+        median, longest = told(others, first, 100 // PART)
+        show(f"an `APPEND`, until {len(others)} sessions that idle were told", median)
+        show("the longest of these", longest)
+
+
+def show_memory(program, folder):
+    """The memory of the server with all sessions of four users, and after many calls of theirs."""
+    with serving(program, f"{folder}/mail.db", USERS) as server:
+        alone = resident(server)
+        sessions = [Session(FIRST_PORT + place) for place in range(len(USERS)) for _ in range(SEATS)]
+        for session in sessions:
+            session.ask(b"SELECT INBOX")
+        begun = resident(server)
+        rounds = CALLS // len(sessions) + 1
+        at_once(sessions, rounds, noop)
+        ended = resident(server)
+        at_once(sessions, rounds, noop)
+        print(f"\n{alone:.0f} MiB are resident at first, and {begun:.0f} with {len(sessions)} sessions. After {CALLS:,} calls")
+        print(f"of theirs there are {ended:.0f}, and {resident(server):.0f} after as many again.", flush=True)
+
+
+def time_turns(program, folder):
+    """How long a NOOP takes beside many messages, and how long those that a turn of the journal kept waiting."""
+    path = f"{folder}/mail.db"
+    with serving(program, path):
+        pass
+    database.fill(path, [EACH] * MAILBOXES)
+    start = time.perf_counter()
+    with serving(program, path) as server:
+        started = time.perf_counter() - start
+        session = Session(FIRST_PORT)
+        begun = resident(server)
+        times = []
+        for _ in range(3 * TURN + TURN // 2):
+            begin = time.perf_counter()
+            session.ask(b"NOOP")
+            times.append((time.perf_counter() - begin) * 1e6)
+        print("\n| What | microseconds |\n|---|---|")
+        show(f"`NOOP` beside {MAILBOXES * EACH:,} messages in {MAILBOXES:,} mailboxes", statistics.median(times))
+        for word, one in zip(("longest", "second", "third", "fourth", "fifth"), sorted(times, reverse=True)):
+            show(f"the {word} of {len(times):,}, number {times.index(one) + 1:,}", one)
+        ended = resident(server)
+        print(f"\nThe server starts in {started:.1f} s. {begun:.0f} MiB are resident then, and {ended:.0f} after the calls.")
+
+
+def main():
+    program = sys.argv[1]
+    print("| What | microseconds |\n|---|---|", flush=True)
+    for measure in (time_sessions, show_memory, time_turns):
+        with tempfile.TemporaryDirectory() as folder:
+            measure(program, folder)
+
+
+if __name__ == "__main__":
+    main()
