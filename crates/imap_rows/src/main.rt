@@ -1,11 +1,25 @@
-//! The program `imap_rows`: runs scripts whose transcripts are known.
+//! The program `imap_rows`: runs scripts whose transcripts are known, over a keeper in memory and over a
+//! database.
 //!
 //! Standard input has scripts, each after a line `== NAME`. Standard output gets the same lines, and
-//! after each the script's transcript, and why the script wasn't run to its end if it wasn't. The files
-//! `stdin` and `stdout` of this crate are scripts and the transcripts that they are to have.
+//! after each the script's transcript, and why the script wasn't run to its end if it wasn't. If the
+//! transcript over a database is another one, it follows. The files `stdin` and `stdout` of this crate are
+//! scripts and the transcripts that they are to have.
+//!
+//! Lines `-- TEXT` are no part of a script. `-- stop at each call` runs the script once for each call of
+//! each of the database's two files: this call fails, and all later ones. A line says what was left. Any
+//! other TEXT is SQL that runs in a copy of the database at the end. A line says what can be loaded then.
 #![tactic(auto)]
 
+mod compared;
+mod database;
+mod faults;
+mod file;
+mod filling;
+mod row;
 mod rows;
+mod running;
+mod stops;
 
 use crate::rows::run_rows;
 use std::process::ExitCode;

@@ -1,6 +1,7 @@
 //! Scripts, one after the other.
 
-use imap_script::{ScriptError, read_all, script};
+use crate::row::Row;
+use imap_script::{ScriptError, read_all};
 use std::alloc::Global;
 use std::io::{Read, Write};
 
@@ -8,62 +9,35 @@ use std::io::{Read, Write};
 const MAX_READS: u32 = 65_536;
 
 /// Runs the scripts of `input`, each after a line `== NAME`, and writes to `output` each of these lines
-/// and the transcript of its script. What stands before the first of them is left out.
+/// and what came of its script. What stands before the first of them is left out.
 pub(crate) fn run_rows<R: AllocGlobal, I: Read + Drop, O: Write + Drop>(
     rt: &R,
     input: I,
-    output: O,
+    mut output: O,
 ) -> Result<(), ScriptError> {
-    let text = read_all(rt.alloc(), input, MAX_READS)?;
-    let mut rows = Rows {
-        script: Vec::new(rt.alloc()),
-        begun: false,
-        output,
-    };
+    let alloc = rt.alloc();
+    let text = read_all(alloc, input, MAX_READS)?;
+    let mut row = None;
     for line in text.split_inclusive(|octet| *octet == b'\n') {
         if line.starts_with(b"== ") {
-            rows.run(rt)?;
-            rows.begin(rt.alloc(), line)?;
-        } else {
-            rows.script.extend_from_slice(line)?;
+            run(alloc, &row, &mut output)?;
+            write(&mut output, line)?;
+            row = Some(Row::new(alloc));
+        } else if let Some(begun) = &mut row {
+            begun.take_line(line)?;
         }
     }
-    rows.run(rt)
+    run(alloc, &row, &mut output)
 }
 
-/// The script that is being read, and where transcripts go.
-#[derive(Drop)]
-struct Rows<O: Write + Drop> {
-    script: Vec<u8>,
-    begun: bool,
-    output: O,
+/// Runs the script that was read, if one was.
+fn run<O: Write>(alloc: Global, row: &Option<Row>, output: &mut O) -> Result<(), ScriptError> {
+    match row {
+        Some(row) => write(output, row.report(alloc)?.as_slice()),
+        None => Ok(()),
+    }
 }
 
-impl<O: Write + Drop> Rows<O> {
-    fn begin(&mut self, alloc: Global, head: &[u8]) -> Result<(), ScriptError> {
-        self.script = Vec::new(alloc);
-        self.begun = true;
-        self.write(head)
-    }
-
-    /// Runs the script that was read, if one was.
-    fn run<R: AllocGlobal>(&mut self, rt: &R) -> Result<(), ScriptError> {
-        if !self.begun {
-            return Ok(());
-        }
-        let mut transcript = Vec::new(rt.alloc());
-        let ended = script(rt, self.script.as_slice(), &mut transcript);
-        self.write(transcript.as_slice())?;
-        match ended {
-            Ok(()) => Ok(()),
-            Err(error) => {
-                let text = format!(in rt.alloc(); "imapd: {error}\n")?;
-                self.write(text.as_bytes())
-            }
-        }
-    }
-
-    fn write(&mut self, octets: &[u8]) -> Result<(), ScriptError> {
-        self.output.write_all(octets).map_err(|_| ScriptError::Io)
-    }
+fn write<O: Write>(output: &mut O, octets: &[u8]) -> Result<(), ScriptError> {
+    output.write_all(octets).map_err(|_| ScriptError::Io)
 }

@@ -1,0 +1,184 @@
+//! A keeper whose mailboxes are loaded after each save, and compared with those that it is to keep.
+
+ghost use Rattle.std.specs.Prelude.{◌≡◌, IfOk, OnErr, OnOk};
+ghost use Rattle.imap_keeper.specs.Keeping.{LeavesOnly};
+ghost use Rattle.imap_world.specs.Effects.{after_writes};
+ghost use Rattle.imap_world.specs.Ready.{IsCurrent};
+ghost use Rattle.imap_world.specs.Stored.{world_of};
+ghost use Rattle.imap_world.specs.World.{World as Mailboxes};
+
+use imap_keeper::{KeepError, Keeper, count_after};
+use imap_world::{Change, World};
+use std::alloc::{AllocError, Global};
+
+/// Has a keeper save and load, and compares.
+pub(crate) struct Compared<K: Keeper> {
+    keeper: K,
+    world: World,
+    refused: Option<World>,
+    others: u64,
+    unread: u64,
+    failures: u64,
+}
+
+/// What was found of a keeper.
+#[derive(Drop)]
+pub(crate) struct Comparison {
+    /// The mailboxes that it is to keep.
+    pub(crate) world: World,
+    /// The mailboxes after the first change that the keeper refused.
+    pub(crate) refused: Option<World>,
+    /// How often other mailboxes were loaded.
+    pub(crate) others: u64,
+    /// How often none could be loaded.
+    pub(crate) unread: u64,
+    /// How often the keeper refused.
+    pub(crate) failures: u64,
+}
+
+impl Comparison {
+    /// Whether all that was saved was loaded again.
+    pub(crate) fn is_whole(&self) -> bool {
+        self.others == 0 && self.unread == 0 && self.failures == 0
+    }
+}
+
+/// What was loaded.
+#[derive(Clone, Copy, PartialEq, Eq)]
+enum Loaded {
+    /// The mailboxes that were wanted.
+    Same,
+    Others,
+    Nothing,
+}
+
+/// Loads mailboxes, once more if memory was refused, and compares them with those that are wanted.
+fn load_compared<K: Keeper>(alloc: Global, keeper: &mut K, wanted: &World) -> Loaded
+    ensures unchanged { (world : Mailboxes) → K.content keeper.old world → K.content keeper.new world }
+    ensures honest { K.is_honest keeper.new → K.is_honest keeper.old }
+    ensures crash { K.is_honest keeper.new → LeavesOnly (K.leaves keeper.new) (K.leaves keeper.old) }
+{
+    let loaded = match keeper.load(alloc) {
+        Err(KeepError::Memory) => keeper.load(alloc),
+        loaded => loaded,
+    };
+    match loaded {
+        Ok(world) if world.same(wanted) => Loaded::Same,
+        Ok(_) | Err(KeepError::Damaged) => Loaded::Others,
+        Err(KeepError::Refused | KeepError::Memory) => Loaded::Nothing,
+    }
+}
+
+/// The mailboxes after a change.
+fn after_change(alloc: Global, world: &World, change: &Change) -> Result<World, AllocError>
+    requires { IsCurrent change.now (world_of world.now) }
+    ensures { IfOk result (λ after. world_of after ≡ after_writes change.now (world_of world.now)) }
+{
+    let mut after = world.try_copy(alloc)?;
+    after.apply(alloc, change)?;
+    Ok(after)
+}
+
+impl<K: Keeper> Compared<K> {
+    /// The keeper is to keep `world`.
+    pub(crate) fn new(keeper: K, world: World) -> Compared<K> {
+        Compared {
+            keeper,
+            world,
+            refused: None,
+            others: 0,
+            unread: 0,
+            failures: 0,
+        }
+    }
+
+    /// The keeper, and what was found of it.
+    pub(crate) fn into_parts(self) -> (K, Comparison) {
+        let Compared {
+            keeper,
+            world,
+            refused,
+            others,
+            unread,
+            failures,
+        } = self;
+        let comparison = Comparison {
+            world,
+            refused,
+            others,
+            unread,
+            failures,
+        };
+        (keeper, comparison)
+    }
+
+    /// Counts what was loaded.
+    fn count(&mut self, loaded: Loaded)
+        ensures keeper { self.new.keeper ≡ self.old.keeper }
+        ensures world { self.new.world ≡ self.old.world }
+        ensures failures { self.new.failures ≡ self.old.failures }
+    {
+        match loaded {
+            Loaded::Same => {}
+            Loaded::Others => self.others = self.others.saturating_add(1),
+            Loaded::Nothing => self.unread = self.unread.saturating_add(1),
+        }
+    }
+}
+
+impl<K: Keeper> Keeper for Compared<K> {
+    ghost use Rattle.std.specs.Prelude.{◌≡◌};
+    ghost use Rattle.imap_world.specs.Stored.{world_of};
+
+    ghost content = { λ c world. K.content c.keeper world × (world_of c.world ≡ world) };
+
+    ghost failed = { λ c. c.failures };
+
+    ghost is_honest = { λ c. K.is_honest c.keeper };
+
+    ghost Image = { K.Image };
+
+    ghost leaves = { λ c. K.leaves c.keeper };
+
+    ghost stands = { K.stands };
+
+    fn save(&mut self, alloc: Global, change: &Change) -> Result<(), KeepError> {
+        let after = after_change(alloc, &self.world, change)?;
+        match self.keeper.save(alloc, change) {
+            Ok(()) => {
+                self.world = after;
+                let loaded = load_compared(alloc, &mut self.keeper, &self.world);
+                self.count(loaded);
+                Ok(())
+            }
+            Err(error) => {
+                if self.refused.is_none() {
+                    self.refused = Some(after);
+                }
+                self.failures = count_after(self.failures, error);
+                let loaded = load_compared(alloc, &mut self.keeper, &self.world);
+                self.count(loaded);
+                Err(error)
+            }
+        }
+    }
+
+    /// Other mailboxes than the wanted ones are damaged.
+    fn load(&mut self, alloc: Global) -> Result<World, KeepError> {
+        match self.keeper.load(alloc) {
+            Ok(world) if world.same(&self.world) => Ok(world),
+            Ok(_) => {
+                self.count(Loaded::Others);
+                Err(KeepError::Damaged)
+            }
+            Err(error) => {
+                self.failures = count_after(self.failures, error);
+                Err(error)
+            }
+        }
+    }
+
+    fn failures(&self) -> u64 {
+        self.failures
+    }
+}

@@ -1,0 +1,180 @@
+//! A script, and what came of it.
+
+use crate::database::{DatabaseKeeper, TestKeeper};
+use crate::faults::fault_report;
+use crate::file::TestFile;
+use crate::running::{Found, image_after, run_in_database};
+use crate::stops::stop_report;
+use imap_keeper::{KeepError, ListKeeper};
+use imap_script::{Scenario, ScriptError};
+use imap_world::World;
+use sqlite_disk::{Fuse, Memory};
+use std::alloc::Global;
+use std::str;
+
+/// A script, and what else is done with it.
+#[derive(Drop)]
+pub(crate) struct Row {
+    script: Vec<u8>,
+    /// Whether it is run with each call of the database's files failing in turn.
+    stops: bool,
+    /// Lines of SQL, each of which runs by itself in a copy of the database at the end.
+    faults: String,
+}
+
+impl Row {
+    pub(crate) fn new(alloc: Global) -> Row {
+        Row {
+            script: Vec::new(alloc),
+            stops: false,
+            faults: String::new(alloc),
+        }
+    }
+
+    /// Takes a line, with the LF that ends it if there is one.
+    pub(crate) fn take_line(&mut self, line: &[u8]) -> Result<(), ScriptError> {
+        let Some(text) = line.strip_prefix(b"-- ") else {
+            self.script.extend_from_slice(line)?;
+            return Ok(());
+        };
+        match str::from_utf8(text) {
+            Ok("stop at each call\n") => self.stops = true,
+            Ok(text) => self.faults.push_str(text)?,
+            Err(_) => return Err(ScriptError::Io),
+        }
+        Ok(())
+    }
+
+    /// What is written of it.
+    pub(crate) fn report(&self, alloc: Global) -> Result<Vec<u8>, ScriptError> {
+        let mut report = Vec::new(alloc);
+        match Scenario::read(alloc, self.script.as_slice()) {
+            Ok((scenario, world)) => {
+                let pushed = self.push_runs(alloc, &mut report, &scenario, &world);
+                drop(scenario);
+                drop(world);
+                pushed?;
+            }
+            Err(error) => push_end(alloc, &mut report, Err(error))?,
+        }
+        Ok(report)
+    }
+
+    /// Appends what came of the runs of the script.
+    fn push_runs(
+        &self,
+        alloc: Global,
+        report: &mut Vec<u8>,
+        scenario: &Scenario,
+        world: &World,
+    ) -> Result<(), ScriptError> {
+        let transcript = run_in_memory(alloc, scenario, world)?;
+        report.extend_from_slice(transcript.as_slice())?;
+        push_difference(alloc, report, scenario, world, transcript.as_slice())?;
+        self.push_reports_by_file::<Fuse<Memory>>(alloc, report, scenario, world)
+    }
+
+    /// Appends what came of changes by SQL, and of calls that failed.
+    fn push_reports<K: TestKeeper>(
+        &self,
+        alloc: Global,
+        report: &mut Vec<u8>,
+        scenario: &Scenario,
+        world: &World,
+    ) -> Result<(), ScriptError> {
+        if !self.faults.is_empty() {
+            let lines = fault_lines::<K>(alloc, scenario, world, self.faults.as_str());
+            report.extend_from_slice(lines.map_err(script_error)?.as_bytes())?;
+        }
+        if self.stops {
+            let line = stop_report::<K>(alloc, scenario, world);
+            report.extend_from_slice(line.map_err(script_error)?.as_bytes())?;
+        }
+        Ok(())
+    }
+
+    /// Appends the same, over files of a kind. Proofs over `Fuse<Memory>` itself are long.
+    fn push_reports_by_file<F: TestFile>(
+        &self,
+        alloc: Global,
+        report: &mut Vec<u8>,
+        scenario: &Scenario,
+        world: &World,
+    ) -> Result<(), ScriptError> {
+        self.push_reports::<DatabaseKeeper<F>>(alloc, report, scenario, world)
+    }
+}
+
+/// Runs the script over a keeper in memory, and returns its transcript.
+fn run_in_memory(
+    alloc: Global,
+    scenario: &Scenario,
+    world: &World,
+) -> Result<Vec<u8>, ScriptError> {
+    let keeper = ListKeeper::new(world.try_copy(alloc)?);
+    let mut transcript = Vec::new(alloc);
+    let (keeper, ended) = scenario.run(alloc, keeper, &mut transcript);
+    drop(keeper);
+    push_end(alloc, &mut transcript, ended)?;
+    Ok(transcript)
+}
+
+/// Runs the script over a database. Appends its transcript there unless it is `wanted`, and how often the
+/// database had other mailboxes than it was to keep.
+fn push_difference(
+    alloc: Global,
+    report: &mut Vec<u8>,
+    scenario: &Scenario,
+    world: &World,
+    wanted: &[u8],
+) -> Result<(), ScriptError> {
+    let found = run_in_database(alloc, scenario, world).map_err(script_error)?;
+    let Found {
+        mut transcript,
+        ended,
+        comparison,
+    } = found;
+    let (others, unread) = (comparison.others, comparison.unread);
+    drop(comparison);
+    push_end(alloc, &mut transcript, ended)?;
+    if transcript.as_slice() != wanted {
+        report.extend_from_slice(b"over a database:\n")?;
+        report.extend_from_slice(transcript.as_slice())?;
+    }
+    if others > 0 || unread > 0 {
+        let text = format!(in alloc; "{others} times other mailboxes, {unread} times none\n")?;
+        report.extend_from_slice(text.as_bytes())?;
+    }
+    Ok(())
+}
+
+/// Runs each line of SQL in a copy of the database that the script leaves.
+fn fault_lines<K: TestKeeper>(
+    alloc: Global,
+    scenario: &Scenario,
+    world: &World,
+    lines: &str,
+) -> Result<String, KeepError> {
+    let image = image_after::<K>(alloc, scenario, world)?;
+    fault_report::<K>(alloc, &image, lines)
+}
+
+/// Appends why a script wasn't run to its end, if it wasn't.
+fn push_end(
+    alloc: Global,
+    transcript: &mut Vec<u8>,
+    ended: Result<(), ScriptError>,
+) -> Result<(), ScriptError> {
+    if let Err(error) = ended {
+        let text = format!(in alloc; "imapd: {error}\n")?;
+        transcript.extend_from_slice(text.as_bytes())?;
+    }
+    Ok(())
+}
+
+fn script_error(error: KeepError) -> ScriptError {
+    match error {
+        KeepError::Memory => ScriptError::Memory,
+        KeepError::Refused | KeepError::Damaged => ScriptError::Io,
+    }
+}

@@ -1,0 +1,88 @@
+//! Scripts over databases.
+
+use crate::compared::{Compared, Comparison};
+use crate::database::{TestKeeper, new_keeper, open_in_memory};
+use crate::file::{Image, Left};
+use crate::filling::filled;
+use imap_keeper::{KeepError, Keeper};
+use imap_script::{Scenario, ScriptError};
+use imap_world::World;
+use std::alloc::Global;
+
+/// What came of a script over a keeper.
+#[derive(Drop)]
+pub(crate) struct Found {
+    pub(crate) transcript: Vec<u8>,
+    pub(crate) ended: Result<(), ScriptError>,
+    pub(crate) comparison: Comparison,
+}
+
+/// Runs the script over a keeper of the mailboxes at its start, which are `world`.
+pub(crate) fn run_compared<K: Keeper>(
+    alloc: Global,
+    scenario: &Scenario,
+    keeper: K,
+    world: World,
+) -> (K, Found) {
+    let mut transcript = Vec::new(alloc);
+    let (keeper, ended) = scenario.run(alloc, Compared::new(keeper, world), &mut transcript);
+    let (keeper, comparison) = keeper.into_parts();
+    let found = Found {
+        transcript,
+        ended,
+        comparison,
+    };
+    (keeper, found)
+}
+
+/// Saves the mailboxes at the start of the script into a keeper that has none, and runs it over this.
+fn run_filled<K: Keeper + Drop>(
+    alloc: Global,
+    scenario: &Scenario,
+    keeper: K,
+    world: World,
+) -> Result<Found, KeepError> {
+    match filled(alloc, keeper, &world) {
+        Ok(keeper) => {
+            let (keeper, found) = run_compared(alloc, scenario, keeper, world);
+            drop(keeper);
+            Ok(found)
+        }
+        Err(error) => Err(error),
+    }
+}
+
+/// Runs the script over a database without files.
+pub(crate) fn run_in_database(
+    alloc: Global,
+    scenario: &Scenario,
+    world: &World,
+) -> Result<Found, KeepError> {
+    let world = world.try_copy(alloc)?;
+    match open_in_memory(alloc) {
+        Ok(keeper) => run_filled(alloc, scenario, keeper, world),
+        Err(error) => Err(error),
+    }
+}
+
+/// The database that the script leaves.
+pub(crate) fn image_after<K: TestKeeper>(
+    alloc: Global,
+    scenario: &Scenario,
+    world: &World,
+) -> Result<Image, KeepError> {
+    let keeper = new_keeper::<K>(alloc, world)?;
+    let mut transcript = Vec::new(alloc);
+    let (keeper, _ended) = scenario.run(alloc, keeper, &mut transcript);
+    image_of(keeper.close(alloc))
+}
+
+/// What the files have, without a crash.
+pub(crate) fn image_of(left: Result<Left, KeepError>) -> Result<Image, KeepError> {
+    let Left {
+        is_stopped: _,
+        written,
+        crashed: _,
+    } = left?;
+    Ok(written)
+}

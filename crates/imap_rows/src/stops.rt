@@ -1,0 +1,170 @@
+//! Each call of the files of a database fails in turn, and all later calls with it.
+
+use crate::database::{Opened, TestKeeper, load, new_keeper};
+use crate::file::{Calls, Image, Left};
+use crate::running::{Found, image_of, run_compared};
+use imap_keeper::KeepError;
+use imap_script::Scenario;
+use imap_world::World;
+use std::alloc::{AllocError, Global};
+
+/// The most calls of a file.
+const MAX_CALLS: u64 = 100_000;
+
+/// One of the two files.
+#[derive(Clone, Copy)]
+enum Which {
+    Log,
+    Database,
+}
+
+impl Which {
+    /// It fails after so many calls, and the other one never.
+    fn calls(self, calls: u64) -> Calls {
+        match self {
+            Which::Log => Calls {
+                log: calls,
+                database: u64::MAX,
+            },
+            Which::Database => Calls {
+                log: u64::MAX,
+                database: calls,
+            },
+        }
+    }
+}
+
+/// What came of a run.
+#[derive(Clone, Copy, PartialEq, Eq)]
+enum Outcome {
+    /// No call failed.
+    Whole,
+    /// One did. The mailboxes are those before the change that was being saved, or those after it.
+    Kept,
+    /// One did, and the mailboxes are others.
+    Lost,
+}
+
+/// Runs the script once for each call of each of the database's files. Returns what was left.
+pub(crate) fn stop_report<K: TestKeeper>(
+    alloc: Global,
+    scenario: &Scenario,
+    world: &World,
+) -> Result<&'static str, KeepError> {
+    let keeper = new_keeper::<K>(alloc, world)?;
+    let image = image_of(keeper.close(alloc))?;
+    let log = stop_each::<K>(alloc, &image, Which::Log, scenario, world)?;
+    let database = stop_each::<K>(alloc, &image, Which::Database, scenario, world)?;
+    if log == Outcome::Kept && database == Outcome::Kept {
+        Ok("after each stop the mailboxes are those before a change or after it\n")
+    } else {
+        Ok("after a stop the mailboxes are others\n")
+    }
+}
+
+/// Has each call of a file fail in turn, until a run ends in which none does. `Whole` if none ever did.
+fn stop_each<K: TestKeeper>(
+    alloc: Global,
+    image: &Image,
+    which: Which,
+    scenario: &Scenario,
+    world: &World,
+) -> Result<Outcome, KeepError> {
+    let mut worst = Outcome::Whole;
+    for calls in 0..MAX_CALLS {
+        match run_once::<K>(alloc, image, which.calls(calls), scenario, world)? {
+            Outcome::Whole => return Ok(worst),
+            Outcome::Kept => worst = Outcome::Kept,
+            Outcome::Lost => return Ok(Outcome::Lost),
+        }
+    }
+    Ok(Outcome::Lost)
+}
+
+/// Runs the script over a database whose files fail after so many calls.
+fn run_once<K: TestKeeper>(
+    alloc: Global,
+    image: &Image,
+    calls: Calls,
+    scenario: &Scenario,
+    world: &World,
+) -> Result<Outcome, KeepError> {
+    match K::open(alloc, image, calls)? {
+        Opened::Keeper(keeper) => run_stopped(alloc, scenario, keeper, world.try_copy(alloc)),
+        Opened::Refused(_, left) => outcome_of_files::<K>(alloc, &left, world, &None),
+    }
+}
+
+/// Runs the script over the keeper, and closes the database.
+fn run_stopped<K: TestKeeper>(
+    alloc: Global,
+    scenario: &Scenario,
+    keeper: K,
+    world: Result<World, AllocError>,
+) -> Result<Outcome, KeepError> {
+    let Ok(world) = world else {
+        drop(keeper);
+        return Err(KeepError::Memory);
+    };
+    let (keeper, found) = run_compared(alloc, scenario, keeper, world);
+    outcome_of_run::<K>(alloc, keeper.close(alloc), &found)
+}
+
+/// What came of a run, by what was found while it went on and by its files.
+fn outcome_of_run<K: TestKeeper>(
+    alloc: Global,
+    left: Result<Left, KeepError>,
+    found: &Found,
+) -> Result<Outcome, KeepError> {
+    let left = left?;
+    let comparison = &found.comparison;
+    let outcome = outcome_of_files::<K>(alloc, &left, &comparison.world, &comparison.refused)?;
+    if left.is_stopped && comparison.others == 0 {
+        Ok(outcome)
+    } else if found.ended.is_ok() && comparison.is_whole() && outcome == Outcome::Kept {
+        Ok(Outcome::Whole)
+    } else {
+        Ok(Outcome::Lost)
+    }
+}
+
+/// What is loaded of the files, if the system goes on and if it crashes.
+fn outcome_of_files<K: TestKeeper>(
+    alloc: Global,
+    left: &Left,
+    before: &World,
+    after: &Option<World>,
+) -> Result<Outcome, KeepError> {
+    if loads_either::<K>(alloc, &left.written, before, after)?
+        && loads_either::<K>(alloc, &left.crashed, before, after)?
+    {
+        Ok(Outcome::Kept)
+    } else {
+        Ok(Outcome::Lost)
+    }
+}
+
+/// Whether one of these is loaded.
+fn loads_either<K: TestKeeper>(
+    alloc: Global,
+    image: &Image,
+    before: &World,
+    after: &Option<World>,
+) -> Result<bool, KeepError> {
+    let (loaded, left) = load::<K>(alloc, image)?;
+    drop(left);
+    match loaded {
+        Ok(world) => Ok(is_either(&world, before, after)),
+        Err(_) => Ok(false),
+    }
+}
+
+fn is_either(world: &World, before: &World, after: &Option<World>) -> bool {
+    if world.same(before) {
+        return true;
+    }
+    match after {
+        Some(after) => world.same(after),
+        None => false,
+    }
+}
