@@ -235,6 +235,9 @@ impl Mailbox {
         ensures add_room { self.old.add_room ≤ self.new.add_room }
         ensures expunge_room { self.old.expunge_room ≤ self.new.expunge_room + length uids.now }
     {
+        if uids.is_empty() {
+            return;
+        }
         let place = self.shared;
         let first = self.gone.len();
         let next = push_gone(&mut self.gone, &self.messages, uids, place);
