@@ -5,3 +5,4 @@ pub mod Sights
 pub mod Planning
 pub mod Entering
 pub mod Walking
+pub mod Untouched

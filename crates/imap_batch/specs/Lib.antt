@@ -5,3 +5,4 @@ pub mod Entered
 pub mod Seen
 pub mod Laws
 pub mod Planned
+pub mod Untouched

@@ -1,12 +1,13 @@
 -- The rows of a mailbox as a batch will leave them to its user, found along the rows that are there.
 use Rattle.std.specs.Prelude.{◌≡◌, ℕ, ◌+◌, ◌<◌, ◌≤◌, nat_lt, ◌==◌, not, Bool, true, false, if◌then◌else◌, ⊤}
-use Rattle.std.specs.Prelude.{List, [], ◌∷◌, ◌++◌, length, filter, Option, Some, None, is_some}
+use Rattle.std.specs.Prelude.{List, [], ◌∷◌, ◌++◌, length, drop, filter, Option, Some, None, is_some}
 use Rattle.imap_modseq.specs.Numbers.{max_events, number_after}
 use Rattle.imap_mailbox.specs.declared.flags.SharedFlags.{SharedFlags}
 use Rattle.imap_mailbox.specs.Rows.{Row, row_of, is_among}
 use Rattle.imap_mailbox.specs.Held.{IsKept}
 use Rattle.imap_mailbox.specs.History.{end_uid}
 use Rattle.imap_mailbox.specs.Calls.{arrival}
+use Rattle.imap_mailbox.specs.Order.{AreRowsInOrder}
 use Rattle.imap_mailbox.specs.Summary.{Summary, AreRising, rows_of}
 use Rattle.imap_batch.specs.declared.batch.NewMessage.{NewMessage}
 use Rattle.imap_batch.specs.declared.batch.Mark.{Mark}
@@ -137,8 +138,11 @@ abbrev pub StartsLeft : (expunged : List ℕ) → List Row → Type 0
 StartsLeft expunged [] = ⊤
 StartsLeft expunged (r ∷ rows) = is_among r.uid expunged ≡ false
 
-pub record IsPlan (m : MarksLeft) (uids : List ℕ) (a : AddedLeft) (rows : List Row) : Type 0 where
+-- the next row has this place
+pub record IsPlan (m : MarksLeft) (uids : List ℕ) (a : AddedLeft) (highest place : ℕ) (rows : List Row)
+    : Type 0 where
   pub marks : CanMark m
   pub expunged : AreRising uids
   pub added : CanAdd a
-  pub starts : StartsLeft uids rows
+  pub starts : StartsLeft uids (drop place rows)
+  pub order : (next : ℕ) × AreRowsInOrder next highest rows

@@ -1,12 +1,13 @@
 //! Rows that are marked, one after another.
 
-ghost use Rattle.std.specs.Prelude.{◌≡◌, ◌+◌, ◌≤◌, ℕ, List, ◌∷◌, false, is_some};
+ghost use Rattle.std.specs.Prelude.{◌≡◌, ◌+◌, ◌≤◌, ℕ, List, ◌∷◌, true, false, is_some};
 ghost use Rattle.imap_modseq.specs.Numbers.{max_events};
 ghost use Rattle.imap_mailbox.specs.Lent.{row_shown};
 ghost use Rattle.imap_mailbox.specs.Rows as specs;
 ghost use Rattle.imap_batch.specs.Batch.{one_if};
 ghost use Rattle.imap_batch.specs.Planned.{own_after, row_with_flags, row_with_seen, row_marked};
 ghost use Rattle.imap_batch.specs.Planned.{marked_by, with_first, CanMark};
+ghost use Rattle.imap_batch.specs.Untouched.{IsBeforeMarks};
 
 use crate::batch::Mark;
 use imap_mailbox::{Row, SharedFlags};
@@ -146,6 +147,16 @@ pub(crate) fn is_marked(uid: u32, marks: &MarksLeft) -> bool
     match marks.marks.first() {
         Some(mark) => mark.uid == uid,
         None => false,
+    }
+}
+
+/// Whether the first of the marks is of a greater UID, if there is one.
+pub(crate) fn is_before_marks(uid: u32, marks: &MarksLeft<'_>) -> bool
+    ensures { result ≡ true → IsBeforeMarks uid marks.now.marks.now }
+{
+    match marks.marks.first() {
+        Some(mark) => uid < mark.uid,
+        None => true,
     }
 }
 

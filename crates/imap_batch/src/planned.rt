@@ -1,6 +1,7 @@
 //! The messages of a mailbox as a batch will leave them, before it is written.
 
-ghost use Rattle.std.specs.Prelude.{◌≡◌, ◌<◌, ◌≤◌, [], ◌∷◌, List, drop, length, nat_lt, MatchOption};
+ghost use Rattle.std.specs.Prelude.{◌≡◌, ◌<◌, ◌≤◌, ◌+◌, [], ◌∷◌, List, drop, length, nat_lt, true, false};
+ghost use Rattle.std.specs.Prelude.{MatchOption};
 ghost use Rattle.imap_modseq.specs.Numbers.{max_events};
 ghost use Rattle.imap_mailbox.specs.Held.{summary_in};
 ghost use Rattle.imap_mailbox.specs.Lent.{row_shown};
@@ -9,10 +10,11 @@ ghost use Rattle.imap_mailbox.specs.Rows.{is_among};
 ghost use Rattle.imap_mailbox.specs.Summary.{AreRising, rows_of};
 ghost use Rattle.imap_batch.specs.Written.{with_batch, MayWrite};
 ghost use Rattle.imap_batch.specs.Planned.{own_after_all, rows_left, marked_by, first_uid, StartsLeft, CanMark};
+ghost use Rattle.imap_batch.specs.Untouched.{IsRunTo};
 
 use crate::added_left::{AddedLeft, next_added};
 use crate::batch::NewMessage;
-use crate::marks_left::{MarksLeft, is_marked, marks_after, with_first};
+use crate::marks_left::{MarksLeft, is_before_marks, is_marked, marks_after, with_first};
 use crate::write::BatchWrite;
 use crate::writing::added_seen_count;
 use imap_mailbox::{Mailbox, Row, Rows};
@@ -25,6 +27,8 @@ use std::marker::Model;
 #[derive(Drop)]
 pub struct Planned<'a> {
     rows: Rows<'a>,
+    /// HIGHESTMODSEQ before the batch.
+    highest: u64,
     /// The place of the next row in `rows`, which isn't expunged.
     place: usize,
     marks: MarksLeft<'a>,
@@ -46,7 +50,7 @@ impl<'a> Model for Planned<'a> {
     ghost view = { λ p.
         rows_left p.expunged.now (marked_by p.marks (drop p.place p.rows)) ++ added_by p.added };
 
-    ghost invariant = { λ p. IsPlan p.marks p.expunged.now p.added (drop p.place p.rows) };
+    ghost invariant = { λ p. IsPlan p.marks p.expunged.now p.added p.highest p.place p.rows };
 }
 
 impl<'a> Planned<'a> {
@@ -73,6 +77,7 @@ impl<'a> Planned<'a> {
         let (place, marks) = first_left(&rows, 0, &marks, expunged);
         Planned {
             rows,
+            highest: mailbox.highest(user),
             place,
             marks,
             expunged,
@@ -141,6 +146,56 @@ impl<'a> Planned<'a> {
             self.added = added;
         }
     }
+
+    /// Returns how many of the next messages [`skip_untouched`](Planned::skip_untouched) may skip: those before the
+    /// first that is marked, if the batch expunges none and no message had a mod-sequence above `number`. It takes
+    /// one search that halves.
+    pub fn untouched_len(&self, number: u64) -> usize
+        ensures { result ≤ length self.now }
+    {
+        if number < self.highest || !self.expunged.is_empty() || self.place >= self.rows.len() {
+            return 0;
+        }
+        match self.marks.marks.first() {
+            Some(mark) => rows_before(&self.rows, self.place, mark.uid),
+            None => self.rows.len() - self.place,
+        }
+    }
+
+    /// Moves past the next `len` messages if the batch leaves them as they are, none has a mod-sequence above
+    /// `number`, and the last has the UID `last`. Returns whether it did. It looks at the last of them alone, and
+    /// moves past none if the batch expunges any message or if any message had a mod-sequence above `number`.
+    pub fn skip_untouched(&mut self, len: usize, last: u32, number: u64) -> bool
+        ensures run { result ≡ true → IsRunTo number last len self.old }
+        ensures skipped { result ≡ true → self.new ≡ drop len self.old }
+        ensures same { result ≡ false → self.new ≡ self.old }
+    {
+        if len == 0 || number < self.highest || !self.expunged.is_empty() {
+            return false;
+        }
+        let left = self.rows.len().saturating_sub(self.place);
+        if left < len {
+            return false;
+        }
+        let place = self.place + len - 1;
+        let uid = self.rows.uid(place);
+        if uid != last || !is_before_marks(uid, &self.marks) {
+            return false;
+        }
+        self.place = place + 1;
+        true
+    }
+}
+
+/// Returns the number of rows from `place` on before the UID.
+fn rows_before(rows: &Rows<'_>, place: usize, uid: u32) -> usize
+    requires { place < length rows.now }
+    ensures { place + result ≤ length rows.now }
+{
+    if rows.uid(place) == uid {
+        return 0;
+    }
+    rows.place_from(uid).saturating_sub(place)
 }
 
 /// Returns the number of own changes after all messages were added.

@@ -1,5 +1,5 @@
 -- A walk along known messages and rows.
-use Rattle.std.proofs.Common.{◌≡◌, ℕ, zero, suc, Result, Ok, Err, OnOk, ◌+◌, ◌<◌, ◌≤◌, eqb, ltb, not, ◌&&◌, Bool, true, false, cond, MatchBool, List, [], ◌∷◌, ◌++◌, length, drop, get_or, refl, sym, ap, subst, ◌∙◌, arith}
+use Rattle.std.proofs.Common.{◌≡◌, ℕ, suc, Result, Ok, Err, OnOk, ◌+◌, ◌<◌, ◌≤◌, eqb, ltb, not, ◌&&◌, Bool, true, false, cond, MatchBool, List, [], ◌∷◌, ◌++◌, length, drop, get_or, refl, sym, ap, subst, ◌∙◌, arith}
 use Rattle.std.proofs.lemmas.Bool.{eq-eqb, eqb-true, ltb-true, ltb-false, and_parts}
 use Rattle.std.specs.declared.alloc.AllocError.{AllocError}
 use Rattle.std.proofs.lemmas.List.{append_assoc, append-nil, drop_more, drop-map}
@@ -7,7 +7,7 @@ use Rattle.imap_print.specs.declared.response.Response.{Response}
 use Rattle.imap_print.specs.declared.response.Response.TheVariants as response
 use Rattle.imap_mailbox.specs.declared.known.KnownMessage.{KnownMessage}
 use Rattle.imap_mailbox.specs.Rows.{Row, is_among}
-use Rattle.imap_mailbox.specs.Brought.{told_of, Agree, AreToldBy}
+use Rattle.imap_mailbox.specs.Brought.{told_of, Agree}
 use Rattle.imap_session.specs.declared.options.NoticeOptions.{NoticeOptions}
 use Rattle.imap_session.specs.declared.delta.ChangedMessage.{ChangedMessage}
 use Rattle.imap_session.specs.declared.entry.Entry.{Entry}
@@ -131,7 +131,7 @@ passes_expunged told o n p k rows old new is h = record {
     gone = gone_here k rows is
 
 -- what is found of a message that is there, before its number is passed
-record FindsPresent (told : List ℕ) (o : NoticeOptions) (p : ℕ) (k : KnownMessage) (r : Row) (old new : Walk) : Type 0 where
+pub record FindsPresent (told : List ℕ) (o : NoticeOptions) (p : ℕ) (k : KnownMessage) (r : Row) (old new : Walk) : Type 0 where
   gone : new.gone.items ≡ old.gone.items
   expunges : new.expunges.items ≡ old.expunges.items
   vanished : new.vanished.items ≡ old.vanished.items
@@ -139,7 +139,7 @@ record FindsPresent (told : List ℕ) (o : NoticeOptions) (p : ℕ) (k : KnownMe
   fetches : new.fetches ≡ old.fetches ++ collected (not (is_among r.uid told) && not (is_known k r)) (fetch_line o old.number (told_of r) ∷ [])
   number : new.number ≡ old.number
 
-passes_present : (told : List ℕ) (o : NoticeOptions) (n p : ℕ) (k : KnownMessage) (rows left : List Row) (r : Row) (later : List Row) (old mid : Walk)
+pub passes_present : (told : List ℕ) (o : NoticeOptions) (n p : ℕ) (k : KnownMessage) (rows left : List Row) (r : Row) (later : List Row) (old mid : Walk)
     → rows ≡ r ∷ later → left ≡ later → k.uid ≡ r.uid → FindsPresent told o p k r old mid → Passes told o n p k rows left old (record mid { number = mid.number + 1 })
 passes_present told o n p k rows left r later old mid is is_left same h = record {
   finds = λ known.
@@ -206,11 +206,6 @@ first_agrees n k others rows r later is next h =
 
 -- ---- along the known list
 
-pub told_at : (n : ℕ) (es : List Entry) (p : ℕ) (e : Entry) → p < length es → e ≡ get_or es p e → AreToldBy n (list_in es) → e.message.number ≤ n
-told_at n [] p e lt is h = absurd (omega arith)
-told_at n (x ∷ es) zero e lt is h = subst (λ (y : Entry). y.message.number ≤ n) (sym is) h.0
-told_at n (x ∷ es) (suc p) e lt is h = told_at n es p e (omega arith) is h.1
-
 pub next_known : (es : List Entry) (p : ℕ) (e : Entry) → p < length es → e ≡ get_or es p e → drop p (list_in es) ≡ e.message ∷ drop (p + 1) (list_in es)
 next_known es p e lt is =
     drop-map (λ (e : Entry). e.message) p es
@@ -235,7 +230,7 @@ ended told o p w rows = λ j. record {
 -- ---- what is found of a message that is there
 
 -- all of it is known
-none_changed : (told : List ℕ) (o : NoticeOptions) (p : ℕ) (k : KnownMessage) (r : Row) (w : Walk) → is_known k r ≡ true → FindsPresent told o p k r w w
+pub none_changed : (told : List ℕ) (o : NoticeOptions) (p : ℕ) (k : KnownMessage) (r : Row) (w : Walk) → is_known k r ≡ true → FindsPresent told o p k r w w
 none_changed told o p k r w is = record {
   gone = refl;
   expunges = refl;

@@ -1,6 +1,8 @@
 -- Rows that are left to a cursor.
-use Rattle.std.specs.Prelude.{ℕ, Bool, false, ◌==◌, ◌&&◌, not, nat_lt, List, [], ◌∷◌}
+use Rattle.std.specs.Prelude.{◌≡◌, ℕ, ◌≤◌, Bool, false, ◌==◌, ◌&&◌, not, nat_lt, List, [], ◌∷◌, length, map, take}
+use Rattle.imap_mailbox.specs.declared.known.KnownMessage.{KnownMessage}
 use Rattle.imap_mailbox.specs.Rows.{Row}
+use Rattle.imap_mailbox.specs.Brought.{told_of}
 
 -- the first row has the UID
 abbrev pub is_next : (uid : ℕ) → List Row → Bool
@@ -11,3 +13,8 @@ is_next uid (r ∷ rows) = uid == r.uid
 abbrev pub is_unchanged : (uid number : ℕ) → List Row → Bool
 is_unchanged uid number [] = false
 is_unchanged uid number (r ∷ rows) = uid == r.uid && not (nat_lt number r.number)
+
+-- the first n known messages are the first n rows, as they are
+pub record IsKnownRun (n : ℕ) (known : List KnownMessage) (rows : List Row) : Type 0 where
+  pub few : n ≤ length known
+  pub same : take n known ≡ map told_of (take n rows)

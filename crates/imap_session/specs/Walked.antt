@@ -1,5 +1,6 @@
 -- What a walk along known messages and rows has found, and what is left to be found.
-use Rattle.std.specs.Prelude.{◌≡◌, ℕ, ◌+◌, ◌≤◌, Bool, not, ◌&&◌, List, [], ◌∷◌, ◌++◌, length, if◌then◌else◌}
+use Rattle.std.specs.Prelude.{◌≡◌, ℕ, ◌+◌, ◌<◌, ◌≤◌, Bool, not, ◌&&◌, List, [], ◌∷◌, ◌++◌, length, drop}
+use Rattle.std.specs.Prelude.{if◌then◌else◌}
 use Rattle.imap_print.specs.declared.response.Response.{Response}
 use Rattle.imap_mailbox.specs.declared.known.KnownMessage.{KnownMessage}
 use Rattle.imap_print.specs.declared.response.Response.TheVariants as response
@@ -98,3 +99,12 @@ pub record Passes (told : List ℕ) (o : NoticeOptions) (up_to p : ℕ) (k : Kno
       → finished told o (p + 1) new known left ≡ finished told o p old (k ∷ known) rows
   pub agree : (known : List KnownMessage) → Agree up_to (k ∷ known) rows → Agree up_to known left
   pub number : new.number ≤ old.number + 1
+
+-- so does one that passes the known messages at the places from p to q - 1
+pub record PassesTo (told : List ℕ) (o : NoticeOptions) (up_to p q : ℕ) (known : List KnownMessage)
+    (rows left : List Row) (old new : Walk) : Type 0 where
+  pub more : p < q
+  pub within : q ≤ length known
+  pub finds : finished told o q new (drop q known) left ≡ finished told o p old (drop p known) rows
+  pub agree : Agree up_to (drop q known) left
+  pub number : new.number ≤ q + 1

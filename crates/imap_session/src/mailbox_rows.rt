@@ -2,6 +2,7 @@
 
 ghost use Rattle.std.specs.Prelude.{◌≡◌};
 
+use crate::known_list::KnownList;
 use crate::row_cursor::RowCursor;
 use imap_mailbox::{KnownMessage, Rows};
 use std::alloc::{AllocError, Global};
@@ -56,6 +57,16 @@ impl<'a> RowCursor for MailboxRows<'a> {
         }
         self.skip();
         true
+    }
+
+    /// Looks at one message after another, up to the first that changed or is gone.
+    fn skip_known(&mut self, known: &KnownList, place: usize, number: u64) -> usize {
+        for at in place..known.len() {
+            if !self.skip_unchanged(known.get(at).uid, number) {
+                return at - place;
+            }
+        }
+        known.len().saturating_sub(place)
     }
 
     fn message(&self, alloc: Global) -> Result<KnownMessage, AllocError> {

@@ -11,10 +11,8 @@ ghost use Rattle.imap_session.specs.Notices.{notices, vanished_line};
 ghost use Rattle.imap_session.specs.Retold.{retold};
 ghost use Rattle.imap_session.specs.Delta.{IsDeltaOf, Brings};
 ghost use Rattle.imap_session.specs.InStep.{IsInStep};
-ghost use Rattle.imap_session.specs.Held.{list_in};
 
 use crate::delta::Delta;
-use crate::entry::Entry;
 use crate::known_list::KnownList;
 use crate::lines::{vanished_lines, with_exists};
 use crate::options::NoticeOptions;
@@ -59,7 +57,7 @@ impl KnownList {
         if highest <= up_to && (!options.expunges || self.len() == rows.len()) {
             return Ok(no_notices(alloc));
         }
-        find_notices(alloc, self.entries.as_slice(), rows, options, told, up_to)
+        find_notices(alloc, self, rows, options, told, up_to)
     }
 }
 
@@ -82,19 +80,19 @@ fn no_notices(alloc: Global) -> Notices
 /// Finds notices by a walk.
 fn find_notices<C: RowCursor>(
     alloc: Global,
-    known: &[Entry],
+    known: &KnownList,
     rows: &mut C,
     options: &NoticeOptions,
     told: &[u32],
     up_to: u64,
 ) -> Result<Notices, AllocError>
     requires step { (highest : ℕ) × ((c : Content)
-        × IsInStep up_to highest (list_in known.now) (C.rest rows.old) c) }
+        × IsInStep up_to highest known.now.list (C.rest rows.old) c) }
     requires told { AreRising told.now }
     ensures lines { IfOk result (λ n. n.lines.items
-        ≡ notices options.now (retold told.now (list_in known.now) (C.rest rows.old)) (C.rest rows.old)) }
-    ensures delta { IfOk result (λ n. IsDeltaOf options.now (list_in known.now) (C.rest rows.old) n.delta) }
-    ensures brings { IfOk result (λ n. Brings options.now (list_in known.now) (C.rest rows.old) n.delta) }
+        ≡ notices options.now (retold told.now known.now.list (C.rest rows.old)) (C.rest rows.old)) }
+    ensures delta { IfOk result (λ n. IsDeltaOf options.now known.now.list (C.rest rows.old) n.delta) }
+    ensures brings { IfOk result (λ n. Brings options.now known.now.list (C.rest rows.old) n.delta) }
     ensures printable { IfOk result (λ n. AllByRecursion IsPrintable n.lines.items) }
 {
     let walk = compare(alloc, known, rows, up_to, options, told)?;

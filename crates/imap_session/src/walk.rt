@@ -7,13 +7,13 @@ ghost use Rattle.imap_mailbox.specs.declared.known.KnownMessage as known_message
 ghost use Rattle.imap_mailbox.specs.Summary.{AreRising};
 ghost use Rattle.imap_mailbox.specs.Rows.{Row, is_among};
 ghost use Rattle.imap_mailbox.specs.Brought.{Agree, AreToldBy, told_of};
-ghost use Rattle.imap_session.specs.Held.{list_in};
 ghost use Rattle.imap_session.specs.Notices as specs;
-ghost use Rattle.imap_session.specs.Walked.{Passes, PassesChanged, PassesExpunged, collected, findings, found};
+ghost use Rattle.imap_session.specs.Walked.{Passes, PassesChanged, PassesExpunged, PassesTo};
+ghost use Rattle.imap_session.specs.Walked.{collected, findings, found};
 
 use crate::delta::ChangedMessage;
-use crate::entry::Entry;
 use crate::fetch_lines::FetchLines;
+use crate::known_list::KnownList;
 use crate::lines::fetch_line;
 use crate::options::NoticeOptions;
 use crate::row_cursor::RowCursor;
@@ -161,24 +161,54 @@ impl Walk {
             self.pass_expunged(place, known, options)
         }
     }
+
+    /// Passes the known message at `place`, or a run of known messages from there on that stayed as they are.
+    /// Returns the place of the next one.
+    fn pass_some<C: RowCursor>(
+        &mut self,
+        alloc: Global,
+        known: &KnownList,
+        place: usize,
+        rows: &mut C,
+        up_to: u64,
+        options: &NoticeOptions,
+        told: &[u32],
+    ) -> Result<usize, AllocError>
+        requires there { place < length known.now.list }
+        requires agree { Agree up_to (drop place known.now.list) (C.rest rows.old) }
+        requires known { AreToldBy up_to known.now.list }
+        requires told { AreRising told.now }
+        requires few { length known.now.list + 1 < 2 ^ 32 }
+        requires number { self.old.number ≤ place + 1 }
+        ensures { IfOk result (λ next. PassesTo told.now options.now up_to place next known.now.list
+            (C.rest rows.old) (C.rest rows.new) self.old self.new) }
+    {
+        let run = rows.skip_known(known, place, up_to);
+        if run > 0 {
+            self.number += run as u32;
+            return Ok(place + run);
+        }
+        self.pass(alloc, place, known.get(place), rows, up_to, options, told)?;
+        Ok(place + 1)
+    }
 }
 
 /// Finds what became of the known messages. The session was told all up to the mod-sequence `up_to`, and the
 /// command's own lines told of the messages with the UIDs `told`. Leaves the new messages to `rows`.
 pub(crate) fn compare<C: RowCursor>(
     alloc: Global,
-    known: &[Entry],
+    known: &KnownList,
     rows: &mut C,
     up_to: u64,
     options: &NoticeOptions,
     told: &[u32],
 ) -> Result<Walk, AllocError>
-    requires agree { Agree up_to (list_in known.now) (C.rest rows.old) }
-    requires known { AreToldBy up_to (list_in known.now) }
+    requires agree { Agree up_to known.now.list (C.rest rows.old) }
+    requires known { AreToldBy up_to known.now.list }
     requires told { AreRising told.now }
-    requires few { length known.now + 1 < 2 ^ 32 }
+    requires few { length known.now.list + 1 < 2 ^ 32 }
     ensures { IfOk result (λ w. found w (C.rest rows.new)
-        ≡ findings told.now options.now (list_in known.now) (C.rest rows.old)) }
+        ≡ findings told.now options.now known.now.list (C.rest rows.old)) }
 {
     let mut walk = Walk {
         number: 1,
@@ -188,9 +218,11 @@ pub(crate) fn compare<C: RowCursor>(
         changed: Vec::new(alloc),
         fetches: FetchLines::new(alloc),
     };
-    for (place, entry) in known.iter().enumerate() {
-        if let Err(error) = walk.pass(alloc, place, &entry.message, rows, up_to, options, told) {
-            return Err(error);
+    let mut place = 0;
+    while place < known.len() {
+        match walk.pass_some(alloc, known, place, rows, up_to, options, told) {
+            Ok(next) => place = next,
+            Err(error) => return Err(error),
         }
     }
     Ok(walk)

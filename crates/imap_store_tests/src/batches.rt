@@ -2,7 +2,7 @@
 
 use crate::flags::flags_of;
 use crate::mailbox::{add_more, date, many_words, message, shown};
-use imap_batch::{Batch, BatchError, Mark, NewMessage, make_room, resolve, write_batch};
+use imap_batch::{Batch, BatchError, Mark, NewMessage, Planned, make_room, resolve, write_batch};
 use imap_mailbox::{Mailbox, MailboxError, SharedFlags};
 use imap_names::UserName;
 use imap_syntax::Items;
@@ -116,6 +116,58 @@ fn a_batch_adds_marks_and_expunges(rt: HostRuntime) -> Result<(), Fail> {
     assert_eq!(rt; falling, Err(MailboxError::NoSuchUid));
     assert_eq!(rt; gone, Err(MailboxError::NoSuchUid));
     assert_eq!(rt; next, 5);
+    Ok(())
+}
+
+/// What a cursor tells of four messages, of which the third is to be marked.
+#[derive(Drop)]
+struct Runs {
+    /// How many may be skipped by who was told all, and by who was told all but the last event.
+    lens: [usize; 2],
+    /// Whether two are skipped with the UID of the first, and with that of the second as the last.
+    skipped: [bool; 2],
+    /// The UID after that, and whether the message that is marked is skipped.
+    next: Option<u32>,
+    marked: bool,
+}
+
+fn runs_beside_a_mark(alloc: Global, mailbox: &mut Mailbox) -> Result<Runs, MailboxError> {
+    add(alloc, mailbox, &[false, false, false, false])?;
+    let mut batch = empty(alloc)?;
+    let mut marks = Vec::new(alloc);
+    push(&mut marks, one_mark(alloc, 3, &[b"a"], true)?)?;
+    batch.marks = Items::from_vec(marks);
+    let write = resolve(alloc, mailbox, &batch).map_err(refusal)?;
+    let highest = mailbox.highest("bob");
+    let mut rows = Planned::new(mailbox, &write);
+    let lens = [
+        rows.untouched_len(highest),
+        rows.untouched_len(highest.saturating_sub(1)),
+    ];
+    let skipped = [
+        rows.skip_untouched(2, 1, highest),
+        rows.skip_untouched(2, 2, highest),
+    ];
+    let next = rows.uid();
+    let marked = rows.skip_untouched(1, 3, highest);
+    Ok(Runs {
+        lens,
+        skipped,
+        next,
+        marked,
+    })
+}
+
+#[test]
+fn messages_that_a_batch_leaves_are_skipped_at_once(rt: HostRuntime) -> Result<(), Fail> {
+    let mut mailbox = Mailbox::new(rt.alloc());
+    let runs = runs_beside_a_mark(rt.alloc(), &mut mailbox);
+    drop(mailbox);
+    let runs = runs?;
+    assert_eq!(rt; runs.lens, [2, 0]);
+    assert_eq!(rt; runs.skipped, [false, true]);
+    assert_eq!(rt; runs.next, Some(3));
+    assert!(rt; !runs.marked);
     Ok(())
 }
 

@@ -3,3 +3,4 @@ pub mod Ordered
 pub mod Reading
 pub mod Staying
 pub mod Turned
+pub mod Running

@@ -8,7 +8,7 @@ ghost use Rattle.imap_mailbox.specs.Summary.{rows_of};
 use crate::counts::len_after;
 use imap_batch::{BatchWrite, Planned};
 use imap_mailbox::{KnownMessage, Mailbox};
-use imap_session::RowCursor;
+use imap_session::{KnownList, RowCursor};
 use std::alloc::{AllocError, Global};
 use std::marker::Model;
 
@@ -73,6 +73,22 @@ impl<'a> RowCursor for PlannedRows<'a> {
         }
         self.skip();
         true
+    }
+
+    /// Messages before the first that the batch changes are as they are known if the last of them is known at
+    /// its place: each of them is known, and the UIDs of both lists rise. If it isn't, half of them are tried.
+    fn skip_known(&mut self, known: &KnownList, place: usize, number: u64) -> usize {
+        let left = known.len().saturating_sub(place);
+        let mut len = self.rows.untouched_len(number).min(left);
+        while len > 0 {
+            let last = known.get(place + len - 1).uid;
+            if self.rows.skip_untouched(len, last, number) {
+                self.len -= len;
+                return len;
+            }
+            len /= 2;
+        }
+        0
     }
 
     fn message(&self, alloc: Global) -> Result<KnownMessage, AllocError> {

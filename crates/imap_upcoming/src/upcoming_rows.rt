@@ -2,7 +2,7 @@
 
 use crate::planned_rows::PlannedRows;
 use imap_mailbox::KnownMessage;
-use imap_session::{MailboxRows, RowCursor};
+use imap_session::{KnownList, MailboxRows, RowCursor};
 use std::alloc::{AllocError, Global};
 
 /// The messages as a change will leave them, one after another.
@@ -37,6 +37,13 @@ impl<'a> RowCursor for UpcomingRows<'a> {
         match self {
             UpcomingRows::There(rows) => rows.skip_unchanged(uid, number),
             UpcomingRows::Planned(rows) => rows.skip_unchanged(uid, number),
+        }
+    }
+
+    fn skip_known(&mut self, known: &KnownList, place: usize, number: u64) -> usize {
+        match self {
+            UpcomingRows::There(rows) => rows.skip_known(known, place, number),
+            UpcomingRows::Planned(rows) => rows.skip_known(known, place, number),
         }
     }
 

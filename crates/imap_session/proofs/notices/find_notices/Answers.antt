@@ -3,8 +3,6 @@ use Rattle.std.proofs.lemmas.List.{length-map}
 use Rattle.std.specs.List.{AllByRecursion}
 use Rattle.imap_mailbox.specs.Brought.{told_of}
 use Rattle.imap_print.specs.Lines.{IsPrintable}
-use Rattle.imap_session.specs.declared.entry.Entry.{Entry}
-use Rattle.imap_session.specs.Held.{list_in}
 use Rattle.imap_session.specs.Notices.{exists_line}
 use Rattle.imap_session.specs.Walked.{Findings}
 use Rattle.imap_session.proofs.Telling.{it_is_told, length_fits, exists_is, delta_brings, lines_joined}
@@ -13,19 +11,18 @@ use Rattle.imap_session.proofs.notices.find_notices.Goals as goal
 pub compare-requires-clause-few : goal.compare-requires-clause-few
 compare-requires-clause-few g c =
     let can = c.requires.step.1.1 in
-    let fits = length_fits (list_in c.args.known.now) c.requires.step.1.0.next can.brought.uids in
-    let len = length-map c.args.known.now (λ (e : Entry). e.message) in
-    omega (arith, fits, len, can.few)
+    let fits = length_fits c.args.known.now.list c.requires.step.1.0.next can.brought.uids in
+    omega (arith, fits, can.few)
 
 pub expunge_lines-requires : goal.expunge_lines-requires
 expunge_lines-requires g c =
-    (it_is_told c.args.told.now c.args.options.now c.args.up_to c.requires.step.0 (list_in c.args.known.now) (g.C.RowCursor.rest c.args.rows.now) c.requires.step.1.0 c.in_ok-walk.walk
+    (it_is_told c.args.told.now c.args.options.now c.args.up_to c.requires.step.0 c.args.known.now.list (g.C.RowCursor.rest c.args.rows.now) c.requires.step.1.0 c.in_ok-walk.walk
     (g.C.RowCursor.rest c.compare.new.rows) c.requires.step.1.1 c.in_ok-walk.ensures).rising
 
 pub with_exists-requires : goal.with_exists-requires
 with_exists-requires g c =
     let new = g.C.RowCursor.rest c.compare.new.rows in
-    let told = it_is_told c.args.told.now c.args.options.now c.args.up_to c.requires.step.0 (list_in c.args.known.now) (g.C.RowCursor.rest c.args.rows.now) c.requires.step.1.0 c.in_ok-walk.walk
+    let told = it_is_told c.args.told.now c.args.options.now c.args.up_to c.requires.step.0 c.args.known.now.list (g.C.RowCursor.rest c.args.rows.now) c.requires.step.1.0 c.in_ok-walk.walk
     new c.requires.step.1.1 c.in_ok-walk.ensures in
     let news = ap length c.in_ok-added.ensures in
     let len = length-map new told_of in
@@ -35,7 +32,7 @@ pub returns-clause-lines : goal.returns-clause-lines
 returns-clause-lines g c =
     let new = g.C.RowCursor.rest c.compare.new.rows in
     let w = c.in_ok-walk.walk in
-    let told = it_is_told c.args.told.now c.args.options.now c.args.up_to c.requires.step.0 (list_in c.args.known.now) (g.C.RowCursor.rest c.args.rows.now) c.requires.step.1.0 w
+    let told = it_is_told c.args.told.now c.args.options.now c.args.up_to c.requires.step.0 c.args.known.now.list (g.C.RowCursor.rest c.args.rows.now) c.requires.step.1.0 w
     new c.requires.step.1.1 c.in_ok-walk.ensures in
     let news = ap length c.in_ok-added.ensures in
     let len = length-map new told_of in
@@ -49,14 +46,14 @@ returns-clause-lines g c =
 
 pub returns-clause-printable : goal.returns-clause-printable
 returns-clause-printable g c =
-    let told = it_is_told c.args.told.now c.args.options.now c.args.up_to c.requires.step.0 (list_in c.args.known.now) (g.C.RowCursor.rest c.args.rows.now) c.requires.step.1.0 c.in_ok-walk.walk
+    let told = it_is_told c.args.told.now c.args.options.now c.args.up_to c.requires.step.0 c.args.known.now.list (g.C.RowCursor.rest c.args.rows.now) c.requires.step.1.0 c.in_ok-walk.walk
     (g.C.RowCursor.rest c.compare.new.rows) c.requires.step.1.1 c.in_ok-walk.ensures in
     subst (AllByRecursion IsPrintable) (told.lines ∙ sym (returns-clause-lines g c))
     (told.printable (subst (AllByRecursion IsPrintable) c.into_vec.ensures.items c.into_vec.ensures.printable))
 
 pub returns-clause-brings : goal.returns-clause-brings
 returns-clause-brings g c =
-    delta_brings c.args.options.now c.args.up_to c.requires.step.0 (list_in c.args.known.now) (g.C.RowCursor.rest c.args.rows.now) c.requires.step.1.0
+    delta_brings c.args.options.now c.args.up_to c.requires.step.0 c.args.known.now.list (g.C.RowCursor.rest c.args.rows.now) c.requires.step.1.0
     (record { changed = c.in_ok-walk.walk.changed; gone = c.in_ok-walk.walk.gone; added = c.in_ok-added.added }) c.requires.step.1.1
     (record {
       changed = ap (λ (f : Findings). f.changed) c.in_ok-walk.ensures;

@@ -4,6 +4,7 @@ use Rattle.std.proofs.lemmas.Bool.{and_parts}
 use Rattle.imap_modseq.specs.Numbers.{max_events}
 use Rattle.imap_mailbox.specs.Held.{summary_in}
 use Rattle.imap_mailbox.specs.History.{own_at}
+use Rattle.imap_mailbox.specs.Order.{AreRowsInOrder}
 use Rattle.imap_mailbox.specs.Summary.{AreRising, rows_of, uids_in}
 use Rattle.imap_batch.specs.Batch.{are_known, event_count, has_uids, mark_uids}
 use Rattle.imap_batch.specs.Planned.{own_after_all, rows_added, rows_left, rows_marked}
@@ -29,6 +30,7 @@ invariant_of-result c =
     record {
       marks = c.first_left-place.ensures.marks;
       starts = c.first_left-place.ensures.starts;
+      order = (c.args.mailbox.now.next, subst (λ n. AreRowsInOrder c.args.mailbox.now.next n c.rows-rows.result) (sym c.highest.ensures.number) c.rows-rows.ensures.valid);
       expunged = subst AreRising (sym c.as_slice-expunged.ensures) (known_rising b.expunged known (and_parts (are_known 0 (mark_uids b.marks) known) (are_known 0 b.expunged known) c.requires.messages).1);
       added = record {
         shared = omega (arith, left, added, c.shared_len-shared.ensures.events);
