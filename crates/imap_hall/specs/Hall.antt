@@ -9,10 +9,11 @@ use Rattle.imap_print.specs.declared.response.Response.{Response}
 use Rattle.imap_world.specs.Effects.{writes_of}
 use Rattle.imap_world.specs.World.{World}
 use Rattle.imap_hall.specs.declared.journal.Entry.{Entry}
+use Rattle.imap_hall.specs.declared.journal.OldJournal.{OldJournal}
 use Rattle.imap_hall.specs.declared.journal.Receipt.{Receipt}
 use Rattle.imap_hall.specs.Counts.{Counts, AreZero, IsCounted, count_of}
 use Rattle.imap_hall.specs.Journal.{JournalEntry, Point, IsMade, IsRefused, IsRun, IsSamePoint}
-use Rattle.imap_hall.specs.Journal.{entry_code, max_entries, point_code}
+use Rattle.imap_hall.specs.Journal.{entry_code, max_entries, point, point_code}
 
 -- where the machine is, where its journal begins, how many entries were made before that, the entries from there
 -- on, and the keeper
@@ -101,6 +102,11 @@ module _ {K : Type 0} where
     pub before : new.before ≡ old.before + length old.entries
     pub entries : new.entries ≡ []
     pub keeper : new.keeper ≡ old.keeper
+
+  -- the base that the hall had, and its entries
+  pub record IsOldOf (h : HallState K) (old : OldJournal) : Type 0 where
+    pub base : point old.base.state old.counts.map ≡ h.base
+    pub entries : map noted old.entries.items ≡ h.entries
 
   -- nothing was done yet
   pub record IsFresh (h : HallState K) : Type 0 where

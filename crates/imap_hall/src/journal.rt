@@ -1,7 +1,9 @@
 //! What the journal holds.
 
-use imap_core::Step;
+use crate::own_counts::OwnCounts;
+use imap_core::{Core, Step};
 use imap_print::Response;
+use imap_user_map::UserMap;
 
 /// An entry of the journal.
 #[derive(Debug, Drop)]
@@ -20,4 +22,12 @@ pub struct Receipt {
     /// The number of the step among those of its session, from 1.
     pub own: u64,
     pub replies: Vec<Response>,
+}
+
+/// An earlier base of the journal, and the entries from there to the next base.
+#[derive(Drop)]
+pub struct OldJournal {
+    pub(crate) base: Core,
+    pub(crate) counts: UserMap<OwnCounts>,
+    pub(crate) entries: Vec<Entry>,
 }

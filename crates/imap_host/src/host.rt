@@ -93,7 +93,8 @@ impl<K: Keeper, L: Ledger> Host<K, L> {
         }
     }
 
-    /// Makes the state of the machine the journal's base, as [`Hall::turn_over`] does.
+    /// Makes the state of the machine the journal's base, as [`Hall::turn_over`] does. The old base is dropped when
+    /// the lock is free again.
     pub fn turn_over<R: Wait>(
         &self,
         rt: &R,
@@ -105,7 +106,9 @@ impl<K: Keeper, L: Ledger> Host<K, L> {
         ensures amount { seat.new.share.amount ≡ seat.old.share.amount }
         ensures err { OnErr result (seat.new.base ≡ seat.old.base) }
     {
-        seat.base = self.floor.lock(rt).turn_over(alloc)?;
+        let (old, base) = self.floor.lock(rt).turn_over(alloc)?;
+        seat.base = base;
+        drop(old);
         Ok(())
     }
 
