@@ -12,6 +12,8 @@ use Rattle.imap_serve.specs.declared.error.End.{End}
 use Rattle.imap_serve.specs.declared.error.End.TheVariants.{Closed, InputEnded, Idle}
 use Rattle.imap_serve.specs.declared.error.ServeError.{ServeError}
 use Rattle.imap_serve.specs.declared.error.ServeError.TheVariants.{Memory, Read, Write, Exhausted}
+use Rattle.imap_serve.specs.declared.watched.Answer.{Answer}
+use Rattle.imap_serve.specs.declared.watched.Answer.TheVariants.{Octets, Nothing}
 use Rattle.imap_serve.specs.Events.{Event, asks, end_of, entries, text, IsOf, IsOpen}
 
 -- the entries that the room has, and what was written, where that is known
@@ -156,3 +158,9 @@ abbrev pub IsAllRead : End → (remaining : Option (List ℕ)) → Type 0
 IsAllRead InputEnded remaining = IsAtEnd remaining
 IsAllRead Closed remaining = ⊤
 IsAllRead Idle remaining = ⊤
+
+-- the input is said to have ended, and the client to have idled, only where the last read was answered so
+abbrev pub IsLastRead : End → (last : Option Answer) → Type 0
+IsLastRead InputEnded last = last ≡ Some (Octets 0)
+IsLastRead Closed last = ⊤
+IsLastRead Idle last = last ≡ Some Nothing

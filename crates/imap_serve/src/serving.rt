@@ -4,7 +4,7 @@ ghost use Rattle.std.specs.Prelude.{◌≡◌, ◌≤◌, false, IfErr, IfOk, On
 ghost use Rattle.imap_core.specs.declared.step.Act.TheVariants as specs;
 ghost use Rattle.imap_serve.specs.declared.error.End.TheVariants.{Idle};
 ghost use Rattle.imap_serve.specs.Served.{Breaks, BrokeOffAfter, EndedAfter, GivesUp, GoesOrCloses, IsAllRead};
-ghost use Rattle.imap_serve.specs.Served.{IsCaused, Leaves, Serves, opening, scene, site};
+ghost use Rattle.imap_serve.specs.Served.{IsCaused, IsLastRead, Leaves, Serves, opening, scene, site};
 
 use crate::error::{End, ServeError};
 use crate::exchange::{make, step_of};
@@ -67,6 +67,7 @@ fn converse<R: Room, I: Read, O: Write, C: Moments, G: Gate, W: Wait>(
         (scene (R.entries room.new) (O.contents output.new.inner)) opening) }
     ensures cause { IfErr result (λ e. IsCaused e input.new.failed output.new.failed) }
     ensures read { IfOk result (λ end. IsAllRead end (I.remaining input.new.inner)) }
+    ensures last { IfOk result (λ end. IsLastRead end input.new.last) }
     ensures idle { IfOk result (λ end. end ≡ Idle → idle_turns ≤ input.new.quiet) }
 {
     match open_session(alloc, room, who, clock, output) {
@@ -139,6 +140,7 @@ pub fn serve<R: Room, I: Read, O: Write, C: Moments, G: Gate, W: Wait>(
         (scene (R.entries room.new) (O.contents output.new.inner))) }
     ensures cause { IfErr result (λ e. IsCaused e input.new.failed output.new.failed) }
     ensures read { IfOk result (λ end. IsAllRead end (I.remaining input.new.inner)) }
+    ensures last { IfOk result (λ end. IsLastRead end input.new.last) }
     ensures idle { IfOk result (λ end. end ≡ Idle → idle_turns ≤ input.new.quiet) }
 {
     match converse(

@@ -3,7 +3,7 @@
 ghost use Rattle.std.specs.Prelude.{◌≡◌, ◌≤◌, [], false, IfErr, IfOk, OnErr};
 ghost use Rattle.imap_serve.specs.declared.error.End.TheVariants.{Idle};
 ghost use Rattle.imap_serve.specs.Served.{Breaks, BrokeOffAfter, EndedAfter, GoesOrCloses, IsAllRead, IsCaused};
-ghost use Rattle.imap_serve.specs.Served.{scene, site};
+ghost use Rattle.imap_serve.specs.Served.{IsLastRead, scene, site};
 
 use crate::error::{End, ServeError};
 use crate::exchange::{make, take_piece};
@@ -66,6 +66,7 @@ pub(crate) fn talk<R: Room, I: Read, O: Write, C: Moments, G: Gate, W: Wait>(
         (scene (R.entries room.new) (O.contents output.new.inner)) []) }
     ensures cause { IfErr result (λ e. IsCaused e input.new.failed output.new.failed) }
     ensures read { IfOk result (λ end. IsAllRead end (I.remaining input.new.inner)) }
+    ensures last { IfOk result (λ end. IsLastRead end input.new.last) }
     ensures idle { IfOk result (λ end. end ≡ Idle → idle_turns ≤ input.new.quiet) }
 {
     let mut framer = Framer::new(alloc, max_octets);

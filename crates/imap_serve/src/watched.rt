@@ -1,8 +1,9 @@
 //! Readers and writers, and whether they failed.
 
-ghost use Rattle.std.specs.Prelude.{◌≡◌, ◌<◌, ◌≤◌, [], false, length, take, true, IfOk, OnErr, OnOk};
+ghost use Rattle.std.specs.Prelude.{◌≡◌, ◌<◌, ◌≤◌, [], false, length, take, true, IfOk, None, OnErr, OnOk, Some};
 ghost use Rattle.std.specs.Io.KnownBytes.{Appends, Consumes};
-ghost use Rattle.imap_serve.specs.Reading.{AppendsPart, IsQuiet, Takes};
+ghost use Rattle.imap_serve.specs.Reading.{AppendsPart, Brings, HasFailed, IsAnswer};
+ghost use Rattle.imap_serve.specs.Reading.{IsAnswerOf, IsQuiet, IsTaken, Takes};
 
 use std::io;
 use std::io::{ErrorKind, Read, Write};
@@ -15,8 +16,21 @@ const MAX_TRIES: u32 = 1001;
 pub struct Watched<T> {
     inner: T,
     failed: bool,
+    /// What the last read was answered.
+    last: Option<Answer>,
     /// How many reads in a row brought nothing.
     quiet: u64,
+}
+
+/// What a reader answers.
+#[derive(Clone, Copy, Debug, PartialEq, Eq)]
+pub(crate) enum Answer {
+    /// This many octets; none at the end.
+    Octets(usize),
+    /// Nothing came in time.
+    Nothing,
+    Interrupted,
+    Fault,
 }
 
 /// What a read brought.
@@ -36,11 +50,12 @@ pub(crate) struct Failed;
 impl<T> Watched<T> {
     /// It did not fail yet.
     pub fn new(inner: T) -> Watched<T>
-        ensures { (result.inner ≡ inner) × (result.failed ≡ false) × (result.quiet ≡ 0) }
+        ensures { (result.inner ≡ inner) × (result.failed ≡ false) × (result.last ≡ None) × (result.quiet ≡ 0) }
     {
         Watched {
             inner,
             failed: false,
+            last: None,
             quiet: 0,
         }
     }
@@ -68,29 +83,45 @@ impl<T> Watched<T> {
 }
 
 impl<I: Read> Watched<I> {
+    /// Reads once, and notes what the reader answered.
+    fn ask(&mut self, buf: &mut [u8]) -> Answer
+        requires { 0 < length buf.old }
+        ensures brings { Brings result (I.remaining self.old.inner) (I.remaining self.new.inner) buf.new }
+        ensures noted { self.new.last ≡ Some result }
+        ensures quiet { self.new.quiet ≡ self.old.quiet }
+        ensures len { length buf.new ≡ length buf.old }
+    {
+        let read = self.inner.read(buf);
+        let answer = answer_of(&read);
+        self.last = Some(answer);
+        answer
+    }
+
     /// Reads into a buffer that isn't empty. A read that was interrupted is made again, up to 1,000 times.
     #[tactic(auto, using(crate::proofs::Bytes::consumes_nothing, crate::proofs::Bytes::consumes_keeps, crate::proofs::Bytes::consumes_then))]
     pub(crate) fn read(&mut self, buf: &mut [u8]) -> Result<Taken, Failed>
         requires { 0 < length buf.old }
         ensures ok { IfOk result (λ taken.
             Takes taken (I.remaining self.old.inner) (I.remaining self.new.inner) buf.new) }
+        ensures answered { IfOk result (λ taken. IsTaken taken self.new.last) }
         ensures quiet { IfOk result (λ taken. IsQuiet taken self.old.quiet self.new.quiet) }
         ensures err { OnErr result (Consumes (I.remaining self.old.inner) (I.remaining self.new.inner) []) }
         ensures failed { OnErr result (self.new.failed ≡ true) }
+        ensures fault { OnErr result (HasFailed self.new.last) }
     {
         for _ in 0..MAX_TRIES {
-            match self.inner.read(buf) {
-                Ok(0) => return Ok(Taken::End),
-                Ok(count) => {
+            match self.ask(buf) {
+                Answer::Octets(0) => return Ok(Taken::End),
+                Answer::Octets(count) => {
                     self.quiet = 0;
                     return Ok(Taken::Octets(count));
                 }
-                Err(error) if is_occasion(&error) => {
+                Answer::Nothing => {
                     self.quiet = self.quiet.saturating_add(1);
                     return Ok(Taken::Occasion);
                 }
-                Err(error) if error.kind() == ErrorKind::Interrupted => {}
-                Err(_) => {
+                Answer::Interrupted => {}
+                Answer::Fault => {
                     self.failed = true;
                     return Err(Failed);
                 }
@@ -101,8 +132,26 @@ impl<I: Read> Watched<I> {
     }
 }
 
-fn is_occasion(error: &io::Error) -> bool {
-    error.kind() == ErrorKind::WouldBlock || error.kind() == ErrorKind::TimedOut
+/// What the result of a read says.
+fn answer_of(read: &io::Result<usize>) -> Answer
+    ensures { IsAnswer read.now result }
+{
+    match read {
+        Ok(count) => Answer::Octets(*count),
+        Err(error) => answer_of_kind(error.kind()),
+    }
+}
+
+fn answer_of_kind(kind: ErrorKind) -> Answer
+    ensures { IsAnswerOf kind result }
+{
+    if kind == ErrorKind::WouldBlock || kind == ErrorKind::TimedOut {
+        Answer::Nothing
+    } else if kind == ErrorKind::Interrupted {
+        Answer::Interrupted
+    } else {
+        Answer::Fault
+    }
 }
 
 impl<O: Write> Watched<O> {
