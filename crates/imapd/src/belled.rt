@@ -14,6 +14,9 @@ use std::rt::Clock;
 use std::sync::Wait;
 use std::time::{Duration, Instant};
 
+/// After how many milliseconds without an octet a client pauses. Its bell isn't heard before.
+const PAUSE_MILLIS: u64 = 1;
+
 /// Why a wait has ended.
 #[derive(Clone, Copy, Debug, PartialEq, Eq)]
 enum Woken {
@@ -24,30 +27,34 @@ enum Woken {
     Second,
 }
 
-/// A connection. A read that brings nothing ends when the bell rings, or when a second has passed. A second has
-/// at most [`TURNS_A_SECOND`](crate::turns::TURNS_A_SECOND) reads that bring nothing, and at most all but one of
-/// them are answered by the bell.
+/// A connection. It is read by one call until the client pauses, and then waited for beside the bell. A read that
+/// brings nothing ends when the bell rings, or when a second has passed. A second has at most
+/// [`TURNS_A_SECOND`](crate::turns::TURNS_A_SECOND) reads that bring nothing, and at most all but one of them are
+/// answered by the bell.
 #[derive(Drop)]
 pub(crate) struct Belled<'a, R: Wait + Clock> {
     rt: &'a R,
     bells: &'a Bells,
     bell: &'a Bell,
     stream: TcpStream,
+    /// Whether the client has not paused since octets came.
+    is_sending: bool,
     turns: Turns,
     /// When the second ends that has begun.
     until: Option<Instant>,
-    /// How many times the bells had rung when the last read ended.
+    /// How many times the bells had rung when a read brought nothing last.
     heard: u64,
 }
 
 impl<'a, R: Wait + Clock> Belled<'a, R> {
-    /// Waits on the connection by the poll of the bell's worker. Its reads block for a second at most.
+    /// Waits on the connection by the poll of the bell's worker.
     pub(crate) fn new(
         rt: &'a R,
         bells: &'a Bells,
         bell: &'a Bell,
         stream: TcpStream,
     ) -> io::Result<Belled<'a, R>> {
+        stream.set_read_timeout(Some(Duration::from_millis(PAUSE_MILLIS)))?;
         let descriptor = stream.as_raw_fd();
         bell.waiting
             .lock(rt)
@@ -59,6 +66,7 @@ impl<'a, R: Wait + Clock> Belled<'a, R> {
             bells,
             bell,
             stream,
+            is_sending: false,
             turns: Turns::new(),
             until: None,
             heard: bells.count(),
@@ -101,27 +109,15 @@ impl<'a, R: Wait + Clock> Belled<'a, R> {
         unreachable!()
     }
 
-    /// Reads what has come, and begins to count anew.
+    /// Reads what comes before the client pauses, and begins to count anew.
     fn take(&mut self, buf: &mut [u8]) -> io::Result<usize>
         ensures { IfOk result (λ n. IsPrefixLen n buf.new) }
     {
+        let count = self.stream.read(buf)?;
+        self.is_sending = true;
         self.turns = Turns::new();
         self.until = None;
-        let count = self.stream.read(buf)?;
-        if count == buf.len() {
-            self.look_again()?;
-        }
         Ok(count)
-    }
-
-    /// Has the next wait end at once if more has come.
-    fn look_again(&self) -> io::Result<()> {
-        let descriptor = self.stream.as_raw_fd();
-        let waiting = self.bell.waiting.lock(self.rt);
-        waiting
-            .poll
-            .registry()
-            .reregister(&mut SourceFd(&descriptor), CONNECTION, Interest::READABLE)
     }
 }
 
@@ -137,22 +133,24 @@ fn nothing() -> io::Error {
 
 impl<'a, R: Wait + Clock> Read for Belled<'a, R> {
     fn read(&mut self, buf: &mut [u8]) -> io::Result<usize> {
+        if self.is_sending {
+            match self.take(buf) {
+                Err(error) if error.kind() == ErrorKind::WouldBlock => self.is_sending = false,
+                taken => return taken,
+            }
+        }
         if self.turns.take_owed() {
             return Err(nothing());
         }
-        let woken = self.wait()?;
-        self.heard = self.bells.count();
-        match woken {
-            Woken::Connection => self.take(buf),
-            Woken::Bell => {
-                self.turns.ring();
-                Err(nothing())
-            }
+        match self.wait()? {
+            Woken::Connection => return self.take(buf),
+            Woken::Bell => self.turns.ring(),
             Woken::Second => {
                 self.turns.pass();
                 self.until = None;
-                Err(nothing())
             }
         }
+        self.heard = self.bells.count();
+        Err(nothing())
     }
 }

@@ -7,7 +7,6 @@ use std::io;
 use std::net::{TcpListener, TcpStream};
 use std::rt::Clock;
 use std::sync::Wait;
-use std::time::Duration;
 
 /// How many times in a row no connection can be had before a listener is given up.
 const MAX_FAULTS: u32 = 16;
@@ -26,7 +25,6 @@ impl<'a, R: Wait + Clock> Listening<'a, R> {
     /// Waits for the next connection. Returns what is read of it and what is written to it.
     fn accept(&self) -> io::Result<(Belled<'a, R>, TcpStream)> {
         let (input, _) = self.listener.accept()?;
-        input.set_read_timeout(Some(Duration::from_secs(1)))?;
         input.set_nodelay(true)?;
         let output = input.try_clone()?;
         Ok((Belled::new(self.rt, self.bells, self.bell, input)?, output))
