@@ -18,6 +18,7 @@ mod Made
 mod Queried
 mod Found
 mod Read
+mod Streamed
 mod Chain
 mod Utf8
 pub mod Zipped

@@ -1,6 +1,6 @@
 -- What the query of all rows of a table answers.
 use Rattle.std.proofs.Common.{◌≡◌, ◌⊎◌, inl, inr, false, IfOk, IsTrue, ℕ, zero, suc, ◌<◌, List, [], ◌∷◌, map, Result, Ok, Err, refl, sym, ap, subst, ◌∙◌, arith}
-use Rattle.std.specs.Prelude.{IfErr, codes, ◌+◌, ◌++◌, length, slice_get, Some, Vec}
+use Rattle.std.specs.Prelude.{codes, ◌+◌, ◌++◌, length, slice_get, Some, Vec}
 use Rattle.std.specs.Global.{Global}
 use Rattle.std.proofs.Common.{length-append}
 use Rattle.std.specs.List.{flat_map}
@@ -15,17 +15,18 @@ use Rattle.sqlite_sql.specs.Term.{eval_all}
 use Rattle.sqlite.specs.Tree.{Trees}
 use Rattle.sqlite.specs.declared.error.Error.{Error}
 use Rattle.sqlite.specs.Listing.{understood, reads_listing}
-use Rattle.sqlite.specs.State.{State, HasCleanDisk, FailsToQuery, IsTooLate, IsUnchanged, KeepsCommit, Shown, Survives}
-use Rattle.sqlite.proofs.Callers.{IsPlain, reads_as}
+use Rattle.sqlite.specs.State.{State, HasCleanDisk, IsUnchanged, KeepsCommit, Shown, Survives}
+use Rattle.sqlite.proofs.Callers.{IsPlain, reads_as, unchanged_then}
+use Rattle.sqlite.proofs.InsideLemmas.{keeps_then, unchanged_keeps}
 use Rattle.sqlite.proofs.StateLemmas.{survives_then}
 use Rattle.sqlite.specs.Effect.{Database}
 use Rattle.sqlite_exec.proofs.RunLemmas.{none_given}
 use Rattle.sqlite_tied.specs.Compute.{everything}
 use Rattle.imap_tables.specs.Reading.{AreAllRead, AreRead, places_at, select_at, shown_at}
-use Rattle.imap_tables.specs.Steps.{HasSchema, IsCall}
+use Rattle.imap_tables.specs.Steps.{HasSchema, IsQuery}
 use Rattle.imap_tables.specs.Tables.{store_schema}
 use Rattle.imap_tables.specs.Texts.{table_at}
-use Rattle.imap_tables.proofs.Queried.{failed_keeps, late_keeps, shown_keeps, shown_live, shown_same}
+use Rattle.imap_tables.proofs.Queried.{shown_live, shown_same}
 use Rattle.imap_tables.proofs.Statements.{IsText, plain_query}
 
 abbrev pub projected : List ℕ → List Term
@@ -133,24 +134,33 @@ module _ (n : ℕ) (low : n < 8) (old new : State) where
       let shown = same_map (λ r. eval_all (projected (places_at n)) ([] ∷ r ∷ [])) (shown_at n) it.shows (old.now.trees (table_at n).tree) in
       (subst (λ xs. IsPermutation xs rows) shown all, shown_same old new (select_at n) [] rows (subst (λ s. IsPlain (understood s (select_at n))) (sym has) it.text.plain) h)
 
-  pub reads_table : {X : Type 0} (items : X → List Row) (r : Result X Error) → HasSchema store_schema old → Survives old new (λ _. ⊥)
-      → (HasCleanDisk new → IfOk r (λ x. Shown (select_at n) [] old new (items x))) → (HasCleanDisk new → IfErr r (λ e. FailsToQuery (select_at n) [] old new e ⊎ IsTooLate (select_at n) [] old new e))
-      → IsCall old new (IfOk r (λ x. AreRead n old.now.trees (items x) × IsUnchanged old new))
-  reads_table {X} items r store survives shows fails = record {
-    made = λ clean inside. by r (omega (arith, survives.clean, clean)) (shows clean);
-    kept = λ clean inside. keeps r inside (shows clean) (fails clean);
-    survives = survives;
+-- a text that was understood, and then shows all rows of a table
+module _ (n : ℕ) (low : n < 8) (text : List ℕ) (old mid : State) (store : HasSchema store_schema old) (first : Survives old mid (λ _. ⊥)) (understands : HasCleanDisk mid → (text ≡ select_at n) × IsUnchanged old mid) where
+  has_schema : HasCleanDisk mid → mid.now.schema ≡ store_schema
+  has_schema clean =
+      let was = (understands clean).1 in
+      ap (λ (d : Database). d.schema) was.0.now_is ∙ store (omega (arith, first.clean, clean)) was.0.was_open
+
+  pub is_plain : HasCleanDisk mid → IsPlain (understood mid.now.schema text)
+  is_plain clean = rw ((understands clean).0, has_schema clean) (reading n low).text.plain
+
+  pub reads_table : (new : State) {X : Type 0} (items : X → List Row) (r : Result X Error) → IsQuery mid new (IfOk r (λ x. Shown text [] mid new (items x)))
+      → IsQuery old new (IfOk r (λ x. AreRead n old.now.trees (items x) × IsUnchanged old new))
+  reads_table new {X} items r query = record {
+    made = λ clean. by r (before clean) (query.made clean);
+    kept = λ clean. keeps_then old mid new (unchanged_keeps old mid (inl (understands (before clean)).1)) (query.kept clean);
+    survives = survives_then old mid new _ _ _ (λ _ db none. none) (λ _ db none. none) first query.survives;
   }
     where
-      by : (s : Result X Error) → HasCleanDisk old → IfOk s (λ x. Shown (select_at n) [] old new (items x)) → IfOk s (λ x. AreRead n old.now.trees (items x) × IsUnchanged old new)
-      by (Err e) clean h = tt
-      by (Ok x) clean h = reads_rows (items x) store clean h
+      before : HasCleanDisk new → HasCleanDisk mid
+      before clean = omega (arith, query.survives.clean, clean)
 
-      keeps : (s : Result X Error) → IsTrue old.in_transaction → IfOk s (λ x. Shown (select_at n) [] old new (items x))
-          → IfErr s (λ e. FailsToQuery (select_at n) [] old new e ⊎ IsTooLate (select_at n) [] old new e) → KeepsCommit old new
-      keeps (Ok x) inside h f = shown_keeps old new (select_at n) [] inside (items x) h
-      keeps (Err e) inside h (inl f) = failed_keeps old new (select_at n) [] e f
-      keeps (Err e) inside h (inr f) = late_keeps old new (select_at n) [] e f
+      by : (s : Result X Error) → HasCleanDisk mid → IfOk s (λ x. Shown text [] mid new (items x)) → IfOk s (λ x. AreRead n old.now.trees (items x) × IsUnchanged old new)
+      by (Err e) clean h = tt
+      by (Ok x) clean h =
+          let it = understands clean in
+          let got = reads_rows n low mid new (items x) (λ _ _. has_schema clean) clean (rw it.0 at h) in
+          (subst (λ (d : Database). AreRead n d.trees (items x)) it.1.0.now_is got.0, unchanged_then old mid new it.1 got.1)
 
 -- ---- tables in turn
 
@@ -169,29 +179,28 @@ next_read n db tables rows all one = (
   ],
 )
 
--- what holds of a transaction that has read the tables before a place
+-- what holds of a connection that has read the tables before a place
 abbrev pub HasReadTo : (n : ℕ) (old now : State) (tables : List (Vec Row Global)) → Type 0
 HasReadTo n old now tables =
     Survives old now (λ _. ⊥) × HasSchema store_schema now
     × (HasCleanDisk now → AreAllRead n old.now.trees tables × (now.now.trees ≡ old.now.trees)
-    × KeepsCommit old now × IsTrue now.in_transaction × (0 < n → IsTrue old.is_open))
+    × KeepsCommit old now × (0 < n → IsTrue old.is_open))
 
 pub reads_on : (n : ℕ) (old mid new : State) (tables all : List (Vec Row Global)) (rows : Vec Row Global) → HasReadTo n old mid tables
-    → IsCall mid new (AreRead n mid.now.trees rows.items × IsUnchanged mid new) → all ≡ tables ++ rows ∷ [] → HasReadTo (n + 1) old new all
+    → IsQuery mid new (AreRead n mid.now.trees rows.items × IsUnchanged mid new) → all ≡ tables ++ rows ∷ [] → HasReadTo (n + 1) old new all
 reads_on n old mid new tables all rows h call is = (
   survives_then old mid new _ _ _ (λ _ db none. none) (λ _ db none. none) h.0 call.survives,
   λ clean live.
       let early = before clean in
-      let it = call.made clean (h.2 early).3 in
+      let it = call.made clean in
       ap (λ (d : Database). d.schema) it.1.0.now_is ∙ h.1 early it.1.0.was_open,
   λ clean.
       let early = before clean in
       let was = h.2 early in
-      let it = call.made clean was.3 in (
+      let it = call.made clean in (
         subst (AreAllRead (n + 1) old.now.trees) (sym is) (next_read n old.now.trees tables rows was.0 (subst (λ db. AreRead n db rows.items) was.1 it.0)),
         ap (λ (d : Database). d.trees) it.1.0.now_is ∙ was.1,
         record { was_open = λ live. was.2.was_open it.1.0.was_open; committed = λ live. it.1.0.committed_is ∙ was.2.committed it.1.0.was_open },
-        subst IsTrue (sym it.1.0.mode) was.3,
         λ some. was.2.was_open it.1.0.was_open,
       ),
 )
