@@ -9,7 +9,7 @@ use Rattle.imap_print.specs.declared.response.Response.{Response}
 use Rattle.imap_world.specs.Effects.{writes_of}
 use Rattle.imap_world.specs.World.{World}
 use Rattle.imap_hall.specs.declared.journal.Entry.{Entry}
-use Rattle.imap_hall.specs.declared.journal.OldJournal.{OldJournal}
+use Rattle.imap_hall.specs.declared.journal.OldBase.{OldBase}
 use Rattle.imap_hall.specs.declared.journal.Receipt.{Receipt}
 use Rattle.imap_hall.specs.Counts.{Counts, AreZero, IsCounted, count_of}
 use Rattle.imap_hall.specs.Journal.{JournalEntry, Point, IsMade, IsRefused, IsRun, IsSamePoint}
@@ -103,10 +103,9 @@ module _ {K : Type 0} where
     pub entries : new.entries ≡ []
     pub keeper : new.keeper ≡ old.keeper
 
-  -- the base that the hall had, and its entries
-  pub record IsOldOf (h : HallState K) (old : OldJournal) : Type 0 where
-    pub base : point old.base.state old.counts.map ≡ h.base
-    pub entries : map noted old.entries.items ≡ h.entries
+  -- the base that the hall had
+  abbrev pub IsBaseOf : HallState K → OldBase → Type 0
+  IsBaseOf h old = point old.base.state old.counts.map ≡ h.base
 
   -- nothing was done yet
   pub record IsFresh (h : HallState K) : Type 0 where

@@ -8,12 +8,12 @@ ghost use Rattle.imap_keeper.specs.Keeping.{LeavesOnly, LeavesOr};
 ghost use Rattle.imap_world.specs.World.{World as Mailboxes};
 ghost use Rattle.imap_hall.specs.declared.error.OpenError.TheVariants as error;
 ghost use Rattle.imap_hall.specs.Hall.{HasRisen, HasStepped, IsFresh, IsKept, IsTurnedOver, IsUntouched};
-ghost use Rattle.imap_hall.specs.Hall.{IsOldOf, IsUnwritten, noted};
+ghost use Rattle.imap_hall.specs.Hall.{IsBaseOf, IsUnwritten, noted};
 ghost use Rattle.imap_hall.specs.Journal.{max_entries};
 
 use crate::advancing::advance;
 use crate::error::{HallError, OpenError};
-use crate::journal::{Entry, OldJournal, Receipt};
+use crate::journal::{Entry, OldBase, Receipt};
 use crate::opening::{Start, begin};
 use crate::own_counts::OwnCounts;
 use crate::room::Room;
@@ -153,21 +153,20 @@ impl<K: Keeper> Hall<K> {
         )
     }
 
-    /// Makes the state of the machine the base, and empties the journal. Hands back what it lets go of, which
-    /// takes as long to drop as there is of it.
-    pub fn turn_over(&mut self, alloc: Global) -> Result<OldJournal, AllocError>
+    /// Makes the state of the machine the base, and empties the journal. Hands back the old base, which takes as
+    /// long to drop as there is of it.
+    pub fn turn_over(&mut self, alloc: Global) -> Result<OldBase, AllocError>
         ensures ok { OnOk result (IsTurnedOver self.old self.new) }
-        ensures old { IfOk result (IsOldOf self.old) }
+        ensures old { IfOk result (IsBaseOf self.old) }
         ensures err { OnErr result (self.new ≡ self.old) }
     {
-        let journal = Vec::with_capacity(alloc, self.journal.len())?;
         let counts = self.counts.try_copy(alloc)?;
         let base = self.core.try_copy(alloc)?;
         self.before += self.journal.len() as u64;
-        Ok(OldJournal {
+        self.journal.clear();
+        Ok(OldBase {
             base: mem::replace(&mut self.base, base),
             counts: mem::replace(&mut self.base_counts, counts),
-            entries: mem::replace(&mut self.journal, journal),
         })
     }
 

@@ -24,10 +24,9 @@ pub struct Receipt {
     pub replies: Vec<Response>,
 }
 
-/// An earlier base of the journal, and the entries from there to the next base.
+/// An earlier base of the journal.
 #[derive(Drop)]
-pub struct OldJournal {
+pub struct OldBase {
     pub(crate) base: Core,
     pub(crate) counts: UserMap<OwnCounts>,
-    pub(crate) entries: Vec<Entry>,
 }

@@ -19,5 +19,5 @@ mod saving;
 
 pub use error::{HallError, OpenError};
 pub use hall::Hall;
-pub use journal::{Entry, OldJournal, Receipt};
+pub use journal::{Entry, OldBase, Receipt};
 pub use room::Room;

@@ -2,14 +2,14 @@
 
 ghost use Rattle.std.specs.Prelude.{◌≡◌, ◌+◌, ◌<◌, ◌≤◌, ◌^◌, ℕ, [], length, List, IfErr, IfOk, OnErr, OnOk};
 ghost use Rattle.std.specs.FinMap as map;
-ghost use Rattle.imap_hall.specs.Hall.{HasStepped, IsOldOf, IsTurnedOver, IsUntouched};
+ghost use Rattle.imap_hall.specs.Hall.{HasStepped, IsBaseOf, IsTurnedOver, IsUntouched};
 ghost use Rattle.imap_host.specs.declared.seat.SeatError.TheVariants as error;
 ghost use Rattle.imap_host.specs.Seats.{IsSameReceipt, last_of};
 
 use crate::host::PARTS;
 use crate::seat::{Seat, SeatError};
 use imap_core::{SessionId, SessionNumber, Step};
-use imap_hall::{Hall, HallError, OldJournal, Receipt};
+use imap_hall::{Hall, HallError, OldBase, Receipt};
 use imap_keeper::Keeper;
 use imap_names::UserName;
 use imap_user_map::UserMap;
@@ -127,11 +127,11 @@ impl<K: Keeper, L: Ledger> Floor<K, L> {
         })
     }
 
-    /// Makes the state of the machine the journal's base. Returns what the hall lets go of, and how many entries
-    /// were made before the base.
-    pub fn turn_over(&mut self, alloc: Global) -> Result<(OldJournal, u64), AllocError>
+    /// Makes the state of the machine the journal's base. Returns the old base, and how many entries were made
+    /// before the new one.
+    pub fn turn_over(&mut self, alloc: Global) -> Result<(OldBase, u64), AllocError>
         ensures ok { OnOk result (IsTurnedOver self.old.hall self.new.hall) }
-        ensures old { IfOk result (λ r. IsOldOf self.old.hall r.0) }
+        ensures old { IfOk result (λ r. IsBaseOf self.old.hall r.0) }
         ensures base { IfOk result (λ r. r.1 ≡ self.new.hall.before) }
         ensures err { OnErr result (self.new.hall ≡ self.old.hall) }
     {
