@@ -63,7 +63,7 @@ def commands(count):
         ("STATUS (MESSAGES UNSEEN)", lambda n: [f"a{n} STATUS INBOX (MESSAGES UNSEEN)"], 20_000),
         ("SELECT", lambda n: [f"a{n} SELECT INBOX"], 40),
         ("FETCH 1:* FLAGS", lambda n: [f"a{n} FETCH 1:* FLAGS"], 20),
-        ("STORE n FLAGS.SILENT", lambda n: [f"a{n} STORE {one(n)} {sign(n // (count // 4))}FLAGS.SILENT (\\Flagged)"], 1_000),
+        ("STORE n FLAGS.SILENT", lambda n: [f"a{n} STORE {one(n)} {sign(n // (count // 4))}FLAGS.SILENT (\\Flagged)"], 20_000),
         ("STORE 1:* FLAGS.SILENT", lambda n: [f"a{n} STORE 1:* {sign(n)}FLAGS.SILENT (\\Flagged)"], 20),
         ("STORE 1:* FLAGS", lambda n: [f"a{n} STORE 1:* {sign(n)}FLAGS (\\Flagged)"], 20),
         ("COPY 1:*", lambda n: [f"a{n} COPY 1:* Box"], 4),

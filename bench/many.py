@@ -9,7 +9,8 @@ the time is that of all commands by their number. The memory is what the server 
 
 For the turns of the journal python's sqlite3 fills a new store of the server with 100,000 messages of 2 KB in 1,000 mailboxes.
 The server copies its mailboxes after each 10,000 entries of the journal, so the longest of many NOOPs are those that a copy
-kept waiting. Sizes and rounds are divided by PART, for a quick run.
+kept waiting. Two sessions ask all the time: one of them turns the journal over and drops the old base, the other waits for the
+copy alone. Sizes and rounds are divided by PART, for a quick run.
 """
 
 import select
@@ -109,6 +110,30 @@ def show_memory(program, folder):
         print(f"of theirs there are {ended:.0f}, and {resident(server):.0f} after as many again.", flush=True)
 
 
+def waits_of(sessions, rounds):
+    """When each of so many NOOPs of each session began, and when it was answered. Each session asks again at once."""
+    waits = [[] for _ in sessions]
+    begun = [time.perf_counter() for _ in sessions]
+    for session in sessions:
+        noop(session)
+    while min(len(one) for one in waits) < rounds:
+        ready, _, _ = select.select(sessions, [], [])
+        for session in ready:
+            place = sessions.index(session)
+            session.end()
+            waits[place].append((begun[place], time.perf_counter()))
+            begun[place] = time.perf_counter()
+            noop(session)
+    for session in sessions:
+        session.end()
+    return waits
+
+
+def beside(wait, others):
+    """The longest of the other waits that lie in this one in part."""
+    return max((end - begin for begin, end in others if begin < wait[1] and wait[0] < end), default=0.0)
+
+
 def time_turns(program, folder):
     """How long a NOOP takes beside many messages, and how long those that a turn of the journal kept waiting."""
     path = f"{folder}/mail.db"
@@ -118,17 +143,17 @@ def time_turns(program, folder):
     start = time.perf_counter()
     with serving(program, path) as server:
         started = time.perf_counter() - start
-        session = Session(FIRST_PORT)
+        sessions = [Session(FIRST_PORT), Session(FIRST_PORT)]
         begun = resident(server)
-        times = []
-        for _ in range(3 * TURN + TURN // 2):
-            begin = time.perf_counter()
-            session.ask(b"NOOP")
-            times.append((time.perf_counter() - begin) * 1e6)
-        print("\n| What | microseconds |\n|---|---|")
-        show(f"`NOOP` beside {MAILBOXES * EACH:,} messages in {MAILBOXES:,} mailboxes", statistics.median(times))
-        for word, one in zip(("longest", "second", "third", "fourth", "fifth"), sorted(times, reverse=True)):
-            show(f"the {word} of {len(times):,}, number {times.index(one) + 1:,}", one)
+        first, second = waits_of(sessions, (3 * TURN + TURN // 2) // 2)
+        lengths = [(end - begin) * 1e6 for begin, end in first + second]
+        turns = [(wait, second) for wait in first] + [(wait, first) for wait in second]
+        turns.sort(key=lambda turn: turn[0][0] - turn[0][1])
+        print("\n| What | microseconds | of the other session meanwhile |\n|---|---|---|")
+        what = f"`NOOP` of two sessions beside {MAILBOXES * EACH:,} messages in {MAILBOXES:,} mailboxes"
+        print(f"| {what} | {statistics.median(lengths):,.0f} | |")
+        for word, (wait, others) in zip(("longest", "second", "third", "fourth", "fifth", "sixth"), turns):
+            show(f"the {word} of {len(lengths):,}", (wait[1] - wait[0]) * 1e6, beside(wait, others) * 1e6)
         ended = resident(server)
         print(f"\nThe server starts in {started:.1f} s. {begun:.0f} MiB are resident then, and {ended:.0f} after the calls.")
 

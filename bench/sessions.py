@@ -103,5 +103,5 @@ def resident(server):
         return next(int(line.split()[1]) for line in file if line.startswith("VmRSS")) / 1024
 
 
-def show(what, microseconds):
-    print(f"| {what} | {microseconds:,.0f} |", flush=True)
+def show(what, *microseconds):
+    print(f"| {what} | " + " | ".join(f"{one:,.0f}" for one in microseconds) + " |", flush=True)

@@ -51,15 +51,19 @@ class Store:
             raise SystemExit(f"{line}: the program ended with {self.process.wait()}")
         return self.processor_time() - processor, time.perf_counter() - start
 
+    def most_memory(self):
+        """The most octets of memory that the program has had so far. (What `wait4` tells also has those of python.)"""
+        with open(f"/proc/{self.process.pid}/status", encoding="ascii") as file:
+            (kilobytes,) = [line.split()[1] for line in file if line.startswith("VmHWM:")]
+        return int(kilobytes) * 1024
+
     def close(self):
-        """Ends the program, and returns the most octets of memory that it has had."""
+        """Ends the program."""
         self.process.stdin.close()
-        _, status, usage = os.wait4(self.process.pid, 0)
+        status = self.process.wait()
         if status:
             raise SystemExit(f"the program ended with {status}")
-        self.process.returncode = 0
         self.process.stdout.close()
-        return usage.ru_maxrss * 1024
 
 
 def row(*cells):
@@ -148,7 +152,8 @@ def time_loads(program, folder):
         path, _ = made(program, folder, sizes)
         store = Store(program, path)
         times = (store.opened[0], store.loaded[0], store.opened[1] + store.loaded[1])
-        octets, memory = sum(sizes) * database.OCTETS, store.close()
+        octets, memory = sum(sizes) * database.OCTETS, store.most_memory()
+        store.close()
         ratio = f"{memory / octets:.2f}" if octets else ""
         cells = (*(f"{time:.3f}" for time in times), f"{octets / 1e6:.1f}", f"{memory / 1e6:.1f}", ratio)
         row(f"{len(sizes):,}", f"{sum(sizes):,}", *cells)
