@@ -10,6 +10,7 @@ pub mod Listing
 pub mod Finding
 pub mod Unchanged
 pub mod Walking
+pub mod AllThere
 pub mod Running
 pub mod Comparing
 pub mod OneLines

@@ -1,5 +1,6 @@
 -- Rows that are left to a cursor.
-use Rattle.std.specs.Prelude.{◌≡◌, ℕ, ◌≤◌, Bool, false, ◌==◌, ◌&&◌, not, nat_lt, List, [], ◌∷◌, length, map, take}
+use Rattle.std.specs.Prelude.{◌≡◌, ℕ, ◌<◌, ◌≤◌, Bool, false, ◌==◌, ◌&&◌, not, nat_lt, List, [], ◌∷◌}
+use Rattle.std.specs.Prelude.{length, map, take, slice_index_or}
 use Rattle.imap_mailbox.specs.declared.known.KnownMessage.{KnownMessage}
 use Rattle.imap_mailbox.specs.Rows.{Row}
 use Rattle.imap_mailbox.specs.Brought.{told_of}
@@ -18,3 +19,13 @@ is_unchanged uid number (r ∷ rows) = uid == r.uid && not (nat_lt number r.numb
 pub record IsKnownRun (n : ℕ) (known : List KnownMessage) (rows : List Row) : Type 0 where
   pub few : n ≤ length known
   pub same : take n known ≡ map told_of (take n rows)
+
+-- the known messages have the UIDs of the first rows
+pub record AreFirst (known : List KnownMessage) (rows : List Row) : Type 0 where
+  pub few : length known ≤ length rows
+  pub same : (i : ℕ) (k : KnownMessage) (r : Row) → i < length known
+      → (slice_index_or known i k).uid ≡ (slice_index_or rows i r).uid
+
+-- the mod-sequences of the first n rows aren't above the number
+abbrev pub AreLow : (number n : ℕ) → List Row → Type 0
+AreLow number n rows = (i : ℕ) (r : Row) → i < n → r ≡ slice_index_or rows i r → r.number ≤ number

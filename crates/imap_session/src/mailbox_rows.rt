@@ -1,6 +1,8 @@
 //! The messages that are there.
 
-ghost use Rattle.std.specs.Prelude.{◌≡◌};
+ghost use Rattle.std.specs.Prelude.{◌≡◌, ◌≢◌, ◌+◌, ◌-◌, ◌<◌, ◌≤◌, ℕ, drop, length, None, IfSome};
+ghost use Rattle.imap_mailbox.specs.Brought.{Agree};
+ghost use Rattle.imap_session.specs.Cursors.{AreFirst, AreLow};
 
 use crate::known_list::KnownList;
 use crate::row_cursor::RowCursor;
@@ -37,6 +39,44 @@ impl<'a> MailboxRows<'a> {
     }
 }
 
+/// The place after the known messages from `place` on, if they are all there, one after another from the row
+/// at `start` on. They are if the last of them stands where it would then, as each row before it is known.
+fn end_if_there(rows: &Rows<'_>, start: usize, known: &KnownList, place: usize) -> Option<usize>
+    ensures end { IfSome result (λ end. (end ≡ start + (length known.now.list - place)) × (start < end)
+        × (end ≤ length rows.now)) }
+    ensures there { result ≢ None → (number : ℕ)
+        → Agree number (drop place known.now.list) (drop start rows.now)
+        → AreFirst (drop place known.now.list) (drop start rows.now) }
+{
+    let count = known.len().saturating_sub(place);
+    if count == 0 || rows.len().saturating_sub(start) < count {
+        return None;
+    }
+    let last = known.get(known.len() - 1).uid;
+    let end = start + count;
+    if last == rows.uid(end - 1) && rows.place_from(last) == end - 1 {
+        Some(end)
+    } else {
+        None
+    }
+}
+
+/// The place of the first row from `start` on whose mod-sequence is above `number`, or `end` if there is none
+/// before it.
+fn first_above(rows: &Rows<'_>, start: usize, end: usize, number: u64) -> usize
+    requires order { start ≤ end }
+    requires within { end ≤ length rows.now }
+    ensures range { (start ≤ result) × (result ≤ end) }
+    ensures low { AreLow number (result - start) (drop start rows.now) }
+{
+    for place in start..end {
+        if rows.is_above(place, number) {
+            return place;
+        }
+    }
+    end
+}
+
 impl<'a> RowCursor for MailboxRows<'a> {
     ghost rest = { λ rows. rows };
 
@@ -59,8 +99,15 @@ impl<'a> RowCursor for MailboxRows<'a> {
         true
     }
 
-    /// Looks at one message after another, up to the first that changed or is gone.
+    /// Looks at one message after another, up to the first that changed or is gone. If none is gone, it looks
+    /// at their mod-sequences alone.
     fn skip_known(&mut self, known: &KnownList, place: usize, number: u64) -> usize {
+        if let Some(end) = end_if_there(self.rows, self.place, known, place) {
+            let next = first_above(self.rows, self.place, end, number);
+            let run = next - self.place;
+            self.place = next;
+            return run;
+        }
         for at in place..known.len() {
             if !self.skip_unchanged(known.get(at).uid, number) {
                 return at - place;

@@ -1,7 +1,8 @@
 use Rattle.std.proofs.Common.{◌≡◌, ◌+◌, ◌-◌, ◌<◌, drop, get_or, length, sym, ap, subst, ◌∙◌, arith}
-use Rattle.std.proofs.lemmas.List.{drop-drop}
+use Rattle.std.proofs.lemmas.List.{drop-drop, length-drop}
 use Rattle.imap_mailbox.specs.Brought.{Agree}
-use Rattle.imap_session.specs.Cursors.{IsKnownRun}
+use Rattle.imap_session.specs.Cursors.{AreFirst, AreLow, IsKnownRun}
+use Rattle.imap_session.proofs.AllThere.{run_there}
 use Rattle.imap_session.proofs.Running.{run_more}
 use Rattle.imap_session.proofs.mailbox_rows.MailboxRowsRowCursor.skip_known.Goals as goal
 
@@ -25,3 +26,12 @@ loop-at-preserved c =
       left = past ∙ ap (drop 1) inv.left ∙ drop-drop 1 n c.args.self.now ∙ ap (λ i. drop i c.args.self.now) one;
       agree = subst (Agree c.args.number (drop (at + 1) known)) (sym past) (subst (λ i. Agree c.args.number (drop (i + 1) known) (drop 1 left)) here more.1);
     }
+
+pub returns-in-Some-clause-known : goal.returns-in-Some-clause-known
+returns-in-Some-clause-known c =
+    let known = drop c.args.place c.args.known.now.list in
+    let run = c.first_above-next.result - c.self.inside.place in
+    let there = c.in-Some.ensures.there (λ e. cc e) c.args.number (subst (Agree c.args.number known) (sym c.self.view_is) c.requires.agree) in
+    run_there c.args.number run known c.args.self.now c.requires.agree (subst (AreFirst known) c.self.view_is there)
+    (omega (arith, c.first_above-next.ensures.range, c.in-Some.ensures.end, length-drop c.args.place c.args.known.now.list))
+    (subst (AreLow c.args.number run) c.self.view_is c.first_above-next.ensures.low)
