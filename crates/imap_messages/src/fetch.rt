@@ -4,7 +4,7 @@ ghost use Rattle.std.specs.Prelude.{◌≡◌, ◌≤◌, ◌&&◌, not, is_none
 ghost use Rattle.std.specs.List.{AllByRecursion, list_any};
 ghost use Rattle.imap_answer.specs.Answer.{carried_out, enabling, telling};
 ghost use Rattle.imap_mailbox.specs.Summary.{AreRising};
-ghost use Rattle.imap_mailbox.specs.Lent.{row_shown};
+ghost use Rattle.imap_mailbox.specs.Lent.{row_shown, row_uids};
 ghost use Rattle.imap_mailbox.specs.Order.{AreRowsInOrder};
 ghost use Rattle.imap_messages.specs.Fetch as specs;
 ghost use Rattle.imap_messages.specs.Found.{IsReading};
@@ -29,8 +29,8 @@ use imap_rights::Rights;
 use imap_session::{KnownList, Selected, Session};
 use imap_syntax::{Items, MessageSet, Numbering};
 use imap_targets::{
-    MessageNumbers, has_known_numbers, is_by_uid, is_saved, known_count, last_of, number_at,
-    ranges_of, row_with,
+    MessageNumbers, RowFinder, has_known_numbers, is_by_uid, is_saved, known_count, last_of,
+    number_at, ranges_of,
 };
 use imap_view::{Readable, View};
 use std::alloc::{AllocError, Global};
@@ -261,6 +261,7 @@ fn read_messages(
     mailbox: &Readable<'_>,
     sets: bool,
 ) -> Result<Option<Reading>, AllocError>
+    requires order { AreRising (row_uids mailbox.now.rows) }
     requires few { mailbox.now.own ≤ max_events }
     requires bounded { mailbox.now.highest ≤ max_number }
     ensures refused { let rows = mailbox.now.rows in
@@ -273,6 +274,7 @@ fn read_messages(
 {
     let by_uid = is_by_uid(messages.numbering);
     let mut reading = Reading::new(alloc, sets, mailbox.highest, mailbox.own);
+    let mut finder = RowFinder::start();
     let (start, end) = messages.span(known);
     for place in start..end {
         let number = number_at(known, place);
@@ -280,7 +282,7 @@ fn read_messages(
         if !messages.has(number, uid) {
             continue;
         }
-        let row = row_with(&mailbox.rows, uid);
+        let row = finder.find(&mailbox.rows, uid);
         if refuses(by_uid, &row) {
             return Ok(None);
         }

@@ -1,13 +1,13 @@
 -- The messages that a command names.
-use Rattle.std.proofs.Common.{◌≡◌, ℕ, suc, ◌+◌, ◌-◌, ◌<◌, ◌≤◌, Bool, true, false, cond, List, [], ◌∷◌, length, get_or, eqb, Option, Some, None, option_map, is_some, not, refl, sym, ap, ◌∙◌, arith}
-use Rattle.std.proofs.lemmas.Bool.{ne_eqb}
+use Rattle.std.proofs.Common.{◌≡◌, ℕ, zero, suc, ◌+◌, ◌-◌, ◌<◌, ◌≤◌, Bool, true, false, cond, List, [], ◌∷◌, length, get_or, eqb, Option, Some, None, option_map, is_some, not, refl, sym, ap, ◌∙◌, arith}
+use Rattle.std.proofs.lemmas.Bool.{eq-eqb, ne_eqb}
 use Rattle.std.proofs.lemmas.List.{length-map}
 use Rattle.imap_mailbox.specs.declared.known.KnownMessage.{KnownMessage}
 use Rattle.imap_mailbox.specs.Brought.{known_uids}
 use Rattle.imap_mailbox.specs.Lent.{place_in, row_uids}
 use Rattle.imap_mailbox.specs.Rows.{Row}
 use Rattle.imap_mailbox.specs.Summary.{Rises}
-use Rattle.imap_mailbox.proofs.Finding.{inside}
+use Rattle.imap_mailbox.proofs.Finding.{at_least, inside}
 use Rattle.imap_session.specs.Held.{UidsRise, uid_limit}
 use Rattle.imap_session.proofs.Telling.{length_fits}
 use Rattle.imap_targets.specs.MessageNumbers.{known_with, last_uid, row_with}
@@ -75,6 +75,16 @@ turned a false e = ap not (sym e)
 
 pub is_nowhere : (uid : ℕ) (rows : List Row) (place : Option ℕ) (b : Bool) → place ≡ place_in uid (row_uids rows) → is_some place ≡ not b → b ≡ not (is_some (row_with uid rows))
 is_nowhere uid rows place b is none = turned (is_some (row_with uid rows)) b (sym (there_is uid rows) ∙ ap is_some (sym is) ∙ none)
+
+-- numbers that rise stand once
+pub place_here : (uid low high : ℕ) (us : List ℕ) (i d : ℕ) → Rises low high us → i < length us → get_or us i d ≡ uid → place_in uid us ≡ Some i
+place_here uid low high [] i d h lt e = absurd (omega (arith, lt))
+place_here uid low high (u ∷ us) zero d h lt e = ap (λ b. cond b (Some 0) (option_map (λ n. n + 1) (place_in uid us))) (eq-eqb u uid e)
+place_here uid low high (u ∷ us) (suc i) d h lt e =
+    let more : u + 1 ≤ get_or us i d = at_least (u + 1) high us i d h.1 (omega (arith, lt)) in
+    let next : i + 1 ≡ suc i = omega arith in
+    ap (λ b. cond b (Some 0) (option_map (λ n. n + 1) (place_in uid us))) (ne_eqb u uid (λ same. omega (arith, same, e, more)))
+    ∙ ap (option_map (λ n. n + 1)) (place_here uid (u + 1) high us i d h.1 (omega (arith, lt)) e) ∙ ap Some next
 
 -- none, if all UIDs are greater
 pub row_below : (uid low high : ℕ) (rows : List Row) → uid < low → Rises low high (row_uids rows) → row_with uid rows ≡ None

@@ -6,6 +6,7 @@
 mod flags;
 mod left;
 mod message_numbers;
+mod row_finder;
 mod target;
 
 pub use flags::{has_seen, has_too_many, is_new_seen, new_flags, right_for, with_permitted};
@@ -14,4 +15,5 @@ pub use message_numbers::{
     MessageNumbers, Numbered, has_known_numbers, in_set, is_by_uid, is_refused, is_saved,
     known_count, known_with, last_of, messages_named, number_at, ranges_of, row_with,
 };
+pub use row_finder::RowFinder;
 pub use target::target_refusal;

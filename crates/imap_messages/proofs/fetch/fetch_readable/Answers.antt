@@ -1,6 +1,7 @@
 use Rattle.std.proofs.Common.{◌≡◌, ◌∙◌, ap, sym, subst, Option}
 use Rattle.std.specs.Prelude.{IfOk, IfSome, is_none}
 use Rattle.imap_answer.specs.Answer.{Answer}
+use Rattle.imap_mailbox.specs.Rows.{first_uid}
 use Rattle.imap_session.specs.State.{selection_of}
 use Rattle.imap_view.specs.View.{View}
 use Rattle.imap_messages.specs.declared.reading.Reading.{Reading}
@@ -11,6 +12,9 @@ use Rattle.imap_messages.specs.Found.{IsReading}
 use Rattle.imap_targets.specs.MessageNumbers.{is_by_uid, last_of, ranges_of}
 use Rattle.imap_messages.proofs.Answering.{answer_is, told_rise}
 use Rattle.imap_messages.proofs.fetch.fetch_readable.Goals as goal
+
+pub read_messages-requires-clause-order : goal.read_messages-requires-clause-order
+read_messages-requires-clause-order c = (first_uid, c.args.mailbox.now.next_uid, c.requires.order.uids)
 
 pub answer_of_reading-requires-clause-told : goal.answer_of_reading-requires-clause-told
 answer_of_reading-requires-clause-told c =
