@@ -1,5 +1,5 @@
 -- Rows in the order of a number: those with one number stand together, and a sort leaves them in their order.
-use Rattle.std.proofs.Common.{◌≡◌, ◌+◌, ◌<◌, ◌≤◌, ◌∙◌, ◌∷◌, [], ◌++◌, ℕ, ℤ, zero, suc, Bool, true, false, cond, not, ◌&&◌, List, Ordering, Less, Equal, Greater, is_lt, is_le, is_eq, length, take, drop, get_or, arith, ap, refl, subst, sym}
+use Rattle.std.proofs.Common.{◌≡◌, ◌<◌, ◌≤◌, ◌∙◌, ◌∷◌, [], ℕ, ℤ, zero, suc, Bool, true, false, cond, not, ◌&&◌, List, Ordering, Less, Equal, Greater, is_lt, is_le, is_eq, length, take, drop, get_or, arith, ap, refl, sym}
 use Rattle.std.specs.Cmp.{IsStrictWeakOrder}
 use Rattle.std.specs.Fn.{Called, ComparesAs}
 use denote.Ref.{Bor}
@@ -9,7 +9,6 @@ use Rattle.std.specs.List.Sorted.{IsNonDecreasingBy, IsPartitionPoint, IsPartiti
 use Rattle.std.specs.Ordering.{int_cmp, int_eq, ordering_index, ordering_reverse}
 use Rattle.std.proofs.lemmas.Bool.Decides.{Decides-int_eq}
 use Rattle.std.proofs.lemmas.Cmp.{int_cmp_total}
-use Rattle.std.proofs.lemmas.List.{get_or-drop}
 use Rattle.std.proofs.lemmas.List.Elements.{filter_agree}
 use Rattle.std.proofs.lemmas.List.Sorted.{ranks_by, searchable_from_sorted}
 use Rattle.std.proofs.lemmas.Fn.{always_returns_same}

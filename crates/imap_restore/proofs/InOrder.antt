@@ -1,5 +1,5 @@
 -- What is read of tables whose rows are in the order of mailboxes.
-use Rattle.std.proofs.Common.{◌≡◌, ◌∙◌, ℤ, List, [], ◌∷◌, ap, filter, refl, subst, sym}
+use Rattle.std.proofs.Common.{◌≡◌, ℤ, List, [], ◌∷◌, ap, filter, refl, subst, sym}
 use Rattle.std.specs.Global.{Global as Memory}
 use Rattle.std.specs.Prelude.{Vec}
 use Rattle.std.specs.List.{AllByRecursion, AllZip}
@@ -24,7 +24,7 @@ zip_weaker R S weaker [] (y ∷ ys) h = absurd h
 zip_weaker R S weaker (x ∷ xs) [] h = absurd h
 zip_weaker R S weaker (x ∷ xs) (y ∷ ys) h = (weaker x y h.0, zip_weaker R S weaker xs ys h.1)
 
-all_weaker : {A : Type 0} (P Q : A → Type 0) → ((x : A) → P x → Q x) → (xs : List A) → AllByRecursion P xs → AllByRecursion Q xs
+pub all_weaker : {A : Type 0} (P Q : A → Type 0) → ((x : A) → P x → Q x) → (xs : List A) → AllByRecursion P xs → AllByRecursion Q xs
 all_weaker P Q weaker [] h = tt
 all_weaker P Q weaker (x ∷ xs) h = (weaker x h.0, all_weaker P Q weaker xs h.1)
 

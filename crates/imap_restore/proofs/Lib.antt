@@ -13,12 +13,13 @@ mod Marks
 mod Standing
 mod Held
 mod Orderly
+mod Own
 mod Known
 mod Restored
 mod Made
 mod Keyed
 mod Rowids
-mod Shown
+pub mod Shown
 mod Same
 mod Told
 mod Parted

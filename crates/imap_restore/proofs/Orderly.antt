@@ -158,14 +158,14 @@ module _ (db : Trees) (w : World) (c : Read db w) where
   tables_orderly = record {
     rows = of_all (λ table. (row : Row) → Has (db table.tree) row → IsRowOf table row) mailbox_ok entry_ok message_ok gone_ok mark_ok epoch_ok sub_ok meta_ok;
     apart = of_all (λ table. AreApart (db table.tree))
-        (let it = c.rows.stored.mailboxes in read_apart (shown_at 0) IsMailbox _ (db 0) it.rows.items c.rows.t.mailboxes.items (λ row. refl) (λ r x is. ap (λ v. column v 0) is.0) (c.rows.are.read.1 0 it.rows it.found) it.read c.distinct.mailboxes)
-        (let it = c.rows.stored.entries in read_apart (shown_at 1) IsEntry _ (db 2) it.rows.items c.rows.t.entries.items (λ row. refl) (λ r x is. ap (λ v. column v 0) is.0) (c.rows.are.read.1 1 it.rows it.found) it.read c.distinct.entries)
-        (let it = c.rows.stored.messages in read_apart (shown_at 2) IsMessage _ (db 4) it.rows.items c.rows.t.messages.items (λ row. refl) (λ r x is. ap (λ v. column v 0) is.0) (c.rows.are.read.1 2 it.rows it.found) it.read c.distinct.messages)
-        (let it = c.rows.stored.gone in read_apart (shown_at 3) IsGone _ (db 6) it.rows.items c.rows.t.gone.items (λ row. refl) (λ r x is. ap (λ v. column v 0) is.0) (c.rows.are.read.1 3 it.rows it.found) it.read c.distinct.gone)
-        (let it = c.rows.stored.marks in read_apart (shown_at 4) IsMark _ (db 8) it.rows.items c.rows.t.marks.items (λ row. refl) (λ r x is. ap (λ v. column v 0) is.0) (c.rows.are.read.1 4 it.rows it.found) it.read c.distinct.marks)
-        (let it = c.rows.stored.epochs in read_apart (shown_at 5) IsEpoch _ (db 10) it.rows.items c.rows.t.epochs.items (λ row. refl) (λ r x is. ap (λ v. column v 0) is.0) (c.rows.are.read.1 5 it.rows it.found) it.read c.distinct.epochs)
-        (let it = c.rows.stored.subscriptions in read_apart (shown_at 6) IsSubscription _ (db 12) it.rows.items c.rows.t.subscriptions.items (λ row. refl) (λ r x is. ap (λ v. column v 0) is) (c.rows.are.read.1 6 it.rows it.found) it.read c.distinct.subscriptions)
-        (let it = c.rows.stored.meta in read_apart (shown_at 7) IsMeta _ (db 14) it.rows.items c.rows.t.meta.items (λ row. refl) (λ r x is. ap (λ v. column v 0) is.0) (c.rows.are.read.1 7 it.rows it.found) it.read c.distinct.meta);
+        (let it = c.rows.are.stored.mailboxes in read_apart (shown_at 0) IsMailbox _ (db 0) it.rows c.rows.t.mailboxes.items (λ row. refl) (λ r x is. ap (λ v. column v 0) is.0) it.all it.read c.distinct.mailboxes)
+        (let it = c.rows.are.stored.entries in read_apart (shown_at 1) IsEntry _ (db 2) it.rows c.rows.t.entries.items (λ row. refl) (λ r x is. ap (λ v. column v 0) is.0) it.all it.read c.distinct.entries)
+        (let it = c.rows.are.stored.messages in read_apart (shown_at 2) IsMessage _ (db 4) it.rows c.rows.t.messages.items (λ row. refl) (λ r x is. ap (λ v. column v 0) is.0) it.all it.read c.distinct.messages)
+        (let it = c.rows.are.stored.gone in read_apart (shown_at 3) IsGone _ (db 6) it.rows c.rows.t.gone.items (λ row. refl) (λ r x is. ap (λ v. column v 0) is.0) it.all it.read c.distinct.gone)
+        (let it = c.rows.are.stored.marks in read_apart (shown_at 4) IsMark _ (db 8) it.rows c.rows.t.marks.items (λ row. refl) (λ r x is. ap (λ v. column v 0) is.0) it.all it.read c.distinct.marks)
+        (let it = c.rows.are.stored.epochs in read_apart (shown_at 5) IsEpoch _ (db 10) it.rows c.rows.t.epochs.items (λ row. refl) (λ r x is. ap (λ v. column v 0) is.0) it.all it.read c.distinct.epochs)
+        (let it = c.rows.are.stored.subscriptions in read_apart (shown_at 6) IsSubscription _ (db 12) it.rows c.rows.t.subscriptions.items (λ row. refl) (λ r x is. ap (λ v. column v 0) is) it.all it.read c.distinct.subscriptions)
+        (let it = c.rows.are.stored.meta in read_apart (shown_at 7) IsMeta _ (db 14) it.rows c.rows.t.meta.items (λ row. refl) (λ r x is. ap (λ v. column v 0) is.0) it.all it.read c.distinct.meta);
   }
 
   pub meta_shows : MetaShows db

@@ -1,11 +1,9 @@
 -- The tables hold the world that was made of them.
-use Rattle.std.proofs.Common.{List, Vec, Ok, Err, Result}
+use Rattle.std.proofs.Common.{Ok, Err, Result}
 use Rattle.std.specs.Prelude.{IfOk}
-use Rattle.std.specs.Global.{Global}
-use Rattle.sqlite.specs.Order.{Row}
 use Rattle.sqlite.specs.Tree.{Trees}
 use Rattle.imap_records.proofs.OneWorld.{filled_again}
-use Rattle.imap_tables.specs.Contents.{AreAllApart, AreStored}
+use Rattle.imap_tables.specs.Contents.{AreAllApart}
 use Rattle.imap_tables.specs.declared.tables.StoredTables.{StoredTables}
 use Rattle.imap_world.specs.Stored.{Stored, world_of}
 use Rattle.imap_world.specs.World.{World}
@@ -21,9 +19,9 @@ pub if_ok : {X E : Type 0} {P Q : X → Type 0} (r : Result X E) → ((x : X) �
 if_ok (Ok x) f p = f x p
 if_ok (Err e) f p = tt
 
-pub holds : (db : Trees) (tables : List (Vec Row Global)) → AreRowsOf db tables → (t : StoredTables) → AreStored tables t → AreAllApart t → (parts : WorldParts) → ArePartsFor t parts
-    → (s : Stored) → IsMadeOf parts (world_of s) → Hold db (world_of s)
-holds db tables are t stored distinct parts restored s made =
+pub holds : (db : Trees) (t : StoredTables) → AreRowsOf db t → AreAllApart t → (parts : WorldParts) → ArePartsFor t parts → (s : Stored) → IsMadeOf parts (world_of s)
+    → Hold db (world_of s)
+holds db t are distinct parts restored s made =
     let w : World = world_of s in
-    let c : Read db w = record { rows = record { tables = tables; are = are; t = t; stored = stored }; distinct = distinct; parts = parts; restored = restored; stand = made.stands } in
+    let c : Read db w = record { rows = record { t = t; are = are }; distinct = distinct; parts = parts; restored = restored; stand = made.stands } in
     (record { stands = tables_stand db w c; values = world_has db w c made.lists (filled_again s.subscriptions); sound = made.sound; kept = made.kept }, tables_orderly db w c, meta_shows db w c)

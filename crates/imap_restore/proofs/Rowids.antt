@@ -13,27 +13,27 @@ use Rattle.imap_restore.proofs.TableRows.{Rows}
 pub rowids_differ : (db : Trees) (b : Rows db) → IsOrderly db → AreAllApart b.t
 rowids_differ db b o = record {
   mailboxes =
-      let it = b.stored.mailboxes in
-      apart_read (shown_at 0) IsMailbox _ (db 0) it.rows.items b.t.mailboxes.items (λ row. refl) (λ r x is. ap (λ v. column v 0) is.0) (b.are.read.1 0 it.rows it.found) it.read (o.apart mailbox_table (inl refl));
+      let it = b.are.stored.mailboxes in
+      apart_read (shown_at 0) IsMailbox _ (db 0) it.rows b.t.mailboxes.items (λ row. refl) (λ r x is. ap (λ v. column v 0) is.0) it.all it.read (o.apart mailbox_table (inl refl));
   entries =
-      let it = b.stored.entries in
-      apart_read (shown_at 1) IsEntry _ (db 2) it.rows.items b.t.entries.items (λ row. refl) (λ r x is. ap (λ v. column v 0) is.0) (b.are.read.1 1 it.rows it.found) it.read (o.apart acl_table (inr (inl refl)));
+      let it = b.are.stored.entries in
+      apart_read (shown_at 1) IsEntry _ (db 2) it.rows b.t.entries.items (λ row. refl) (λ r x is. ap (λ v. column v 0) is.0) it.all it.read (o.apart acl_table (inr (inl refl)));
   messages =
-      let it = b.stored.messages in
-      apart_read (shown_at 2) IsMessage _ (db 4) it.rows.items b.t.messages.items (λ row. refl) (λ r x is. ap (λ v. column v 0) is.0) (b.are.read.1 2 it.rows it.found) it.read (o.apart message_table (inr (inr (inl refl))));
+      let it = b.are.stored.messages in
+      apart_read (shown_at 2) IsMessage _ (db 4) it.rows b.t.messages.items (λ row. refl) (λ r x is. ap (λ v. column v 0) is.0) it.all it.read (o.apart message_table (inr (inr (inl refl))));
   gone =
-      let it = b.stored.gone in
-      apart_read (shown_at 3) IsGone _ (db 6) it.rows.items b.t.gone.items (λ row. refl) (λ r x is. ap (λ v. column v 0) is.0) (b.are.read.1 3 it.rows it.found) it.read (o.apart gone_table (inr (inr (inr (inl refl)))));
+      let it = b.are.stored.gone in
+      apart_read (shown_at 3) IsGone _ (db 6) it.rows b.t.gone.items (λ row. refl) (λ r x is. ap (λ v. column v 0) is.0) it.all it.read (o.apart gone_table (inr (inr (inr (inl refl)))));
   marks =
-      let it = b.stored.marks in
-      apart_read (shown_at 4) IsMark _ (db 8) it.rows.items b.t.marks.items (λ row. refl) (λ r x is. ap (λ v. column v 0) is.0) (b.are.read.1 4 it.rows it.found) it.read (o.apart mark_table (inr (inr (inr (inr (inl refl))))));
+      let it = b.are.stored.marks in
+      apart_read (shown_at 4) IsMark _ (db 8) it.rows b.t.marks.items (λ row. refl) (λ r x is. ap (λ v. column v 0) is.0) it.all it.read (o.apart mark_table (inr (inr (inr (inr (inl refl))))));
   epochs =
-      let it = b.stored.epochs in
-      apart_read (shown_at 5) IsEpoch _ (db 10) it.rows.items b.t.epochs.items (λ row. refl) (λ r x is. ap (λ v. column v 0) is.0) (b.are.read.1 5 it.rows it.found) it.read (o.apart epoch_table (inr (inr (inr (inr (inr (inl refl)))))));
+      let it = b.are.stored.epochs in
+      apart_read (shown_at 5) IsEpoch _ (db 10) it.rows b.t.epochs.items (λ row. refl) (λ r x is. ap (λ v. column v 0) is.0) it.all it.read (o.apart epoch_table (inr (inr (inr (inr (inr (inl refl)))))));
   subscriptions =
-      let it = b.stored.subscriptions in
-      apart_read (shown_at 6) IsSubscription _ (db 12) it.rows.items b.t.subscriptions.items (λ row. refl) (λ r x is. ap (λ v. column v 0) is) (b.are.read.1 6 it.rows it.found) it.read (o.apart sub_table (inr (inr (inr (inr (inr (inr (inl refl))))))));
+      let it = b.are.stored.subscriptions in
+      apart_read (shown_at 6) IsSubscription _ (db 12) it.rows b.t.subscriptions.items (λ row. refl) (λ r x is. ap (λ v. column v 0) is) it.all it.read (o.apart sub_table (inr (inr (inr (inr (inr (inr (inl refl))))))));
   meta =
-      let it = b.stored.meta in
-      apart_read (shown_at 7) IsMeta _ (db 14) it.rows.items b.t.meta.items (λ row. refl) (λ r x is. ap (λ v. column v 0) is.0) (b.are.read.1 7 it.rows it.found) it.read (o.apart meta_table (inr (inr (inr (inr (inr (inr (inr (inl refl)))))))));
+      let it = b.are.stored.meta in
+      apart_read (shown_at 7) IsMeta _ (db 14) it.rows b.t.meta.items (λ row. refl) (λ r x is. ap (λ v. column v 0) is.0) it.all it.read (o.apart meta_table (inr (inr (inr (inr (inr (inr (inr (inl refl)))))))));
 }

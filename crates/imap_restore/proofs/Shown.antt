@@ -1,11 +1,9 @@
 -- Rows of tables that hold a world can be read.
-use Rattle.std.proofs.Common.{◌≡◌, ◌<◌, ◌≤◌, ◌+◌, inl, inr, ℕ, zero, suc, pos, Bool, true, false, cond, List, [], ◌∷◌, ◌++◌, map as map_list, Option, Some, Vec, refl, sym, ap, subst, ◌∙◌, arith}
+use Rattle.std.proofs.Common.{◌≡◌, ◌<◌, ◌≤◌, ◌+◌, inl, inr, ℕ, zero, suc, pos, Bool, true, false, cond, List, [], ◌∷◌, ◌++◌, map as map_list, Option, Some, refl, sym, ap, subst, ◌∙◌, arith}
 use Rattle.std.specs.Prelude.{codes, slice_get, not, ◌==◌}
-use Rattle.std.specs.Global.{Global}
 use Rattle.std.specs.FinMap as map
 use Rattle.std.specs.Str.{IsAscii, IsUtf8, is_utf8}
 use Rattle.std.proofs.lemmas.Bool.{and_parts, eq-eqb, eqb-true}
-use Rattle.std.proofs.lemmas.List.Sorted.{IsPermutation-sym}
 use Rattle.std.proofs.lemmas.Nat.{and_le_r}
 use Rattle.std.proofs.lemmas.Str.Ascii.{IsAscii-cons, IsAscii-nil}
 use Rattle.std.proofs.lemmas.Str.{IsAscii-append, IsUtf8-from_ascii, IsUtf8-from_is_utf8}
@@ -13,8 +11,7 @@ use Rattle.sqlite.specs.Order.{Row}
 use Rattle.sqlite.specs.Tree.{Trees}
 use Rattle.sqlite.specs.declared.types.Value.TheVariants.{Int}
 use Rattle.sqlite_rules.specs.Lists.{Has}
-use Rattle.sqlite_rules.proofs.ListLemmas.{all_from, test_has}
-use Rattle.sqlite_rules.proofs.ProbeLemmas.{has_mapped}
+use Rattle.sqlite_rules.proofs.ListLemmas.{test_has}
 use Rattle.imap_mailbox.specs.Held.{IsKept}
 use Rattle.imap_mailbox.specs.History.{own_at}
 use Rattle.imap_mailbox.specs.Rows.{WasGiven}
@@ -36,13 +33,11 @@ use Rattle.imap_rights.specs.Acl.{is_entry, is_some_rights}
 use Rattle.imap_rights.specs.Identifier.{is_identifier}
 use Rattle.imap_rights.specs.Rights.{all_rights, known}
 use Rattle.imap_syntax.specs.Keywords.{AreAtoms}
-use Rattle.imap_tables.specs.Contents.{AllShow, AllShowAt}
+use Rattle.imap_tables.specs.Contents.{AllShow}
 use Rattle.imap_tables.specs.Reading.{shown_at}
-use Rattle.imap_tables.specs.Stored.{IsShort, ShowsEntry, ShowsEpoch, ShowsGone, ShowsMailbox, ShowsMark, ShowsMessage, ShowsMeta, ShowsSubscription}
-use Rattle.imap_tables.specs.Texts.{table_at}
+use Rattle.imap_tables.specs.Stored.{IsShort, ShowsEntry, ShowsEpoch, ShowsGone, ShowsMailbox, ShowsMark, ShowsMessage, ShowsSubscription}
 use Rattle.imap_world.specs.World.{World}
-use Rattle.imap_restore.specs.Holding.{AreRowsOf, Hold}
-use Rattle.imap_restore.proofs.Listed.{has_moved}
+use Rattle.imap_restore.specs.Holding.{Hold}
 
 -- ---- texts
 
@@ -251,23 +246,14 @@ module _ (db : Trees) (w : World) (hold : Hold db w) where
         shown = refl;
       })
 
-  module _ (tables : List (Vec Row Global)) (are : AreRowsOf db tables) where
-    shows_at : (n : ℕ) (Shows : Row → Type 0) → ((row : Row) → Has (db (table_at n).tree) row → Shows (shown_at n row)) → AllShowAt tables n Shows
-    shows_at n Shows each rows found =
-        all_from Shows rows.items
-        (λ r h.
-        let moved = are.read.1 n rows found in
-        let x = has_mapped (shown_at n) (db (table_at n).tree) r (has_moved rows.items (map_list (shown_at n) (db (table_at n).tree)) (IsPermutation-sym (map_list (shown_at n) (db (table_at n).tree)) rows.items moved) r h) in
-        subst Shows (sym x.2) (each x.0 x.1))
-
-    pub all_show : AllShow tables
-    all_show = record {
-      mailboxes = shows_at 0 ShowsMailbox mailbox_shows;
-      entries = shows_at 1 ShowsEntry entry_shows;
-      messages = shows_at 2 ShowsMessage message_shows;
-      gone = shows_at 3 ShowsGone gone_shows;
-      marks = shows_at 4 ShowsMark mark_shows;
-      epochs = shows_at 5 ShowsEpoch epoch_shows;
-      subscriptions = shows_at 6 ShowsSubscription sub_shows;
-      meta = shows_at 7 ShowsMeta hold.2;
-    }
+  pub all_show : AllShow db
+  all_show = record {
+    mailboxes = mailbox_shows;
+    entries = entry_shows;
+    messages = message_shows;
+    gone = gone_shows;
+    marks = mark_shows;
+    epochs = epoch_shows;
+    subscriptions = sub_shows;
+    meta = hold.2;
+  }

@@ -1,7 +1,6 @@
 -- Tables that hold a world.
-use Rattle.std.specs.Prelude.{◌⊎◌, List, Vec}
+use Rattle.std.specs.Prelude.{◌⊎◌, List}
 use Rattle.std.specs.List.{AllByRecursion}
-use Rattle.std.specs.Global.{Global}
 use Rattle.sqlite.specs.Effect.{IsDatabase}
 use Rattle.sqlite.specs.Order.{Row}
 use Rattle.sqlite.specs.Tree.{Trees}
@@ -9,8 +8,8 @@ use Rattle.sqlite_rules.specs.Lists.{Has}
 use Rattle.imap_names.specs.Name.{Name}
 use Rattle.imap_records.specs.Standing.{StandFor}
 use Rattle.imap_records.specs.Values.{WorldHasValues}
-use Rattle.imap_tables.specs.Contents.{AllShow, AreAllApart, AreStored}
-use Rattle.imap_tables.specs.Reading.{AreAllRead, shown_at}
+use Rattle.imap_tables.specs.Contents.{AreStored}
+use Rattle.imap_tables.specs.Reading.{shown_at}
 use Rattle.imap_tables.specs.declared.tables.StoredTables.{StoredTables}
 use Rattle.imap_tables.specs.Rows.{IsOrderly}
 use Rattle.imap_tables.specs.Stored.{ShowsMeta}
@@ -38,10 +37,10 @@ MetaShows db = (row : Row) → Has (db meta_tree) row → ShowsMeta (shown_at 7 
 abbrev pub Hold : (db : Trees) (world : World) → Type 0
 Hold db world = Stand db world × IsOrderly db × MetaShows db
 
--- these are the rows of the tables of a store
-pub record AreRowsOf (db : Trees) (tables : List (Vec Row Global)) : Type 0 where
+-- this is read of the tables of a store
+pub record AreRowsOf (db : Trees) (t : StoredTables) : Type 0 where
   pub obeyed : IsDatabase (record { schema = store_schema; trees = db })
-  pub read : AreAllRead 8 db tables
+  pub stored : AreStored db t
 
 -- the world is that of the parts, and is as its types keep it
 pub record IsMadeOf (kept_parts : WorldParts) (world : World) : Type 0 where
@@ -53,10 +52,6 @@ pub record IsMadeOf (kept_parts : WorldParts) (world : World) : Type 0 where
 -- each list is as its type keeps it
 abbrev pub HasLists : List (Name × MailboxEntry) → Type 0
 HasLists entries = AllByRecursion (λ e. IsAcl (e.1).acl) entries
-
--- one of the rows is not read, or two rows of a table have one rowid
-abbrev pub IsUnread : List (Vec Row Global) → Type 0
-IsUnread tables = (AllShow tables → ⊥) ⊎ ((t : StoredTables) × AreStored tables t × (AreAllApart t → ⊥))
 
 -- nothing is kept by one of the rows, or no world is made of what is
 abbrev pub IsUnmade : StoredTables → Type 0

@@ -13,6 +13,8 @@ use Rattle.imap_names.specs.Name.{Name}
 use Rattle.imap_names.specs.Valid.{IsName}
 use Rattle.imap_restore.specs.Restored.{HasKeyOf, HasRights, IsAnEntry, IsEpochFor, IsFit, IsGoneFor}
 use Rattle.imap_restore.specs.Restored.{IsMarkFor, IsRowFor, IsSubscriptionFor}
+use Rattle.imap_restore.specs.declared.parts.MailboxWithOwn.{MailboxWithOwn}
+use Rattle.imap_restore.specs.declared.parts.RowsBelow.{RowsBelow}
 use Rattle.imap_rights.specs.declared.acl.Entry.{Entry}
 use Rattle.imap_tables.specs.declared.stored.StoredEntry.{StoredEntry}
 use Rattle.imap_tables.specs.declared.stored.StoredGone.{StoredGone}
@@ -141,3 +143,40 @@ module _ (t : StoredTables) where
     pub epochs : (items : List (Name × ℕ)) × AllZip IsEpochFor t.epochs.items items
     pub subscriptions : (items : List Subscription)
         × AllZip IsSubscriptionFor t.subscriptions.items items
+
+-- ---- a mailbox of which users' own changes are read first
+
+-- the rows are in the order of mailboxes
+pub record AreInGroups (rows : RowsBelow) : Type 0 where
+  pub entries : AreGrouped (λ r. r.mailbox) rows.entries.items
+  pub messages : AreGrouped (λ r. r.mailbox) rows.messages.items
+  pub gone : AreGrouped (λ r. r.mailbox) rows.gone.items
+
+-- the rows below the mailbox keep these changes
+abbrev pub IsOwn : List StoredMark → StoredMailbox → List UserChange → Type 0
+IsOwn marks s own = AllZip IsChangeFor (below (λ r. r.mailbox) s.id marks) own
+
+abbrev pub HasOwn : List StoredMark → StoredMailbox → Type 0
+HasOwn marks s = (own : List UserChange) × IsOwn marks s own
+
+-- it is the mailbox, with the changes that rows below it keep
+abbrev pub IsWithOwn : List StoredMark → StoredMailbox → MailboxWithOwn → Type 0
+IsWithOwn marks s it = (it.stored ≡ s) × IsOwn marks s it.own.items
+
+module _ (t : StoredTables) (s : StoredMailbox) where
+  -- the tables have these rows, and those of their marks that are below the mailbox keep these changes
+  pub record HasRows (rows : RowsBelow) (own : List UserChange) : Type 0 where
+    pub entries : t.entries ≡ rows.entries
+    pub messages : t.messages ≡ rows.messages
+    pub gone : t.gone ≡ rows.gone
+    pub changes : IsOwn t.marks.items s own
+
+-- what is read of the mailbox, whichever tables have its rows
+abbrev pub IsMailboxOf : RowsBelow → MailboxWithOwn → MailboxRow → Type 0
+IsMailboxOf rows it row =
+    (t : StoredTables) → HasRows t it.stored rows it.own.items → IsMailboxFor t it.stored row
+
+-- it can be read of tables that have its rows
+abbrev pub HasMailboxOf : RowsBelow → MailboxWithOwn → Type 0
+HasMailboxOf rows it =
+    (t : StoredTables) × HasRows t it.stored rows it.own.items × HasMailbox t it.stored

@@ -97,7 +97,7 @@ fn read_all<R, T: Restore<R>>(alloc: Global, rows: &[R]) -> Result<Vec<T>, Parts
     ensures bad { result ≡ Err PartsError.Bad
         → (items : List T) → AllZip T.Restore.is_for rows.now items → ⊥ }
 {
-    let mut items = Vec::new(alloc);
+    let mut items = Vec::with_capacity(alloc, rows.len())?;
     'rows: for row in rows {
         let item = match T::restore(alloc, row) {
             Ok(item) => item,

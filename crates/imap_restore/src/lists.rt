@@ -21,7 +21,7 @@ pub fn read_epochs(alloc: Global, rows: Vec<StoredEpoch>) -> Result<Vec<(Name, u
     ensures bad { result ≡ Err PartsError.Bad
         → (epochs : List (Name × ℕ)) → AllZip IsEpochFor rows.items epochs → ⊥ }
 {
-    let mut epochs = Vec::new(alloc);
+    let mut epochs = Vec::with_capacity(alloc, rows.len())?;
     'rows: for row in rows {
         let name = match read_key(alloc, &row.key) {
             Ok(name) => name,
@@ -44,7 +44,7 @@ pub fn read_subscriptions(
     ensures bad { result ≡ Err PartsError.Bad
         → (names : List Subscription) → AllZip IsSubscriptionFor rows.items names → ⊥ }
 {
-    let mut names = Vec::new(alloc);
+    let mut names = Vec::with_capacity(alloc, rows.len())?;
     'rows: for row in rows {
         let name = match read_key(alloc, &row.key) {
             Ok(name) => name,

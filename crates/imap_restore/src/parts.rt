@@ -4,8 +4,9 @@ ghost use Rattle.std.specs.Prelude.{◌≡◌, ◌↔◌, ℤ, Contains, List, E
 ghost use Rattle.std.specs.BTreeSet as sorted;
 ghost use Rattle.std.specs.List.{AllByRecursion, AllZip};
 ghost use Rattle.std.specs.Ordering.{int_cmp};
-ghost use Rattle.imap_restore.specs.Parts.{AreKnown, AreOf, ArePartsFor, HasMailbox, HasParts, HaveMailboxes};
-ghost use Rattle.imap_restore.specs.Parts.{HaveGroups, HaveMessages, IsMailboxFor};
+ghost use Rattle.imap_restore.specs.Parts.{AreGrouped, AreInGroups, AreKnown, AreOf, ArePartsFor, HasRows};
+ghost use Rattle.imap_restore.specs.Parts.{HasMailboxOf, HasOwn, HasParts, HaveGroups, HaveMailboxes};
+ghost use Rattle.imap_restore.specs.Parts.{HaveMessages, IsMailboxOf, IsWithOwn};
 
 use crate::below::{Restore, read_below};
 use crate::grouping::grouped;
@@ -14,7 +15,9 @@ use crate::names::read_key;
 use crate::values::read_count;
 use imap_mailbox::{GoneMessage, MailboxParts, Message, PartsError, UserChange};
 use imap_rights::Entry;
-use imap_tables::{StoredMailbox, StoredTables};
+use imap_tables::{
+    StoredEntry, StoredGone, StoredMailbox, StoredMark, StoredMessage, StoredTables,
+};
 use imap_world::{MailboxRow, WorldParts};
 use std::alloc::{AllocError, Global};
 use std::collections::BTreeSet;
@@ -23,7 +26,7 @@ use std::collections::BTreeSet;
 fn ids_of(alloc: Global, mailboxes: &[StoredMailbox]) -> Result<Vec<i64>, AllocError>
     ensures { IfOk result (λ ids. ids.items ≡ map (λ it. it.id) mailboxes.now) }
 {
-    let mut ids = Vec::new(alloc);
+    let mut ids = Vec::with_capacity(alloc, mailboxes.len())?;
     'mailboxes: for mailbox in mailboxes {
         ids.push(mailbox.id)?;
     }
@@ -74,23 +77,68 @@ fn have_mailboxes(alloc: Global, tables: &StoredTables) -> Result<bool, AllocErr
     Ok(are_known::<_, UserChange>(&tables.marks, &ids))
 }
 
+/// A mailbox with its users' own changes.
+#[derive(Drop)]
+struct MailboxWithOwn {
+    stored: StoredMailbox,
+    own: Vec<UserChange>,
+}
+
+/// The rows below mailboxes, except for those of users' own changes.
+#[derive(Drop)]
+struct RowsBelow {
+    entries: Vec<StoredEntry>,
+    messages: Vec<StoredMessage>,
+    gone: Vec<StoredGone>,
+}
+
+/// Reads users' own changes of each mailbox, and lets their rows go. Fails with `Bad` if one of these keeps
+/// nothing.
+#[tactic(auto, using(crate::proofs::Zipped::read_start))]
+fn with_own(
+    alloc: Global,
+    mailboxes: Vec<StoredMailbox>,
+    marks: Vec<StoredMark>,
+) -> Result<Vec<MailboxWithOwn>, PartsError>
+    requires { AreGrouped (λ (mark : StoredMark). mark.mailbox) marks.items }
+    ensures ok { IfOk result (λ all. AllZip (IsWithOwn marks.items) mailboxes.items all.items) }
+    ensures bad { result ≡ Err PartsError.Bad → AllByRecursion (HasOwn marks.items) mailboxes.items → ⊥ }
+{
+    let mut all = Vec::with_capacity(alloc, mailboxes.len())?;
+    'mailboxes: for mailbox in mailboxes {
+        let own = match read_below(alloc, marks.as_slice(), mailbox.id) {
+            Ok(own) => own,
+            Err(error) => return Err(error),
+        };
+        let Ok(()) = all.push(MailboxWithOwn {
+            stored: mailbox,
+            own,
+        }) else {
+            return Err(PartsError::Memory);
+        };
+    }
+    Ok(all)
+}
+
 /// Reads the messages of a mailbox. Fails with `Bad` if a row below it keeps nothing, or its number of events
 /// is none.
 fn read_messages(
     alloc: Global,
-    tables: &StoredTables,
+    rows: &RowsBelow,
     mailbox: &StoredMailbox,
+    own: Vec<UserChange>,
 ) -> Result<MailboxParts, PartsError>
-    requires { HaveGroups tables.now }
-    ensures ok { IfOk result (AreOf tables.now mailbox.now) }
-    ensures bad { result ≡ Err PartsError.Bad → HaveMessages tables.now mailbox.now → ⊥ }
+    requires { AreInGroups rows.now }
+    ensures ok { IfOk result (λ parts. (t : StoredTables)
+        → HasRows t mailbox.now rows.now own.items → AreOf t mailbox.now parts) }
+    ensures bad { result ≡ Err PartsError.Bad → (t : StoredTables)
+        → HasRows t mailbox.now rows.now own.items → HaveMessages t mailbox.now → ⊥ }
 {
     let Some(shared) = read_count(mailbox.shared) else {
         return Err(PartsError::Bad);
     };
-    let messages = read_below(alloc, tables.messages.as_slice(), mailbox.id)?;
-    let gone = read_below(alloc, tables.gone.as_slice(), mailbox.id)?;
-    let own = read_below(alloc, tables.marks.as_slice(), mailbox.id)?;
+    let messages = read_below(alloc, rows.messages.as_slice(), mailbox.id)?;
+    let gone = read_below(alloc, rows.gone.as_slice(), mailbox.id)?;
     Ok(MailboxParts {
         next: mailbox.uidnext,
         shared,
@@ -103,19 +151,20 @@ fn read_messages(
 /// Reads a mailbox with what is below it. Fails with `Bad` if it has no name, or a row of it keeps nothing.
 fn read_mailbox(
     alloc: Global,
-    tables: &StoredTables,
-    mailbox: &StoredMailbox,
+    rows: &RowsBelow,
+    mailbox: MailboxWithOwn,
 ) -> Result<MailboxRow, PartsError>
-    requires { HaveGroups tables.now }
-    ensures ok { IfOk result (IsMailboxFor tables.now mailbox.now) }
-    ensures bad { result ≡ Err PartsError.Bad → HasMailbox tables.now mailbox.now → ⊥ }
+    requires { AreInGroups rows.now }
+    ensures ok { IfOk result (IsMailboxOf rows.now mailbox) }
+    ensures bad { result ≡ Err PartsError.Bad → HasMailboxOf rows.now mailbox → ⊥ }
 {
-    let name = read_key(alloc, &mailbox.key)?;
-    let acl = read_below(alloc, tables.entries.as_slice(), mailbox.id)?;
-    let messages = read_messages(alloc, tables, mailbox)?;
+    let MailboxWithOwn { stored, own } = mailbox;
+    let name = read_key(alloc, &stored.key)?;
+    let acl = read_below(alloc, rows.entries.as_slice(), stored.id)?;
+    let messages = read_messages(alloc, rows, &stored, own)?;
     Ok(MailboxRow {
         name,
-        validity: mailbox.validity,
+        validity: stored.validity,
         acl,
         messages,
     })
@@ -125,28 +174,32 @@ fn read_mailbox(
 #[tactic(auto, using(crate::proofs::Zipped::read_start))]
 fn read_mailboxes(
     alloc: Global,
-    tables: &StoredTables,
-    mailboxes: &[StoredMailbox],
+    rows: &RowsBelow,
+    mailboxes: Vec<MailboxWithOwn>,
 ) -> Result<Vec<MailboxRow>, PartsError>
-    requires { HaveGroups tables.now }
-    ensures ok { IfOk result (λ rows. AllZip (IsMailboxFor tables.now) mailboxes.now rows.items) }
-    ensures bad { result ≡ Err PartsError.Bad → AllByRecursion (HasMailbox tables.now) mailboxes.now → ⊥ }
+    requires { AreInGroups rows.now }
+    ensures ok { IfOk result (λ read. AllZip (IsMailboxOf rows.now) mailboxes.items read.items) }
+    ensures bad { result ≡ Err PartsError.Bad
+        → AllByRecursion (HasMailboxOf rows.now) mailboxes.items → ⊥ }
 {
-    let mut rows = Vec::new(alloc);
+    let mut read = Vec::with_capacity(alloc, mailboxes.len())?;
     'mailboxes: for mailbox in mailboxes {
-        let row = match read_mailbox(alloc, tables, mailbox) {
+        let row = match read_mailbox(alloc, rows, mailbox) {
             Ok(row) => row,
             Err(error) => return Err(error),
         };
-        let Ok(()) = rows.push(row) else {
+        let Ok(()) = read.push(row) else {
             return Err(PartsError::Memory);
         };
     }
-    Ok(rows)
+    Ok(read)
 }
 
 /// Reads what a store keeps of a world, with the rows of its tables in the order of mailboxes. Fails with `Bad`
 /// if a row keeps nothing, or is below a mailbox that is not there.
+///
+/// Users' own changes are read first, so that their rows are let go before messages are read.
+#[tactic(auto, using(crate::proofs::Own::all_own, crate::proofs::Own::all_of, crate::proofs::Own::all_read))]
 fn read_grouped(alloc: Global, tables: StoredTables) -> Result<WorldParts, PartsError>
     requires { HaveGroups tables }
     ensures ok { IfOk result (ArePartsFor tables) }
@@ -155,17 +208,23 @@ fn read_grouped(alloc: Global, tables: StoredTables) -> Result<WorldParts, Parts
     if !have_mailboxes(alloc, &tables)? {
         return Err(PartsError::Bad);
     }
-    let mailboxes = read_mailboxes(alloc, &tables, &tables.mailboxes)?;
     let StoredTables {
-        mailboxes: _,
-        entries: _,
-        messages: _,
-        gone: _,
-        marks: _,
+        mailboxes,
+        entries,
+        messages,
+        gone,
+        marks,
         epochs,
         subscriptions,
         meta: _,
     } = tables;
+    let mailboxes = with_own(alloc, mailboxes, marks)?;
+    let rows = RowsBelow {
+        entries,
+        messages,
+        gone,
+    };
+    let mailboxes = read_mailboxes(alloc, &rows, mailboxes)?;
     let epochs = read_epochs(alloc, epochs)?;
     let subscriptions = read_subscriptions(alloc, subscriptions)?;
     Ok(WorldParts {

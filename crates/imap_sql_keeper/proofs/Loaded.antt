@@ -1,28 +1,33 @@
 -- A world that was loaded.
-use Rattle.std.proofs.Common.{◌≡◌, IsTrue, List, Vec, sym, subst}
-use Rattle.std.specs.Global.{Global}
+use Rattle.std.proofs.Common.{◌≡◌, IsTrue, sym, subst}
 use Rattle.sqlite.specs.Effect.{Database, IsDatabase}
-use Rattle.sqlite.specs.Order.{Row}
 use Rattle.sqlite.specs.State.{State, HasCleanDisk, IsLive, Survives}
 use Rattle.sqlite.specs.Tree.{Trees}
 use Rattle.imap_records.proofs.OneWorld.{stand_for_one}
 use Rattle.imap_restore.specs.Holding.{AreRowsOf, Hold}
+use Rattle.imap_restore.proofs.Shown.{all_show}
 use Rattle.imap_sql_keeper.specs.Keeping.{IsAtRest, Keeps}
 use Rattle.imap_sql_keeper.proofs.Saved.{early, same_trees}
-use Rattle.imap_tables.specs.Reading.{AreAllRead}
+use Rattle.imap_tables.specs.Contents.{AllShow, AreStored}
 use Rattle.imap_tables.specs.Steps.{IsBack}
+use Rattle.imap_tables.specs.declared.tables.StoredTables.{StoredTables}
 use Rattle.imap_world.specs.World.{World}
 
-module _ (old new : State) (rest : IsAtRest old) (s : Survives old new (λ _. ⊥)) (live : IsLive old) (tables : List (Vec Row Global))
-    (read : HasCleanDisk new → AreAllRead 8 old.now.trees tables) (was : HasCleanDisk new → IsTrue old.is_open) where
+module _ (old new : State) (rest : IsAtRest old) (s : Survives old new (λ _. ⊥)) (was : HasCleanDisk new → IsTrue old.is_open) where
+  -- where nothing is read of a row, there is no world
+  pub none_kept : (HasCleanDisk new → AllShow old.now.trees → ⊥) → HasCleanDisk new → (world : World) → Keeps old world → ⊥
+  none_kept none clean world kept = none clean (all_show old.now.trees world (kept (early old new (λ _. ⊥) rest s clean) (was clean)))
+
+module _ (old new : State) (rest : IsAtRest old) (s : Survives old new (λ _. ⊥)) (live : IsLive old) (t : StoredTables)
+    (read : HasCleanDisk new → AreStored old.now.trees t) (was : HasCleanDisk new → IsTrue old.is_open) where
   -- what was read is all that the tables have
-  pub all_read : HasCleanDisk new → AreRowsOf old.now.trees tables
+  pub all_read : HasCleanDisk new → AreRowsOf old.now.trees t
   all_read clean = record {
     obeyed = subst (λ schema. IsDatabase (record { schema = schema; trees = old.now.trees })) (rest.schema (early old new (λ _. ⊥) rest s clean) (was clean)) (live (was clean)).0;
-    read = read clean;
+    stored = read clean;
   }
 
-  module _ (world : World) (holds : (db : Trees) → AreRowsOf db tables → Hold db world) where
+  module _ (world : World) (holds : (db : Trees) → AreRowsOf db t → Hold db world) where
     pub loaded : (HasCleanDisk new → IsTrue new.is_open → IsBack old new) → Keeps new world
     loaded back clean live_now =
         subst (λ (d : Database). Hold d.trees world) (sym (same_trees old new (λ _. ⊥) rest s clean (back clean live_now))) (holds old.now.trees (all_read clean))

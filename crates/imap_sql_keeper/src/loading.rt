@@ -38,11 +38,12 @@ pub(crate) fn load_world<S: Alter>(
 {
     // What an open connection shows obeys its schema.
     let _ = conn.schema();
-    let tables = match read_tables(conn, alloc) {
-        Ok(tables) => tables,
+    let stored = match read_tables(conn, alloc) {
+        Ok(Some(stored)) => stored,
+        Ok(None) => return Err(KeepError::Damaged),
         Err(error) => return Err(refusal(error)),
     };
-    match restore(alloc, tables) {
+    match restore(alloc, stored) {
         Ok(world) => Ok(world),
         Err(error) => Err(fault(error)),
     }

@@ -30,7 +30,7 @@ pub use saving::save_rows;
 pub use schema::{is_blank, is_store};
 pub use stored::{
     Stored, StoredEntry, StoredEpoch, StoredGone, StoredMailbox, StoredMark, StoredMessage,
-    StoredMeta, StoredSubscription, read_rows,
+    StoredMeta, StoredSubscription,
 };
-pub use tables::{StoredTables, are_all_apart, read_stored};
+pub use tables::{StoredTables, are_all_apart};
 pub use updates::{count_mailbox, flag_message, move_mailbox};

@@ -1,14 +1,18 @@
 //! The rows of all tables, as they are read.
 
-ghost use Rattle.std.specs.Prelude.{◌<◌, ◌≡◌, [], IfOk, false, IsTrue, OnOk};
-ghost use Rattle.imap_tables.specs.Reading.{AreAllRead, AreRead, select_at};
+ghost use Rattle.std.specs.Prelude.{◌<◌, ◌≡◌, ◌∷◌, ◌++◌, [], List, None, IfOk, IfSome, false, IsTrue, OnOk};
+ghost use Rattle.imap_tables.specs.Contents.{ReadsAt, ReadsRows, ReadsTables, ReadsTwo};
+ghost use Rattle.imap_tables.specs.Reading.{AreRead, select_at};
 ghost use Rattle.imap_tables.specs.Steps.{Calls, HasSchema, IsBack, Queries};
 ghost use Rattle.imap_tables.specs.Tables.{store_schema};
 ghost use Rattle.sqlite.specs.Given.{IsPlain};
 ghost use Rattle.sqlite.specs.Held.{state};
 ghost use Rattle.sqlite.specs.Listing.{understood};
-ghost use Rattle.sqlite.specs.State.{HasCleanDisk, IsUnchanged, KeepsCommit, Shown, Survives};
+ghost use Rattle.sqlite.specs.Order.{Row as Values};
+ghost use Rattle.sqlite.specs.State.{HasCleanDisk, IsUnchanged, Shown, Survives};
 
+use crate::stored::Stored;
+use crate::tables::StoredTables;
 use sqlite::{Alter, Connection, Error, ErrorCode, Row, Statement, Transaction};
 use std::alloc::Global;
 
@@ -29,73 +33,156 @@ fn text_of(at: u32) -> &'static str
     }
 }
 
-/// Returns the rows that a query answers. They are read one at a time, so that their octets are in memory once.
-fn rows_of<S: Alter>(
+/// Reads a row. `None` if nothing is read of it.
+fn item_of<R: Stored>(row: &Row) -> Result<Option<R>, Error>
+    ensures some { IfOk result (λ read. IfSome read (R.Stored.is_of row.now)) }
+    ensures none { IfOk result (λ read. read ≡ None → R.Stored.shows row.now → ⊥) }
+{
+    match R::read(row) {
+        Ok(item) => Ok(Some(item)),
+        Err(Error::SqliteFailure(ErrorCode::OutOfMemory)) => {
+            Err(Error::SqliteFailure(ErrorCode::OutOfMemory))
+        }
+        Err(_) => Ok(None),
+    }
+}
+
+/// Adds what is read of a row. Nothing is kept if nothing is read of it.
+fn add_item<R: Stored>(items: &mut Option<Vec<R>>, row: &Row) -> Result<(), Error>
+    ensures { OnOk result ((rows : List Values) → ReadsRows R.Stored.is_of R.Stored.shows rows items.old
+        → ReadsRows R.Stored.is_of R.Stored.shows (rows ++ row.now ∷ []) items.new) }
+{
+    let Some(list) = items else {
+        return Ok(());
+    };
+    match item_of(row)? {
+        Some(item) => list.push(item)?,
+        None => *items = None,
+    }
+    Ok(())
+}
+
+/// Lets go of the room that the items don't take.
+fn fit<R: Stored>(items: &mut Option<Vec<R>>)
+    ensures { (rows : List Values) → ReadsRows R.Stored.is_of R.Stored.shows rows items.old
+        → ReadsRows R.Stored.is_of R.Stored.shows rows items.new }
+{
+    if let Some(list) = items {
+        list.shrink_to_fit();
+    }
+}
+
+/// Reads the rows that a query answers, one at a time, so that their octets are in memory once. `None` if
+/// nothing is read of one of them.
+fn items_of<S: Alter, R: Stored>(
     conn: &mut Connection<S>,
     alloc: Global,
     query: &Statement,
-) -> Result<Vec<Row>, Error>
+) -> Result<Option<Vec<R>>, Error>
     requires plain { HasCleanDisk (state S.Store conn.old)
         → IsPlain (understood conn.old.schema query.now.text) }
     requires autocommit { conn.old.in_transaction ≡ false }
     ensures autocommit { conn.new.in_transaction ≡ false }
-    ensures query { Queries S.Store conn.old conn.new (λ old new.
-        IfOk result (λ rows. Shown query.now.text [] old new rows.items)) }
+    ensures query { Queries S.Store conn.old conn.new (λ old new. IfOk result (λ items.
+        (rows : List Values) × Shown query.now.text [] old new rows
+        × ReadsRows R.Stored.is_of R.Stored.shows rows items)) }
 {
-    let mut answer = Vec::new(alloc);
+    let mut items = Some(Vec::new(alloc));
     let mut rows = conn.query_prepared(query, &[])?;
     'rows: for _ in 0..u64::MAX {
         let Some(row) = rows.next()? else {
-            return Ok(answer);
+            fit(&mut items);
+            return Ok(items);
         };
-        answer.push(row.copy()?)?;
+        add_item(&mut items, row)?;
     }
     Err(Error::SqliteFailure(ErrorCode::OutOfMemory))
 }
 
-/// Reads the table at a place.
-fn read_table<S: Alter>(conn: &mut Connection<S>, alloc: Global, at: u32) -> Result<Vec<Row>, Error>
+/// Reads the table at a place. `None` if nothing is read of one of its rows.
+fn read_table<S: Alter, R: Stored>(
+    conn: &mut Connection<S>,
+    alloc: Global,
+    at: u32,
+) -> Result<Option<Vec<R>>, Error>
     requires low { at < 8 }
     requires schema { HasSchema store_schema (state S.Store conn.old) }
     requires autocommit { conn.old.in_transaction ≡ false }
     ensures autocommit { conn.new.in_transaction ≡ false }
-    ensures query { Queries S.Store conn.old conn.new (λ old new.
-        IfOk result (λ rows. AreRead at old.now.trees rows.items × IsUnchanged old new)) }
+    ensures query { Queries S.Store conn.old conn.new (λ old new. IfOk result (λ items.
+        ReadsAt old.now.trees at R.Stored.is_of R.Stored.shows items × IsUnchanged old new)) }
 {
     let query = conn.prepare(text_of(at))?;
-    rows_of(conn, alloc, &query)
+    items_of(conn, alloc, &query)
 }
 
-/// Reads all tables in turn.
-fn read_all<S: Alter>(conn: &mut Connection<S>, alloc: Global) -> Result<Vec<Vec<Row>>, Error>
+/// Reads the table at a place, and the next one. `None` if nothing is read of one of their rows.
+fn read_two<S: Alter, R: Stored, Q: Stored>(
+    conn: &mut Connection<S>,
+    alloc: Global,
+    at: u32,
+) -> Result<Option<(Vec<R>, Vec<Q>)>, Error>
+    requires low { at < 7 }
     requires schema { HasSchema store_schema (state S.Store conn.old) }
     requires autocommit { conn.old.in_transaction ≡ false }
     ensures autocommit { conn.new.in_transaction ≡ false }
-    ensures read { HasCleanDisk (state S.Store conn.new)
-        → IfOk result (λ tables. AreAllRead 8 (state S.Store conn.old).now.trees tables.items) }
-    ensures was_open { HasCleanDisk (state S.Store conn.new)
-        → OnOk result (IsTrue (state S.Store conn.old).is_open) }
-    ensures kept { HasCleanDisk (state S.Store conn.new)
-        → KeepsCommit (state S.Store conn.old) (state S.Store conn.new) }
-    ensures survives { Survives (state S.Store conn.old) (state S.Store conn.new) (λ _. ⊥) }
+    ensures query { Queries S.Store conn.old conn.new (λ old new. IfOk result (λ two.
+        ReadsTwo old.now.trees at R.Stored.is_of R.Stored.shows Q.Stored.is_of Q.Stored.shows two
+        × IsUnchanged old new)) }
 {
-    let mut tables = Vec::new(alloc);
-    'tables: for at in 0u32..8 {
-        let rows = read_table(conn, alloc, at)?;
-        tables.push(rows)?;
-    }
-    Ok(tables)
+    let Some(first) = read_table(conn, alloc, at)? else {
+        return Ok(None);
+    };
+    let Some(second) = read_table(conn, alloc, at + 1)? else {
+        return Ok(None);
+    };
+    Ok(Some((first, second)))
 }
 
-/// Reads the rows of all tables, in the order in which the tables are made. Changes nothing.
+/// Reads all tables in turn.
+fn read_all<S: Alter>(
+    conn: &mut Connection<S>,
+    alloc: Global,
+) -> Result<Option<StoredTables>, Error>
+    requires schema { HasSchema store_schema (state S.Store conn.old) }
+    requires autocommit { conn.old.in_transaction ≡ false }
+    ensures autocommit { conn.new.in_transaction ≡ false }
+    ensures query { Queries S.Store conn.old conn.new (λ old new. IfOk result (λ tables.
+        ReadsTables old.now.trees tables × IsUnchanged old new)) }
+{
+    let Some((mailboxes, entries)) = read_two(conn, alloc, 0)? else {
+        return Ok(None);
+    };
+    let Some((messages, gone)) = read_two(conn, alloc, 2)? else {
+        return Ok(None);
+    };
+    let Some((marks, epochs)) = read_two(conn, alloc, 4)? else {
+        return Ok(None);
+    };
+    let Some((subscriptions, meta)) = read_two(conn, alloc, 6)? else {
+        return Ok(None);
+    };
+    Ok(Some(StoredTables {
+        mailboxes,
+        entries,
+        messages,
+        gone,
+        marks,
+        epochs,
+        subscriptions,
+        meta,
+    }))
+}
+
+/// Reads the rows of all tables. `None` if nothing is read of one of them. Changes nothing.
 pub fn read_tables<S: Alter>(
     conn: &mut Connection<S>,
     alloc: Global,
-) -> Result<Vec<Vec<Row>>, Error>
+) -> Result<Option<StoredTables>, Error>
     requires schema { HasSchema store_schema (state S.Store conn.old) }
     requires autocommit { conn.old.in_transaction ≡ false }
     ensures read { HasCleanDisk (state S.Store conn.new)
-        → IfOk result (λ tables. AreAllRead 8 (state S.Store conn.old).now.trees tables.items) }
+        → IfOk result (ReadsTables (state S.Store conn.old).now.trees) }
     ensures was_open { HasCleanDisk (state S.Store conn.new)
         → OnOk result (IsTrue (state S.Store conn.old).is_open) }
     ensures kept { HasCleanDisk (state S.Store conn.new) → IsTrue (state S.Store conn.new).is_open

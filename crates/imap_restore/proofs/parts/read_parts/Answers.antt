@@ -1,4 +1,3 @@
-use Rattle.std.proofs.Common.{◌∙◌}
 use Rattle.imap_restore.proofs.InOrder.{has_parts, have_groups, parts_for}
 use Rattle.imap_restore.proofs.Restored.{if_ok}
 use Rattle.imap_restore.proofs.parts.read_parts.Goals as goal

@@ -1,17 +1,21 @@
-use Rattle.imap_restore.proofs.Refused.{never_unmade, never_unread}
+use Rattle.std.proofs.Common.{subst}
+use Rattle.imap_restore.specs.Holding.{IsUnmade}
+use Rattle.imap_restore.specs.Parts.{ArePartsFor}
+use Rattle.imap_restore.proofs.Refused.{are_apart, never_unmade}
 use Rattle.imap_restore.proofs.Restored.{holds, if_ok}
 use Rattle.imap_restore.proofs.Words.{same_fault}
 use Rattle.imap_restore.proofs.restoring.restore.Goals as goal
 
 pub returns-in-Ok-clause-ok : goal.returns-in-Ok-clause-ok
 returns-in-Ok-clause-ok c =
+    let one = c.in-Ok.ensures.ok in
     if_ok c.restore_read.result
-    (λ world it db rows. let read = c.in-Ok.ensures.ok rows.read.0 in holds db c.args.tables.items rows c.in-Ok.stored read.0 read.1 it.0 it.1 world it.2) c.restore_read.ensures.ok
+    (λ world it db rows. holds db c.args.stored rows one.1 it.0 (subst (λ t. ArePartsFor t it.0) one.0 it.1) world it.2) c.restore_read.ensures.ok
 
 pub returns-in-Ok-clause-bad : goal.returns-in-Ok-clause-bad
 returns-in-Ok-clause-bad c is db world rows hold =
-    let read = c.in-Ok.ensures.ok rows.read.0 in
-    never_unmade db world hold (record { tables = c.args.tables.items; are = rows; t = c.in-Ok.stored; stored = read.0 }) read.1 (c.restore_read.ensures.bad is)
+    let one = c.in-Ok.ensures.ok in
+    never_unmade db world hold (record { t = c.args.stored; are = rows }) one.1 (subst IsUnmade one.0 (c.restore_read.ensures.bad is))
 
 pub returns-in-Err-clause-bad : goal.returns-in-Err-clause-bad
-returns-in-Err-clause-bad c is db world rows hold = never_unread db world hold c.args.tables.items rows (c.in-Err.ensures.bad rows.read.0 (same_fault c.in-Err.error is))
+returns-in-Err-clause-bad c is db world rows hold = c.in-Err.ensures.bad (same_fault c.in-Err.error is) (are_apart db world hold c.args.stored rows)
