@@ -50,7 +50,8 @@ pub(crate) struct Failed;
 impl<T> Watched<T> {
     /// It did not fail yet.
     pub fn new(inner: T) -> Watched<T>
-        ensures { (result.inner ≡ inner) × (result.failed ≡ false) × (result.last ≡ None) × (result.quiet ≡ 0) }
+        ensures inner { result.inner ≡ inner }
+        ensures fresh { (result.failed ≡ false) × (result.last ≡ None) × (result.quiet ≡ 0) }
     {
         Watched {
             inner,
