@@ -66,6 +66,13 @@ impl Octets {
     {
         Ok(Octets(self.0.clone()?))
     }
+
+    /// Brings the count that a copy raises into the processor's cache. It changes nothing.
+    ///
+    /// Before many copies: such reads overlap, while each raise waits for the one before.
+    pub fn prefetch(&self) {
+        self.0.is_unique();
+    }
 }
 
 impl TryCopy for Octets {

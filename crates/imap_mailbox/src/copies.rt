@@ -33,12 +33,27 @@ impl TryCopy for Message {
     }
 }
 
+/// How many messages' octets are fetched into the processor's cache before these are copied.
+const FETCHED_AT_ONCE: usize = 64;
+
+/// Fetches the octets of the next messages into the processor's cache.
+fn prefetch_next(messages: &[Message], start: usize) {
+    if let Some(next) = messages.get(start..) {
+        for message in next.iter().take(FETCHED_AT_ONCE) {
+            message.octets.prefetch();
+        }
+    }
+}
+
 /// Returns an equal copy of the messages, which shares their octets and keywords.
 pub(crate) fn copy_messages(alloc: Global, messages: &[Message]) -> Result<Vec<Message>, AllocError>
     ensures { IfOk result (λ copy. copy.items ≡ messages.now) }
 {
     let mut copies = Vec::with_capacity(alloc, messages.len())?;
     for message in messages {
+        if copies.len() % FETCHED_AT_ONCE == 0 {
+            prefetch_next(messages, copies.len());
+        }
         let copy = message.try_copy(alloc)?;
         copies.push_reserved(copy);
     }
