@@ -64,11 +64,11 @@ after-last (v ∷ ws) w world = after-last ws w (after_write v world)
 
 -- ---- one mailbox that is made
 
-record IsNewRow (epochs : Names ℕ) (name : Name) (row : NewMailbox) : Type 0 where
-  is : row.name ≡ name
-  next : row.validity ≡ epoch epochs name + 1
+pub record IsNewRow (epochs : Names ℕ) (name : Name) (row : NewMailbox) : Type 0 where
+  pub is : row.name ≡ name
+  pub next : row.validity ≡ epoch epochs name + 1
 
-row_is_new : (epochs : Names ℕ) (name : Name) (acl : AclMap) (row : NewMailbox) → new_row epochs name acl ≡ Ok row → IsNewRow epochs name row
+pub row_is_new : (epochs : Names ℕ) (name : Name) (acl : AclMap) (row : NewMailbox) → new_row epochs name acl ≡ Ok row → IsNewRow epochs name row
 row_is_new epochs name acl row made = by (epoch epochs name == max_validity) made
   where
     new : NewMailbox

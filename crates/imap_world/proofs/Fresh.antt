@@ -1,10 +1,11 @@
 -- What is written for effects is found by the world as it is.
-use Rattle.std.proofs.Common.{◌≡◌, ℕ, Bool, true, false, cond, not, List, [], ◌∷◌, ◌++◌, Option, Some, None, Result, Ok, Err, refl, subst}
+use Rattle.std.proofs.Common.{◌≡◌, ℕ, Bool, true, false, cond, not, List, [], ◌∷◌, ◌++◌, ◌+◌, Option, Some, None, Result, Ok, Err, refl, subst, sym, ap, ◌∙◌}
 use Rattle.std.specs.FinMap as map
-use Rattle.std.specs.List.{AllByRecursion}
+use Rattle.std.specs.List.{AllByRecursion, list_all}
+use Rattle.imap_name_map.specs.Renaming.{moved_names}
 use Rattle.imap_name_map.specs.Rows.{has_below, has_within}
 use Rattle.imap_names.specs.Name.{Name, is_inbox}
-use Rattle.imap_rights.specs.Acl.{is_full_for, owner_acl, with_entry}
+use Rattle.imap_rights.specs.Acl.{AclMap, is_full_for, owner_acl, with_entry}
 use Rattle.imap_rights.specs.Change.{applied}
 use Rattle.imap_rights.specs.Effective.{entry}
 use Rattle.imap_rights.specs.declared.change.RightsChange.{RightsChange}
@@ -17,13 +18,14 @@ use Rattle.imap_world.specs.declared.error.WorldError.TheVariants.{Below, Cannot
 use Rattle.imap_world.specs.Mailbox.{Mailbox}
 use Rattle.imap_world.specs.Effects.{list_changed, list_set, move_after, put_of, puts, puts_of, writes_for, writes_of, writes_then}
 use Rattle.imap_world.specs.Laws.{IsFresh}
-use Rattle.imap_world.specs.Moving.{arrivals, can_move, superior_rows}
+use Rattle.imap_world.specs.Moving.{arrivals_at, can_arrive, can_move, superior_rows}
 use Rattle.imap_world.specs.NewMailbox.{NewMailbox}
 use Rattle.imap_world.specs.Ready.{IsCurrent}
-use Rattle.imap_world.specs.Tree.{created_rows, new_row}
-use Rattle.imap_world.specs.World.{World, inbox}
-use Rattle.imap_world.proofs.Fitting.{ok_same}
+use Rattle.imap_world.specs.Tree.{created_rows, inherited, new_row, rows_for, with_last}
+use Rattle.imap_world.specs.World.{World, epoch, inbox}
+use Rattle.imap_world.proofs.Fitting.{IsNewRow, ok_same, row_is_new}
 use Rattle.imap_world.proofs.Parts.{IsOneWrite, messages_are_written}
+use Rattle.imap_world.proofs.Superiors.{puts-last}
 
 abbrev Writes : Type 0
 Writes = Result (List Write) WorldError
@@ -32,23 +34,52 @@ module _ (world : World) where
   abbrev AreFresh : List Write → Type 0
   AreFresh ws = AllByRecursion (IsFresh world) ws
 
-  puts_are : (rows : List NewMailbox) → AreFresh (puts rows)
-  puts_are [] = tt
-  puts_are (row ∷ rows) = (tt, puts_are rows)
-
   both_are : (ws more : List Write) → AreFresh ws → AreFresh more → AreFresh (ws ++ more)
   both_are [] more h k = k
   both_are (w ∷ ws) more h k = (h.0, both_are ws more h.1 k)
 
-  inbox_is : (b : Bool) (row : Result NewMailbox WorldError) (ws : List Write) → ◌≡◌ {A = Writes} (cond b (Err Taken) (put_of row)) (Ok ws) → AreFresh ws
-  inbox_is true row ws e = absurd (cc e)
-  inbox_is false (Err error) ws e = absurd (cc e)
-  inbox_is false (Ok row) ws e = subst AreFresh (ok_same (write.Put row ∷ []) ws e) (tt, tt)
+  -- ---- what is made
 
-  created_are : (b : Bool) (rows : Result (List NewMailbox) WorldError) (ws : List Write) → ◌≡◌ {A = Writes} (cond b (Err Taken) (puts_of rows)) (Ok ws) → AreFresh ws
-  created_are true rows ws e = absurd (cc e)
-  created_are false (Err error) ws e = absurd (cc e)
-  created_are false (Ok rows) ws e = subst AreFresh (ok_same (puts rows) ws e) (puts_are rows)
+  put_is : (name : Name) (row : NewMailbox) → map.contains_key world.mailboxes name ≡ false → IsNewRow world.epochs name row → AreFresh (write.Put row ∷ [])
+  put_is name row absent new = ((ap (map.contains_key world.mailboxes) new.is ∙ absent, new.next ∙ ap (λ n. epoch world.epochs n + 1) (sym new.is)), tt)
+
+  rows_are : (acl : AclMap) (name : Name) (rows : List NewMailbox) → rows_for world acl name ≡ Ok rows → AreFresh (puts rows)
+  rows_are acl [] rows is = subst (λ rs. AreFresh (puts rs)) (ok_same [] rows is) tt
+  rows_are acl (root ∷ []) rows is = subst (λ rs. AreFresh (puts rs)) (ok_same [] rows is) tt
+  rows_are acl (deepest ∷ above ∷ more) rows is =
+      by (map.contains_key world.mailboxes (deepest ∷ above ∷ more)) refl (rows_for world acl (above ∷ more)) refl (new_row world.epochs (deepest ∷ above ∷ more) acl) refl is (rows_are acl (above ∷ more))
+    where
+      by : (b : Bool) → map.contains_key world.mailboxes (deepest ∷ above ∷ more) ≡ b
+          → (outer : Result (List NewMailbox) WorldError) → rows_for world acl (above ∷ more) ≡ outer
+          → (last : Result NewMailbox WorldError) → new_row world.epochs (deepest ∷ above ∷ more) acl ≡ last
+          → ◌≡◌ {A = Result (List NewMailbox) WorldError} (cond b (Ok []) (with_last outer last)) (Ok rows)
+          → ((outers : List NewMailbox) → rows_for world acl (above ∷ more) ≡ Ok outers → AreFresh (puts outers)) → AreFresh (puts rows)
+      by true there outer are last new e deeper = subst (λ rs. AreFresh (puts rs)) (ok_same [] rows e) tt
+      by false there (Err error) are last new e deeper = absurd (cc e)
+      by false there (Ok outers) are (Err error) new e deeper = absurd (cc e)
+      by false there (Ok outers) are (Ok row) new e deeper =
+          subst (λ rs. AreFresh (puts rs)) (ok_same (outers ++ row ∷ []) rows e)
+          (subst AreFresh (sym (puts-last outers row))
+          (both_are (puts outers) (write.Put row ∷ []) (deeper outers are) (put_is (deepest ∷ above ∷ more) row there (row_is_new world.epochs (deepest ∷ above ∷ more) acl row new))))
+
+  inbox_is : (user : List ℕ) (b : Bool) → map.contains_key world.mailboxes (inbox user) ≡ b → (row : Result NewMailbox WorldError) → new_row world.epochs (inbox user) (owner_acl user) ≡ row
+      → (ws : List Write) → ◌≡◌ {A = Writes} (cond b (Err Taken) (put_of row)) (Ok ws) → AreFresh ws
+  inbox_is user true there row new ws e = absurd (cc e)
+  inbox_is user false there (Err error) new ws e = absurd (cc e)
+  inbox_is user false there (Ok row) new ws e =
+      subst AreFresh (ok_same (write.Put row ∷ []) ws e) (put_is (inbox user) row there (row_is_new world.epochs (inbox user) (owner_acl user) row new))
+
+  created_are : (acl : AclMap) (name : Name) (b : Bool) (rows : Result (List NewMailbox) WorldError) → rows_for world acl name ≡ rows
+      → (ws : List Write) → ◌≡◌ {A = Writes} (cond b (Err Taken) (puts_of rows)) (Ok ws) → AreFresh ws
+  created_are acl name true rows are ws e = absurd (cc e)
+  created_are acl name false (Err error) are ws e = absurd (cc e)
+  created_are acl name false (Ok rows) are ws e = subst AreFresh (ok_same (puts rows) ws e) (rows_are acl name rows are)
+
+  superiors_are : (owner : List ℕ) (name : Name) (rows : List NewMailbox) → superior_rows world owner name ≡ Ok rows → AreFresh (puts rows)
+  superiors_are owner [] rows is = subst (λ rs. AreFresh (puts rs)) (ok_same [] rows is) tt
+  superiors_are owner (deepest ∷ above) rows is = rows_are (inherited world.mailboxes owner above) above rows is
+
+  -- ---- what goes or moves
 
   removed_is : (name : Name) (b : Bool) → map.contains_key world.mailboxes name ≡ b → (own below : Bool) (ws : List Write)
       → ◌≡◌ {A = Writes} (cond b (cond own (Err Cannot) (cond below (Err Below) (Ok (write.Remove name ∷ [])))) (Err NoSuch)) (Ok ws) → AreFresh ws
@@ -57,15 +88,20 @@ module _ (world : World) where
   removed_is name true there false true ws e = absurd (cc e)
   removed_is name true there false false ws e = subst AreFresh (ok_same (write.Remove name ∷ []) ws e) (there, tt)
 
-  moved_are : (old new : Name) (b : Bool) → map.contains_key world.mailboxes old ≡ b → (can used : Bool) (rows : Result (List NewMailbox) WorldError) (came : Result (List (Name × ℕ)) WorldError) (ws : List Write)
-      → ◌≡◌ {A = Writes} (cond b (cond (not can) (Err Cannot) (cond used (Err Taken) (move_after old new (puts_of rows) came))) (Err NoSuch)) (Ok ws) → AreFresh ws
-  moved_are old new false there can used rows came ws e = absurd (cc e)
-  moved_are old new true there false used rows came ws e = absurd (cc e)
-  moved_are old new true there true true rows came ws e = absurd (cc e)
-  moved_are old new true there true false (Err error) came ws e = absurd (cc e)
-  moved_are old new true there true false (Ok rows) (Err error) ws e = absurd (cc e)
-  moved_are old new true there true false (Ok rows) (Ok came) ws e =
-      subst AreFresh (ok_same (puts rows ++ write.Move old new came ∷ []) ws e) (both_are (puts rows) (write.Move old new came ∷ []) (puts_are rows) (there, tt))
+  abbrev came_to : (old new : Name) → List (Name × ℕ)
+  came_to old new = arrivals_at world.epochs (moved_names old new world.mailboxes)
+
+  moved_are : (owner : List ℕ) (old new : Name) (b : Bool) → map.contains_key world.mailboxes old ≡ b → (can used : Bool) → has_within new world.mailboxes ≡ used
+      → (rows : Result (List NewMailbox) WorldError) → superior_rows world owner new ≡ rows → (all : Bool) (ws : List Write)
+      → ◌≡◌ {A = Writes} (cond b (cond (not can) (Err Cannot) (cond used (Err Taken) (move_after old new (puts_of rows) (cond all (Ok (came_to old new)) (Err Limit))))) (Err NoSuch)) (Ok ws) → AreFresh ws
+  moved_are owner old new false there can used free rows are all ws e = absurd (cc e)
+  moved_are owner old new true there false used free rows are all ws e = absurd (cc e)
+  moved_are owner old new true there true true free rows are all ws e = absurd (cc e)
+  moved_are owner old new true there true false free (Err error) are all ws e = absurd (cc e)
+  moved_are owner old new true there true false free (Ok rows) are false ws e = absurd (cc e)
+  moved_are owner old new true there true false free (Ok rows) are true ws e =
+      subst AreFresh (ok_same (puts rows ++ write.Move old new (came_to old new) ∷ []) ws e)
+      (both_are (puts rows) (write.Move old new (came_to old new) ∷ []) (superiors_are owner new rows are) ((there, free, refl), tt))
 
   list_is : (name : Name) (identifier : List ℕ) (rights : ℕ) (mailbox : Mailbox) → map.get world.mailboxes name ≡ Some mailbox → (full : Bool) (ws : List Write)
       → list_set name (cond full (Err Limit) (Ok (with_entry mailbox.acl identifier rights))) ≡ Ok ws → AreFresh ws
@@ -83,11 +119,11 @@ module _ (world : World) where
   messages_are ws w = subst AreFresh w.are (w.may, tt)
 
   effect_is : (e : Effect) (ws : List Write) → writes_for e world ≡ Ok ws → AreFresh ws
-  effect_is (effect.CreateInbox user) ws is = inbox_is (map.contains_key world.mailboxes (inbox user)) (new_row world.epochs (inbox user) (owner_acl user)) ws is
-  effect_is (effect.Create owner name) ws is = created_are (map.contains_key world.mailboxes name) (created_rows world owner name) ws is
+  effect_is (effect.CreateInbox user) ws is = inbox_is user (map.contains_key world.mailboxes (inbox user)) refl (new_row world.epochs (inbox user) (owner_acl user)) refl ws is
+  effect_is (effect.Create owner name) ws is = created_are (inherited world.mailboxes owner name) name (map.contains_key world.mailboxes name) (created_rows world owner name) refl ws is
   effect_is (effect.Delete name) ws is = removed_is name (map.contains_key world.mailboxes name) refl (is_inbox name) (has_below name world.mailboxes) ws is
   effect_is (effect.Rename owner old new) ws is =
-      moved_are old new (map.contains_key world.mailboxes old) refl (can_move old new) (has_within new world.mailboxes) (superior_rows world owner new) (arrivals world old new) ws is
+      moved_are owner old new (map.contains_key world.mailboxes old) refl (can_move old new) (has_within new world.mailboxes) refl (superior_rows world owner new) refl (list_all (can_arrive world.epochs) (moved_names old new world.mailboxes)) ws is
   effect_is (effect.SetRights name identifier change) ws is = lists_are name identifier change (map.get world.mailboxes name) refl ws is
   effect_is (effect.Messages part other) ws is = messages_are ws (messages_are_written world.mailboxes part other ws is)
   effect_is (effect.Subscribe user name) ws is = subst AreFresh (ok_same (write.Subscribe user name ∷ []) ws is) (tt, tt)

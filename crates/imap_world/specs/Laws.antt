@@ -4,6 +4,8 @@ use Rattle.std.specs.Prelude.{Option, Some, None, Ok, option_map}
 use Rattle.std.specs.FinMap as map
 use Rattle.std.specs.List.{AllByRecursion}
 use Rattle.imap_batch.specs.Laws.{IsGrown}
+use Rattle.imap_name_map.specs.Renaming.{moved_names}
+use Rattle.imap_name_map.specs.Rows.{has_within}
 use Rattle.imap_names.specs.Name.{Name}
 use Rattle.imap_names.specs.Order.{Names, is_within, moved}
 use Rattle.imap_rights.specs.Acl.{with_entry}
@@ -14,6 +16,7 @@ use Rattle.imap_world.specs.declared.effect.Effect.{Effect}
 use Rattle.imap_world.specs.Mailbox.{Mailbox, new_mailbox}
 use Rattle.imap_world.specs.Effects.{after_steps, after_writes, writes_for}
 use Rattle.imap_world.specs.Kept.{AreKept, IsSound}
+use Rattle.imap_world.specs.Moving.{arrivals_at}
 use Rattle.imap_world.specs.Ready.{AreApart, IsCurrent, MayChangeParts}
 use Rattle.imap_world.specs.Tree.{inherited}
 use Rattle.imap_world.specs.World.{World, epoch, inbox}
@@ -73,21 +76,25 @@ MessagesGrow = (world : World) (steps : List (List Effect))
 
 -- ---- changes that are current
 
--- A list that is set is the mailbox's as it is, with one entry changed. What goes or moves is there. What is
--- written to messages is what is found for them as they are.
+-- A mailbox is made where none is, and moves to where nothing is, each with the next UIDVALIDITY that was never
+-- used there. A list that is set is the mailbox's as it is, with one entry changed. What goes or moves is there.
+-- What is written to messages is what is found for them as they are.
 abbrev pub IsFresh : World → Write → Type 0
-IsFresh world (write.Put row) = Unit {0}
+IsFresh world (write.Put row) =
+    (map.contains_key world.mailboxes row.name ≡ false) × (row.validity ≡ epoch world.epochs row.name + 1)
 IsFresh world (write.SetAcl name acl) =
     (mailbox : Mailbox) × (identifier : List ℕ) × (rights : ℕ)
     × (map.get world.mailboxes name ≡ Some mailbox) × (acl ≡ with_entry mailbox.acl identifier rights)
 IsFresh world (write.Remove name) = map.contains_key world.mailboxes name ≡ true
-IsFresh world (write.Move old new arrivals) = map.contains_key world.mailboxes old ≡ true
+IsFresh world (write.Move old new arrivals) =
+    (map.contains_key world.mailboxes old ≡ true) × (has_within new world.mailboxes ≡ false)
+    × (arrivals ≡ arrivals_at world.epochs (moved_names old new world.mailboxes))
 IsFresh world (write.Messages part other) = MayChangeParts world.mailboxes part other
 IsFresh world (write.Subscribe user name) = Unit {0}
 IsFresh world (write.Unsubscribe user name) = Unit {0}
 
--- What was found for a mailbox is not current once the mailbox is gone, nor once its list has changed by more
--- than the entry that was asked for.
+-- A change of which this isn't so is current no more, as when its name was taken or its mailbox went since it
+-- was found.
 abbrev pub CurrentIsFresh : Type 0
 CurrentIsFresh =
     (change : List Write) (world : World) → IsCurrent change world → AllByRecursion (IsFresh world) change

@@ -27,7 +27,8 @@ pub fn messages_grow()
     ensures { MessagesGrow }
 {}
 
-/// A change that is current sets no list that was found before another changed it, removes or moves no
+/// A change that is current makes mailboxes, or moves them, only to names that are free, with UIDVALIDITYs that
+/// were never used there. It sets a list that is the mailbox's as it is but for one entry, removes or moves no
 /// mailbox that is gone, and writes to messages only what is found for them as they are.
 pub fn current_changes_are_fresh()
     ensures { CurrentIsFresh }
