@@ -1,6 +1,6 @@
 -- Views after a change.
 use Rattle.std.proofs.Common.{◌≡◌, ◌≢◌, ◌⊎◌, inl, inr, ℕ, Bool, true, false, cond, List, Option, Some, None, refl, sym, ap, ◌∙◌, true≢false}
-use Rattle.std.specs.Prelude.{option_and_then}
+use Rattle.std.specs.Prelude.{is_some, option_and_then, option_map}
 use Rattle.std.specs.FinMap as map
 use Rattle.imap_names.specs.Name.{Name}
 use Rattle.imap_names.specs.Order.{Names, name_cmp}
@@ -78,6 +78,18 @@ nothing true f o e = absurd (true≢false e)
 nothing false f None e = refl
 nothing false f (Some x) e = refl
 
+-- the value is taken first, or where it is kept
+taken_first : {X Y : Type 0} (b : Bool) (f : X → Y) (o : Option X) → option_and_then (λ x. if_true b (f x)) o ≡ option_and_then (if_true b) (option_map f o)
+taken_first b f None = refl
+taken_first b f (Some x) = refl
+
+-- both are there or neither is, and what is taken tells no more
+in_both : {X : Type 0} (f : X → Unit {0}) (o p : Option X) → is_some o ≡ is_some p → option_map f o ≡ option_map f p
+in_both f None None e = refl
+in_both f None (Some y) e = absurd (true≢false (sym e))
+in_both f (Some x) None e = absurd (true≢false e)
+in_both f (Some x) (Some y) e = refl
+
 module _ (site : Site) (user : List ℕ) (one other : World) (differ : DifferInHidden site user one other) where
   abbrev seen : Names Seen
   seen = seen_in site user one
@@ -95,8 +107,8 @@ module _ (site : Site) (user : List ℕ) (one other : World) (differ : DifferInH
   unfolding view_of
   seen_same = same_names seen (seen_in site user other) seen_at_each
 
-  -- what is kept of maps that differ at names of which the user may not know
-  kept_known : {X Y : Type 0} (f : X → Y) (m n : Names X) → ((q : Name) → (map.get m q ≡ map.get n q) ⊎ (may_know_name site user seen q ≡ false))
+  -- what is kept of maps that differ, once it is taken of each value, at names alone of which the user may not know
+  kept_known : {X Y : Type 0} (f : X → Y) (m n : Names X) → ((q : Name) → (option_map f (map.get m q) ≡ option_map f (map.get n q)) ⊎ (may_know_name site user seen q ≡ false))
       → keep (λ name x. if_true (may_know_name site user seen name) (f x)) m ≡ keep (λ name x. if_true (may_know_name site user seen name) (f x)) n
   kept_known {X} {Y} f m n each =
       same_names _ _ (λ q. get-keep name_cmp kept name_antisymmetric m q ∙ by q (each q) ∙ sym (get-keep name_cmp kept name_antisymmetric n q))
@@ -104,25 +116,40 @@ module _ (site : Site) (user : List ℕ) (one other : World) (differ : DifferInH
       kept : Name → X → Option Y
       kept name x = if_true (may_know_name site user seen name) (f x)
 
-      by : (q : Name) → (map.get m q ≡ map.get n q) ⊎ (may_know_name site user seen q ≡ false) → option_and_then (kept q) (map.get m q) ≡ option_and_then (kept q) (map.get n q)
-      by q (inl same) = ap (option_and_then (kept q)) same
+      by : (q : Name) → (option_map f (map.get m q) ≡ option_map f (map.get n q)) ⊎ (may_know_name site user seen q ≡ false) → option_and_then (kept q) (map.get m q) ≡ option_and_then (kept q) (map.get n q)
+      by q (inl same) =
+          taken_first (may_know_name site user seen q) f (map.get m q) ∙ ap (option_and_then (if_true (may_know_name site user seen q))) same
+          ∙ sym (taken_first (may_know_name site user seen q) f (map.get n q))
       by q (inr unknown) = nothing (may_know_name site user seen q) f (map.get m q) unknown ∙ sym (nothing (may_know_name site user seen q) f (map.get n q) unknown)
 
-  known_mailboxes : (q : Name) → (map.get one.mailboxes q ≡ map.get other.mailboxes q) ⊎ (may_know_name site user seen q ≡ false)
+  used : Mailbox → Unit {0}
+  used mailbox = tt
+
+  known_mailboxes : (q : Name) → (option_map used (map.get one.mailboxes q) ≡ option_map used (map.get other.mailboxes q)) ⊎ (may_know_name site user seen q ≡ false)
   unfolding view_of
   known_mailboxes q = by (differ.mailboxes q)
     where
       by : (map.get one.mailboxes q ≡ map.get other.mailboxes q) ⊎ IsHidden site user one other q
-          → (map.get one.mailboxes q ≡ map.get other.mailboxes q) ⊎ (may_know_name site user seen q ≡ false)
-      by (inl same) = inl same
-      by (inr hidden) = inr hidden.unknown
+          → (option_map used (map.get one.mailboxes q) ≡ option_map used (map.get other.mailboxes q)) ⊎ (may_know_name site user seen q ≡ false)
+      by (inl same) = inl (ap (option_map used) same)
+      by (inr hidden) = by_use hidden.use_hidden
+        where
+          by_use : (may_know_name site user seen q ≡ false) ⊎ (map.contains_key one.mailboxes q ≡ map.contains_key other.mailboxes q)
+              → (option_map used (map.get one.mailboxes q) ≡ option_map used (map.get other.mailboxes q)) ⊎ (may_know_name site user seen q ≡ false)
+          by_use (inl unknown) = inr unknown
+          by_use (inr both) = inl (in_both used (map.get one.mailboxes q) (map.get other.mailboxes q) both)
 
   taken_same : (view_by site user seen one).taken ≡ (view_by site user seen other).taken
-  taken_same = kept_known (λ (m : Mailbox). tt) one.mailboxes other.mailboxes known_mailboxes
+  taken_same = kept_known used one.mailboxes other.mailboxes known_mailboxes
+
+  known_epochs : (q : Name) → (map.get one.epochs q ≡ map.get other.epochs q) ⊎ (may_know_name site user seen q ≡ false)
+      → (option_map (λ (n : ℕ). n) (map.get one.epochs q) ≡ option_map (λ (n : ℕ). n) (map.get other.epochs q)) ⊎ (may_know_name site user seen q ≡ false)
+  known_epochs q (inl same) = inl (ap (option_map (λ (n : ℕ). n)) same)
+  known_epochs q (inr unknown) = inr unknown
 
   epochs_same : (view_by site user seen one).epochs ≡ (view_by site user seen other).epochs
   unfolding view_of
-  epochs_same = kept_known (λ (n : ℕ). n) one.epochs other.epochs differ.epochs
+  epochs_same = kept_known (λ (n : ℕ). n) one.epochs other.epochs (λ q. known_epochs q (differ.epochs q))
 
   view_same : view_by site user seen one ≡ view_by site user (seen_in site user other) other
   view_same =

@@ -73,11 +73,13 @@ OthersInboxesAreHidden = (site : Site) (user other : List ℕ) (world : World) �
     view_of site user (after_all (effect.CreateInbox other ∷ []) world)
     ≡ view_of site user world
 
--- In neither world the user sees a mailbox of this name, or may know if the name is in use.
+-- In neither world the user sees a mailbox of this name. Whether the name is in use the user may not know, or it
+-- is so in both or in neither.
 pub record IsHidden (site : Site) (user : List ℕ) (one other : World) (name : Name) : Type 0 where
   pub unseen : map.get (view_of site user one).seen name ≡ None
   pub unseen_other : map.get (view_of site user other).seen name ≡ None
-  pub unknown : may_know_name_in (view_of site user one) name ≡ false
+  pub use_hidden : (may_know_name_in (view_of site user one) name ≡ false)
+      ⊎ (map.contains_key one.mailboxes name ≡ map.contains_key other.mailboxes name)
 
 -- The worlds differ for the user in hidden mailboxes alone, and in validities that were used under names of
 -- which the user may not know.
@@ -90,7 +92,7 @@ pub record DifferInHidden (site : Site) (user : List ℕ) (one other : World) : 
       ⊎ (may_know_name_in (view_of site user one) name ≡ false)
   pub subscribed : subscribed_by one user ≡ subscribed_by other user
 
--- Hidden mailboxes can come and go, and leave their used validities, and the view stays.
+-- Hidden mailboxes can change, come and go, and leave their used validities, and the view stays.
 abbrev pub HiddenIsAbsent : Type 0
 HiddenIsAbsent = (site : Site) (user : List ℕ) (one other : World)
     → DifferInHidden site user one other

@@ -28,8 +28,8 @@ pub fn others_inboxes_are_hidden()
     ensures { OthersInboxesAreHidden }
 {}
 
-/// Mailboxes that the user doesn't see, under names of which the user may not know if they are in use, can
-/// come and go, and leave their used UIDVALIDITYs, and the view stays.
+/// Mailboxes that the user doesn't see can change, and under names of which the user may not know if they are in
+/// use they can come and go, and leave their used UIDVALIDITYs: the view stays.
 pub fn hidden_is_absent()
     ensures { HiddenIsAbsent }
 {}
