@@ -1,2 +1,3 @@
+-- What a keeper of the mailboxes promises.
 pub mod Keeping
 pub mod Laws

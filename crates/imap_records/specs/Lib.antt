@@ -1,3 +1,4 @@
+-- The rows in which the mailboxes are kept.
 pub mod Bounds
 pub mod Columns
 pub mod Laws

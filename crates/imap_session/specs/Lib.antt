@@ -1,3 +1,4 @@
+-- What a session knows of its mailbox, and what it is told.
 pub mod Compared
 pub mod Lost
 pub mod Notices

@@ -1,2 +1,3 @@
+-- The mailboxes in a database.
 pub mod Keeping
 pub mod Adopting

@@ -1,3 +1,4 @@
+-- What a session is told after a change that is to come.
 pub mod Asked
 pub mod Changed
 pub mod InStep
