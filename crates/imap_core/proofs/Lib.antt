@@ -1,5 +1,6 @@
 pub mod Admitted
 pub mod Fitting
+pub mod Histories
 pub mod InStep
 pub mod Lent
 pub mod MailboxLeft

@@ -4,6 +4,7 @@ pub mod Answers
 pub mod Commands
 pub mod Frames
 pub mod Held
+pub mod Histories
 pub mod InStep
 pub mod Laws
 pub mod Machine

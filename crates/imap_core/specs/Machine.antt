@@ -98,6 +98,11 @@ abbrev pub after_steps : State → List Step → State
 after_steps state [] = state
 after_steps state (step ∷ steps) = after_steps (next state step) steps
 
+-- a step of the session is answered by these replies, and leads from the one state to the other
+abbrev pub IsOneStep : SessionId → State → List Response → State → Type 0
+IsOneStep who old replies new =
+    (step : Step) × (step.who ≡ who) × (replies ≡ answer old step) × (new ≡ next old step)
+
 -- some of the first steps were made, and the others not
 abbrev pub IsPartWay : State → List Step → State → Type 0
 IsPartWay state steps reached =

@@ -1,21 +1,24 @@
 -- What the code has prepared, against what is to be answered.
-use Rattle.std.specs.Prelude.{◌≡◌, ◌⊎◌, ◌<◌, Bool, true, false, ℕ, List, Option, Some, None, IfSome, map as map_list}
+use Rattle.std.specs.Prelude.{◌≡◌, ◌⊎◌, ◌<◌, true, ℕ, List, Option, Some, None, Ok, IfSome}
+use Rattle.std.specs.Prelude.{map as map_list}
 use Rattle.std.specs.FinMap as map
 use Rattle.std.specs.List.{AllByRecursion}
 use Rattle.std.specs.declared.vec.Vec.{Vec}
+use Rattle.imap_answer.specs.Alike.{effects_of}
 use Rattle.imap_print.specs.Lines.{IsPrintable}
 use Rattle.imap_print.specs.declared.response.Response.{Response}
 use Rattle.imap_world.specs.declared.change.Write.{Write}
-use Rattle.imap_world.specs.Effects.{after_writes}
+use Rattle.imap_world.specs.Effects.{after_writes, writes_of}
 use Rattle.imap_world.specs.Ready as world
 use Rattle.imap_core.specs.declared.session_id.SessionId.{SessionId}
 use Rattle.imap_core.specs.declared.sessions.SessionEffect.{SessionEffect}
 use Rattle.imap_core.specs.declared.sessions.SessionEffect.TheVariants as session
 use Rattle.imap_core.specs.declared.machine.Prepared.{Prepared}
+use Rattle.imap_core.specs.declared.step.Step.{Step}
 use Rattle.imap_core.specs.Accounts.{held_in}
 use Rattle.imap_core.specs.Held.{HasKnownRoom, added_by}
 use Rattle.imap_core.specs.InStep.{IsMachineKept, session_at}
-use Rattle.imap_core.specs.Machine.{State, Machine, accounts_after}
+use Rattle.imap_core.specs.Machine.{State, Machine, accounts_after, answer, outcome}
 use Rattle.imap_session.specs.State.{IsTellingFor, SessionState}
 use Rattle.imap_core.specs.Sessions.{Own, max_sessions}
 
@@ -48,22 +51,6 @@ state_after prepared state = record {
   accounts = accounts_after state.accounts prepared.who prepared.session;
 }
 
-abbrev pub is_open : SessionEffect → Bool
-is_open session.Keep = false
-is_open session.Open = true
-is_open (session.Note more told) = false
-is_open (session.Select selection) = false
-is_open (session.Idle tag told) = false
-is_open session.End = false
-
-abbrev pub is_end : SessionEffect → Bool
-is_end session.Keep = false
-is_end session.Open = false
-is_end (session.Note more told) = false
-is_end (session.Select selection) = false
-is_end (session.Idle tag told) = false
-is_end session.End = true
-
 -- if a session is opened, fewer are open than may be, or it is one of them
 abbrev pub MayOpen : Option Own → ℕ → SessionEffect → Type 0
 MayOpen None number change = Unit {0}
@@ -94,8 +81,20 @@ room_needed (session.Select selection) = 0
 room_needed (session.Idle tag told) = added_by told
 room_needed session.End = 0
 
--- it needs no memory in this machine, and leaves its sessions in step
+-- The step finds it in the state: replies, session and change are those of its definition.
+pub record IsFoundBy (step : Step) (prepared : Prepared) (state : State) : Type 0 where
+  pub who : who_of prepared ≡ step.who
+  pub replies : replies_of prepared ≡ answer state step
+  pub session : session_of prepared ≡ (outcome state step).session
+  pub change : writes_of (effects_of (outcome state step).effect) state.world ≡ Ok (change_of prepared)
+
+-- A step finds it in the state as it is. What was found before another step was made need not be.
+abbrev pub IsCurrent : Prepared → State → Type 0
+IsCurrent prepared state = (step : Step) × IsFoundBy step prepared state
+
+-- It is current, needs no memory in this machine, and leaves its sessions in step.
 pub record IsReady (prepared : Prepared) (machine : Machine) : Type 0 where
+  pub current : IsCurrent prepared machine.state
   pub sessions :
       MayOpen (map.get machine.state.accounts prepared.who.user) prepared.who.number prepared.session
   pub told :

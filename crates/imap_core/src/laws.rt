@@ -1,12 +1,13 @@
 //! What holds at the start, of every step and of every run.
 
+ghost use Rattle.imap_core.specs.Histories.{RunsGrowMessages, RunsKeepValidities};
 ghost use Rattle.imap_core.specs.InStep.{AreInStep, SessionsStayInStep};
 ghost use Rattle.imap_core.specs.Laws.{EffectsAreMade, HiddenIsAlike, NeverUnavailable, OtherSessionsStay};
 ghost use Rattle.imap_core.specs.Laws.{MessagesAreKnown, OtherUsersStay, QuietPollsChangeNothing};
 ghost use Rattle.imap_core.specs.Laws.{RefusalsChangeNothing, StepsAreAlike};
 ghost use Rattle.imap_core.specs.Starting.{StartsWithInboxes};
 ghost use Rattle.imap_core.specs.Trace.{EqualViewsAreSame, Isolation};
-ghost use Rattle.imap_world.specs.Kept.{AreKept};
+ghost use Rattle.imap_world.specs.Kept.{AreKept, IsSound};
 
 use crate::machine::Core;
 
@@ -27,7 +28,7 @@ pub fn steps_are_alike()
     ensures { StepsAreAlike }
 {}
 
-/// Mailboxes that are hidden from a user can come and go, and leave their used UIDVALIDITYs, and the
+/// Mailboxes that are hidden from a user can change, come and go, and leave their used UIDVALIDITYs, and the
 /// states are alike to the user: so what the user is answered from then on is the same, by
 /// [`isolation`].
 pub fn hidden_is_alike()
@@ -48,13 +49,26 @@ pub fn effects_are_made()
 
 /// In every state of the machine, what the type of a mailbox keeps holds of the messages of each. So the
 /// machine's states meet what [`isolation`], [`steps_are_alike`] and [`effects_are_made`] ask of messages.
-/// All open sessions are in step with their mailboxes.
+/// The superiors of each mailbox are there, and its UIDVALIDITY is counted as used. All open sessions are in
+/// step with their mailboxes.
 pub fn messages_are_kept(core: &Core)
+    ensures sound { IsSound core.now.state.world }
     ensures messages { AreKept core.now.state.world.mailboxes }
     ensures sessions { AreInStep core.now.state.world core.now.state.accounts }
 {
     core.keep();
 }
+
+/// No UIDVALIDITY is used twice under a name, whatever steps are made (RFC 9051, section 2.3.1.1).
+pub fn validities_are_used_once()
+    ensures { RunsKeepValidities }
+{}
+
+/// Under a name and a UIDVALIDITY messages only grow, whatever steps are made: UIDNEXT and the number of shared
+/// events don't fall.
+pub fn messages_grow()
+    ensures { RunsGrowMessages }
+{}
 
 /// A step that is answered by a refusal leaves all mailboxes, subscriptions and sessions as they were, but for
 /// what its session was told of its mailbox; a refused SELECT or EXAMINE leaves no mailbox selected in its

@@ -13,10 +13,10 @@ ghost use Rattle.imap_core.specs.Held.{HasKnownRoom};
 ghost use Rattle.imap_core.specs.InStep.{IsMachineKept, session_at};
 ghost use Rattle.imap_core.specs.Machine as specs;
 ghost use Rattle.imap_answer.specs.Alike.{effects_of};
-ghost use Rattle.imap_core.specs.Machine.{IsPartWay, accounts_after, after_steps, answer, answers, next};
+ghost use Rattle.imap_core.specs.Machine.{IsOneStep, IsPartWay, accounts_after, after_steps, answer, answers, next};
 ghost use Rattle.imap_core.specs.Opening.{admission, state_at_start};
 ghost use Rattle.imap_core.specs.Pending.{IsCompletable, completed, effect_in};
-ghost use Rattle.imap_core.specs.Planned.{ArePrintable, IsReady, MayTell, change_of, is_end, is_open};
+ghost use Rattle.imap_core.specs.Planned.{ArePrintable, IsReady, MayTell, change_of};
 ghost use Rattle.imap_core.specs.Planned.{replies_in, replies_of, room_needed, session_of};
 ghost use Rattle.imap_core.specs.Planned.{state_after, who_of};
 ghost use Rattle.imap_core.specs.Trace.{sent_to, transcript};
@@ -92,20 +92,6 @@ impl Prepared {
         ensures { result.now ≡ change_of self.now }
     {
         &self.change
-    }
-
-    /// Whether the step opens its session, or lets it begin anew.
-    pub fn opens_session(&self) -> bool
-        ensures { result ≡ is_open self.now.session }
-    {
-        matches!(self.session, SessionEffect::Open)
-    }
-
-    /// Whether the step ends its session.
-    pub fn ends_session(&self) -> bool
-        ensures { result ≡ is_end self.now.session }
-    {
-        matches!(self.session, SessionEffect::End)
     }
 }
 
@@ -230,12 +216,13 @@ impl Core {
         Ok(said)
     }
 
-    /// Makes the step, and gives what its session is told. Nothing else may have been committed since it
-    /// was prepared.
+    /// Makes the step, and gives what its session is told. It must still be what a step finds in the machine as
+    /// it is: since it was prepared nothing else may have been committed.
     pub fn commit(&mut self, prepared: Prepared) -> Vec<Response>
         requires { IsReady prepared self.old }
         ensures replies { result.items ≡ replies_of prepared }
         ensures state { self.new.state ≡ state_after prepared self.old.state }
+        ensures step { IsOneStep (who_of prepared) self.old.state result.items self.new.state }
     {
         let Prepared {
             who,

@@ -8,6 +8,7 @@ use imap_grammar::Request;
 use imap_values::{Same, TryCopy};
 use std::alloc::{AllocError, Global};
 
+/// What a session does in one step.
 #[derive(Debug, Drop)]
 pub enum Act {
     /// The connection is made.

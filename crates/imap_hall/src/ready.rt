@@ -31,7 +31,7 @@ pub(crate) struct Ready {
 }
 
 /// Prepares the step, and copies its replies.
-#[tactic(auto, using(crate::proofs::Stepped::current, crate::proofs::Stepped::unwritten))]
+#[tactic(auto, using(crate::proofs::Stepped::unwritten))]
 pub(crate) fn make_ready(core: &mut Core, alloc: Global, step: &Step) -> Result<Ready, AllocError>
     ensures state { core.new.state ≡ core.old.state }
     ensures ready { IfOk result (λ r. IsReady r.prepared core.new) }

@@ -12,7 +12,7 @@ use Rattle.imap_core.specs.Held.{HasKnownRoom}
 use Rattle.imap_core.specs.InStep.{IsMachineKept, session_at}
 use Rattle.imap_core.specs.Machine.{State, accounts_after, outcome, own_in, view_in}
 use Rattle.imap_core.specs.Outcome.{Outcome}
-use Rattle.imap_core.specs.Planned.{IsReady, MayOpen, MayTell, change_of, state_after}
+use Rattle.imap_core.specs.Planned.{IsFoundBy, IsReady, MayOpen, MayTell, change_of, state_after}
 use Rattle.imap_core.proofs.Fitting.{outcome_fits}
 use Rattle.imap_core.proofs.Preparing.{effect_is, found_so, next_is, prepared_so, tried_so}
 use Rattle.imap_core.proofs.machine.Core.prepare.Goals as goal
@@ -53,7 +53,15 @@ returns-clause-ready c =
     let so = prepared_so state step c.in_ok-who.who change c.into_parts-replies.result.1 c.in_ok-who.ensures (session_found c) now (c.make_room-room.ensures.unchanged ∙ c.resolve-found.ensures.unchanged) in
     let told = found_so (λ (o : Outcome). MayTell (session_at c.resolve-found.new.self.state.accounts step.who.user step.who.number) o.session) c.complete-found.result c.in_ok-change.outcome c.in_ok-change.ensures.found c.complete-found.ensures.told in
     let ready = found_so (λ (change : List Write). world.IsReady change c.resolve-found.new.self.stored) c.resolve-found.result c.in_ok-pending-2.change c.in_ok-pending-2.ensures.found c.resolve-found.ensures.ready in
+    let made : Prepared = record { who = c.in_ok-who.who; replies = c.into_parts-replies.result.0; session = c.into_parts-replies.result.1; change = change } in
+    let found : IsFoundBy step made state = record {
+      who = c.in_ok-who.ensures;
+      replies = c.into_parts-replies.ensures.replies ∙ ap (λ (o : Outcome). o.replies) (outcome_found c);
+      session = session_found c;
+      change = change_found c;
+    } in
     subst (λ (p : Prepared). IsReady p c.make_room-room.new.self) (sym c.in_ok-prepared.ensures.value) (record {
+      current = (step, subst (λ s. IsFoundBy step made s) (sym (c.make_room-room.ensures.unchanged ∙ c.resolve-found.ensures.unchanged)) found);
       sessions = so (λ s w e. MayOpen (map.get s.accounts w.user) w.number e) ((outcome_fits (view_in state step.who.user) (own_in state step.who.user) step).room);
       told = so (λ s w e. MayTell (session_at s.accounts w.user w.number) e)
           (subst (λ (o : Outcome). MayTell (session_at state.accounts step.who.user step.who.number) o.session) (outcome_found c)
