@@ -1,7 +1,8 @@
 //! The hall.
 
-ghost use Rattle.std.specs.Prelude.{◌≡◌, ◌⊎◌, ◌+◌, ◌↔◌, length, map};
+ghost use Rattle.std.specs.Prelude.{◌≡◌, ◌⊎◌, ◌+◌, ◌↔◌, is_some, length, map};
 ghost use Rattle.std.specs.Prelude.{IfErr, IfOk, IsErrOf, OnErr, OnOk};
+ghost use Rattle.imap_core.specs.InStep.{session_at};
 ghost use Rattle.imap_core.specs.Machine.{next};
 ghost use Rattle.imap_core.specs.Opening.{state_at_start};
 ghost use Rattle.imap_keeper.specs.Keeping.{LeavesOnly, LeavesOr};
@@ -17,7 +18,7 @@ use crate::journal::{Entry, OldBase, Receipt};
 use crate::opening::{Start, begin};
 use crate::own_counts::OwnCounts;
 use crate::room::Room;
-use imap_core::{Core, Step};
+use imap_core::{Core, SessionId, Step};
 use imap_keeper::Keeper;
 use imap_names::UserName;
 use imap_user_map::UserMap;
@@ -190,6 +191,16 @@ impl<K: Keeper> Hall<K> {
         ensures { map noted result.now ≡ self.now.entries }
     {
         self.journal.as_slice()
+    }
+
+    /// Whether the session is open.
+    pub fn is_open(&self, who: &SessionId) -> bool
+        ensures { result ≡ is_some (session_at self.now.now.state.accounts who.now.user who.now.number) }
+    {
+        match self.core.session(who) {
+            Some(_) => true,
+            None => false,
+        }
     }
 
     /// Ends the hall, and hands its keeper back.

@@ -75,7 +75,7 @@ impl<K: Keeper, O: Write + Drop> Run<K, O> {
     /// Begins a stream, unless the session is refused.
     fn open(&mut self, alloc: Global, step: &ScriptStep) -> Result<(), ScriptError> {
         let replies = self.made(alloc, step, Act::Open)?;
-        if opens_session(replies.as_slice()) {
+        if self.hall.is_open(&step.who) {
             let label = String::from_str(alloc, step.label.as_str())?;
             self.framers
                 .insert(label, Framer::new(alloc, self.max_octets))?;
@@ -160,7 +160,7 @@ impl<K: Keeper, O: Write + Drop> Run<K, O> {
     /// Makes an act of an open session.
     fn act(&mut self, alloc: Global, step: &ScriptStep, act: Act) -> Result<(), ScriptError> {
         let replies = self.made(alloc, step, act)?;
-        if ends_session(replies.as_slice()) {
+        if !self.hall.is_open(&step.who) {
             self.framers.remove(step.label.as_str());
         }
         self.transcript
@@ -198,19 +198,6 @@ impl<K: Keeper, O: Write + Drop> Run<K, O> {
             Err(HallError::Memory | HallError::Exhausted) => Err(ScriptError::Memory),
         }
     }
-}
-
-fn opens_session(replies: &[Response]) -> bool {
-    replies
-        .iter()
-        .any(|reply| matches!(reply, Response::Greeting))
-}
-
-/// A BYE ends the session (RFC 9051, section 7.1.5).
-fn ends_session(replies: &[Response]) -> bool {
-    replies
-        .iter()
-        .any(|reply| matches!(reply, Response::Bye(_)))
 }
 
 /// A copy of `who` beside `act`. It is generic, since the proof that a request is dropped is long.
