@@ -23,7 +23,7 @@ use Rattle.imap_hall.specs.Receipts.{AreLast}
 use Rattle.imap_serve.specs.declared.error.End.{End}
 use Rattle.imap_serve.specs.declared.error.ServeError.{ServeError}
 use Rattle.imap_serve.specs.declared.error.ServeError.TheVariants as error
-use Rattle.imap_serve.specs.Asked.{Asked, step, asked}
+use Rattle.imap_serve.specs.Asked.{Asked, step, ask_of}
 use Rattle.imap_serve.specs.Reading.{AppendsPart}
 use Rattle.imap_serve.specs.Events.{Event, asks_of_act, close, text, text_of, entries, entry_in, asks, ask_in, IsOf, IsOpen, end_of}
 use Rattle.imap_serve.specs.Served.{Scene, scene, Site, site, Answers, EndsBy, GoesOn, Closes, Idles, Breaks, GoesOrCloses, Heard, EndedAfter, BrokeOffAfter, Ended, BrokeOff, IsCaused, Leaves, Serves, GivesUp, opening, requests}
@@ -192,17 +192,17 @@ not_made s old new written ws is = subst (λ l. Breaks s (scene old written) (sc
 -- ---- what is no step
 
 module _ (s : Site) (made : List JournalEntry) (before after : Option (List ℕ)) where
-  pub ready_all : Appends before after (printed (response.Ready ∷ [])) → GoesOn s (scene made before) (scene made after) (asked frame.Continue ∷ [])
-  ready_all shown = one_goes s (scene made before) (scene made after) (asked frame.Continue ∷ []) Event.ready (last_same s.keeps_all made) shown refl tt refl
+  pub ready_all : Appends before after (printed (response.Ready ∷ [])) → GoesOn s (scene made before) (scene made after) (ask_of frame.Continue ∷ [])
+  ready_all shown = one_goes s (scene made before) (scene made after) (ask_of frame.Continue ∷ []) Event.ready (last_same s.keeps_all made) shown refl tt refl
 
-  pub ready_part : AppendsPart before after (printed (response.Ready ∷ [])) → Breaks s (scene made before) (scene made after) (asked frame.Continue ∷ [])
-  ready_part part = one_breaks s (scene made before) (scene made after) (asked frame.Continue ∷ []) Event.ready part.0 (last_same s.keeps_all made) part.1 refl tt
+  pub ready_part : AppendsPart before after (printed (response.Ready ∷ [])) → Breaks s (scene made before) (scene made after) (ask_of frame.Continue ∷ [])
+  ready_part part = one_breaks s (scene made before) (scene made after) (ask_of frame.Continue ∷ []) Event.ready part.0 (last_same s.keeps_all made) part.1 refl tt
 
-  pub hangup_all : Appends before after (printed (response.Bye LimitReached ∷ [])) → Closes s (scene made before) (scene made after) (asked frame.Hangup ∷ [])
-  hangup_all shown = one_closes s (scene made before) (scene made after) (asked frame.Hangup ∷ []) Event.hangup (last_same s.keeps_all made) shown refl tt refl
+  pub hangup_all : Appends before after (printed (response.Bye LimitReached ∷ [])) → Closes s (scene made before) (scene made after) (ask_of frame.Hangup ∷ [])
+  hangup_all shown = one_closes s (scene made before) (scene made after) (ask_of frame.Hangup ∷ []) Event.hangup (last_same s.keeps_all made) shown refl tt refl
 
-  pub hangup_part : AppendsPart before after (printed (response.Bye LimitReached ∷ [])) → Breaks s (scene made before) (scene made after) (asked frame.Hangup ∷ [])
-  hangup_part part = one_breaks s (scene made before) (scene made after) (asked frame.Hangup ∷ []) Event.hangup part.0 (last_same s.keeps_all made) part.1 refl tt
+  pub hangup_part : AppendsPart before after (printed (response.Bye LimitReached ∷ [])) → Breaks s (scene made before) (scene made after) (ask_of frame.Hangup ∷ [])
+  hangup_part part = one_breaks s (scene made before) (scene made after) (ask_of frame.Hangup ∷ []) Event.hangup part.0 (last_same s.keeps_all made) part.1 refl tt
 
   pub idle_all : Appends before after (printed (response.Bye IdleTooLong ∷ [])) → Idles s (scene made before) (scene made after) []
   idle_all shown = one_idles s (scene made before) (scene made after) [] Event.idle (last_same s.keeps_all made) shown refl tt refl
@@ -212,7 +212,7 @@ module _ (s : Site) (made : List JournalEntry) (before after : Option (List ℕ)
 
 -- ---- frames
 
-pub command_asked : (a : Act) (octets : List ℕ) → a ≡ act_of_command octets → asks_of_act a ≡ asked (frame.Whole octets) ∷ []
+pub command_asked : (a : Act) (octets : List ℕ) → a ≡ act_of_command octets → asks_of_act a ≡ ask_of (frame.Whole octets) ∷ []
 command_asked a octets is = ap asks_of_act is ∙ by (is_done octets)
   where
     by : (b : Bool) → asks_of_act (if b then act.Done else act.Do (request_read octets)) ≡ step (if b then act.Done else act.Do (request_read octets)) ∷ []
@@ -221,29 +221,29 @@ command_asked a octets is = ap asks_of_act is ∙ by (is_done octets)
 
 module _ (s : Site) (a b c : Scene) (xs : List Frame) (i : ℕ) (d : Frame) (in' : i < length xs) where
   -- what the frames so far ask for, one more, and the rest
-  asked_parts : map asked xs ≡ (map asked (take i xs) ++ (asked (get_or xs i d) ∷ [])) ++ map asked (drop (suc i) xs)
-  asked_parts = ap (map asked) (sym (take-append-drop i xs) ∙ ap (λ l. take i xs ++ l) (drop-cons xs i d in')) ∙ (map-append asked (take i xs) (get_or xs i d ∷ drop (suc i) xs) ∙ sym (append_assoc (map asked (take i xs)) (asked (get_or xs i d) ∷ []) (map asked (drop (suc i) xs))))
+  asked_parts : map ask_of xs ≡ (map ask_of (take i xs) ++ (ask_of (get_or xs i d) ∷ [])) ++ map ask_of (drop (suc i) xs)
+  asked_parts = ap (map ask_of) (sym (take-append-drop i xs) ∙ ap (λ l. take i xs ++ l) (drop-cons xs i d in')) ∙ (map-append ask_of (take i xs) (get_or xs i d ∷ drop (suc i) xs) ∙ sym (append_assoc (map ask_of (take i xs)) (ask_of (get_or xs i d) ∷ []) (map ask_of (drop (suc i) xs))))
 
-  pub frames_more : GoesOn s a b (map asked (take i xs)) → GoesOn s b c (asked (get_or xs i d) ∷ []) → GoesOn s a c (map asked (take (i + 1) xs))
-  frames_more h k = subst (GoesOn s a c) (sym (ap (map asked) (take-add i 1 xs ∙ ap (λ l. take i xs ++ take 1 l) (drop-cons xs i d in')) ∙ map-append asked (take i xs) (get_or xs i d ∷ []))) (goes_more s a b c (map asked (take i xs)) (asked (get_or xs i d) ∷ []) h k)
+  pub frames_more : GoesOn s a b (map ask_of (take i xs)) → GoesOn s b c (ask_of (get_or xs i d) ∷ []) → GoesOn s a c (map ask_of (take (i + 1) xs))
+  frames_more h k = subst (GoesOn s a c) (sym (ap (map ask_of) (take-add i 1 xs ∙ ap (λ l. take i xs ++ take 1 l) (drop-cons xs i d in')) ∙ map-append ask_of (take i xs) (get_or xs i d ∷ []))) (goes_more s a b c (map ask_of (take i xs)) (ask_of (get_or xs i d) ∷ []) h k)
 
-  pub frames_close : GoesOn s a b (map asked (take i xs)) → Closes s b c (asked (get_or xs i d) ∷ []) → Closes s a c (map asked xs)
-  frames_close h k = subst (Closes s a c) (sym asked_parts) (closes_less s a c (map asked (take i xs) ++ (asked (get_or xs i d) ∷ [])) (map asked (drop (suc i) xs)) (closes_more s a b c (map asked (take i xs)) (asked (get_or xs i d) ∷ []) h k))
+  pub frames_close : GoesOn s a b (map ask_of (take i xs)) → Closes s b c (ask_of (get_or xs i d) ∷ []) → Closes s a c (map ask_of xs)
+  frames_close h k = subst (Closes s a c) (sym asked_parts) (closes_less s a c (map ask_of (take i xs) ++ (ask_of (get_or xs i d) ∷ [])) (map ask_of (drop (suc i) xs)) (closes_more s a b c (map ask_of (take i xs)) (ask_of (get_or xs i d) ∷ []) h k))
 
-  pub frames_break : GoesOn s a b (map asked (take i xs)) → Breaks s b c (asked (get_or xs i d) ∷ []) → Breaks s a c (map asked xs)
-  frames_break h k = subst (Breaks s a c) (sym asked_parts) (breaks_less s a c (map asked (take i xs) ++ (asked (get_or xs i d) ∷ [])) (map asked (drop (suc i) xs)) (breaks_more s a b c (map asked (take i xs)) (asked (get_or xs i d) ∷ []) h k))
+  pub frames_break : GoesOn s a b (map ask_of (take i xs)) → Breaks s b c (ask_of (get_or xs i d) ∷ []) → Breaks s a c (map ask_of xs)
+  frames_break h k = subst (Breaks s a c) (sym asked_parts) (breaks_less s a c (map ask_of (take i xs) ++ (ask_of (get_or xs i d) ∷ [])) (map ask_of (drop (suc i) xs)) (breaks_more s a b c (map ask_of (take i xs)) (ask_of (get_or xs i d) ∷ []) h k))
 
 -- a framer that was hung up has no frames
-pub nothing_framed : (s : Site) (a : Scene) (state : Framing) (octets : List ℕ) → state ≡ hung_up → GoesOn s a a (map asked (run state octets).frames)
-nothing_framed s a state octets is = subst (λ f. GoesOn s a a (map asked (run f octets).frames)) (sym is) (subst (λ o. GoesOn s a a (map asked o.frames)) (sym (run-hung_up octets)) (goes_nowhere s a))
+pub nothing_framed : (s : Site) (a : Scene) (state : Framing) (octets : List ℕ) → state ≡ hung_up → GoesOn s a a (map ask_of (run state octets).frames)
+nothing_framed s a state octets is = subst (λ f. GoesOn s a a (map ask_of (run f octets).frames)) (sym is) (subst (λ o. GoesOn s a a (map ask_of o.frames)) (sym (run-hung_up octets)) (goes_nowhere s a))
 
 pub stays_hung_up : (state : Framing) (octets : List ℕ) → state ≡ hung_up → state ≡ (run state octets).next
 stays_hung_up state octets is = is ∙ (sym (ap (λ o. o.next) (run-hung_up octets)) ∙ ap (λ f. (run f octets).next) (sym is))
 
 -- ---- octets, cut anywhere
 
-pub asked_more : (state : Framing) (xs ys : List ℕ) → map asked (run state (xs ++ ys)).frames ≡ map asked (run state xs).frames ++ map asked (run (run state xs).next ys).frames
-asked_more state xs ys = ap (λ o. map asked o.frames) (run-append state xs ys) ∙ map-append asked (run state xs).frames (run (run state xs).next ys).frames
+pub asked_more : (state : Framing) (xs ys : List ℕ) → map ask_of (run state (xs ++ ys)).frames ≡ map ask_of (run state xs).frames ++ map ask_of (run (run state xs).next ys).frames
+asked_more state xs ys = ap (λ o. map ask_of o.frames) (run-append state xs ys) ∙ map-append ask_of (run state xs).frames (run (run state xs).next ys).frames
 
 pub next_more : (state : Framing) (xs ys : List ℕ) → (run state (xs ++ ys)).next ≡ (run (run state xs).next ys).next
 next_more state xs ys = ap (λ o. o.next) (run-append state xs ys)
@@ -258,22 +258,22 @@ module _ (limit : ℕ) (s : Site) (i j k : Option (List ℕ)) (a b d : Scene) (f
   all_read : Consumes i k (h.octets ++ ys)
   all_read = consumes_more i j k h.octets ys h.read read
 
-  all_asked : requests limit h.octets ++ map asked (run f ys).frames ≡ requests limit (h.octets ++ ys)
-  all_asked = ap (λ g. requests limit h.octets ++ map asked (run g ys).frames) h.left ∙ sym (asked_more (beginning limit) h.octets ys)
+  all_asked : requests limit h.octets ++ map ask_of (run f ys).frames ≡ requests limit (h.octets ++ ys)
+  all_asked = ap (λ g. requests limit h.octets ++ map ask_of (run g ys).frames) h.left ∙ sym (asked_more (beginning limit) h.octets ys)
 
-  pub heard_more : (g : Framing) → GoesOn s b d (map asked (run f ys).frames) → g ≡ (run f ys).next → Heard limit s i k a d g
+  pub heard_more : (g : Framing) → GoesOn s b d (map ask_of (run f ys).frames) → g ≡ (run f ys).next → Heard limit s i k a d g
   heard_more g go is = record {
     octets = h.octets ++ ys;
     read = all_read;
     left = is ∙ (ap (λ g. (run g ys).next) h.left ∙ sym (next_more (beginning limit) h.octets ys));
-    answered = subst (GoesOn s a d) all_asked (goes_more s a b d (requests limit h.octets) (map asked (run f ys).frames) h.answered go);
+    answered = subst (GoesOn s a d) all_asked (goes_more s a b d (requests limit h.octets) (map ask_of (run f ys).frames) h.answered go);
   }
 
-  pub heard_closes : Closes s b d (map asked (run f ys).frames) → EndedAfter limit End.Closed s i k a d []
-  heard_closes go = record { octets = h.octets ++ ys; read = all_read; answered = subst (Closes s a d) all_asked (closes_more s a b d (requests limit h.octets) (map asked (run f ys).frames) h.answered go) }
+  pub heard_closes : Closes s b d (map ask_of (run f ys).frames) → EndedAfter limit End.Closed s i k a d []
+  heard_closes go = record { octets = h.octets ++ ys; read = all_read; answered = subst (Closes s a d) all_asked (closes_more s a b d (requests limit h.octets) (map ask_of (run f ys).frames) h.answered go) }
 
-  pub heard_breaks : (e : ServeError) (w : Bool) → IsCaused e false w → Breaks s b d (map asked (run f ys).frames) → BrokeOffAfter limit e s i k a d []
-  heard_breaks e w cause go = record { octets = h.octets ++ ys; read = all_read; answered = breaks_broke s a d (requests limit (h.octets ++ ys)) e w cause (subst (Breaks s a d) all_asked (breaks_more s a b d (requests limit h.octets) (map asked (run f ys).frames) h.answered go)) }
+  pub heard_breaks : (e : ServeError) (w : Bool) → IsCaused e false w → Breaks s b d (map ask_of (run f ys).frames) → BrokeOffAfter limit e s i k a d []
+  heard_breaks e w cause go = record { octets = h.octets ++ ys; read = all_read; answered = breaks_broke s a d (requests limit (h.octets ++ ys)) e w cause (subst (Breaks s a d) all_asked (breaks_more s a b d (requests limit h.octets) (map ask_of (run f ys).frames) h.answered go)) }
 
 module _ (limit : ℕ) (s : Site) (i j k : Option (List ℕ)) (a b : Scene) (f : Framing) (h : Heard limit s i j a b f) (read : Consumes j k []) where
   pub heard_all : EndedAfter limit End.InputEnded s i k a b []

@@ -12,8 +12,8 @@ pub data Asked : Type 0 where
   ready : Asked
   hangup : Asked
 
-abbrev pub asked : Frame → Asked
-asked (frame.Whole octets) = step (act_of_command octets)
-asked frame.Continue = ready
-asked (frame.Reject tag) = step (act.Do (rejected tag))
-asked frame.Hangup = hangup
+abbrev pub ask_of : Frame → Asked
+ask_of (frame.Whole octets) = step (act_of_command octets)
+ask_of frame.Continue = ready
+ask_of (frame.Reject tag) = step (act.Do (rejected tag))
+ask_of frame.Hangup = hangup

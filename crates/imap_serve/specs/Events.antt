@@ -10,7 +10,7 @@ use Rattle.imap_print.specs.declared.response.Farewell.TheVariants.{LimitReached
 use Rattle.imap_print.specs.declared.response.Response.{Response}
 use Rattle.imap_print.specs.declared.response.Response.TheVariants as response
 use Rattle.imap_print.specs.Printed.{printed}
-use Rattle.imap_serve.specs.Asked as asked
+use Rattle.imap_serve.specs.Asked as ask
 use Rattle.imap_serve.specs.declared.error.End.{End}
 use Rattle.imap_serve.specs.declared.error.End.TheVariants as end
 
@@ -57,17 +57,17 @@ entry_in hangup = []
 entry_in idle = []
 
 -- a poll is asked for by nobody
-abbrev pub asks_of_act : Act → List asked.Asked
-asks_of_act act.Open = asked.step act.Open ∷ []
-asks_of_act (act.Do request) = asked.step (act.Do request) ∷ []
+abbrev pub asks_of_act : Act → List ask.Asked
+asks_of_act act.Open = ask.step act.Open ∷ []
+asks_of_act (act.Do request) = ask.step (act.Do request) ∷ []
 asks_of_act act.Poll = []
-asks_of_act act.Done = asked.step act.Done ∷ []
-asks_of_act act.Leave = asked.step act.Leave ∷ []
+asks_of_act act.Done = ask.step act.Done ∷ []
+asks_of_act act.Leave = ask.step act.Leave ∷ []
 
-abbrev pub ask_in : Event → List asked.Asked
+abbrev pub ask_in : Event → List ask.Asked
 ask_in (made entry) = asks_of_act entry.step.act
-ask_in ready = asked.ready ∷ []
-ask_in hangup = asked.hangup ∷ []
+ask_in ready = ask.ready ∷ []
+ask_in hangup = ask.hangup ∷ []
 ask_in idle = []
 
 abbrev pub end_of : Event → Option End
@@ -82,7 +82,7 @@ text events = flat_map text_of events
 abbrev pub entries : List Event → List JournalEntry
 entries events = flat_map entry_in events
 
-abbrev pub asks : List Event → List asked.Asked
+abbrev pub asks : List Event → List ask.Asked
 asks events = flat_map ask_in events
 
 -- a step is of this session

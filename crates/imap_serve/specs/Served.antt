@@ -7,7 +7,7 @@ use Rattle.imap_core.specs.declared.session_id.SessionId.{SessionId}
 use Rattle.imap_core.specs.declared.step.Act.TheVariants as act
 use Rattle.imap_hall.specs.Journal.{JournalEntry}
 use Rattle.imap_hall.specs.Receipts.{AreLast}
-use Rattle.imap_serve.specs.Asked.{Asked, step, asked}
+use Rattle.imap_serve.specs.Asked.{Asked, step, ask_of}
 use Rattle.imap_serve.specs.declared.error.End.{End}
 use Rattle.imap_serve.specs.declared.error.End.TheVariants.{Closed, InputEnded, Idle}
 use Rattle.imap_serve.specs.declared.error.ServeError.{ServeError}
@@ -96,7 +96,7 @@ BrokeOff Exhausted s a b wanted = Breaks s a b wanted
 
 -- what octets ask for, cut into frames (RFC 9051, section 2.2.1)
 abbrev pub requests : (limit : ℕ) → (octets : List ℕ) → List Asked
-requests limit octets = map asked (run (beginning limit) octets).frames
+requests limit octets = map ask_of (run (beginning limit) octets).frames
 
 -- Some octets were read, and all that they ask for was answered. The framer is where they leave it.
 pub record Heard (limit : ℕ) (s : Site) (before after : Option (List ℕ)) (a b : Scene) (framer : Framing)

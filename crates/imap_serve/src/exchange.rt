@@ -5,7 +5,7 @@ ghost use Rattle.imap_lex.specs.Framing.{run};
 ghost use Rattle.imap_lex.specs.declared.frame.Frame.TheVariants.{Whole};
 ghost use Rattle.imap_core.specs.declared.step.Act.TheVariants.{Do};
 ghost use Rattle.imap_core.specs.Frames.{act_of_command, rejected};
-ghost use Rattle.imap_serve.specs.Asked.{asked};
+ghost use Rattle.imap_serve.specs.Asked.{ask_of};
 ghost use Rattle.imap_serve.specs.Events.{asks_of_act};
 ghost use Rattle.imap_serve.specs.Served.{Breaks, GoesOrCloses, IsCaused, scene, site};
 
@@ -146,7 +146,7 @@ fn request<R: Room, O: Write, C: Moments, G: Gate>(
 #[tactic(auto, using(crate::proofs::Scenes::command_asked))]
 fn act_of_command(alloc: Global, octets: &Octets) -> Result<Act, AllocError>
     ensures act { IfOk result (λ act. act ≡ act_of_command octets.now) }
-    ensures asks { IfOk result (λ act. asks_of_act act ≡ asked (Whole octets.now) ∷ []) }
+    ensures asks { IfOk result (λ act. asks_of_act act ≡ ask_of (Whole octets.now) ∷ []) }
 {
     Ok(Act::of_command(alloc, octets)?)
 }
@@ -172,10 +172,10 @@ fn take_frame<R: Room, O: Write, C: Moments, G: Gate>(
 ) -> Result<Flow, ServeError>
     ensures ok { IfOk result (λ flow. GoesOrCloses flow.closed (site who.now R.keeps_all)
         (scene (R.entries room.old) (O.contents output.old.inner))
-        (scene (R.entries room.new) (O.contents output.new.inner)) (asked frame.now ∷ [])) }
+        (scene (R.entries room.new) (O.contents output.new.inner)) (ask_of frame.now ∷ [])) }
     ensures err { OnErr result (Breaks (site who.now R.keeps_all)
         (scene (R.entries room.old) (O.contents output.old.inner))
-        (scene (R.entries room.new) (O.contents output.new.inner)) (asked frame.now ∷ [])) }
+        (scene (R.entries room.new) (O.contents output.new.inner)) (ask_of frame.now ∷ [])) }
     ensures cause { IfErr result (λ e. IsCaused e false output.new.failed) }
 {
     match frame {
@@ -220,10 +220,10 @@ fn take_frames<R: Room, O: Write, C: Moments, G: Gate>(
 ) -> Result<Flow, ServeError>
     ensures ok { IfOk result (λ flow. GoesOrCloses flow.closed (site who.now R.keeps_all)
         (scene (R.entries room.old) (O.contents output.old.inner))
-        (scene (R.entries room.new) (O.contents output.new.inner)) (map asked frames.now)) }
+        (scene (R.entries room.new) (O.contents output.new.inner)) (map ask_of frames.now)) }
     ensures err { OnErr result (Breaks (site who.now R.keeps_all)
         (scene (R.entries room.old) (O.contents output.old.inner))
-        (scene (R.entries room.new) (O.contents output.new.inner)) (map asked frames.now)) }
+        (scene (R.entries room.new) (O.contents output.new.inner)) (map ask_of frames.now)) }
     ensures cause { IfErr result (λ e. IsCaused e false output.new.failed) }
 {
     let mut idles = flow.idles;
@@ -268,12 +268,12 @@ pub(crate) fn take_piece<R: Room, O: Write, C: Moments, G: Gate>(
     ensures ok { IfOk result (λ flow. GoesOrCloses flow.closed (site who.now R.keeps_all)
         (scene (R.entries room.old) (O.contents output.old.inner))
         (scene (R.entries room.new) (O.contents output.new.inner))
-        (map asked (run framer.old piece.now).frames)) }
+        (map ask_of (run framer.old piece.now).frames)) }
     ensures next { OnOk result (framer.new ≡ (run framer.old piece.now).next) }
     ensures err { OnErr result (Breaks (site who.now R.keeps_all)
         (scene (R.entries room.old) (O.contents output.old.inner))
         (scene (R.entries room.new) (O.contents output.new.inner))
-        (map asked (run framer.old piece.now).frames)) }
+        (map ask_of (run framer.old piece.now).frames)) }
     ensures cause { IfErr result (λ e. IsCaused e false output.new.failed) }
 {
     match framer.feed(alloc, piece) {

@@ -68,13 +68,6 @@ impl<T> Watched<T> {
         self.inner
     }
 
-    /// Whether it failed.
-    pub fn has_failed(&self) -> bool
-        ensures { result ≡ self.now.failed }
-    {
-        self.failed
-    }
-
     /// How many reads in a row brought nothing.
     pub(crate) fn quiet(&self) -> u64
         ensures { result ≡ self.now.quiet }

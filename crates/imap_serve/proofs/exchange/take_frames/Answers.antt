@@ -1,5 +1,5 @@
-use Rattle.std.proofs.Common.{rules, subst, sym, true, [], ◌∷◌, map}
-use Rattle.imap_serve.specs.Asked.{asked}
+use Rattle.std.proofs.Common.{rules, subst, sym, [], ◌∷◌, map}
+use Rattle.imap_serve.specs.Asked.{ask_of}
 use Rattle.imap_serve.specs.Served.{Scene, scene, Site, site, Breaks, Closes, GoesOrCloses}
 use Rattle.imap_serve.proofs.Scenes.{frames_close, frames_break}
 use Rattle.imap_serve.proofs.exchange.take_frames.Goals as goal
@@ -12,9 +12,9 @@ returns-then-flow-clause-ok g c =
     let x = c.frame-item.result in
     let s : Site = site c.args.who.now g.R.Room.keeps_all in
     let xs = c.args.frames.now in
-    let last : Closes s b d (asked x ∷ []) = subst (λ closed. GoesOrCloses closed s b d (asked x ∷ [])) c.if-flow.true c.in-Ok.ensures.ok in
-    subst (λ closed. GoesOrCloses closed s a d (map asked xs)) (sym c.if-flow.true)
-    (frames_close s a b d xs c.loop-frame.frame-index x (search rules) c.loop-frame.invariant (subst (λ y. Closes s b d (asked y ∷ [])) c.frame-item.is last))
+    let last : Closes s b d (ask_of x ∷ []) = subst (λ closed. GoesOrCloses closed s b d (ask_of x ∷ [])) c.if-flow.true c.in-Ok.ensures.ok in
+    subst (λ closed. GoesOrCloses closed s a d (map ask_of xs)) (sym c.if-flow.true)
+    (frames_close s a b d xs c.loop-frame.frame-index x (search rules) c.loop-frame.invariant (subst (λ y. Closes s b d (ask_of y ∷ [])) c.frame-item.is last))
 
 pub returns-in-Err-clause-err : goal.returns-in-Err-clause-err
 returns-in-Err-clause-err g c =
@@ -23,4 +23,4 @@ returns-in-Err-clause-err g c =
     let d : Scene = scene (g.R.Room.entries c.take_frame.new.room) (g.O.Write.contents c.take_frame.new.output.inner) in
     let x = c.frame-item.result in
     let s : Site = site c.args.who.now g.R.Room.keeps_all in
-    frames_break s a b d c.args.frames.now c.loop-frame.frame-index x (search rules) c.loop-frame.invariant (subst (λ y. Breaks s b d (asked y ∷ [])) c.frame-item.is c.in-Err.ensures.err)
+    frames_break s a b d c.args.frames.now c.loop-frame.frame-index x (search rules) c.loop-frame.invariant (subst (λ y. Breaks s b d (ask_of y ∷ [])) c.frame-item.is c.in-Err.ensures.err)

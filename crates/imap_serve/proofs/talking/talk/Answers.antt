@@ -1,9 +1,9 @@
-use Rattle.std.proofs.Common.{subst, take, map, [], true}
+use Rattle.std.proofs.Common.{subst, take, map, []}
 use Rattle.std.specs.Io.KnownBytes.{Consumes}
 use Rattle.imap_lex.specs.Framing.{run}
 use Rattle.imap_serve.specs.declared.watched.Taken.TheVariants as taken
 use Rattle.imap_serve.specs.Reading.{Takes}
-use Rattle.imap_serve.specs.Asked.{asked}
+use Rattle.imap_serve.specs.Asked.{ask_of}
 use Rattle.imap_serve.specs.Served.{Scene, scene, Site, site, Closes, GoesOrCloses}
 use Rattle.imap_serve.proofs.Scenes.{heard_closes, heard_breaks, heard_poll_closes, heard_poll_breaks, heard_idles, idle_all, idle_part}
 use Rattle.imap_serve.proofs.talking.talk.Goals as goal
@@ -20,7 +20,7 @@ returns-then-flow-clause-ended g c =
     let f = c.loop.framer in
     let ys = take c.in-Ok-Octets.count c.read.new.buf in
     let took : Takes (taken.Octets c.in-Ok-Octets.count) j k c.read.new.buf = subst (λ t. Takes t j k c.read.new.buf) c.in-Ok-Octets.field-0-is c.in-Ok-Octets.ensures.ok in
-    let last : Closes s b d (map asked (run f ys).frames) = subst (λ closed. GoesOrCloses closed s b d (map asked (run f ys).frames)) c.if-flow.true c.in-Ok.ensures.ok in
+    let last : Closes s b d (map ask_of (run f ys).frames) = subst (λ closed. GoesOrCloses closed s b d (map ask_of (run f ys).frames)) c.if-flow.true c.in-Ok.ensures.ok in
     heard_closes c.args.max_octets s i j k a b d f ys c.loop.invariant.2 took.0 last
 
 pub returns-in-Err-take_piece-clause-broke : goal.returns-in-Err-take_piece-clause-broke
