@@ -51,6 +51,8 @@ pub(crate) enum Act {
     Room(u64),
     /// What bob is told of the message with this UID.
     Tell(u32),
+    /// The messages that are gone, each with the place of its event, and bob's own changes.
+    Kept,
 }
 
 /// A date that messages may have.
@@ -247,6 +249,17 @@ fn push_gone_since(
     push_gone(alloc, text, &mailbox.gone_since("bob", number))
 }
 
+fn push_kept(alloc: Global, text: &mut String, mailbox: &Mailbox) -> Result<(), MailboxError> {
+    for gone in mailbox.gone_messages() {
+        push(text, format!(in alloc; "{}@{} ", gone.uid, gone.place))?;
+    }
+    for change in mailbox.own_changes("bob") {
+        let (uid, seen, before) = (change.uid, change.seen, change.before);
+        push(text, format!(in alloc; "{uid}={seen} after {before}; "))?;
+    }
+    Ok(())
+}
+
 fn push_both_status(
     alloc: Global,
     text: &mut String,
@@ -295,6 +308,7 @@ fn make(
         Act::Place(uid) => push_place(alloc, text, &mailbox.rows("bob"), uid),
         Act::Room(max_messages) => push_room(alloc, text, mailbox, max_messages),
         Act::Tell(uid) => tell(alloc, text, &mailbox.rows("bob"), uid),
+        Act::Kept => push_kept(alloc, text, mailbox),
     }
 }
 
@@ -322,7 +336,7 @@ fn run(alloc: Global, acts: &[Act]) -> Result<String, MailboxError> {
     Ok(text)
 }
 
-const MAILBOXES: [(&[Act], &str); 11] = [
+const MAILBOXES: [(&[Act], &str); 12] = [
     // bob's own changes come after the second and the fourth shared event.
     (
         &[
@@ -452,6 +466,18 @@ const MAILBOXES: [(&[Act], &str); 11] = [
         ],
         "the mailbox has no message with this UID; a limit of the mailbox is reached; \
             1=3 | 1=3 | | 3 3 2 2",
+    ),
+    // What is kept of expunges and of bob's own changes, counted in shared events.
+    (
+        &[
+            Act::Add(3),
+            Act::Seen(2, true),
+            Act::Expunge(3),
+            Act::Expunge(1),
+            Act::Seen(2, false),
+            Act::Kept,
+        ],
+        "3@3 1@4 2=true after 3; 2=false after 5; 2=3 | 2=8 | 3=6 1=7 | 6 8 4 5",
     ),
     (&[], "| | | 1 1 1 0"),
 ];
