@@ -1,7 +1,8 @@
 //! Tests of batches.
 
 use crate::flags::flags_of;
-use crate::mailbox::{add_more, date, many_words, message, shown};
+use crate::mailbox::{add_more, date, many_words, message};
+use crate::shown::shown;
 use imap_batch::{Batch, BatchError, Mark, NewMessage, Planned, make_room, resolve, write_batch};
 use imap_mailbox::{Mailbox, MailboxError, SharedFlags};
 use imap_names::UserName;

@@ -26,6 +26,8 @@ mod patterns;
 #[cfg(test)]
 mod rights;
 #[cfg(test)]
+mod shown;
+#[cfg(test)]
 mod text;
 #[cfg(test)]
 mod wanted;

@@ -1,7 +1,8 @@
 //! Tests of mailboxes from what a store keeps of them. A row has the parts of a mailbox, and what the mailbox
 //! shows.
 
-use crate::mailbox::{Act, date, make_all, many_words, message, shown};
+use crate::mailbox::{Act, date, make_all, many_words, message};
+use crate::shown::shown;
 use crate::wanted::expect_text;
 use imap_mailbox::{
     GoneMessage, Mailbox, MailboxError, MailboxParts, Message, PartsError, SeenChange, SharedFlags,
