@@ -18,7 +18,7 @@ import tempfile
 import time
 
 import database
-from sessions import FIRST_PORT, Connection, Session, median_of, resident, serving, show
+from sessions import FIRST_PORT, Connection, Session, median_of, medians_beside, resident, serving, show
 
 PART = int(sys.argv[2]) if len(sys.argv) > 2 else 1
 ECHO_PORT = 21_142
@@ -64,8 +64,9 @@ def measure(server):
     first = Session(FIRST_PORT)
     echoed = Connection(ECHO_PORT)
     print("| What | microseconds |\n|---|---|")
-    show("an echo of 8 octets", median_of(20_000 // PART, lambda: echo(echoed)))
-    show("`NOOP`", median_of(20_000 // PART, lambda: first.ask(b"NOOP")))
+    of_echo, of_noop = medians_beside(20_000 // PART, [lambda: echo(echoed), lambda: first.ask(b"NOOP")])
+    show("an echo of 8 octets", of_echo)
+    show("`NOOP`", of_noop)
     first.ask(b"CREATE Box")
     show("`APPEND` of 2 KB", median_of(1_000 // PART, lambda: first.append(b"Box")))
     fill(first, b"Box", 100)

@@ -87,14 +87,25 @@ def serving(program, database, users=("ann",)):
         server.stdout.close()
 
 
+def time_of(action):
+    """The time of an action in microseconds."""
+    start = time.perf_counter()
+    action()
+    return (time.perf_counter() - start) * 1e6
+
+
 def median_of(rounds, action):
     """The median time of an action in microseconds."""
-    times = []
-    for _ in range(rounds):
-        start = time.perf_counter()
-        action()
-        times.append(time.perf_counter() - start)
-    return statistics.median(times) * 1e6
+    return statistics.median(time_of(action) for _ in range(rounds))
+
+
+def medians_beside(rounds, actions):
+    """The median time of each action in microseconds. They take turns, each 300 times, as the machine's pace changes."""
+    times = [[] for _ in actions]
+    for _ in range(rounds // 300 + 1):
+        for action, own in zip(actions, times):
+            own += [time_of(action) for _ in range(300)]
+    return [statistics.median(own) for own in times]
 
 
 def resident(server):
