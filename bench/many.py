@@ -8,9 +8,10 @@ many sessions act at once, each sends its next command when the one before is an
 the time is that of all commands by their number. The memory is what the server has resident.
 
 For the turns of the journal python's sqlite3 fills a new store of the server with 100,000 messages of 2 KB in 1,000 mailboxes.
-The server copies its mailboxes after each 10,000 entries of the journal, so the longest of many NOOPs are those that a copy
-kept waiting. Two sessions ask all the time: one of them turns the journal over and drops the old base, the other waits for the
-copy alone. Sizes and rounds are divided by PART, for a quick run.
+The server makes a new base of its journal after each 10,000 entries, so the longest of many NOOPs are those that a turn kept
+waiting. Two sessions ask all the time: one of them turns the journal over and drops the old base, the other waits for the turn
+alone. A base shares each mailbox until it changes, so the first STORE after a turn copies its mailbox. Sizes and rounds are
+divided by PART, for a quick run.
 """
 
 import select
@@ -20,7 +21,7 @@ import tempfile
 import time
 
 import database
-from sessions import FIRST_PORT, Session, median_of, resident, serving, show
+from sessions import FIRST_PORT, Session, median_of, resident, serving, show, time_of
 
 PART = int(sys.argv[2]) if len(sys.argv) > 2 else 1
 USERS = ("ann", "bob", "cat", "dan")
@@ -158,10 +159,31 @@ def time_turns(program, folder):
         print(f"\nThe server starts in {started:.1f} s. {begun:.0f} MiB are resident then, and {ended:.0f} after the calls.")
 
 
+def time_first_changes(program, folder):
+    """How long the first STORE after a turn of the journal takes, and how long the next one."""
+    path = f"{folder}/mail.db"
+    with serving(program, path):
+        pass
+    database.fill(path, [EACH, MAILBOXES * EACH])
+    print("\n| What | microseconds | the next one |\n|---|---|---|")
+    for name, size in ((b"Shared/Box", EACH), (b"Shared/2", MAILBOXES * EACH)):
+        with serving(program, path):
+            session = Session(FIRST_PORT)
+            session.ask(b"SELECT " + name)
+            times = []
+            for _ in range(5):
+                for _ in range(TURN):
+                    session.ask(b"NOOP")
+                changes = (b"STORE 1 +FLAGS (\\Flagged)", b"STORE 1 -FLAGS (\\Flagged)")
+                times.append([time_of(lambda: session.ask(change)) for change in changes])
+            medians = (statistics.median(one) for one in zip(*times))
+            show(f"the first `STORE` after a turn, in a mailbox of {size:,} messages, median of 5", *medians)
+
+
 def main():
     program = sys.argv[1]
     print("| What | microseconds |\n|---|---|", flush=True)
-    for measure in (time_sessions, show_memory, time_turns):
+    for measure in (time_sessions, show_memory, time_turns, time_first_changes):
         with tempfile.TemporaryDirectory() as folder:
             measure(program, folder)
 

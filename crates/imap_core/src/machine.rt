@@ -130,6 +130,14 @@ impl Core {
         Ok((core, change))
     }
 
+    /// Lets copies share the messages of all mailboxes until they change, so that a copy takes no longer than
+    /// there are mailboxes and sessions.
+    pub fn share(&mut self, alloc: Global) -> Result<(), AllocError>
+        ensures { self.new.state ≡ self.old.state }
+    {
+        self.world.share(alloc)
+    }
+
     /// Returns an equal copy. It shares the texts of names.
     pub fn try_copy(&self, alloc: Global) -> Result<Core, AllocError>
         ensures { IfOk result (λ copy. copy.state ≡ self.now.state) }

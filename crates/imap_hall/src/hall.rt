@@ -162,6 +162,7 @@ impl<K: Keeper> Hall<K> {
         ensures err { OnErr result (self.new ≡ self.old) }
     {
         let counts = self.counts.try_copy(alloc)?;
+        self.core.share(alloc)?;
         let base = self.core.try_copy(alloc)?;
         self.before += self.journal.len() as u64;
         self.journal.clear();

@@ -71,7 +71,8 @@ fn start_machine(
     ensures current { IfOk result (λ made. IsCurrent made.1 (world_of world)) }
     ensures change { IfOk result (λ made. made.0.core.state.world ≡ after_writes made.1 (world_of world)) }
 {
-    let (core, change) = Core::open(alloc, world, administrator, users, limits)?;
+    let (mut core, change) = Core::open(alloc, world, administrator, users, limits)?;
+    core.share(alloc)?;
     let base = core.try_copy(alloc)?;
     Ok((Start { core, base }, change))
 }

@@ -16,9 +16,9 @@ mod database;
 mod faults;
 mod file;
 mod filling;
-mod row;
 mod rows;
 mod running;
+mod script_row;
 mod stops;
 
 use crate::rows::run_rows;

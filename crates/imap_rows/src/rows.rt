@@ -1,6 +1,6 @@
 //! Scripts, one after the other.
 
-use crate::row::Row;
+use crate::script_row::ScriptRow;
 use imap_script::{ScriptError, read_all};
 use std::alloc::Global;
 use std::io::{Read, Write};
@@ -22,7 +22,7 @@ pub(crate) fn run_rows<R: AllocGlobal, I: Read + Drop, O: Write + Drop>(
         if line.starts_with(b"== ") {
             run(alloc, &row, &mut output)?;
             write(&mut output, line)?;
-            row = Some(Row::new(alloc));
+            row = Some(ScriptRow::new(alloc));
         } else if let Some(begun) = &mut row {
             begun.take_line(line)?;
         }
@@ -31,7 +31,11 @@ pub(crate) fn run_rows<R: AllocGlobal, I: Read + Drop, O: Write + Drop>(
 }
 
 /// Runs the script that was read, if one was.
-fn run<O: Write>(alloc: Global, row: &Option<Row>, output: &mut O) -> Result<(), ScriptError> {
+fn run<O: Write>(
+    alloc: Global,
+    row: &Option<ScriptRow>,
+    output: &mut O,
+) -> Result<(), ScriptError> {
     match row {
         Some(row) => write(output, row.report(alloc)?.as_slice()),
         None => Ok(()),

@@ -4,3 +4,4 @@ pub(crate) mod choice;
 mod mailboxes;
 mod plain;
 mod random;
+mod sharing;

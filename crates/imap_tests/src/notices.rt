@@ -80,7 +80,7 @@ fn plain_lines(
 ) -> Result<Vec<Response>, AllocError> {
     match world.mailbox(&selected.name.as_ref()) {
         Some(entry) => {
-            let rows = entry.messages.rows(user);
+            let rows = entry.messages.as_ref().rows(user);
             notices_plain(alloc, &selected.known, &rows, options)?.ok_or(AllocError)
         }
         None => Err(AllocError),

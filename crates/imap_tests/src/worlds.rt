@@ -5,12 +5,12 @@ use crate::wanted::expect_text;
 use imap_world::World;
 
 /// What is done, and what is told of it.
-struct Row {
+struct WorldRow {
     acts: &'static [Act],
     told: &'static str,
 }
 
-const PLACED: Row = Row {
+const PLACED: WorldRow = WorldRow {
     acts: &[
         Act::Place("Shared/News"),
         Act::Place("Shared/News"),
@@ -27,7 +27,7 @@ const PLACED: Row = Row {
         News 1\nNews/Local 1\nA 1\nINBOX 1 ann=lrswipkxtea\n(1, Some(2))\n(0, Some(1))\n",
 };
 
-const SUBSCRIBED: Row = Row {
+const SUBSCRIBED: WorldRow = WorldRow {
     acts: &[
         Act::Subscribe("bob", "Shared/News"),
         Act::Subscribe("bob", "Shared/News/Local"),
@@ -58,7 +58,7 @@ const COMPARED: &str = "(true, true)\n(true, false)\n(true, false)\n(true, true)
     (true, false)\n(true, true)\n(true, false)\n";
 
 /// A chain of three is made at once. The last is deleted and made again.
-const MADE_AGAIN: Row = Row {
+const MADE_AGAIN: WorldRow = WorldRow {
     acts: &[
         Act::Create("ann", "Other Users/ann/A/B/C"),
         Act::Delete("Other Users/ann/A/B/C"),
@@ -74,7 +74,7 @@ const MADE_AGAIN: Row = Row {
 };
 
 /// A subtree of three levels moves to a name that was used twice, with a mailbox beside it.
-const MOVED: Row = Row {
+const MOVED: WorldRow = WorldRow {
     acts: &[
         Act::Place("Shared/T"),
         Act::Give("Shared/T", "bob", "lx"),
@@ -98,7 +98,7 @@ const MOVED: Row = Row {
         H 1 root=lrx\nH/I 1\nN 3 bob=lx\nU 1\n",
 };
 
-const MOVABLE: Row = Row {
+const MOVABLE: WorldRow = WorldRow {
     acts: &[
         Act::CanMove("Shared/a", "Shared/b"),
         Act::CanMove("Shared/a", "Shared/ab/c"),
@@ -113,7 +113,7 @@ const MOVABLE: Row = Row {
 };
 
 /// bob holds `lk` on one superior of a hidden mailbox, and `l` alone on another one.
-const LOOKED_AT: Row = Row {
+const LOOKED_AT: WorldRow = WorldRow {
     acts: &[
         Act::Place("Shared/P"),
         Act::Place("Shared/P/H"),
@@ -146,7 +146,7 @@ const LOOKED_AT: Row = Row {
 };
 
 /// What is shown of a new mailbox by the rights on it.
-const SHOWN: Row = Row {
+const SHOWN: WorldRow = WorldRow {
     acts: &[
         Act::Place("Shared/V"),
         Act::Give("Shared/V", "bob", "l"),
@@ -173,7 +173,7 @@ const SHOWN: Row = Row {
 };
 
 /// A 33rd keyword is refused, before a message that isn't there.
-const KEYWORDS: Row = Row {
+const KEYWORDS: WorldRow = WorldRow {
     acts: &[
         Act::Place("Shared/A"),
         Act::Add("Shared/A", 33),
@@ -190,7 +190,7 @@ const KEYWORDS: Row = Row {
 };
 
 /// That there is room is asked by commands, and not by the world.
-const ROOM: Row = Row {
+const ROOM: WorldRow = WorldRow {
     acts: &[
         Act::Place("Shared/A"),
         Act::Room("Shared/A", 2),
@@ -211,7 +211,7 @@ const ROOM: Row = Row {
         Ok(Some(0))\nOk(1)\nErr(NoSuch)\nOk(1)\nOk(Some(1))\n",
 };
 
-const ROWS: [Row; 9] = [
+const ROWS: [WorldRow; 9] = [
     PLACED, SUBSCRIBED, MADE_AGAIN, MOVED, MOVABLE, LOOKED_AT, SHOWN, KEYWORDS, ROOM,
 ];
 

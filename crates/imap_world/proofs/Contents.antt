@@ -1,10 +1,11 @@
-use Rattle.std.proofs.Common.{◌≡◌, Bool, true, false, cond, ◌||◌, List, [], ◌∷◌, map as map_list, Option, Some, None, is_some, refl, sym, ap, ◌∙◌}
+use Rattle.std.proofs.Common.{◌≡◌, Bool, true, false, cond, ◌||◌, List, [], ◌∷◌, length, map as map_list, Option, Some, None, is_some, refl, sym, ap, ◌∙◌}
 use Rattle.std.specs.Prelude.{option_map, option_and_then, option_copied}
+use Rattle.std.proofs.lemmas.List.{length-map}
 use Rattle.std.specs.Borrow.{Bor}
 use Rattle.std.specs.List.{filter_map, list_any}
 use Rattle.std.specs.Ordering.{eq_by_cmp}
 use Rattle.std.specs.FinMap as map
-use Rattle.std.specs.FinMap.{find, get-empty}
+use Rattle.std.specs.FinMap.{find, get-empty, len-entries}
 use Rattle.imap_name_map.proofs.NamesMoved.{moved_names_alike}
 use Rattle.imap_name_map.specs.Renaming.{moved_entry, moved_names, renamed}
 use Rattle.imap_name_map.specs.Rows.{has_below, has_within}
@@ -64,6 +65,12 @@ entries_plain m = entries-keep name_cmp plain_at m ∙ all (map.entries m)
     all : (es : List (Name × MailboxEntry)) → filter_map (kept_entry plain_at) es ≡ map_list plain_entry es
     all [] = refl
     all (e ∷ es) = ap (λ more. plain_entry e ∷ more) (all es)
+
+pub plain_len : (m n : Names MailboxEntry) → plain_all m ≡ plain_all n → map.len m ≡ map.len n
+plain_len m n same = one m ∙ ap map.len same ∙ sym (one n)
+  where
+    one : (k : Names MailboxEntry) → map.len k ≡ map.len (plain_all k)
+    one k = len-entries k ∙ sym (length-map (map.entries k) plain_entry) ∙ ap length (sym (entries_plain k)) ∙ sym (len-entries (plain_all k))
 
 pub below_plain : (top : Name) (m : Names MailboxEntry) → has_below top (plain_all m) ≡ has_below top m
 below_plain top m = ap (list_any (λ e. is_below top e.0)) (entries_plain m) ∙ any (map.entries m)

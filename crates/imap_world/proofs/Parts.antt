@@ -5,7 +5,7 @@ use Rattle.std.specs.FinMap as map
 use Rattle.std.specs.declared.alloc.AllocError.{AllocError}
 use Rattle.imap_batch.proofs.Kept.{batches_keep, writes_may_be_made}
 use Rattle.imap_batch.specs.Batch.{write_for}
-use Rattle.imap_batch.specs.Written.{with_batch, HasRoomFor}
+use Rattle.imap_batch.specs.Written.{with_batch}
 use Rattle.imap_batch.specs.declared.error.BatchError.{BatchError}
 use Rattle.imap_batch.specs.declared.write.BatchWrite.{BatchWrite}
 use Rattle.imap_mailbox.specs.Held.{IsKept}
@@ -16,6 +16,7 @@ use Rattle.imap_world.specs.Kept.{AreKept, IsSound}
 use Rattle.imap_world.specs.Mailbox.{Mailbox, plain, plain_all}
 use Rattle.imap_world.specs.Messages.{messages_changed, messages_written, one_part, part_at, part_in, part_of, two_parts, with_messages, with_part, with_parts}
 use Rattle.imap_world.specs.Ready.{HasEntryRoom, HasPartRoom, HasPartsRoom, MayChange, MayChangeAt, MayChangeParts}
+use Rattle.imap_world.specs.Shared.{HasOwnRoomFor}
 use Rattle.imap_world.specs.World.{World}
 use Rattle.imap_world.specs.declared.change.Write.{Write}
 use Rattle.imap_world.specs.declared.change.Write.TheVariants as write
@@ -143,7 +144,7 @@ pub room_at : (m : Names MailboxEntry) (k : Name) (after : MailboxEntry) (new : 
 room_at m k after new is = ap (λ (n : Names MailboxEntry). map.get n k) is ∙ get_put m k after k ∙ ap (λ b. cond b (Some after) (map.get m k)) (is_name_at-same k)
 
 pub on_ok_at : (w : BatchWrite) (o : Option MailboxEntry) (after : MailboxEntry) → o ≡ Some after → (r : Result (Unit {0}) AllocError)
-    → OnOk r (HasRoomFor w.batch after.messages.value) → OnOk r (HasEntryRoom w o)
+    → OnOk r (HasOwnRoomFor w.batch after.messages) → OnOk r (HasEntryRoom w o)
 on_ok_at w o after is (Err error) h = tt
 on_ok_at w o after is (Ok done) h = subst (HasEntryRoom w) (sym is) h
 

@@ -8,6 +8,7 @@ pub mod Messages
 pub mod Moving
 pub mod Ready
 pub mod NewMailbox
+pub mod Shared
 pub mod Stored
 pub mod Tree
 pub mod World

@@ -3,7 +3,7 @@ use Rattle.std.specs.Prelude.{◌≡◌, ◌⊎◌, ℕ, ◌+◌, ◌<◌, ◌�
 use Rattle.std.specs.Prelude.{Option, Some, None, Ok}
 use Rattle.std.specs.FinMap as map
 use Rattle.std.specs.List.{AllByRecursion, IsDistinct, filter_map, list_all}
-use Rattle.imap_batch.specs.Written.{MayWrite as MayWriteBatch, HasRoomFor as HasBatchRoom}
+use Rattle.imap_batch.specs.Written.{MayWrite as MayWriteBatch}
 use Rattle.imap_batch.specs.declared.write.BatchWrite.{BatchWrite}
 use Rattle.imap_name_map.specs.Renaming.{moved_names}
 use Rattle.imap_name_map.specs.Rows.{Rows, has_below, has_within}
@@ -21,6 +21,7 @@ use Rattle.imap_world.specs.Mailbox.{Mailbox}
 use Rattle.imap_world.specs.Messages.{is_same_name}
 use Rattle.imap_world.specs.Moving.{arrivals_at, can_move}
 use Rattle.imap_world.specs.NewMailbox.{NewMailbox}
+use Rattle.imap_world.specs.Shared.{HasOwnRoomFor}
 use Rattle.imap_world.specs.Stored.{Stored, Subscriptions, world_of}
 use Rattle.imap_world.specs.World.{World, epoch}
 
@@ -137,10 +138,10 @@ abbrev pub counts_of : List Write → ℕ
 counts_of [] = 0
 counts_of (write ∷ writes) = count_of write + counts_of writes
 
--- room in the mailbox, if it is there, for what is written to its messages
+-- the mailbox, if it is there, is its world's own, with room for what is written to its messages
 abbrev pub HasEntryRoom : BatchWrite → Option MailboxEntry → Type 0
 HasEntryRoom w None = Unit {0}
-HasEntryRoom w (Some entry) = HasBatchRoom w.batch entry.messages.value
+HasEntryRoom w (Some entry) = HasOwnRoomFor w.batch entry.messages
 
 abbrev pub HasPartRoom : Names MailboxEntry → NamedWrite → Type 0
 HasPartRoom entries w = HasEntryRoom w.write (map.get entries w.name)

@@ -1,10 +1,12 @@
 //! What a name stands for.
 
 ghost use Rattle.std.specs.Prelude.{◌≡◌, IfOk, OnOk};
-ghost use Rattle.imap_batch.specs.Written.{with_batch, HasRoomFor, MayWrite};
+ghost use Rattle.imap_batch.specs.Written.{with_batch, MayWrite};
 ghost use Rattle.imap_world.specs.Mailbox.{new_mailbox, plain};
+ghost use Rattle.imap_world.specs.Shared.{HasOwnRoomFor};
 
-use imap_batch::{BatchWrite, make_room, write_batch};
+use crate::shared_mailbox::SharedMailbox;
+use imap_batch::BatchWrite;
 use imap_mailbox::Mailbox;
 use imap_rights::Acl;
 use std::alloc::{AllocError, Global};
@@ -15,8 +17,7 @@ pub struct MailboxEntry {
     /// UIDVALIDITY (RFC 9051, section 2.3.1.1).
     pub validity: u32,
     pub acl: Acl,
-    /// A box keeps the entries small, which move when a name is added before them.
-    pub messages: Box<Mailbox>,
+    pub messages: SharedMailbox,
 }
 
 impl MailboxEntry {
@@ -27,37 +28,43 @@ impl MailboxEntry {
         Ok(MailboxEntry {
             validity,
             acl,
-            messages: Box::new(alloc, Mailbox::new(alloc))?,
+            messages: SharedMailbox::new(alloc, Mailbox::new(alloc))?,
         })
     }
 
     /// Makes room for what is written to its messages.
     pub(crate) fn make_room(&mut self, alloc: Global, write: &BatchWrite) -> Result<(), AllocError>
         ensures contents { plain self.new ≡ plain self.old }
-        ensures ok { OnOk result (HasRoomFor write.now.batch self.new.messages.value) }
+        ensures ok { OnOk result (HasOwnRoomFor write.now.batch self.new.messages) }
     {
-        make_room(self.messages.as_mut(), alloc, write)
+        self.messages.make_room(alloc, write)
     }
 
     /// Writes to its messages, in room that is there.
     pub(crate) fn write(&mut self, write: BatchWrite)
-        requires room { HasRoomFor write.batch self.old.messages.value }
+        requires room { HasOwnRoomFor write.batch self.old.messages }
         requires may { MayWrite write (plain self.old).messages }
         ensures { let before = plain self.old in
             plain self.new ≡ record before { messages = with_batch write.batch before.messages } }
     {
-        write_batch(self.messages.as_mut(), write);
+        self.messages.write(write);
     }
 
-    /// Returns a copy that shares octets and keywords. Its room may be another.
+    /// Lets copies share its messages until they change. If memory runs out, it stays as it was.
+    pub(crate) fn share(&mut self, alloc: Global) -> Result<(), AllocError>
+        ensures { plain self.new ≡ plain self.old }
+    {
+        self.messages.share(alloc)
+    }
+
+    /// Returns a copy that shares messages, or else octets and keywords. Its room may be another.
     pub fn try_copy(&self, alloc: Global) -> Result<MailboxEntry, AllocError>
         ensures { IfOk result (λ copy. plain copy ≡ plain self.now) }
     {
-        let messages = self.messages.try_copy(alloc)?;
         Ok(MailboxEntry {
             validity: self.validity,
             acl: self.acl.try_copy(alloc)?,
-            messages: Box::new(alloc, messages)?,
+            messages: self.messages.try_copy(alloc)?,
         })
     }
 }

@@ -14,6 +14,7 @@ ghost use Rattle.imap_world.specs.Restored.{RestoresMap, RestoresNames, Subscrib
 
 use crate::mailbox_entry::MailboxEntry;
 use crate::placing::{epoch_of, has_superior};
+use crate::shared_mailbox::SharedMailbox;
 use crate::world_parts::{MailboxRow, Subscription};
 use imap_mailbox::{Mailbox, PartsError};
 use imap_name_map::NameMap;
@@ -65,7 +66,7 @@ fn push_entry(
     } = row;
     let acl = acl_of(acl)?;
     let mailbox = Mailbox::from_parts(alloc, messages)?;
-    let held = boxed(alloc, mailbox)?;
+    let held = held(alloc, mailbox)?;
     let entry = MailboxEntry {
         validity,
         acl,
@@ -85,13 +86,13 @@ fn acl_of(entries: Vec<imap_rights::Entry>) -> Result<Acl, PartsError>
     }
 }
 
-/// Puts a mailbox into a box.
-fn boxed(alloc: Global, mailbox: Mailbox) -> Result<Box<Mailbox>, AllocError>
+/// The mailbox as a world holds it.
+fn held(alloc: Global, mailbox: Mailbox) -> Result<SharedMailbox, AllocError>
     ensures same { IfOk result (λ held. held.value ≡ mailbox) }
     ensures kept { IsKept (summary_in mailbox) }
 {
     let _ = mailbox.next_uid();
-    Ok(Box::new(alloc, mailbox)?)
+    SharedMailbox::new(alloc, mailbox)
 }
 
 fn push<T: Drop>(list: &mut Vec<T>, item: T) -> Result<(), AllocError>

@@ -28,5 +28,5 @@ fn is_same_mailbox(mailbox: &MailboxEntry, other: &MailboxEntry) -> bool
     ensures { IsTrue result ↔ (plain mailbox.now ≡ plain other.now) }
 {
     same_two(&mailbox.validity, &other.validity, &mailbox.acl, &other.acl)
-        && mailbox.messages.is_same(&other.messages)
+        && mailbox.messages.as_ref().is_same(other.messages.as_ref())
 }

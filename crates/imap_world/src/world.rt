@@ -22,7 +22,7 @@ ghost use Rattle.imap_world.specs.World.{epoch, max_validity, subscribed_by};
 
 use crate::arrivals::Arrivals;
 use crate::change::{Change, Write};
-use crate::copies::copy_mailboxes;
+use crate::copies::{copy_mailboxes, share_mailboxes};
 use crate::effect::Effect;
 use crate::error::WorldError;
 use crate::mailbox_entry::MailboxEntry;
@@ -114,6 +114,14 @@ impl World {
             epochs,
             subscriptions,
         })
+    }
+
+    /// Lets copies share the messages of all mailboxes until they change, so that a copy takes no longer than
+    /// there are mailboxes.
+    pub fn share(&mut self, alloc: Global) -> Result<(), AllocError>
+        ensures { world_of self.new ≡ world_of self.old }
+    {
+        share_mailboxes(&mut self.mailboxes, alloc)
     }
 
     /// Returns a copy. Its room may be another.

@@ -16,5 +16,5 @@ returns c =
         acl = c.in_ok-acl.ensures;
         messages = subst (λ (h : Held). StandFor c.args.row.messages (summary_in h)) (sym c.in_ok-held.ensures.same) c.in_ok-mailbox.ensures;
       },
-      subst (λ (h : Held). IsKept (summary_in h)) (sym c.in_ok-held.ensures.same) c.boxed.ensures.kept,
+      subst (λ (h : Held). IsKept (summary_in h)) (sym c.in_ok-held.ensures.same) c.held.ensures.kept,
     )

@@ -14,7 +14,7 @@ use std::str;
 
 /// A script, and what else is done with it.
 #[derive(Drop)]
-pub(crate) struct Row {
+pub(crate) struct ScriptRow {
     script: Vec<u8>,
     /// Whether it is run with each call of the database's files failing in turn.
     stops: bool,
@@ -22,9 +22,9 @@ pub(crate) struct Row {
     faults: String,
 }
 
-impl Row {
-    pub(crate) fn new(alloc: Global) -> Row {
-        Row {
+impl ScriptRow {
+    pub(crate) fn new(alloc: Global) -> ScriptRow {
+        ScriptRow {
             script: Vec::new(alloc),
             stops: false,
             faults: String::new(alloc),
