@@ -15,7 +15,7 @@ ghost use Rattle.imap_hall.specs.Journal.{max_entries};
 use crate::advancing::advance;
 use crate::error::{HallError, OpenError};
 use crate::journal::{Entry, OldBase, Receipt};
-use crate::opening::{Start, begin};
+use crate::opening::{Start, base_of, begin};
 use crate::own_counts::OwnCounts;
 use crate::room::Room;
 use imap_core::{Core, SessionId, Step};
@@ -162,8 +162,7 @@ impl<K: Keeper> Hall<K> {
         ensures err { OnErr result (self.new ≡ self.old) }
     {
         let counts = self.counts.try_copy(alloc)?;
-        self.core.share(alloc)?;
-        let base = self.core.try_copy(alloc)?;
+        let base = base_of(alloc, &mut self.core)?;
         self.before += self.journal.len() as u64;
         self.journal.clear();
         Ok(OldBase {
@@ -185,6 +184,13 @@ impl<K: Keeper> Hall<K> {
         ensures { result ≡ self.now.before }
     {
         self.before
+    }
+
+    /// The machine as it was when the journal began.
+    pub fn base(&self) -> &Core
+        ensures { result.now.state ≡ self.now.base.state }
+    {
+        &self.base
     }
 
     /// The entries since the base.

@@ -72,9 +72,18 @@ fn start_machine(
     ensures change { IfOk result (λ made. made.0.core.state.world ≡ after_writes made.1 (world_of world)) }
 {
     let (mut core, change) = Core::open(alloc, world, administrator, users, limits)?;
-    core.share(alloc)?;
-    let base = core.try_copy(alloc)?;
+    let base = base_of(alloc, &mut core)?;
     Ok((Start { core, base }, change))
+}
+
+/// A machine in the same state, as a base of the journal. Both share the messages of mailboxes until they
+/// change.
+pub(crate) fn base_of(alloc: Global, core: &mut Core) -> Result<Core, AllocError>
+    ensures kept { core.new.state ≡ core.old.state }
+    ensures ok { IfOk result (λ base. base.state ≡ core.old.state) }
+{
+    core.share(alloc)?;
+    core.try_copy(alloc)
 }
 
 fn open_error(error: KeepError) -> OpenError
