@@ -130,8 +130,7 @@ impl Core {
         Ok((core, change))
     }
 
-    /// Lets copies share the messages of all mailboxes until they change, so that a copy takes no longer than
-    /// there are mailboxes and sessions.
+    /// Lets copies share the messages of all mailboxes until they change. They then copy none of these.
     pub fn share(&mut self, alloc: Global) -> Result<(), AllocError>
         ensures { self.new.state ≡ self.old.state }
     {

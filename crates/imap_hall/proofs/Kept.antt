@@ -143,17 +143,29 @@ untouched_result failures core after base counts raised base_counts before journ
 }
 
 module _ {K : Type 0} (Content : K → World → Type 0) where
-  pub kept_turned : (core base turned : Machine) (counts base_counts copied : Counts) (before n : ℕ) (journal cleared : List Entry) (keeper : K) → IsKept Content (hall_state core counts base base_counts before journal keeper)
-      → turned.state ≡ core.state → copied ≡ counts → n ≡ length journal → cleared ≡ []
-      → IsKept Content (hall_state core counts turned copied (before + n) cleared keeper)
-  kept_turned core base turned counts base_counts copied before n journal cleared keeper kept state same many none =
-      subst (λ js. IsKept Content (hall_state core counts turned copied (before + n) js keeper)) (sym none)
+  pub kept_turned : (core now base turned : Machine) (counts base_counts copied : Counts) (before n : ℕ) (journal cleared : List Entry) (keeper : K) → IsKept Content (hall_state core counts base base_counts before journal keeper)
+      → now.state ≡ core.state → turned.state ≡ core.state → copied ≡ counts → n ≡ length journal → cleared ≡ []
+      → IsKept Content (hall_state now counts turned copied (before + n) cleared keeper)
+  kept_turned core now base turned counts base_counts copied before n journal cleared keeper kept unchanged state same many none =
+      subst (λ js. IsKept Content (hall_state now counts turned copied (before + n) js keeper)) (sym none)
       (record {
-        run = record { state = sym state; counts = λ user number. ap (λ m. count_of m user number) (sym same) };
-        stored = kept.stored;
+        run = record { state = unchanged ∙ sym state; counts = λ user number. ap (λ m. count_of m user number) (sym same) };
+        stored = subst (λ s. Content keeper s.world) (sym unchanged) kept.stored;
         bound = λ user number. let few : count_of counts user number ≤ before + length (map noted journal) = kept.bound user number in omega (arith, few, length-map journal noted, many);
         room = let few = kept.room in omega (arith, few, length-map journal noted, many);
       })
+
+  -- another machine in the same state
+  pub kept_alike : (core now base : Machine) (counts base_counts : Counts) (before : ℕ) (journal : List Entry) (keeper : K) → IsKept Content (hall_state core counts base base_counts before journal keeper)
+      → now.state ≡ core.state → IsKept Content (hall_state now counts base base_counts before journal keeper)
+  kept_alike core now base counts base_counts before journal keeper kept unchanged =
+      subst (λ s. IsKept Content (record {
+        now = point s counts;
+        base = point base.state base_counts;
+        before = before;
+        entries = map noted journal;
+        keeper = keeper;
+      })) (sym unchanged) kept
 
   zero : (counts : Counts) → counts ≡ fin.empty → (user : List ℕ) (number : ℕ) → count_of counts user number ≡ 0
   zero counts is user number = ap (λ m. count_of m user number) is ∙ ap (λ o. count_in o number) (get-empty (slice_cmp nat_cmp) user)

@@ -13,9 +13,10 @@ use Rattle.imap_world.specs.World.{World}
 use Rattle.imap_hall.specs.declared.journal.Receipt.{Receipt}
 use Rattle.imap_hall.specs.declared.replies.Replies.{Replies}
 use Rattle.imap_hall.specs.Counts.{Counts}
-use Rattle.imap_hall.specs.Hall.{IsStepped, IsUnwritten, entry_of}
+use Rattle.imap_hall.specs.Hall.{HallState, HasStepped, IsStepped, IsUnwritten, entry_of}
 use Rattle.imap_hall.specs.Journal.{point}
 use Rattle.imap_hall.specs.Performing.{Performs}
+use Rattle.imap_hall.specs.Receipts.{IsNewest}
 
 module _ (state : State) (step : Step) (change : List Write) (found : writes_of (effects_of (outcome state step).effect) state.world ≡ Ok change) where
   pub current : IsCurrent change state.world
@@ -48,3 +49,6 @@ module _ (old new : State) (before after : Counts) (failed fails : ℕ) (step : 
 
 pub started : (world : World) (administrator : List ℕ) (users : List (List ℕ)) (change : List Write) → writes_of (admission world administrator users).effects world ≡ Ok change → IsCurrent change world
 started world administrator users change found = ((admission world administrator users).effects, admission_apart world administrator users, found)
+
+pub newest : {K : Type 0} (failed : K → ℕ) (old : HallState K) (step : Step) (r : Receipt) (new : HallState K) → HasStepped failed old step r new → IsNewest step r new.entries
+newest failed old step r new h = record { before = old.entries; parts = h.entries }

@@ -11,7 +11,12 @@ pub record AreLast (keeps_all : Bool) (whole kept : List JournalEntry) : Type 0 
   pub parts : whole ≡ before ++ kept
   pub all : keeps_all ≡ true → before ≡ []
 
--- the entry of the receipt is the newest
+-- the entry of the receipt was added
 abbrev pub IsAdded :
     (keeps_all : Bool) → (old : List JournalEntry) → Step → Receipt → (new : List JournalEntry) → Type 0
 IsAdded keeps_all old step receipt new = AreLast keeps_all (old ++ entry_of step receipt ∷ []) new
+
+-- the entry of the receipt is the last one
+pub record IsNewest (step : Step) (receipt : Receipt) (entries : List JournalEntry) : Type 0 where
+  pub before : List JournalEntry
+  pub parts : entries ≡ before ++ entry_of step receipt ∷ []

@@ -154,8 +154,8 @@ impl<K: Keeper> Hall<K> {
         )
     }
 
-    /// Makes the state of the machine the base, and empties the journal. Hands back the old base, which takes as
-    /// long to drop as there is of it.
+    /// Makes the state of the machine the base, and empties the journal. Hands back the old base: to drop it
+    /// takes as long as the mailboxes are that have changed since.
     pub fn turn_over(&mut self, alloc: Global) -> Result<OldBase, AllocError>
         ensures ok { OnOk result (IsTurnedOver self.old self.new) }
         ensures old { IfOk result (IsBaseOf self.old) }
@@ -235,6 +235,7 @@ impl<K: Keeper> Room for Hall<K> {
 
     ghost keeps_all = { true };
 
+    #[tactic(auto, using(crate::proofs::Stepped::newest))]
     fn step(&mut self, alloc: Global, step: &Step) -> Result<Receipt, HallError> {
         self.step(alloc, step)
     }

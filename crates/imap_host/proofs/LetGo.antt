@@ -6,7 +6,7 @@ use Rattle.imap_core.specs.declared.step.Step.{Step}
 use Rattle.imap_hall.specs.declared.journal.Receipt.{Receipt}
 use Rattle.imap_hall.specs.Hall.{entry_of}
 use Rattle.imap_hall.specs.Journal.{JournalEntry}
-use Rattle.imap_hall.specs.Receipts.{AreLast}
+use Rattle.imap_hall.specs.Receipts.{AreLast, IsNewest}
 use Rattle.imap_host.specs.declared.seat.Kept.{Kept}
 use Rattle.imap_host.specs.Seats.{IsReceipt, Remembers, begins_before, from_base, kept_entry}
 
@@ -52,3 +52,10 @@ remembered base old step r new h =
     (ap (λ e. map kept_entry (from_base base old) ++ e ∷ []) (sym (entry_kept h.kept step r h.is))
     ∙ (sym (map-append kept_entry (from_base base old) (h.kept ∷ [])) ∙ ap (map kept_entry) (sym h.receipts)))
     (last_and (map kept_entry old) (map kept_entry (from_base base old)) (entry_of step r) (kept_last base old))
+
+pub newest_kept : (base : ℕ) (old : List Kept) (step : Step) (r : Receipt) (new : List Kept) → Remembers base old step r new → IsNewest step r (map kept_entry new)
+newest_kept base old step r new h = record {
+  before = map kept_entry (from_base base old);
+  parts = ap (map kept_entry) h.receipts ∙ map-append kept_entry (from_base base old) (h.kept ∷ [])
+      ∙ ap (λ e. map kept_entry (from_base base old) ++ e ∷ []) (entry_kept h.kept step r h.is);
+}

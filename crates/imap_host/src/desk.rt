@@ -28,7 +28,7 @@ impl<'a, K: Keeper, L: Ledger, R: Wait> Room for Desk<'a, K, L, R> {
 
     ghost keeps_all = { false };
 
-    #[tactic(auto, using(crate::proofs::LetGo::remembered))]
+    #[tactic(auto, using(crate::proofs::LetGo::remembered, crate::proofs::LetGo::newest_kept))]
     fn step(&mut self, alloc: Global, step: &Step) -> Result<Receipt, HallError> {
         // A desk makes the steps of its own session alone.
         let seat = &mut *self.seat;

@@ -67,6 +67,8 @@ impl<K: Keeper, L: Ledger> Floor<K, L> {
     pub fn seat(&mut self, alloc: Global, user: UserName) -> Result<Seat<L>, SeatError>
         ensures user { IfOk result (λ s. s.who.user ≡ user) }
         ensures number { IfOk result (λ s. s.who.number ≡ last_of self.old.numbers.map user + 1) }
+        ensures noted { IfOk result
+            (λ s. self.new.numbers.map ≡ map.insert self.old.numbers.map user s.who.number) }
         ensures fresh { IfOk result (λ s. (s.base ≡ 0) × (s.receipts.items ≡ []) × (s.share.amount ≡ 0)) }
         ensures left { OnOk result (self.new.left + 1 ≡ self.old.left) }
         ensures full { IfErr result (λ e. e ≡ error.Full → self.old.left ≤ 1) }

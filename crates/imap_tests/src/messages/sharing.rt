@@ -19,20 +19,22 @@ fn shared_copy(alloc: Global, world: &mut World) -> Result<World, AllocError> {
     world.try_copy(alloc)
 }
 
-/// Makes the effect in both. Returns whether a copy that shared the mailboxes stayed as it was, and both are
-/// the same then.
-fn make_both(
+/// Makes the effect in a world, and then in a copy that shared its mailboxes. Returns whether the copy stayed
+/// as it was until then, and both are what the effect makes of a world that shares nothing.
+fn make_all(
     alloc: Global,
     worlds: &mut Worlds,
     effect: Effect,
-    again: Effect,
+    in_copy: Effect,
+    alone: Effect,
 ) -> Result<bool, WorldError> {
-    let copy = shared_copy(alloc, &mut worlds.shared)?;
+    let mut copy = shared_copy(alloc, &mut worlds.shared)?;
     let made = make(alloc, &mut worlds.shared, effect);
     let is_kept = copy.same(&worlds.alone);
+    let is_same = make(alloc, &mut copy, in_copy) == made && copy.same(&worlds.shared);
     drop(copy);
-    let is_same = make(alloc, &mut worlds.alone, again) == made;
-    Ok(is_kept && is_same && worlds.shared.same(&worlds.alone))
+    let is_made = make(alloc, &mut worlds.alone, alone) == made;
+    Ok(is_kept && is_same && is_made && worlds.shared.same(&worlds.alone))
 }
 
 fn take_step(
@@ -42,9 +44,10 @@ fn take_step(
     model: &mut PlainWorld,
 ) -> Result<bool, WorldError> {
     let effect = chosen_effect(step, setting, model)?;
-    let again = chosen_effect(step, setting, model)?;
+    let in_copy = chosen_effect(step, setting, model)?;
+    let alone = chosen_effect(step, setting, model)?;
     let _ = model.make(&effect);
-    make_both(model.alloc, worlds, effect, again)
+    make_all(model.alloc, worlds, effect, in_copy, alone)
 }
 
 /// How many effects are made, up to the first that a copy isn't apart from.
@@ -59,7 +62,7 @@ fn count_steps(alloc: Global, worlds: &mut Worlds) -> Result<u32, Fail> {
     Ok(200)
 }
 
-/// What changes a world after it was copied doesn't change the copy.
+/// A copy that shares mailboxes, and the world that was copied, change apart.
 #[test]
 fn copies_share_mailboxes_until_they_change(rt: HostRuntime) -> Result<(), Fail> {
     let mut worlds = Worlds {
