@@ -3,13 +3,15 @@
 ghost use Rattle.std.specs.Prelude.{◌≡◌, [], IfOk};
 ghost use Rattle.imap_hall.specs.Hall.{IsFresh};
 
+use crate::doors::Clients;
 use imap_core::{Act, Moment, Step};
 use imap_grammar::parse;
-use imap_hall::{Hall, Room};
-use imap_host::{Desk, Host, Seat};
+use imap_hall::{Hall, Receipt, Room};
+use imap_host::{Desk, Host, Seat, SettleError};
 use imap_keeper::{Keeper, ListKeeper};
 use imap_lex::Octets;
 use imap_names::{UserName, read_full};
+use imap_print::print;
 use imap_rights::{Acl, Identifier, read_rights};
 use imap_serve::Moments;
 use imap_world::{Limits, World, WorldError};
@@ -134,28 +136,66 @@ fn step_of<L: Ledger>(seat: &Seat<L>, act: Act) -> Result<Step, AllocError> {
     }
 }
 
-/// Makes an act of the seat's session.
+/// Makes an act of the seat's session. Returns its receipt, or `None` if it wasn't made.
 pub(crate) fn make<K: Keeper, L: Ledger, R: Wait + AllocGlobal>(
     rt: &R,
     host: &Host<K, L>,
     seat: &mut Seat<L>,
     act: Act,
-) {
-    if let Ok(step) = step_of(seat, act) {
-        let mut desk = Desk { rt, host, seat };
-        let _made = desk.step(rt.alloc(), &step);
-        drop(step);
+) -> Option<Receipt> {
+    match step_of(seat, act) {
+        Ok(step) => {
+            let mut desk = Desk { rt, host, seat };
+            let made = desk.step(rt.alloc(), &step);
+            drop(step);
+            made.ok()
+        }
+        Err(_) => None,
     }
 }
 
-/// Has the seat's session send a line.
+/// Has the seat's session send a line. Returns the text of the replies, or `None` if it wasn't
+/// answered.
 pub(crate) fn ask<K: Keeper, L: Ledger, R: Wait + AllocGlobal>(
     rt: &R,
     host: &Host<K, L>,
     seat: &mut Seat<L>,
     text: &[u8],
-) {
-    if let Ok(act) = act(rt.alloc(), text) {
-        make(rt, host, seat, act);
+) -> Option<Vec<u8>> {
+    match act(rt.alloc(), text) {
+        Ok(act) => match make(rt, host, seat, act) {
+            Some(receipt) => print(rt.alloc(), receipt.replies.as_slice()).ok(),
+            None => None,
+        },
+        Err(_) => None,
+    }
+}
+
+/// The seats of these posts.
+pub(crate) fn seats_of<L: Ledger>(
+    alloc: Global,
+    posts: Vec<(Seat<L>, Clients)>,
+) -> Result<Vec<Seat<L>>, AllocError> {
+    let mut seats = Vec::new(alloc);
+    for (seat, _) in posts {
+        seats.push(seat)?;
+    }
+    Ok(seats)
+}
+
+/// Ends the host with these seats, and returns its hall.
+pub(crate) fn settled<K: Keeper + Drop, L: Ledger>(
+    host: Host<K, L>,
+    seats: Vec<Seat<L>>,
+) -> Result<Hall<K>, SettleError>
+    requires { L.parts ≡ 1048576 }
+{
+    match host.settle(seats) {
+        Ok(hall) => Ok(hall),
+        Err((error, host, seats)) => {
+            drop(host);
+            drop(seats);
+            Err(error)
+        }
     }
 }

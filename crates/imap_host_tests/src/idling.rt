@@ -31,8 +31,8 @@ struct Taking<'a, K: Keeper, L: Ledger, R: Wait + AllocGlobal> {
 impl<'a, K: Keeper, L: Ledger, R: Wait + AllocGlobal> Read for Taking<'a, K, L, R> {
     fn read(&mut self, buf: &mut [u8]) -> io::Result<usize> {
         if self.text.is_empty() {
-            make(self.rt, self.host, &mut self.root, Act::Open);
-            ask(self.rt, self.host, &mut self.root, TAKEN);
+            let _opened = make(self.rt, self.host, &mut self.root, Act::Open);
+            let _taken = ask(self.rt, self.host, &mut self.root, TAKEN);
             return Err(io::Error::from(ErrorKind::WouldBlock));
         }
         let count = self.text.len().min(buf.len());

@@ -19,7 +19,7 @@ fn most_kept<K: Keeper, L: Ledger, R: Wait + AllocGlobal>(rt: &R, host: &mut Hos
     };
     let mut most = 0;
     for _ in 0..CALLS {
-        make(rt, host, &mut seat, Act::Poll);
+        let _made = make(rt, host, &mut seat, Act::Poll);
         most = most.max(seat.receipts.len());
     }
     most

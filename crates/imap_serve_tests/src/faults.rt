@@ -112,17 +112,33 @@ fn a_writer_fails(rt: HostRuntime) {
     assert!(rt; writer_fails(&rt, 300, true), "a write takes nothing");
 }
 
-fn interrupted<W: Wait + AllocGlobal>(rt: &W, interruptions: u32) -> Option<End> {
+/// Interrupts each read and each write this often in a row. Returns whether the session ends so,
+/// and writes the whole text exactly if it ends well.
+fn interrupted<W: Wait + AllocGlobal>(
+    rt: &W,
+    interrupted_reads: u32,
+    interrupted_writes: u32,
+    end: Result<End, ServeError>,
+) -> bool {
     let behaviour = Behaviour {
-        interruptions,
+        interrupted_reads,
+        interrupted_writes,
         ..WHOLE
     };
-    serve_anew(rt, SENT, behaviour).ok()?.end.ok()
+    let is_whole = end.is_ok();
+    is_beginning(serve_anew(rt, SENT, behaviour), end, is_whole)
 }
 
-/// A call is made again up to 1,000 times.
+/// A read is made again up to 1,000 times.
 #[test]
-fn calls_are_interrupted(rt: HostRuntime) {
-    assert!(rt; interrupted(&rt, 1000) == Some(End::InputEnded));
-    assert!(rt; interrupted(&rt, 1001).is_none());
+fn reads_are_interrupted(rt: HostRuntime) {
+    assert!(rt; interrupted(&rt, 1000, 0, Ok(End::InputEnded)));
+    assert!(rt; interrupted(&rt, 1001, 0, Err(ServeError::Read)));
+}
+
+/// A write is made again up to 1,000 times.
+#[test]
+fn writes_are_interrupted(rt: HostRuntime) {
+    assert!(rt; interrupted(&rt, 0, 1000, Ok(End::InputEnded)));
+    assert!(rt; interrupted(&rt, 0, 1001, Err(ServeError::Write)));
 }

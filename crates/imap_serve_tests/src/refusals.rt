@@ -1,7 +1,9 @@
 //! A store that refuses.
 
 use crate::connection::WHOLE;
-use crate::serving::{LIMITS, ann, ends_with_leave, expect_after_greeting, serve_in, shown};
+use crate::serving::{
+    LIMITS, ann, ends_with_leave, expect_after_greeting, serve_in, shown, with_entries,
+};
 use imap_hall::{Hall, OpenError};
 use imap_keeper::{Keeper, ListKeeper, Refuser};
 use imap_serve::OpenGate;
@@ -40,21 +42,9 @@ fn told<W: Wait + AllocGlobal>(rt: &W, text: &[u8]) -> Result<Vec<u8>, AllocErro
     };
     let served = serve_in(rt, &mut hall, &OpenGate, text, WHOLE);
     let count = hall.count();
-    let has_left = ends_with_leave(&hall);
+    let has_left = ends_with_leave(&hall, 1);
     drop(hall.into_keeper().release());
     with_entries(rt.alloc(), shown(rt.alloc(), served), count, has_left)
-}
-
-fn with_entries(
-    alloc: Global,
-    shown: Result<Vec<u8>, AllocError>,
-    count: u64,
-    has_left: bool,
-) -> Result<Vec<u8>, AllocError> {
-    let mut shown = shown?;
-    let text = format!(in alloc; " {count} {has_left}")?;
-    shown.extend_from_slice(text.as_bytes())?;
-    Ok(shown)
 }
 
 const SENT: &[u8] = b"a1 CREATE Box\r\na2 LIST \"\" Box\r\na3 CREATE Shared\r\n";

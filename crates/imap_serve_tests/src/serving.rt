@@ -2,8 +2,8 @@
 
 use crate::connection::{Behaviour, OCTETS, Sink, Source, WHOLE};
 use crate::wanted::expect;
-use imap_core::{Act, Moment, SessionId, SessionNumber};
-use imap_hall::Hall;
+use imap_core::{Act, Moment, SessionId, SessionNumber, Step};
+use imap_hall::{Entry, Hall, Room};
 use imap_keeper::{Keeper, ListKeeper};
 use imap_names::UserName;
 use imap_serve::{End, Gate, Moments, OpenGate, ServeError, Watched, serve};
@@ -33,9 +33,9 @@ pub(crate) fn ann(alloc: Global) -> Result<UserName, AllocError> {
     UserName::read(alloc, "ann")?.ok_or(AllocError)
 }
 
-/// ann's first session.
-fn session(alloc: Global) -> Result<SessionId, AllocError> {
-    let number = SessionNumber::new(1).ok_or(AllocError)?;
+/// ann's session of this number.
+fn session(alloc: Global, number: u32) -> Result<SessionId, AllocError> {
+    let number = SessionNumber::new(number).ok_or(AllocError)?;
     Ok(SessionId {
         user: ann(alloc)?,
         number,
@@ -49,22 +49,23 @@ pub(crate) struct Served {
     pub(crate) end: Result<End, ServeError>,
 }
 
-/// Serves ann's session over this text.
-pub(crate) fn serve_in<W: Wait + AllocGlobal, K: Keeper, G: Gate>(
+/// Serves ann's session of this number over this text.
+pub(crate) fn serve_as<W: Wait + AllocGlobal, R: Room, G: Gate>(
     rt: &W,
-    hall: &mut Hall<K>,
+    room: &mut R,
     gate: &G,
+    number: u32,
     text: &[u8],
     behaviour: Behaviour,
 ) -> Result<Served, AllocError> {
     let alloc = rt.alloc();
-    let who = session(alloc)?;
+    let who = session(alloc, number)?;
     let mut input = Watched::new(Source::new(text, behaviour));
     let mut output = Watched::new(Sink::new(alloc, behaviour));
     let end = serve(
         rt,
         alloc,
-        hall,
+        room,
         &who,
         &Standing,
         gate,
@@ -78,6 +79,17 @@ pub(crate) fn serve_in<W: Wait + AllocGlobal, K: Keeper, G: Gate>(
         written: taken,
         end,
     })
+}
+
+/// Serves ann's first session over this text.
+pub(crate) fn serve_in<W: Wait + AllocGlobal, R: Room, G: Gate>(
+    rt: &W,
+    room: &mut R,
+    gate: &G,
+    text: &[u8],
+    behaviour: Behaviour,
+) -> Result<Served, AllocError> {
+    serve_as(rt, room, gate, 1, text, behaviour)
 }
 
 /// A new host whose administrator is ann, kept in memory.
@@ -98,14 +110,41 @@ pub(crate) fn serve_anew<W: Wait + AllocGlobal>(
 ) -> Result<Served, AllocError> {
     let mut hall = new_hall(rt.alloc())?;
     let served = serve_in(rt, &mut hall, &OpenGate, text, behaviour);
-    let has_left = ends_with_leave(&hall);
+    let has_left = ends_with_leave(&hall, 1);
     drop(hall);
     if has_left { served } else { Err(AllocError) }
 }
 
-pub(crate) fn ends_with_leave<K: Keeper>(hall: &Hall<K>) -> bool {
+/// Opens ann's first `count` sessions.
+pub(crate) fn open_first<R: Room>(
+    alloc: Global,
+    room: &mut R,
+    count: u32,
+) -> Result<(), AllocError> {
+    for number in 1..count.saturating_add(1) {
+        open_session(alloc, room, number)?;
+    }
+    Ok(())
+}
+
+fn open_session<R: Room>(alloc: Global, room: &mut R, number: u32) -> Result<(), AllocError> {
+    let step = Step {
+        who: session(alloc, number)?,
+        at: Moment::epoch(),
+        act: Act::Open,
+    };
+    match room.step(alloc, &step) {
+        Ok(_) => Ok(()),
+        Err(_) => Err(AllocError),
+    }
+}
+
+/// Whether the last entry is the Leave of ann's session of this number.
+pub(crate) fn ends_with_leave<K: Keeper>(hall: &Hall<K>, number: u32) -> bool {
     match hall.entries().last() {
-        Some(entry) => matches!(entry.step.act, Act::Leave),
+        Some(Entry { step, .. }) => {
+            matches!(step.act, Act::Leave) && step.who.number.get() == number
+        }
         None => false,
     }
 }
@@ -119,6 +158,19 @@ pub(crate) fn shown(
     let end = format!(in alloc; "{end:?}")?;
     written.extend_from_slice(end.as_bytes())?;
     Ok(written)
+}
+
+/// Appends how many entries the journal has, and whether the last is the Leave of the session.
+pub(crate) fn with_entries(
+    alloc: Global,
+    shown: Result<Vec<u8>, AllocError>,
+    count: u64,
+    has_left: bool,
+) -> Result<Vec<u8>, AllocError> {
+    let mut shown = shown?;
+    let text = format!(in alloc; " {count} {has_left}")?;
+    shown.extend_from_slice(text.as_bytes())?;
+    Ok(shown)
 }
 
 const GREETING: &[u8] =

@@ -144,7 +144,7 @@ fn check_refused(rt: &(impl Abort + Eprint), alloc: Global, texts: &[&str], by_p
 
 #[test]
 fn refuses_command_lines(rt: HostRuntime) {
-    const ROWS: [(&[&str], bool); 9] = [
+    const ROWS: [(&[&str], bool); 11] = [
         (&["imapd", "frob"], true),
         (&["imapd", "script", "x"], true),
         (&["imapd", "--help"], true),
@@ -165,6 +165,20 @@ fn refuses_command_lines(rt: HostRuntime) {
                 "--listen=ann=1143",
                 "--listen=ann=1144",
             ],
+            false,
+        ),
+        (
+            &[
+                "imapd",
+                "serve",
+                "--db=x",
+                "--admin=anyone",
+                "--listen=ann=1143",
+            ],
+            false,
+        ),
+        (
+            &["imapd", "serve", "--db=x", "--admin=", "--listen=ann=1143"],
             false,
         ),
     ];
