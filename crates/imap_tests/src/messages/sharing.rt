@@ -3,7 +3,7 @@
 use crate::messages::choice::{Setting, chosen_effect, make_setting};
 use crate::messages::mailboxes::PlainWorld;
 use crate::world::make;
-use imap_world::{Effect, World, WorldError};
+use imap_world::{World, WorldError};
 use std::alloc::{AllocError, Global};
 use std::test::Fail;
 
@@ -19,35 +19,42 @@ fn shared_copy(alloc: Global, world: &mut World) -> Result<World, AllocError> {
     world.try_copy(alloc)
 }
 
-/// Makes the effect in a world, and then in a copy that shared its mailboxes. Returns whether the copy stayed
-/// as it was until then, and both are what the effect makes of a world that shares nothing.
-fn make_all(
-    alloc: Global,
-    worlds: &mut Worlds,
-    effect: Effect,
-    in_copy: Effect,
-    alone: Effect,
-) -> Result<bool, WorldError> {
-    let mut copy = shared_copy(alloc, &mut worlds.shared)?;
-    let made = make(alloc, &mut worlds.shared, effect);
-    let is_kept = copy.same(&worlds.alone);
-    let is_same = make(alloc, &mut copy, in_copy) == made && copy.same(&worlds.shared);
-    drop(copy);
-    let is_made = make(alloc, &mut worlds.alone, alone) == made;
-    Ok(is_kept && is_same && is_made && worlds.shared.same(&worlds.alone))
+/// Makes the step's effect in a world.
+fn make_chosen(
+    step: u32,
+    setting: &Setting,
+    model: &PlainWorld,
+    world: &mut World,
+) -> Result<usize, WorldError> {
+    match chosen_effect(step, setting, model) {
+        Ok(effect) => make(model.alloc, world, effect),
+        Err(_) => Err(WorldError::Memory),
+    }
 }
 
+/// Makes the step's effect in the plain world.
+fn make_in_model(step: u32, setting: &Setting, model: &mut PlainWorld) {
+    if let Ok(effect) = chosen_effect(step, setting, model) {
+        let _ = model.make(&effect);
+    }
+}
+
+/// Makes the step's effect in a world, and then in a copy that shared its mailboxes. Returns whether the copy
+/// stayed as it was until then, and both are what the effect makes of a world that shares nothing.
 fn take_step(
     step: u32,
     setting: &Setting,
     worlds: &mut Worlds,
     model: &mut PlainWorld,
-) -> Result<bool, WorldError> {
-    let effect = chosen_effect(step, setting, model)?;
-    let in_copy = chosen_effect(step, setting, model)?;
-    let alone = chosen_effect(step, setting, model)?;
-    let _ = model.make(&effect);
-    make_all(model.alloc, worlds, effect, in_copy, alone)
+) -> Result<bool, AllocError> {
+    let mut copy = shared_copy(model.alloc, &mut worlds.shared)?;
+    let made = make_chosen(step, setting, model, &mut worlds.shared);
+    let is_kept = copy.same(&worlds.alone);
+    let is_same = make_chosen(step, setting, model, &mut copy) == made && copy.same(&worlds.shared);
+    drop(copy);
+    let is_made = make_chosen(step, setting, model, &mut worlds.alone) == made;
+    make_in_model(step, setting, model);
+    Ok(is_kept && is_same && is_made && worlds.shared.same(&worlds.alone))
 }
 
 /// How many effects are made, up to the first that a copy isn't apart from.
