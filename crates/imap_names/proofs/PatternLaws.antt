@@ -7,7 +7,7 @@ use Rattle.std.proofs.lemmas.Str.{IsUtf8-from_is_utf8, is_utf8-from_IsUtf8}
 use Rattle.imap_names.specs.declared.token.Token.{Token}
 use Rattle.imap_names.specs.MatchTest.{is_percent, ends_in_percent}
 use Rattle.imap_names.specs.Pattern.{token_of, pattern_read}
-use Rattle.imap_names.specs.Text.{composed}
+use Rattle.imap_nfc.specs.Nfc.{composed}
 
 pub not_read : (reference pattern text : List ℕ) → text ≡ reference ++ pattern → ¬ (IsUtf8 text) → None ≡ pattern_read reference pattern
 not_read reference pattern text e never =

@@ -9,7 +9,8 @@ use Rattle.std.proofs.lemmas.Str.{chars-IsAscii, IsUtf8-from_ascii, is_utf8-from
 use Rattle.unicode_normalization.specs.Forms.{is_nfc}
 use Rattle.std.specs.Prelude.{chars}
 use Rattle.imap_names.specs.Name.{Name, name_of, is_empty}
-use Rattle.imap_names.specs.Text.{components_of, composed, has_control}
+use Rattle.imap_nfc.specs.Nfc.{composed}
+use Rattle.imap_names.specs.Text.{components_of, has_control}
 use Rattle.imap_names.specs.UserName.{is_user_name}
 use Rattle.imap_names.specs.Valid.{is_prefix_word, is_root, with_inbox, held_path, IsName}
 use Rattle.std.proofs.lemmas.Slice.Eq.{bytes_eq-Decides}

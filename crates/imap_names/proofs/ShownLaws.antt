@@ -8,7 +8,8 @@ use Rattle.std.proofs.lemmas.Slice.Eq.{bytes_eq-Decides}
 use Rattle.imap_names.specs.declared.read.Namespace.{Namespace}
 use Rattle.imap_names.specs.declared.read.Namespace.TheVariants.{Personal, OtherUsers, Shared}
 use Rattle.imap_names.specs.Name.{Name, name_of, root_of, components, path_of, is_empty}
-use Rattle.imap_names.specs.Text.{components_of, composed, has_control}
+use Rattle.imap_nfc.specs.Nfc.{composed}
+use Rattle.imap_names.specs.Text.{components_of, has_control}
 use Rattle.imap_names.specs.UserName.{is_user_name}
 use Rattle.imap_names.specs.Reading.{NameParts, parts_of, root_at, path_fault, unless_fault, name_in, name_at, in_tree, read_by, name_read}
 use Rattle.imap_names.specs.Showing.{shown}
@@ -16,7 +17,8 @@ use Rattle.imap_names.specs.Valid.{max_path_octets, max_depth, is_prefix_word, i
 use Rattle.imap_names.proofs.NameLaws.{name_of-parts}
 use Rattle.imap_names.proofs.Parts.{HasFirst, components_of-first}
 use Rattle.imap_names.proofs.PrefixLaws.{parts_of-personal, other_parts-user}
-use Rattle.imap_names.proofs.Composed.{composed-nfc, composed-empty, has_control-empty, is_utf8-front, is_utf8-append, ascii_by_test}
+use Rattle.imap_nfc.proofs.Nfc.{composed-nfc}
+use Rattle.imap_names.proofs.Composed.{composed-empty, has_control-empty, is_utf8-front, is_utf8-append, ascii_by_test}
 use Rattle.imap_names.proofs.UserLaws.{UserNameFacts, user_name_facts, has_control-user, undelimited-user}
 
 -- ---- a valid name has no fault

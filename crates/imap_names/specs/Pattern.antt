@@ -8,7 +8,8 @@ use Rattle.imap_names.specs.declared.letters.Letter.{Letter}
 use Rattle.imap_names.specs.declared.token.Token.{Token}
 use Rattle.imap_names.specs.declared.token.Token.TheVariants.{Any, AnyInLevel, Octet}
 use Rattle.imap_names.specs.Letters.{letters_of}
-use Rattle.imap_names.specs.Text.{is_delimiter, composed}
+use Rattle.imap_nfc.specs.Nfc.{composed}
+use Rattle.imap_names.specs.Text.{is_delimiter}
 
 -- `*`
 abbrev pub star : ℕ

@@ -9,7 +9,8 @@ use Rattle.imap_names.specs.declared.error.NameError.TheVariants.{Control}
 use Rattle.imap_names.specs.declared.read.Namespace.{Namespace}
 use Rattle.imap_names.specs.declared.read.Namespace.TheVariants.{Personal, OtherUsers, Shared, Bare}
 use Rattle.imap_names.specs.Name.{Name, name_of, shared_root, is_empty}
-use Rattle.imap_names.specs.Text.{is_delimiter, components_of, composed, has_control}
+use Rattle.imap_nfc.specs.Nfc.{composed}
+use Rattle.imap_names.specs.Text.{is_delimiter, components_of, has_control}
 use Rattle.imap_names.specs.UserName.{is_user_name}
 use Rattle.imap_names.specs.Valid.{max_path_octets, max_depth, is_prefix_word, is_reserved, with_inbox}
 

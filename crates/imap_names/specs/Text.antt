@@ -1,8 +1,7 @@
 -- The octets of a name as text.
-use Rattle.std.specs.Prelude.{ℕ, ◌==◌, Bool, List, chars, encode_utf8_all}
+use Rattle.std.specs.Prelude.{ℕ, ◌==◌, Bool, List, chars}
 use Rattle.std.specs.Char.{is_control}
 use Rattle.std.specs.List.{list_any, slice_split}
-use Rattle.unicode_normalization.specs.Forms.{nfc}
 
 -- '/', which parts the levels of hierarchy in every namespace
 abbrev pub is_delimiter : ℕ → Bool
@@ -11,10 +10,6 @@ is_delimiter octet = octet == 47
 -- what stands between the delimiters of a text
 abbrev pub components_of : List ℕ → List (List ℕ)
 components_of text = slice_split is_delimiter text
-
--- the text in Normalization Form C (RFC 5198, section 3)
-abbrev pub composed : List ℕ → List ℕ
-composed text = encode_utf8_all (nfc (chars text))
 
 -- some character is a control, of C0, DEL or C1
 abbrev pub has_control : List ℕ → Bool

@@ -5,9 +5,9 @@ use Rattle.imap_names.specs.declared.error.NameError.{NameError}
 use Rattle.imap_names.specs.Answer.{AnswersIfMemory}
 use Rattle.imap_names.specs.Name.{Name}
 use Rattle.imap_names.specs.Reading.{name_at, read_by}
-use Rattle.imap_names.specs.Text.{composed}
+use Rattle.imap_nfc.specs.Nfc.{composed}
 use Rattle.imap_names.specs.Valid.{is_prefix_word}
-use Rattle.imap_names.proofs.Composed.{is_nfc-composed}
+use Rattle.imap_nfc.proofs.Nfc.{is_nfc-composed}
 use Rattle.imap_names.proofs.ReadLaws.{read_by-text, read_by-no_text, read_by-prefix_word, IsUtf8-prefix_word}
 use Rattle.imap_names.proofs.read.read_by.Goals as goal
 
