@@ -5,3 +5,4 @@ pub mod Chosen
 pub mod Within
 pub mod Names
 pub mod Shortest
+pub mod Ascii

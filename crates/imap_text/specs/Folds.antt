@@ -2,12 +2,8 @@
 -- 3.13).
 use Rattle.std.specs.Prelude.{◌≡◌, ℕ, List, ◌++◌, chars, encode_utf8_all}
 use Rattle.std.specs.Str.Lossy.{utf8_lossy}
-use Rattle.unicode_normalization.specs.Forms.{nfc}
 use Rattle.caseless.specs.Caseless.{default_case_fold}
-
--- a text in NFC
-abbrev pub nfc_text : List ℕ → List ℕ
-nfc_text text = encode_utf8_all (nfc (chars text))
+use Rattle.imap_nfc.specs.Nfc.{composed}
 
 -- a text by default case folding
 abbrev pub folded_text : List ℕ → List ℕ
@@ -15,7 +11,7 @@ folded_text text = encode_utf8_all (default_case_fold (chars text))
 
 -- octets as SEARCH compares them: read as UTF-8 with U+FFFD for what is none, brought to NFC, then folded
 abbrev pub fold : List ℕ → List ℕ
-fold octets = folded_text (nfc_text (utf8_lossy octets))
+fold octets = folded_text (composed (utf8_lossy octets))
 
 -- `part` stands somewhere in `whole`
 pub record IsWithin (part whole : List ℕ) : Type 0 where

@@ -5,8 +5,8 @@ use Rattle.imap_text.proofs.folded.Folded.contains.Goals as goal
 
 pub returns : goal.returns
 returns c =
-    let whole = c.as_bytes.ensures.value ∙ c.self.view_is in
-    let part = c.as_bytes-2.ensures.value ∙ c.wanted.view_is in
-    let found = subst (λ (p : List ℕ). FindsNeedle c.args.self.now p 0 c.find.result) part (subst (λ (t : List ℕ). FindsNeedle t c.as_bytes-2.result.now 0 c.find.result) whole c.find.ensures) in
+    let whole = c.as_slice.ensures.value ∙ c.self.view_is in
+    let part = c.as_slice-2.ensures.value ∙ c.wanted.view_is in
+    let found = subst (λ (p : List ℕ). FindsNeedle c.args.self.now p 0 c.find.result) part (subst (λ (t : List ℕ). FindsNeedle t c.as_slice-2.result.now 0 c.find.result) whole c.find.ensures) in
     let both = found_within c.args.self.now c.args.wanted.now c.find.result found in
     (λ e. both.0 (sym c.is_some.ensures ∙ e), λ is. c.is_some.ensures ∙ both.1 is)
