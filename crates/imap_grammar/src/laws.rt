@@ -1,8 +1,8 @@
 //! Laws of every frame and every request.
 
-ghost use Rattle.imap_grammar.specs.Spells.{EachSpells, SpellsOnce};
-ghost use Rattle.imap_grammar.specs.OneCommand.{EachCommandIsOne};
-ghost use Rattle.imap_grammar.specs.WrittenFrames.{EachIsTold};
+ghost use Rattle.imap_commands.specs.Spells.{EachSpells, SpellsOnce};
+ghost use Rattle.imap_commands.specs.OneCommand.{EachCommandIsOne};
+ghost use Rattle.imap_commands.specs.WrittenFrames.{EachIsTold};
 
 /// Each frame spells a request, and only one.
 pub fn one_request()

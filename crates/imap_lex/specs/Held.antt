@@ -1,6 +1,6 @@
 -- What a reader of marks holds of a number: the number, or the greatest that it can hold.
 use Rattle.std.specs.Prelude.{ℕ, ◌-◌, ◌^◌, min}
-use Rattle.imap_lex.specs.declared.mark.Mark.{Mark}
+use Rattle.imap_lex.specs.declared.mark.LiteralMark.{LiteralMark}
 use Rattle.imap_lex.specs.declared.mark.Tail.{Tail}
 use Rattle.imap_lex.specs.declared.mark.Tail.TheVariants.{Text, Brace, Digits, Plus, Closed, Cr, Crlf}
 use Rattle.imap_lex.specs.Mark.{Announced, LineTail, text, brace, digits, plus}
@@ -9,7 +9,7 @@ use Rattle.imap_lex.specs.Mark.{closed, behind_cr, behind_crlf}
 abbrev pub held_size : ℕ → ℕ
 held_size n = min n (2 ^ 128 - 1)
 
-abbrev pub held_mark : Announced → Mark
+abbrev pub held_mark : Announced → LiteralMark
 held_mark mark = record { size = held_size mark.size; waits = mark.waits }
 
 abbrev pub held_tail : LineTail → Tail

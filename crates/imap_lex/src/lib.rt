@@ -23,7 +23,7 @@ pub use error::LexError;
 pub use frame::Frame;
 pub use framer::Framer;
 pub use line::line_length;
-pub use mark::{Mark, line_mark};
+pub use mark::{LiteralMark, line_mark};
 pub use octets::Octets;
 pub use place::{MAX_COMMAND_OCTETS, MAX_UNASKED_OCTETS};
 pub use tag::Tag;

@@ -6,7 +6,7 @@ ghost use Rattle.imap_lex.specs.Held.{held_tail, held_mark};
 
 /// A literal that is to follow (RFC 9051, section 4.3; RFC 7888).
 #[derive(Clone, Copy, Debug)]
-pub struct Mark {
+pub struct LiteralMark {
     /// The number of octets that it announces. For a larger number it is `u128::MAX`,
     /// which is over any limit too.
     pub size: u128,
@@ -21,9 +21,9 @@ enum Tail {
     Brace,
     Digits(u128),
     Plus(u128),
-    Closed(Mark),
-    Cr(Mark),
-    Crlf(Mark),
+    Closed(LiteralMark),
+    Cr(LiteralMark),
+    Crlf(LiteralMark),
 }
 
 impl Tail {
@@ -38,8 +38,8 @@ impl Tail {
                 Tail::Digits(size.saturating_mul(10).saturating_add(digit))
             }
             (b'+', Tail::Digits(size)) => Tail::Plus(size),
-            (b'}', Tail::Digits(size)) => Tail::Closed(Mark { size, waits: true }),
-            (b'}', Tail::Plus(size)) => Tail::Closed(Mark { size, waits: false }),
+            (b'}', Tail::Digits(size)) => Tail::Closed(LiteralMark { size, waits: true }),
+            (b'}', Tail::Plus(size)) => Tail::Closed(LiteralMark { size, waits: false }),
             (b'\r', Tail::Closed(mark)) => Tail::Cr(mark),
             (b'\n', Tail::Cr(mark)) => Tail::Crlf(mark),
             _ => Tail::Text,
@@ -59,7 +59,7 @@ impl Tail {
 }
 
 /// Returns the mark with which the line `front` + `back` ends.
-pub fn line_mark(front: &[u8], back: &[u8]) -> Option<Mark>
+pub fn line_mark(front: &[u8], back: &[u8]) -> Option<LiteralMark>
     ensures { result ≡ option_map held_mark (line_mark (front.now ++ back.now)) }
 {
     match Tail::Text.with_octets(front).with_octets(back) {

@@ -10,7 +10,7 @@ ghost use Rattle.imap_lex.specs.Places.{IsWithin, turn_outcome, step_outcome};
 
 use crate::frame::End;
 use crate::line::{LineEnd, line_end};
-use crate::mark::{Mark, line_mark};
+use crate::mark::{LiteralMark, line_mark};
 
 /// The most octets that a command may have outside its literals, line ends counted.
 pub const MAX_COMMAND_OCTETS: usize = 8192;
@@ -152,7 +152,7 @@ impl Place {
     }
 
     /// Returns how the command goes on after a line that ends with `mark`.
-    fn after_line(self, mark: Option<Mark>) -> Turn
+    fn after_line(self, mark: Option<LiteralMark>) -> Turn
         requires { IsPlace self }
         ensures stands { IsTurn result }
         ensures outcome { (limit : ℕ) (octets : List ℕ) (part : BegunPart) (announced : Option Announced) →
@@ -165,7 +165,7 @@ impl Place {
         }
     }
 
-    fn after_mark(self, mark: Mark) -> Turn
+    fn after_mark(self, mark: LiteralMark) -> Turn
         requires { IsPlace self }
         ensures stands { IsTurn result }
         ensures outcome { (limit : ℕ) (octets : List ℕ) (part : BegunPart) (announced : Announced) →

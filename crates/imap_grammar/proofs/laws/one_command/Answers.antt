@@ -1,4 +1,4 @@
-use Rattle.imap_grammar.proofs.OneCommands.{each_is_one}
+use Rattle.imap_commands.proofs.OneCommands.{each_is_one}
 use Rattle.imap_grammar.proofs.laws.one_command.Goals as goal
 
 pub returns : goal.returns

@@ -1,4 +1,4 @@
-use Rattle.imap_grammar.proofs.Framed.{each_is_told}
+use Rattle.imap_commands.proofs.Framed.{each_is_told}
 use Rattle.imap_grammar.proofs.laws.written_is_told.Goals as goal
 
 pub returns : goal.returns

@@ -1,7 +1,7 @@
 use Rattle.std.proofs.Common.{◌≡◌}
 use Rattle.std.proofs.lemmas.Result.{IfOk-weaker}
-use Rattle.imap_grammar.specs.Spells.{Spells, SpellsNoOther, request_read}
-use Rattle.imap_grammar.proofs.Requests.{spells_of, spells_no_other}
+use Rattle.imap_commands.specs.Spells.{Spells, SpellsNoOther, request_read}
+use Rattle.imap_commands.proofs.Requests.{spells_of, spells_no_other}
 use Rattle.imap_grammar.proofs.reading.parse.Goals as goal
 
 pub returns-clause-spelt : goal.returns-clause-spelt

@@ -1,5 +1,5 @@
 use Rattle.std.proofs.Common.{◌≡◌, ◌<◌, [], length, drop, Some, refl, sym, ap, ◌∙◌}
-use Rattle.imap_grammar.specs.Reading.{after_tag}
+use Rattle.imap_commands.specs.Reading.{after_tag}
 use Rattle.imap_grammar.proofs.Requests.{whole_read, more_read, nothing_left, something_left}
 use Rattle.imap_grammar.proofs.reading.read_tagged.Goals as goal
 
