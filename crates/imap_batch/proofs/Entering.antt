@@ -16,7 +16,7 @@ use Rattle.imap_mailbox.proofs.ExpungedAll.{by_lists, by_lists_of}
 use Rattle.imap_mailbox.proofs.Fitting.{uids_step}
 use Rattle.imap_mailbox.proofs.Merged.{own_at-same, own_at-other}
 use Rattle.imap_batch.specs.declared.batch.NewMessage.{NewMessage}
-use Rattle.imap_batch.specs.declared.batch.Mark.{Mark}
+use Rattle.imap_batch.specs.declared.batch.FlagUpdate.{FlagUpdate}
 use Rattle.imap_batch.specs.declared.batch.Batch.{Batch}
 use Rattle.imap_batch.specs.declared.write.BatchWrite.{BatchWrite}
 use Rattle.imap_batch.specs.Batch.{one_if, flag_count, are_known, has_messages, mark_uids, write_of}
@@ -78,7 +78,7 @@ module _ (user q : List ℕ) (apart : q ≢ user) where
   added_other (m ∷ added) s =
       added_other added (with_new user m s) ∙ new_by (λ t. own_at t.own q ≡ own_at s.own q) user m s (own_other s.next true (with_message m s)) refl
 
-  marks_other : (marks : List Mark) (s : Summary) → own_at (with_marks user marks s).own q ≡ own_at s.own q
+  marks_other : (marks : List FlagUpdate) (s : Summary) → own_at (with_marks user marks s).own q ≡ own_at s.own q
   marks_other [] s = refl
   marks_other (k ∷ marks) s =
       let between : Summary = with_new_flags k.uid k.flags s in
@@ -159,7 +159,7 @@ seen_own user uid None s there = refl
 seen_own user uid (Some seen) s there = own_put user uid seen s there
 
 module _ (user : List ℕ) where
-  record AreMarked (marks : List Mark) (s t : Summary) : Type 0 where
+  record AreMarked (marks : List FlagUpdate) (s t : Summary) : Type 0 where
     pub messages : t.messages ≡ with_flag_changes (flags_from s.shared marks) s.messages
     pub gone : t.gone ≡ s.gone
     pub next : t.next ≡ s.next
@@ -167,7 +167,7 @@ module _ (user : List ℕ) where
     pub uids : uids_in t.messages ≡ uids_in s.messages
     pub own : own_at t.own user ≡ put (own_marked s.shared marks) (own_at s.own user)
 
-  marks_are : (l : ℕ) (marks : List Mark) (s : Summary) → are_known l (mark_uids marks) (uids_in s.messages) ≡ true → AreMarked marks s (with_marks user marks s)
+  marks_are : (l : ℕ) (marks : List FlagUpdate) (s : Summary) → are_known l (mark_uids marks) (uids_in s.messages) ≡ true → AreMarked marks s (with_marks user marks s)
   marks_are l [] s e = record { messages = refl; gone = refl; next = refl; shared = omega arith; uids = refl; own = refl }
   marks_are l (k ∷ marks) s e =
       let us = uids_in s.messages in

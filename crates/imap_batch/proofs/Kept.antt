@@ -22,7 +22,7 @@ use Rattle.imap_mailbox.proofs.Isolated.{shows_after, shows_marked}
 use Rattle.imap_mailbox.proofs.Keeping.{kept_step, kept_marked}
 use Rattle.imap_mailbox.proofs.Merged.{own_at-other}
 use Rattle.imap_batch.specs.declared.batch.NewMessage.{NewMessage}
-use Rattle.imap_batch.specs.declared.batch.Mark.{Mark}
+use Rattle.imap_batch.specs.declared.batch.FlagUpdate.{FlagUpdate}
 use Rattle.imap_batch.specs.declared.batch.Batch.{Batch}
 use Rattle.imap_batch.specs.declared.write.BatchWrite.{BatchWrite}
 use Rattle.imap_batch.specs.declared.error.BatchError.{BatchError}
@@ -126,17 +126,17 @@ flags_keep uid (Some flags) s few le kept = by (is_there uid s)
     by true = event_keeps (FlagsSet uid flags) s tt tt (few_keywords flags few) (omega (arith, le)) kept
     by false = itself s kept
 
-mark_keeps : (user : List ℕ) (k : Mark) (s : Summary) → are_few k.flags ≡ true → s.shared + one_if (is_some k.flags) ≤ max_events → IsKept s → Keeps s (with_mark user k s)
+mark_keeps : (user : List ℕ) (k : FlagUpdate) (s : Summary) → are_few k.flags ≡ true → s.shared + one_if (is_some k.flags) ≤ max_events → IsKept s → Keeps s (with_mark user k s)
 mark_keeps user k s few le kept =
     let one = flags_keep k.uid k.flags s few le kept in
     let between : Summary = with_new_flags k.uid k.flags s in
     and_then s between _ one (seen_by (Keeps between) user k.uid k.seen between (λ seen. own_keeps user k.uid seen between one.kept) (itself between one.kept))
 
-marks_keep : (user : List ℕ) (marks : List Mark) (s : Summary) → list_all (λ (k : Mark). are_few k.flags) marks ≡ true
+marks_keep : (user : List ℕ) (marks : List FlagUpdate) (s : Summary) → list_all (λ (k : FlagUpdate). are_few k.flags) marks ≡ true
     → s.shared + flag_count marks ≤ max_events → IsKept s → Keeps s (with_marks user marks s)
 marks_keep user [] s few le kept = itself s kept
 marks_keep user (k ∷ marks) s few le kept =
-    let parts = and_parts (are_few k.flags) (list_all (λ (k : Mark). are_few k.flags) marks) few in
+    let parts = and_parts (are_few k.flags) (list_all (λ (k : FlagUpdate). are_few k.flags) marks) few in
     let all = flags_counted k marks in
     let one = mark_keeps user k s parts.0 (omega (arith, le, all)) kept in
     let count = mark_fewer user k s in
@@ -156,7 +156,7 @@ expunges_keep (uid ∷ uids) s le kept = by (is_there uid s) refl (λ t. expunge
 
 pub batch_keeps : (b : Batch) (s : Summary) → has_few_keywords b ≡ true → s.shared + event_count b ≤ max_events → IsKept s → Keeps s (with_batch b s)
 batch_keeps b s few le kept =
-    let parts = and_parts (list_all (λ (m : NewMessage). not (has_too_many m.flags)) b.added) (list_all (λ (k : Mark). are_few k.flags) b.marks) few in
+    let parts = and_parts (list_all (λ (m : NewMessage). not (has_too_many m.flags)) b.added) (list_all (λ (k : FlagUpdate). are_few k.flags) b.marks) few in
     let added : Summary = with_added b.user b.added s in
     let marked : Summary = with_marks b.user b.marks added in
     let one = added_keep b.user b.added s parts.0 (omega (arith, le)) kept in

@@ -6,3 +6,4 @@ pub mod Planning
 pub mod Entering
 pub mod Walking
 pub mod Untouched
+pub mod Events

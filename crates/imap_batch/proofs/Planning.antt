@@ -16,7 +16,7 @@ use Rattle.imap_mailbox.proofs.BroughtUp.{shown_is_ordered}
 use Rattle.imap_mailbox.proofs.Lending.{uids_lent}
 use Rattle.imap_mailbox.proofs.Rising.{rises_end, rises_upper, rises_push}
 use Rattle.imap_batch.specs.declared.batch.NewMessage.{NewMessage}
-use Rattle.imap_batch.specs.declared.batch.Mark.{Mark}
+use Rattle.imap_batch.specs.declared.batch.FlagUpdate.{FlagUpdate}
 use Rattle.imap_batch.specs.declared.batch.Batch.{Batch}
 use Rattle.imap_batch.specs.declared.write.BatchWrite.{BatchWrite}
 use Rattle.imap_batch.specs.Batch.{one_if, added_seen_count, are_known, has_messages, mark_uids, write_of}
@@ -134,46 +134,46 @@ added_are (m ∷ added) c h =
 
 -- ---- what is marked
 
-abbrev mark_at : ℕ → ℕ → Mark → Row → Row
+abbrev mark_at : ℕ → ℕ → FlagUpdate → Row → Row
 mark_at shared own k r = cond (eqb r.uid k.uid) (row_marked shared own k r) r
 
-abbrev marked_all : ℕ → ℕ → List Mark → List Row → List Row
+abbrev marked_all : ℕ → ℕ → List FlagUpdate → List Row → List Row
 marked_all shared own [] rows = rows
 marked_all shared own (k ∷ marks) rows = marked_all (shared + one_if (is_some k.flags)) (own_after own k.seen) marks (map (mark_at shared own k) rows)
 
-pub uid_marked : (shared own : ℕ) (k : Mark) (r : Row) → (row_marked shared own k r).uid ≡ r.uid
+pub uid_marked : (shared own : ℕ) (k : FlagUpdate) (r : Row) → (row_marked shared own k r).uid ≡ r.uid
 uid_marked shared own k r =
     uid_seen own (number_after (shared + one_if (is_some k.flags)) own) k.seen (row_with_flags (number_after shared own) k.flags r) ∙ uid_flagged (number_after shared own) k.flags r
 
-uid_at : (shared own : ℕ) (k : Mark) (r : Row) → (mark_at shared own k r).uid ≡ r.uid
+uid_at : (shared own : ℕ) (k : FlagUpdate) (r : Row) → (mark_at shared own k r).uid ≡ r.uid
 uid_at shared own k r = by (eqb r.uid k.uid)
   where
     by : (b : Bool) → (cond b (row_marked shared own k r) r).uid ≡ r.uid
     by true = uid_marked shared own k r
     by false = refl
 
-uids_at : (shared own : ℕ) (k : Mark) (rows : List Row) → row_uids (map (mark_at shared own k) rows) ≡ row_uids rows
+uids_at : (shared own : ℕ) (k : FlagUpdate) (rows : List Row) → row_uids (map (mark_at shared own k) rows) ≡ row_uids rows
 uids_at shared own k [] = refl
 uids_at shared own k (r ∷ rows) = λ i. uid_at shared own k r i ∷ uids_at shared own k rows i
 
 -- rows of other UIDs stay
-miss : (shared own : ℕ) (k : Mark) (r : Row) → r.uid ≢ k.uid → mark_at shared own k r ≡ r
+miss : (shared own : ℕ) (k : FlagUpdate) (r : Row) → r.uid ≢ k.uid → mark_at shared own k r ≡ r
 miss shared own k r apart = ap (λ b. cond b (row_marked shared own k r) r) (ne_eqb r.uid k.uid apart)
 
-miss_all : (shared own low high : ℕ) (k : Mark) (rows : List Row) → k.uid < low → Rises low high (row_uids rows) → map (mark_at shared own k) rows ≡ rows
+miss_all : (shared own low high : ℕ) (k : FlagUpdate) (rows : List Row) → k.uid < low → Rises low high (row_uids rows) → map (mark_at shared own k) rows ≡ rows
 miss_all shared own low high k [] lt h = refl
 miss_all shared own low high k (r ∷ rows) lt h =
     let at : low ≤ r.uid = h.0 in
     λ i. miss shared own k r (λ e. omega (arith, e, at, lt)) i ∷ miss_all shared own (r.uid + 1) high k rows (omega (arith, at, lt)) h.1 i
 
-above_stay : (shared own l low high : ℕ) (marks : List Mark) (rows : List Row) → Rises l low (mark_uids marks) → Rises low high (row_uids rows) → marked_all shared own marks rows ≡ rows
+above_stay : (shared own l low high : ℕ) (marks : List FlagUpdate) (rows : List Row) → Rises l low (mark_uids marks) → Rises low high (row_uids rows) → marked_all shared own marks rows ≡ rows
 above_stay shared own l low high [] rows ms h = refl
 above_stay shared own l low high (k ∷ marks) rows ms h =
     let below : k.uid + 1 ≤ low = rises_end (k.uid + 1) low (mark_uids marks) ms.1 in
     ap (marked_all (shared + one_if (is_some k.flags)) (own_after own k.seen) marks) (miss_all shared own low high k rows (omega (arith, below)) h)
     ∙ above_stay (shared + one_if (is_some k.flags)) (own_after own k.seen) (k.uid + 1) low high marks rows ms.1 h
 
-front_stays : (shared own l high : ℕ) (marks : List Mark) (r : Row) (rows : List Row) → r.uid < l → Rises l high (mark_uids marks)
+front_stays : (shared own l high : ℕ) (marks : List FlagUpdate) (r : Row) (rows : List Row) → r.uid < l → Rises l high (mark_uids marks)
     → marked_all shared own marks (r ∷ rows) ≡ r ∷ marked_all shared own marks rows
 front_stays shared own l high [] r rows lt ms = refl
 front_stays shared own l high (k ∷ marks) r rows lt ms =
@@ -181,18 +181,18 @@ front_stays shared own l high (k ∷ marks) r rows lt ms =
     ap (λ x. marked_all (shared + one_if (is_some k.flags)) (own_after own k.seen) marks (x ∷ map (mark_at shared own k) rows)) (miss shared own k r (λ e. omega (arith, e, at, lt)))
     ∙ front_stays (shared + one_if (is_some k.flags)) (own_after own k.seen) (k.uid + 1) high marks r (map (mark_at shared own k) rows) (omega (arith, at, lt)) ms.1
 
-marked_append : (shared own : ℕ) (marks : List Mark) (a b : List Row) → marked_all shared own marks (a ++ b) ≡ marked_all shared own marks a ++ marked_all shared own marks b
+marked_append : (shared own : ℕ) (marks : List FlagUpdate) (a b : List Row) → marked_all shared own marks (a ++ b) ≡ marked_all shared own marks a ++ marked_all shared own marks b
 marked_append shared own [] a b = refl
 marked_append shared own (k ∷ marks) a b =
     ap (marked_all (shared + one_if (is_some k.flags)) (own_after own k.seen) marks) (map_append (mark_at shared own k) a b)
     ∙ marked_append (shared + one_if (is_some k.flags)) (own_after own k.seen) marks (map (mark_at shared own k) a) (map (mark_at shared own k) b)
 
-marked_none : (shared own : ℕ) (marks : List Mark) → marked_all shared own marks [] ≡ []
+marked_none : (shared own : ℕ) (marks : List FlagUpdate) → marked_all shared own marks [] ≡ []
 marked_none shared own [] = refl
 marked_none shared own (k ∷ marks) = marked_none (shared + one_if (is_some k.flags)) (own_after own k.seen) marks
 
 -- the walk along rows and marks
-along : (shared own l low high : ℕ) (marks : List Mark) (rows : List Row) → l ≤ high → Rises low high (row_uids rows) → are_known l (mark_uids marks) (row_uids rows) ≡ true
+along : (shared own l low high : ℕ) (marks : List FlagUpdate) (rows : List Row) → l ≤ high → Rises low high (row_uids rows) → are_known l (mark_uids marks) (row_uids rows) ≡ true
     → marked_all shared own marks rows ≡ rows_marked shared own marks rows
 along shared own l low high [] rows le h e = refl
 along shared own l low high (k ∷ marks) [] le h e = marked_none shared own (k ∷ marks)
@@ -292,7 +292,7 @@ seen_put uid (Some seen) d among = by (nat_lt d.own max_events)
     by true = subst (λ z. IsPut d uid (λ r. record { uid = r.uid; date = r.date; octets = r.octets; flags = r.flags; seen = seen; number = number_after d.shared d.own }) d.shared (d.own + 1) (cond z (content_with_seen uid seen d) d)) (sym among)
         (record { rows = refl; shared_is = refl; own_is = refl })
 
-mark_put : (k : Mark) (d : Content) → is_among k.uid (row_uids d.rows) ≡ true
+mark_put : (k : FlagUpdate) (d : Content) → is_among k.uid (row_uids d.rows) ≡ true
     → IsPut d k.uid (row_marked d.shared d.own k) (d.shared + one_if (is_some k.flags)) (own_after d.own k.seen) (mark_seen k d)
 mark_put k d among =
     let between : Content = flags_seen k.uid k.flags d in
@@ -307,7 +307,7 @@ mark_put k d among =
       own_is = two.own_is ∙ ap (λ n. own_after n k.seen) one.own_is;
     }
 
-marks_are : (l : ℕ) (marks : List Mark) (d : Content) → are_known l (mark_uids marks) (row_uids d.rows) ≡ true → (marks_seen marks d).rows ≡ marked_all d.shared d.own marks d.rows
+marks_are : (l : ℕ) (marks : List FlagUpdate) (d : Content) → are_known l (mark_uids marks) (row_uids d.rows) ≡ true → (marks_seen marks d).rows ≡ marked_all d.shared d.own marks d.rows
 marks_are l [] d e = refl
 marks_are l (k ∷ marks) d e =
     let us = row_uids d.rows in
@@ -448,6 +448,6 @@ own_counted count (m ∷ ms) le = by m.seen (λ n. own_counted n ms)
     by true rest = left (nat_lt count max_events) refl rest
     by false rest = rest count le ∙ (let z : min (count + added_seen_count ms) max_events ≡ min (count + (0 + added_seen_count ms)) max_events = omega arith in z)
 
-pub none_marked : (x y : ℕ) (ks : List Mark) → rows_marked x y ks [] ≡ []
+pub none_marked : (x y : ℕ) (ks : List FlagUpdate) → rows_marked x y ks [] ≡ []
 none_marked x y [] = refl
 none_marked x y (k ∷ ks) = refl

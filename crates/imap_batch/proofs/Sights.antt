@@ -17,7 +17,7 @@ use Rattle.imap_mailbox.proofs.Fitting.{sound_step, sound_marked}
 use Rattle.imap_mailbox.proofs.Isolated.{anothers_seen_is_hidden, shows_after, room_seen}
 use Rattle.imap_mailbox.proofs.Lending.{uids_lent}
 use Rattle.imap_batch.specs.declared.batch.NewMessage.{NewMessage}
-use Rattle.imap_batch.specs.declared.batch.Mark.{Mark}
+use Rattle.imap_batch.specs.declared.batch.FlagUpdate.{FlagUpdate}
 use Rattle.imap_batch.specs.declared.batch.Batch.{Batch}
 use Rattle.imap_batch.specs.declared.error.BatchError.TheVariants.{Limit, NoSuchUid}
 use Rattle.imap_batch.specs.Batch.{are_known, event_count, flag_count, has_few_keywords, has_numbers, has_uids, has_messages, mark_uids, write_of, write_for}
@@ -44,13 +44,13 @@ sound_added user (m ∷ added) s h = sound_added user added (with_new user m s) 
 sound_flags : (uid : ℕ) (o : Option SharedFlags) (s : Summary) → IsSound s → IsSound (with_new_flags uid o s)
 sound_flags uid o s h = flags_by IsSound uid o s (λ flags e. sound_step (FlagsSet uid flags) s tt tt h) h
 
-sound_mark : (user : List ℕ) (k : Mark) (s : Summary) → IsSound s → IsSound (with_mark user k s)
+sound_mark : (user : List ℕ) (k : FlagUpdate) (s : Summary) → IsSound s → IsSound (with_mark user k s)
 sound_mark user k s h =
     let between : Summary = with_new_flags k.uid k.flags s in
     let sound : IsSound between = sound_flags k.uid k.flags s h in
     seen_by IsSound user k.uid k.seen between (λ seen. sound_own user k.uid seen between sound) sound
 
-sound_marks : (user : List ℕ) (marks : List Mark) (s : Summary) → IsSound s → IsSound (with_marks user marks s)
+sound_marks : (user : List ℕ) (marks : List FlagUpdate) (s : Summary) → IsSound s → IsSound (with_marks user marks s)
 sound_marks user [] s h = h
 sound_marks user (k ∷ marks) s h = sound_marks user marks (with_mark user k s) (sound_mark user k s h)
 
@@ -88,11 +88,11 @@ module _ (user : List ℕ) where
   shows_seen uid None s h = refl
   shows_seen uid (Some seen) s h = shows_own uid seen s h
 
-  shows_mark : (k : Mark) (s : Summary) → IsSound s → content_of user (with_mark user k s) ≡ mark_seen k (content_of user s)
+  shows_mark : (k : FlagUpdate) (s : Summary) → IsSound s → content_of user (with_mark user k s) ≡ mark_seen k (content_of user s)
   shows_mark k s h =
       shows_seen k.uid k.seen (with_new_flags k.uid k.flags s) (sound_flags k.uid k.flags s h) ∙ ap (seen_seen k.uid k.seen) (shows_flags k.uid k.flags s h)
 
-  shows_marks : (marks : List Mark) (s : Summary) → IsSound s → content_of user (with_marks user marks s) ≡ marks_seen marks (content_of user s)
+  shows_marks : (marks : List FlagUpdate) (s : Summary) → IsSound s → content_of user (with_marks user marks s) ≡ marks_seen marks (content_of user s)
   shows_marks [] s h = refl
   shows_marks (k ∷ marks) s h = shows_marks marks (with_mark user k s) (sound_mark user k s h) ∙ ap (marks_seen marks) (shows_mark k s h)
 
@@ -221,11 +221,11 @@ module _ (most : ℕ) (user other : List ℕ) (r : Rights) (apart : user ≢ oth
   no_flags uid None s e = refl
   no_flags uid (Some flags) s e = absurd (cc e)
 
-  marks_hidden : (marks : List Mark) (s : Summary) → list_all (λ (k : Mark). not (is_some k.flags)) marks ≡ true
+  marks_hidden : (marks : List FlagUpdate) (s : Summary) → list_all (λ (k : FlagUpdate). not (is_some k.flags)) marks ≡ true
       → shown_to most user r (with_marks other marks s) ≡ shown_to most user r s
   marks_hidden [] s e = refl
   marks_hidden (k ∷ marks) s e =
-      let parts = and_parts (not (is_some k.flags)) (list_all (λ (k : Mark). not (is_some k.flags)) marks) e in
+      let parts = and_parts (not (is_some k.flags)) (list_all (λ (k : FlagUpdate). not (is_some k.flags)) marks) e in
       marks_hidden marks (with_mark other k s) parts.1
       ∙ own_hidden k.uid k.seen (with_new_flags k.uid k.flags s)
       ∙ ap (shown_to most user r) (no_flags k.uid k.flags s parts.0)

@@ -12,7 +12,7 @@ use Rattle.imap_mailbox.specs.Summary.{Summary, Rises, AreRising, IsSound, is_th
 use Rattle.imap_mailbox.specs.Calls.{if_there}
 use Rattle.imap_mailbox.proofs.Rising.{rises_end}
 use Rattle.imap_batch.specs.declared.batch.NewMessage.{NewMessage}
-use Rattle.imap_batch.specs.declared.batch.Mark.{Mark}
+use Rattle.imap_batch.specs.declared.batch.FlagUpdate.{FlagUpdate}
 use Rattle.imap_batch.specs.Batch.{one_if, are_known, has_uids, flag_count}
 use Rattle.imap_batch.specs.Written.{with_own, with_message, with_new, with_added, with_new_flags, with_new_seen, with_mark, with_marks}
 
@@ -143,16 +143,16 @@ flags_fewer uid (Some flags) s = flags_by (AreFewer 1 s) uid (Some flags) s
 pub new_seen_stays : (user : List ℕ) (uid : ℕ) (o : Option Bool) (s : Summary) → StaysShared s (with_new_seen user uid o s)
 new_seen_stays user uid o s = seen_by (StaysShared s) user uid o s (λ seen. own_stays user uid seen s) (stays s)
 
-pub mark_fewer : (user : List ℕ) (k : Mark) (s : Summary) → AreFewer (one_if (is_some k.flags)) s (with_mark user k s)
+pub mark_fewer : (user : List ℕ) (k : FlagUpdate) (s : Summary) → AreFewer (one_if (is_some k.flags)) s (with_mark user k s)
 mark_fewer user k s =
     let one = flags_fewer k.uid k.flags s in
     let two = new_seen_stays user k.uid k.seen (with_new_flags k.uid k.flags s) in
     record { next = two.next ∙ one.next; shared = omega (arith, one.shared, two.shared); less = omega (arith, one.less, two.shared) }
 
-pub flags_counted : (k : Mark) (marks : List Mark) → flag_count (k ∷ marks) ≡ one_if (is_some k.flags) + flag_count marks
+pub flags_counted : (k : FlagUpdate) (marks : List FlagUpdate) → flag_count (k ∷ marks) ≡ one_if (is_some k.flags) + flag_count marks
 flags_counted k marks = refl
 
-pub marks_fewer : (user : List ℕ) (marks : List Mark) (s : Summary) → AreFewer (flag_count marks) s (with_marks user marks s)
+pub marks_fewer : (user : List ℕ) (marks : List FlagUpdate) (s : Summary) → AreFewer (flag_count marks) s (with_marks user marks s)
 marks_fewer user [] s = record { next = refl; shared = omega arith; less = omega arith }
 marks_fewer user (k ∷ marks) s =
     let one = mark_fewer user k s in

@@ -6,7 +6,7 @@ use Rattle.imap_mailbox.specs.Lent.{row_uids}
 use Rattle.imap_mailbox.specs.Order.{AreAtMost}
 use Rattle.imap_mailbox.specs.Rows.{Row}
 use Rattle.imap_mailbox.specs.Summary.{Rises}
-use Rattle.imap_batch.specs.declared.batch.Mark.{Mark}
+use Rattle.imap_batch.specs.declared.batch.FlagUpdate.{FlagUpdate}
 use Rattle.imap_batch.specs.declared.marks_left.MarksLeft.{MarksLeft}
 use Rattle.imap_batch.specs.Batch.{one_if}
 use Rattle.imap_batch.specs.Planned.{own_after, first_uid, marked_by, row_marked, rows_left, rows_marked, StartsLeft}
@@ -54,7 +54,7 @@ are_below low high uid (r ∷ s ∷ rows) zero (suc k) rise lt h =
     let later = are_below (r.uid + 1) high uid (s ∷ rows) zero k rise.1 (omega (arith, lt)) (λ row at. h row (at ∙ ap (λ i. get_or (r ∷ s ∷ rows) i row) (one_more k))) in
     (omega (arith, later.0, rise.1.0), later)
 
-unmarked : (shared own : ℕ) (mark : Mark) (marks : List Mark) (k : ℕ) (rows : List Row) → AreBelow mark.uid (take k rows)
+unmarked : (shared own : ℕ) (mark : FlagUpdate) (marks : List FlagUpdate) (k : ℕ) (rows : List Row) → AreBelow mark.uid (take k rows)
     → rows_marked shared own (mark ∷ marks) rows ≡ take k rows ++ rows_marked shared own (mark ∷ marks) (drop k rows)
 unmarked shared own mark marks zero rows h = refl
 unmarked shared own mark marks (suc k) [] h = refl
@@ -63,7 +63,7 @@ unmarked shared own mark marks (suc k) (r ∷ rows) h =
     (ne_eqb mark.uid r.uid (λ e. absurd (omega (arith, h.0, e))))
     ∙ ap (λ l. r ∷ l) (unmarked shared own mark marks k rows h.1)
 
-unmarked_run : (m : MarksLeft) (k : ℕ) (rows : List Row) → ((mark : Mark) (marks : List Mark) → m.marks.now ≡ mark ∷ marks → AreBelow mark.uid (take k rows))
+unmarked_run : (m : MarksLeft) (k : ℕ) (rows : List Row) → ((mark : FlagUpdate) (marks : List FlagUpdate) → m.marks.now ≡ mark ∷ marks → AreBelow mark.uid (take k rows))
     → marked_by m rows ≡ take k rows ++ marked_by m (drop k rows)
 unmarked_run m k rows h = by m.marks.now h
   where
@@ -72,7 +72,7 @@ unmarked_run m k rows h = by m.marks.now h
     joined (suc k) [] = refl
     joined (suc k) (r ∷ rows) = ap (λ l. r ∷ l) (joined k rows)
 
-    by : (ms : List Mark) → ((mark : Mark) (marks : List Mark) → ms ≡ mark ∷ marks → AreBelow mark.uid (take k rows))
+    by : (ms : List FlagUpdate) → ((mark : FlagUpdate) (marks : List FlagUpdate) → ms ≡ mark ∷ marks → AreBelow mark.uid (take k rows))
         → rows_marked m.shared m.own ms rows ≡ take k rows ++ rows_marked m.shared m.own ms (drop k rows)
     by [] h = joined k rows
     by (mark ∷ marks) h = unmarked m.shared m.own mark marks k rows (h mark marks refl)
@@ -127,7 +127,7 @@ split m uids added rows p len q k h le =
     ∙ append_assoc (take k (drop p rows)) (marked_by m (drop k (drop p rows))) added
     ∙ ap (λ l. take k (drop p rows) ++ l) (sym (plan_none m uids added (drop k (drop p rows)) h.none))
   where
-    all_below : (mark : Mark) (marks : List Mark) → m.marks.now ≡ mark ∷ marks → AreBelow mark.uid (take len (drop p rows))
+    all_below : (mark : FlagUpdate) (marks : List FlagUpdate) → m.marks.now ≡ mark ∷ marks → AreBelow mark.uid (take len (drop p rows))
     all_below mark marks is =
         let whole : suc (len - 1) ≡ len = omega (arith, h.some) in
         let at_q : p + (len - 1) ≡ q = omega (arith, h.last, h.some) in
@@ -175,7 +175,7 @@ either_length : (b : Bool) (xs ys : List Row) (n : ℕ) → length xs ≡ n → 
 either_length true xs ys n x y = x
 either_length false xs ys n x y = y
 
-marked_length : (shared own : ℕ) (ms : List Mark) (rows : List Row) → length (rows_marked shared own ms rows) ≡ length rows
+marked_length : (shared own : ℕ) (ms : List FlagUpdate) (rows : List Row) → length (rows_marked shared own ms rows) ≡ length rows
 marked_length shared own [] rows = refl
 marked_length shared own (k ∷ ms) [] = refl
 marked_length shared own (k ∷ ms) (r ∷ rows) =

@@ -3,7 +3,7 @@ use Rattle.std.proofs.Common.{◌≡◌, ℕ, zero, suc, ◌+◌, ◌<◌, ◌�
 use Rattle.std.specs.Prelude.{is_some}
 use Rattle.std.proofs.lemmas.List.{drop_more, drop_all}
 use Rattle.imap_mailbox.specs.Rows.{Row, is_among}
-use Rattle.imap_batch.specs.declared.batch.Mark.{Mark}
+use Rattle.imap_batch.specs.declared.batch.FlagUpdate.{FlagUpdate}
 use Rattle.imap_batch.specs.declared.marks_left.MarksLeft.{MarksLeft}
 use Rattle.imap_batch.specs.Batch.{one_if}
 use Rattle.imap_batch.specs.Planned.{own_after, rows_left, rows_marked, marked_by, row_marked, first_uid, row_with_first, with_first, StartsLeft}
@@ -33,7 +33,7 @@ row_at rows p lt =
 pub uid_with_first : (m : MarksLeft) (r : Row) → (with_first m r).uid ≡ r.uid
 uid_with_first m r = by m.marks.now
   where
-    by : (marks : List Mark) → (row_with_first m.shared m.own marks r).uid ≡ r.uid
+    by : (marks : List FlagUpdate) → (row_with_first m.shared m.own marks r).uid ≡ r.uid
     by [] = refl
     by (k ∷ marks) = at (eqb k.uid r.uid)
       where
@@ -81,12 +81,12 @@ stepped uids rows p uid m n lt h marked starts =
 
 -- ---- the first row that is left
 
-abbrev later_of : (shared own : ℕ) → List Mark → Row → List Row → List Row
+abbrev later_of : (shared own : ℕ) → List FlagUpdate → Row → List Row → List Row
 later_of shared own [] r rows = rows
 later_of shared own (k ∷ marks) r rows =
     cond (eqb k.uid r.uid) (rows_marked (shared + one_if (is_some k.flags)) (own_after own k.seen) marks rows) (rows_marked shared own (k ∷ marks) rows)
 
-first_of : (shared own : ℕ) (marks : List Mark) (r : Row) (rows : List Row)
+first_of : (shared own : ℕ) (marks : List FlagUpdate) (r : Row) (rows : List Row)
     → rows_marked shared own marks (r ∷ rows) ≡ row_with_first shared own marks r ∷ later_of shared own marks r rows
 first_of shared own [] r rows = refl
 first_of shared own (k ∷ marks) r rows = by (eqb k.uid r.uid)

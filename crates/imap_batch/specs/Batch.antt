@@ -9,11 +9,22 @@ use Rattle.imap_mailbox.specs.Rows.{is_among}
 use Rattle.imap_mailbox.specs.History.{end_uid, own_at}
 use Rattle.imap_mailbox.specs.Summary.{Summary, uids_in}
 use Rattle.imap_batch.specs.declared.batch.NewMessage.{NewMessage}
-use Rattle.imap_batch.specs.declared.batch.Mark.{Mark}
+use Rattle.imap_batch.specs.declared.batch.FlagUpdate.{FlagUpdate}
 use Rattle.imap_batch.specs.declared.batch.Batch.{Batch}
 use Rattle.imap_batch.specs.declared.write.BatchWrite.{BatchWrite}
 use Rattle.imap_batch.specs.declared.error.BatchError.{BatchError}
 use Rattle.imap_batch.specs.declared.error.BatchError.TheVariants.{Limit, NoSuchUid, Memory}
+
+-- ---- batches of one kind
+
+abbrev pub adding : (user : List ℕ) → List NewMessage → Batch
+adding user added = record { user = user; added = added; marks = []; expunged = [] }
+
+abbrev pub marking : (user : List ℕ) → List FlagUpdate → Batch
+marking user marks = record { user = user; added = []; marks = marks; expunged = [] }
+
+abbrev pub expunging : (user uids : List ℕ) → Batch
+expunging user uids = record { user = user; added = []; marks = []; expunged = uids }
 
 -- ---- what is counted
 
@@ -22,7 +33,7 @@ abbrev pub one_if : Bool → ℕ
 one_if b = if b then 1 else 0
 
 -- the shared events of marks
-abbrev pub flag_count : List Mark → ℕ
+abbrev pub flag_count : List FlagUpdate → ℕ
 flag_count [] = 0
 flag_count (k ∷ marks) = one_if (is_some k.flags) + flag_count marks
 
@@ -31,7 +42,7 @@ abbrev pub added_seen_count : List NewMessage → ℕ
 added_seen_count [] = 0
 added_seen_count (m ∷ added) = one_if m.seen + added_seen_count added
 
-abbrev pub mark_seen_count : List Mark → ℕ
+abbrev pub mark_seen_count : List FlagUpdate → ℕ
 mark_seen_count [] = 0
 mark_seen_count (k ∷ marks) = one_if (is_some k.seen) + mark_seen_count marks
 
@@ -42,7 +53,7 @@ seen_count b = added_seen_count b.added + mark_seen_count b.marks
 abbrev pub event_count : Batch → ℕ
 event_count b = length b.added + (flag_count b.marks + length b.expunged)
 
-abbrev pub mark_uids : List Mark → List ℕ
+abbrev pub mark_uids : List FlagUpdate → List ℕ
 mark_uids marks = map (λ k. k.uid) marks
 
 -- ---- what is refused

@@ -10,7 +10,7 @@ use Rattle.imap_mailbox.specs.Expunging.{without_all, gone_at}
 use Rattle.imap_mailbox.specs.History.{own_at}
 use Rattle.imap_mailbox.specs.Summary.{Summary, flags_in}
 use Rattle.imap_batch.specs.declared.batch.NewMessage.{NewMessage}
-use Rattle.imap_batch.specs.declared.batch.Mark.{Mark}
+use Rattle.imap_batch.specs.declared.batch.FlagUpdate.{FlagUpdate}
 use Rattle.imap_batch.specs.declared.write.BatchWrite.{BatchWrite}
 use Rattle.imap_batch.specs.Batch.{one_if, flag_count, event_count}
 use Rattle.imap_batch.specs.Written.{with_batch, MayWrite}
@@ -37,7 +37,7 @@ abbrev pub flag_change : (place uid : ℕ) → Option SharedFlags → List FlagC
 flag_change place uid None = []
 flag_change place uid (Some flags) = record { uid = uid; flags = flags; place = place } ∷ []
 
-abbrev pub flags_from : (place : ℕ) → List Mark → List FlagChange
+abbrev pub flags_from : (place : ℕ) → List FlagUpdate → List FlagChange
 flags_from place [] = []
 flags_from place (k ∷ marks) =
     flag_change place k.uid k.flags ++ flags_from (place + one_if (is_some k.flags)) marks
@@ -61,7 +61,7 @@ abbrev pub own_change : (place uid : ℕ) → Option Bool → List SeenChange
 own_change place uid None = []
 own_change place uid (Some seen) = record { before = place; uid = uid; seen = seen } ∷ []
 
-abbrev pub own_marked : (place : ℕ) → List Mark → List SeenChange
+abbrev pub own_marked : (place : ℕ) → List FlagUpdate → List SeenChange
 own_marked place [] = []
 own_marked place (k ∷ marks) =
     own_change (place + one_if (is_some k.flags)) k.uid k.seen

@@ -6,7 +6,7 @@ use Rattle.imap_mailbox.specs.Held.{IsKept}
 use Rattle.imap_mailbox.specs.Shown.{Rights, content_of, shown_to}
 use Rattle.imap_mailbox.specs.Summary.{Summary}
 use Rattle.imap_batch.specs.declared.batch.Batch.{Batch}
-use Rattle.imap_batch.specs.declared.batch.Mark.{Mark}
+use Rattle.imap_batch.specs.declared.batch.FlagUpdate.{FlagUpdate}
 use Rattle.imap_batch.specs.declared.write.BatchWrite.{BatchWrite}
 use Rattle.imap_batch.specs.Batch.{write_for}
 use Rattle.imap_batch.specs.Written.{with_batch, MayWrite}
@@ -54,7 +54,7 @@ PossibleIsMade =
 -- only the \Seen of its user changes
 pub record MarksOwnSeen (b : Batch) : Type 0 where
   pub added : b.added ≡ []
-  pub flags : list_all (λ (k : Mark). not (is_some k.flags)) b.marks ≡ true
+  pub flags : list_all (λ (k : FlagUpdate). not (is_some k.flags)) b.marks ≡ true
   pub expunged : b.expunged ≡ []
 
 abbrev pub AnothersSeenIsHidden : Type 0

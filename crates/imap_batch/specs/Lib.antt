@@ -6,3 +6,4 @@ pub mod Seen
 pub mod Laws
 pub mod Planned
 pub mod Untouched
+pub mod Events

@@ -10,7 +10,7 @@ use Rattle.imap_mailbox.specs.Calls.{arrival}
 use Rattle.imap_mailbox.specs.Order.{AreRowsInOrder}
 use Rattle.imap_mailbox.specs.Summary.{Summary, AreRising, rows_of}
 use Rattle.imap_batch.specs.declared.batch.NewMessage.{NewMessage}
-use Rattle.imap_batch.specs.declared.batch.Mark.{Mark}
+use Rattle.imap_batch.specs.declared.batch.FlagUpdate.{FlagUpdate}
 use Rattle.imap_batch.specs.declared.write.BatchWrite.{BatchWrite}
 use Rattle.imap_batch.specs.declared.marks_left.MarksLeft.{MarksLeft}
 use Rattle.imap_batch.specs.declared.added_left.AddedLeft.{AddedLeft}
@@ -49,7 +49,7 @@ row_with_seen own number (Some seen) r =
     }
     else r
 
-abbrev pub row_marked : (shared own : ℕ) → Mark → Row → Row
+abbrev pub row_marked : (shared own : ℕ) → FlagUpdate → Row → Row
 row_marked shared own k r =
     row_with_seen own (number_after (shared + one_if (is_some k.flags)) own) k.seen
     (row_with_flags (number_after shared own) k.flags r)
@@ -66,7 +66,7 @@ row_added uid shared own m =
 -- ---- all messages
 
 -- the rows and the marks are in the order of UIDs
-abbrev pub rows_marked : (shared own : ℕ) → List Mark → List Row → List Row
+abbrev pub rows_marked : (shared own : ℕ) → List FlagUpdate → List Row → List Row
 rows_marked shared own [] rows = rows
 rows_marked shared own (k ∷ marks) [] = []
 rows_marked shared own (k ∷ marks) (r ∷ rows) =
@@ -120,7 +120,7 @@ pub record CanAdd (a : AddedLeft) : Type 0 where
   pub uids : 0 < length a.added.now → a.uid + length a.added.now ≤ end_uid
 
 -- a row with the first of the marks, if that is of its UID
-abbrev pub row_with_first : (shared own : ℕ) → List Mark → Row → Row
+abbrev pub row_with_first : (shared own : ℕ) → List FlagUpdate → Row → Row
 row_with_first shared own [] r = r
 row_with_first shared own (k ∷ marks) r = if k.uid == r.uid then row_marked shared own k r else r
 

@@ -9,7 +9,7 @@ use Rattle.imap_mailbox.specs.Calls.{arrival}
 use Rattle.imap_mailbox.specs.Shown.{Content, Shown, content_after, content_with_seen, if_shown}
 use Rattle.imap_mailbox.specs.Shown.{content_expunged, room_in}
 use Rattle.imap_batch.specs.declared.batch.NewMessage.{NewMessage}
-use Rattle.imap_batch.specs.declared.batch.Mark.{Mark}
+use Rattle.imap_batch.specs.declared.batch.FlagUpdate.{FlagUpdate}
 use Rattle.imap_batch.specs.declared.batch.Batch.{Batch}
 use Rattle.imap_batch.specs.Batch.{event_count, mark_uids, has_few_keywords, are_known}
 
@@ -37,10 +37,10 @@ abbrev pub seen_seen : (uid : ℕ) → Option Bool → Content → Content
 seen_seen uid None c = c
 seen_seen uid (Some seen) c = own_seen uid seen c
 
-abbrev pub mark_seen : Mark → Content → Content
+abbrev pub mark_seen : FlagUpdate → Content → Content
 mark_seen k c = seen_seen k.uid k.seen (flags_seen k.uid k.flags c)
 
-abbrev pub marks_seen : List Mark → Content → Content
+abbrev pub marks_seen : List FlagUpdate → Content → Content
 marks_seen [] c = c
 marks_seen (k ∷ marks) c = marks_seen marks (mark_seen k c)
 

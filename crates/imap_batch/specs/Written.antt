@@ -9,7 +9,7 @@ use Rattle.imap_mailbox.specs.Calls.{arrival, if_there}
 use Rattle.imap_mailbox.specs.Expunging.{with_expunges}
 use Rattle.imap_mailbox.specs.Summary.{Summary, with_arrival, with_flags, with_seen}
 use Rattle.imap_batch.specs.declared.batch.NewMessage.{NewMessage}
-use Rattle.imap_batch.specs.declared.batch.Mark.{Mark}
+use Rattle.imap_batch.specs.declared.batch.FlagUpdate.{FlagUpdate}
 use Rattle.imap_batch.specs.declared.batch.Batch.{Batch}
 use Rattle.imap_batch.specs.declared.write.BatchWrite.{BatchWrite}
 use Rattle.imap_batch.specs.Batch.{seen_count, write_of, has_few_keywords, has_numbers, has_messages}
@@ -42,10 +42,10 @@ with_new_seen user uid None s = s
 with_new_seen user uid (Some seen) s = with_own user uid seen s
 
 -- the shared event comes first
-abbrev pub with_mark : List ℕ → Mark → Summary → Summary
+abbrev pub with_mark : List ℕ → FlagUpdate → Summary → Summary
 with_mark user k s = with_new_seen user k.uid k.seen (with_new_flags k.uid k.flags s)
 
-abbrev pub with_marks : List ℕ → List Mark → Summary → Summary
+abbrev pub with_marks : List ℕ → List FlagUpdate → Summary → Summary
 with_marks user [] s = s
 with_marks user (k ∷ marks) s = with_marks user marks (with_mark user k s)
 

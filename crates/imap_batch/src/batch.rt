@@ -1,12 +1,13 @@
 //! What is asked of the messages of one mailbox.
 
 ghost use Rattle.std.specs.Prelude.{◌≡◌, IfOk};
+ghost use Rattle.imap_batch.specs.Batch.{adding, expunging, marking};
 
 use imap_lex::Octets;
 use imap_mailbox::SharedFlags;
 use imap_names::UserName;
 use imap_syntax::{DateTime, Items};
-use imap_values::TryCopy;
+use imap_values::{TryCopy, beside};
 use std::alloc::{AllocError, Global};
 
 /// A message that is added. It gets its UID when the batch is resolved.
@@ -34,7 +35,7 @@ impl TryCopy for NewMessage {
 
 /// The flags of a message that change. The shared ones change first, and then the user's own `\Seen`.
 #[derive(Drop)]
-pub struct Mark {
+pub struct FlagUpdate {
     pub uid: u32,
     /// All shared flags that the message has then, or `None` if they stay.
     pub flags: Option<SharedFlags>,
@@ -42,10 +43,10 @@ pub struct Mark {
     pub seen: Option<bool>,
 }
 
-impl TryCopy for Mark {
-    fn try_copy(&self, alloc: Global) -> Result<Mark, AllocError> {
+impl TryCopy for FlagUpdate {
+    fn try_copy(&self, alloc: Global) -> Result<FlagUpdate, AllocError> {
         let flags = self.flags.try_copy(alloc)?;
-        Ok(Mark {
+        Ok(FlagUpdate {
             uid: self.uid,
             flags,
             seen: self.seen,
@@ -61,12 +62,59 @@ pub struct Batch {
     pub user: UserName,
     pub added: Items<NewMessage>,
     /// In the order of UIDs.
-    pub marks: Items<Mark>,
+    pub marks: Items<FlagUpdate>,
     /// UIDs, in their order.
     pub expunged: Items<u32>,
 }
 
 impl Batch {
+    /// Returns a batch that adds messages alone.
+    pub fn adding(
+        alloc: Global,
+        user: &UserName,
+        added: Vec<NewMessage>,
+    ) -> Result<Batch, AllocError>
+        ensures { let batch = adding user.now added.items in IfOk result (λ made. made ≡ batch) }
+    {
+        let (user, added) = beside(user.try_copy(), added)?;
+        Ok(Batch {
+            user,
+            added: Items::from_vec(added),
+            marks: Items::from_vec(Vec::new(alloc)),
+            expunged: Items::from_vec(Vec::new(alloc)),
+        })
+    }
+
+    /// Returns a batch that changes flags alone. The changes are in the order of UIDs.
+    pub fn marking(
+        alloc: Global,
+        user: &UserName,
+        marks: Vec<FlagUpdate>,
+    ) -> Result<Batch, AllocError>
+        ensures { let batch = marking user.now marks.items in IfOk result (λ made. made ≡ batch) }
+    {
+        let (user, marks) = beside(user.try_copy(), marks)?;
+        Ok(Batch {
+            user,
+            added: Items::from_vec(Vec::new(alloc)),
+            marks: Items::from_vec(marks),
+            expunged: Items::from_vec(Vec::new(alloc)),
+        })
+    }
+
+    /// Returns a batch that expunges messages alone. The UIDs are in their order.
+    pub fn expunging(alloc: Global, user: &UserName, uids: Vec<u32>) -> Result<Batch, AllocError>
+        ensures { let batch = expunging user.now uids.items in IfOk result (λ made. made ≡ batch) }
+    {
+        let user = user.try_copy()?;
+        Ok(Batch {
+            user,
+            added: Items::from_vec(Vec::new(alloc)),
+            marks: Items::from_vec(Vec::new(alloc)),
+            expunged: Items::from_vec(uids),
+        })
+    }
+
     /// Returns an equal copy, which shares octets and keywords.
     pub fn try_copy(&self, alloc: Global) -> Result<Batch, AllocError>
         ensures { IfOk result (λ copy. copy ≡ self.now) }

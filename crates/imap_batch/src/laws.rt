@@ -3,6 +3,7 @@
 ghost use Rattle.imap_batch.specs.Laws.{WritesMayBeMade, BatchesKeep, BatchIsSeen, PossibleIsMade};
 ghost use Rattle.imap_batch.specs.Laws.{AnothersSeenIsHidden, EmptyChangesNothing};
 ghost use Rattle.imap_batch.specs.Entered.{WritesAreEntered};
+ghost use Rattle.imap_batch.specs.Events.{BatchesAreEvents};
 ghost use Rattle.imap_batch.specs.Planned.{BatchIsPlanned};
 
 /// What [`resolve`](crate::resolve) finds for a batch may be written.
@@ -46,4 +47,10 @@ pub fn batch_is_planned()
 /// and messages that are gone.
 pub fn writes_are_entered()
     ensures { WritesAreEntered }
+{}
+
+/// A batch is a list of shared events and own changes of `\Seen` that a mailbox takes one after the other.
+/// So what holds of all that may have happened to a mailbox holds after a batch.
+pub fn batches_are_events()
+    ensures { BatchesAreEvents }
 {}

@@ -17,7 +17,7 @@ mod resolving;
 mod write;
 mod writing;
 
-pub use batch::{Batch, Mark, NewMessage};
+pub use batch::{Batch, FlagUpdate, NewMessage};
 pub use error::BatchError;
 pub use planned::Planned;
 pub use resolving::{flag_count, refusal, resolve};

@@ -9,14 +9,14 @@ ghost use Rattle.imap_batch.specs.Planned.{own_after, row_with_flags, row_with_s
 ghost use Rattle.imap_batch.specs.Planned.{marked_by, with_first, CanMark};
 ghost use Rattle.imap_batch.specs.Untouched.{IsBeforeMarks};
 
-use crate::batch::Mark;
+use crate::batch::FlagUpdate;
 use imap_mailbox::{Row, SharedFlags};
 use imap_modseq::{MAX_EVENTS, number_after};
 
 /// The marks of a batch that are left, and the numbers of shared events and own changes before them.
 #[derive(Clone, Copy)]
 pub(crate) struct MarksLeft<'a> {
-    pub marks: &'a [Mark],
+    pub marks: &'a [FlagUpdate],
     pub shared: u64,
     pub own: u64,
 }
@@ -104,7 +104,7 @@ fn seen_row<'a>(row: &Row<'a>, number: u64, seen: bool) -> Row<'a>
 }
 
 /// Returns the number of shared events of a mark.
-fn flag_events(mark: &Mark) -> u64
+fn flag_events(mark: &FlagUpdate) -> u64
     ensures count { result ≡ one_if (is_some mark.now.flags) }
     ensures most { result ≤ 1 }
 {
@@ -114,7 +114,7 @@ fn flag_events(mark: &Mark) -> u64
     }
 }
 
-fn mark_row<'a>(row: &Row<'a>, mark: &'a Mark, shared: u64, own: u64) -> Row<'a>
+fn mark_row<'a>(row: &Row<'a>, mark: &'a FlagUpdate, shared: u64, own: u64) -> Row<'a>
     requires shared { shared + one_if (is_some mark.now.flags) ≤ max_events }
     requires own { own ≤ max_events }
     ensures { row_shown result ≡ row_marked shared own mark.now (row_shown row.now) }

@@ -10,7 +10,7 @@ ghost use Rattle.imap_batch.specs.Batch.{are_few, has_few_keywords, has_numbers,
 ghost use Rattle.imap_batch.specs.Batch.{are_known, flag_count, mark_uids, write_for, Finds};
 ghost use Rattle.imap_batch.specs.Written.{MayWrite};
 
-use crate::batch::{Batch, Mark, NewMessage};
+use crate::batch::{Batch, FlagUpdate, NewMessage};
 use crate::error::BatchError;
 use crate::write::BatchWrite;
 use imap_mailbox::{MAX_KEYWORDS, Mailbox, SharedFlags};
@@ -81,7 +81,7 @@ fn are_new_few(added: &[NewMessage]) -> bool
     added.iter().all(|message| is_few(&message.flags))
 }
 
-fn are_marks_few(marks: &[Mark]) -> bool
+fn are_marks_few(marks: &[FlagUpdate]) -> bool
     ensures { result ≡ list_all (λ k. are_few k.flags) marks.now }
 {
     marks.iter().all(|mark| are_few(&mark.flags))
@@ -95,7 +95,7 @@ fn has_few_keywords(batch: &Batch) -> bool
 }
 
 /// Returns the number of shared events of marks.
-pub fn flag_count(marks: &[Mark]) -> usize
+pub fn flag_count(marks: &[FlagUpdate]) -> usize
     ensures count { result ≡ flag_count marks.now }
     ensures most { result ≤ length marks.now }
 {
@@ -151,7 +151,7 @@ fn are_known(mailbox: &Mailbox, uids: &[u32]) -> bool
     true
 }
 
-fn are_marks_known(mailbox: &Mailbox, marks: &[Mark]) -> bool
+fn are_marks_known(mailbox: &Mailbox, marks: &[FlagUpdate]) -> bool
     ensures { result ≡ are_known 0 (mark_uids marks.now) (uids_in mailbox.now.messages) }
 {
     let end = mailbox.next_uid();

@@ -11,7 +11,7 @@ ghost use Rattle.imap_batch.specs.Batch.{added_seen_count, mark_seen_count, seen
 ghost use Rattle.imap_batch.specs.Written.{with_own, with_new, with_added, with_new_flags, with_new_seen};
 ghost use Rattle.imap_batch.specs.Written.{with_mark, with_marks, with_batch, MayWrite, HasRoomFor};
 
-use crate::batch::{Batch, Mark, NewMessage};
+use crate::batch::{Batch, FlagUpdate, NewMessage};
 use crate::write::BatchWrite;
 use imap_mailbox::{Mailbox, SharedFlags};
 use imap_modseq::MAX_EVENTS;
@@ -31,7 +31,7 @@ pub fn added_seen_count(added: &[NewMessage]) -> usize
 }
 
 /// Returns the number of marks that change the user's own `\Seen`.
-pub fn mark_seen_count(marks: &[Mark]) -> usize
+pub fn mark_seen_count(marks: &[FlagUpdate]) -> usize
     ensures count { result ≡ mark_seen_count marks.now }
     ensures most { result ≤ length marks.now }
 {
@@ -142,7 +142,7 @@ fn add_one(mailbox: &mut Mailbox, user: &str, message: NewMessage)
 }
 
 /// Changes flags, in room that is there.
-fn mark_all(mailbox: &mut Mailbox, user: &str, marks: Vec<Mark>)
+fn mark_all(mailbox: &mut Mailbox, user: &str, marks: Vec<FlagUpdate>)
     requires own_room { mark_seen_count marks.items ≤ own_room mailbox.old.own user.now }
     requires few { mailbox.old.shared + flag_count marks.items ≤ max_events }
     requires keywords { list_all (λ k. are_few k.flags) marks.items ≡ true }
@@ -155,7 +155,7 @@ fn mark_all(mailbox: &mut Mailbox, user: &str, marks: Vec<Mark>)
     }
 }
 
-fn mark_one(mailbox: &mut Mailbox, user: &str, mark: Mark)
+fn mark_one(mailbox: &mut Mailbox, user: &str, mark: FlagUpdate)
     requires own_room { one_if (is_some mark.seen) ≤ own_room mailbox.old.own user.now }
     requires few { mailbox.old.shared + one_if (is_some mark.flags) ≤ max_events }
     requires keywords { are_few mark.flags ≡ true }
@@ -164,7 +164,7 @@ fn mark_one(mailbox: &mut Mailbox, user: &str, mark: Mark)
         ≤ own_room mailbox.new.own user.now + one_if (is_some mark.seen) }
     ensures expunge_room { mailbox.new.expunge_room ≡ mailbox.old.expunge_room }
 {
-    let Mark { uid, flags, seen } = mark;
+    let FlagUpdate { uid, flags, seen } = mark;
     set_flags(mailbox, uid, flags);
     mark_seen(mailbox, user, uid, seen);
 }

@@ -26,16 +26,16 @@ among_there uid (x ∷ messages) m e = by (eqb x.uid uid) e (among_there uid mes
     by false e later = later e
 
 module _ (s : Summary) (history : History) (h : IsHistoryOf s history) where
-  by_event : (e : Event) → IsGiven (next_uid history) (Shared e) → IsPresent (uids history) e → IsHistoryOf (step e s) (with_event e history)
+  pub by_event : (e : Event) → IsGiven (next_uid history) (Shared e) → IsPresent (uids history) e → IsHistoryOf (step e s) (with_event e history)
   by_event e given present = record {
     summary = events_are_steps history e ∙ ap (step e) h.summary;
     lawful = λ user. lawful_stays.1 history user e (h.lawful user) given present;
   }
 
-  next_is : s.next ≡ next_uid history
+  pub next_is : s.next ≡ next_uid history
   next_is = ap (λ (s : Summary). s.next) (sym h.summary) ∙ (counts_are_those_of_events history [] 0).0
 
-  present_is : (uid : ℕ) → is_among uid (uids_in s.messages) ≡ true → is_among uid (uids history) ≡ true
+  pub present_is : (uid : ℕ) → is_among uid (uids_in s.messages) ≡ true → is_among uid (uids history) ≡ true
   present_is uid there = ap (is_among uid) (sym (uids_steps history.shared _) ∙ ap (λ (s : Summary). uids_in s.messages) h.summary) ∙ there
 
   sound : IsSound s
@@ -46,7 +46,7 @@ module _ (s : Summary) (history : History) (h : IsHistoryOf s history) where
       let bounds = among_rising uid 1 s.next (uids_in s.messages) sound.uids there in
       subst (λ n. WasGiven n uid) next_is bounds
 
-  by_change : (user : List ℕ) (uid : ℕ) (seen : Bool) → is_among uid (uids_in s.messages) ≡ true → IsHistoryOf (with_seen user uid seen s) (with_own_change user uid seen history)
+  pub by_change : (user : List ℕ) (uid : ℕ) (seen : Bool) → is_among uid (uids_in s.messages) ≡ true → IsHistoryOf (with_seen user uid seen s) (with_own_change user uid seen history)
   by_change user uid seen there = record {
     summary = changes_are_steps history user uid seen ∙ ap (with_seen user uid seen) h.summary;
     lawful = λ other. lawful_stays.2 history other user uid seen (h.lawful other) (given_is uid there);

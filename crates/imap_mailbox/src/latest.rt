@@ -67,7 +67,7 @@ pub(crate) fn find_near(table: &[LastSeen], uid: u32, near: usize) -> Result<usi
     }
 }
 
-/// Whether just so many entries have a lower UID.
+/// Whether the entries before `place`, and no others, have a lower UID.
 fn is_place(table: &[LastSeen], place: usize, uid: u32) -> bool
     requires { AreRising (last_uids table.now) }
     ensures place { result ≡ true → place ≡ before_uid uid table.now }
@@ -76,7 +76,7 @@ fn is_place(table: &[LastSeen], place: usize, uid: u32) -> bool
     place <= table.len() && ends_below(table, place, uid) && goes_on_from(table, place, uid)
 }
 
-/// Whether the last of so many entries has a lower UID, if they are any.
+/// Whether the entry before `place` has a lower UID, if there is one.
 fn ends_below(table: &[LastSeen], place: usize, uid: u32) -> bool
     requires rising { AreRising (last_uids table.now) }
     requires within { place ≤ length table.now }
@@ -85,7 +85,7 @@ fn ends_below(table: &[LastSeen], place: usize, uid: u32) -> bool
     place == 0 || table[place - 1].uid < uid
 }
 
-/// Whether the entry after so many has no lower UID, if there is one.
+/// Whether the entry at `place` has no lower UID, if there is one.
 fn goes_on_from(table: &[LastSeen], place: usize, uid: u32) -> bool
     requires { place ≤ length table.now }
     ensures { result ≡ true → before_uid uid table.now ≤ place }

@@ -43,10 +43,10 @@ pub struct MailboxParts {
     pub own: Vec<UserChange>,
 }
 
-/// Why there is nothing for which parts stand.
+/// Why parts are those of no mailbox or world.
 #[derive(Clone, Copy, Debug, Error, PartialEq, Eq)]
 pub enum PartsError {
-    /// The parts stand for nothing.
+    /// No mailbox or world has these parts.
     #[error("what the store keeps is damaged")]
     Bad,
     #[error("out of memory")]

@@ -1,4 +1,4 @@
-//! Values of which less is kept than they hold.
+//! The part of a value that counts, and the rest that doesn't, as room for more.
 
 ghost use Rattle.std.specs.Prelude.{◌≡◌, ◌↔◌, IsTrue, Option, option_and_then, option_copied};
 

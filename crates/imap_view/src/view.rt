@@ -1,4 +1,7 @@
 //! The view.
+//!
+//! `owner` lends the user's name, which CREATE and RENAME put into their effect. A look-up compares the
+//! root's text, since a borrowed name holds no `UserName`.
 
 ghost use Rattle.std.specs.Prelude.{◌≡◌, false, nat_lt, option_copied, option_map};
 ghost use Rattle.std.specs.FinMap as map;

@@ -26,3 +26,4 @@ pub mod MovedEntries
 pub mod Standing
 pub mod Subscribing
 pub mod OneOfParts
+pub mod Sharing

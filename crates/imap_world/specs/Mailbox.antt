@@ -1,5 +1,5 @@
 -- A mailbox, apart from its name.
-use Rattle.std.specs.Prelude.{ℕ, List, Option, Some, None, refl}
+use Rattle.std.specs.Prelude.{◌≡◌, ℕ, Bool, true, not, List, Option, Some, None, refl}
 use Rattle.std.specs.Borrow.{Bor}
 use Rattle.std.specs.Coded.{Coded, coded_ℕ, coded_list, coded×, code_by}
 use Rattle.std.specs.FinMap as map
@@ -67,3 +67,14 @@ plain_at name entry = Some (plain entry)
 
 abbrev pub plain_all : Names MailboxEntry → Names Mailbox
 plain_all entries = keep plain_at entries
+
+-- ---- copies
+
+-- a copy shares the messages of the mailbox, if there is one
+abbrev pub is_shared : Option MailboxEntry → Bool
+is_shared None = true
+is_shared (Some entry) = not entry.messages.is_own
+
+-- a copy shares the messages of every mailbox
+abbrev pub AreShared : Names MailboxEntry → Type 0
+AreShared entries = (name : Name) → is_shared (map.get entries name) ≡ true

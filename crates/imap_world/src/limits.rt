@@ -1,4 +1,7 @@
 //! The limits of CREATE and RENAME, which are found before memory is taken.
+//!
+//! The UIDVALIDITY under a moved name is looked up by a path that is written on the stack, so that a limit
+//! is found before memory is taken.
 
 ghost use Rattle.std.specs.Prelude.{◌≡◌, ◌<◌, ◌&&◌, ℕ, List, true, length};
 ghost use Rattle.std.specs.List.{list_all};

@@ -1,6 +1,9 @@
 //! What a name stands for.
+//!
+//! The messages stand in a box, so that the sorted list of names stays small and moves little when a name
+//! is put in.
 
-ghost use Rattle.std.specs.Prelude.{◌≡◌, IfOk, OnOk};
+ghost use Rattle.std.specs.Prelude.{◌≡◌, false, IfOk, OnOk};
 ghost use Rattle.imap_batch.specs.Written.{with_batch, MayWrite};
 ghost use Rattle.imap_world.specs.Mailbox.{new_mailbox, plain};
 ghost use Rattle.imap_world.specs.Shared.{HasOwnRoomFor};
@@ -52,7 +55,8 @@ impl MailboxEntry {
 
     /// Lets copies share its messages until they change. If memory runs out, it stays as it was.
     pub(crate) fn share(&mut self, alloc: Global) -> Result<(), AllocError>
-        ensures { plain self.new ≡ plain self.old }
+        ensures contents { plain self.new ≡ plain self.old }
+        ensures ok { OnOk result (self.new.messages.is_own ≡ false) }
     {
         self.messages.share(alloc)
     }

@@ -1,4 +1,8 @@
 //! Mailboxes that move to other names (RFC 9051, section 6.3.6).
+//!
+//! The names of a subtree move by rotation, each mailbox is found at its place beside the one before it,
+//! and the UIDVALIDITYs go in as one run: it costs the names that move, a few look-ups, and one move of
+//! what lies between.
 
 ghost use Rattle.std.specs.Prelude.{◌≡◌, true, IfOk, Ok};
 ghost use Rattle.std.specs.FinMap as map;

@@ -76,7 +76,7 @@ fn push_entry(
     Ok(())
 }
 
-/// The list of these entries. Fails with `Bad` if there is none.
+/// Returns the list of these entries. Fails with `Bad` if they are those of no list.
 fn acl_of(entries: Vec<imap_rights::Entry>) -> Result<Acl, PartsError>
     ensures { RestoresAcl entries.items result }
 {

@@ -1,4 +1,8 @@
 //! Whether two mailboxes are one.
+//!
+//! Each key of one world is looked up in the other, both ways, and no two lists are walked side by side: so
+//! tables of users and sorted names have one proof. A look-up among names begins at the place in the other
+//! list, and costs one comparison if the names are the same.
 
 ghost use Rattle.std.specs.Prelude.{◌≡◌, ◌↔◌, IsTrue, Option, option_and_then};
 ghost use Rattle.imap_world.specs.Mailbox.{plain};

@@ -1,4 +1,7 @@
 //! A mailbox that copies of the world share.
+//!
+//! No clause of `Arc` says that it has one owner, so a mailbox that may be written to stands in a box.
+//! `share` takes `&mut self`, since it moves each mailbox from its box into an `Arc`.
 
 ghost use Rattle.std.specs.Prelude.{◌≡◌, false, IfOk, OnOk};
 ghost use Rattle.imap_batch.specs.Written.{with_batch, MayWrite};

@@ -1,4 +1,7 @@
 //! The world.
+//!
+//! Used UIDVALIDITYs stand in a second map by name, in the order of the mailboxes, and not in a hash map: a
+//! look-up then builds no key from tree and path, and RENAME puts a subtree's in by one pass.
 
 ghost use Rattle.std.specs.Prelude.{◌≡◌, ◌↔◌, ◌+◌, ◌<◌, ◌≤◌, ◌∷◌, [], false, true, not, length, IfOk, Ok};
 ghost use Rattle.std.specs.Prelude.{IsTrue, MatchOption, OnErr, OnOk, option_copied};
@@ -9,7 +12,7 @@ ghost use Rattle.imap_world.specs.Changing.{world_with_placed, world_with_rights
 ghost use Rattle.imap_world.specs.Effects.{after_write, after_writes, writes_for, writes_of};
 ghost use Rattle.imap_world.specs.Kept.{AreKept, IsSound};
 ghost use Rattle.imap_world.specs.Laws.{KeepsValidities};
-ghost use Rattle.imap_world.specs.Mailbox.{plain_all, plain_lent};
+ghost use Rattle.imap_world.specs.Mailbox.{AreShared, plain_all, plain_lent};
 ghost use Rattle.imap_world.specs.Messages.{with_messages};
 ghost use Rattle.imap_world.specs.Moving.{with_moved};
 ghost use Rattle.imap_world.specs.Parts.{Restores};
@@ -116,10 +119,11 @@ impl World {
         })
     }
 
-    /// Lets copies share the messages of all mailboxes until they change, so that a copy takes no longer than
-    /// there are mailboxes.
+    /// Lets copies share the messages of all mailboxes until they change. A copy still copies names, lists of
+    /// rights, used UIDVALIDITYs and subscriptions. If memory runs out, some mailboxes are shared.
     pub fn share(&mut self, alloc: Global) -> Result<(), AllocError>
-        ensures { world_of self.new ≡ world_of self.old }
+        ensures world { world_of self.new ≡ world_of self.old }
+        ensures shared { OnOk result (AreShared self.new.mailboxes.map) }
     {
         share_mailboxes(&mut self.mailboxes, alloc)
     }
