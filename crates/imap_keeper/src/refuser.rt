@@ -10,7 +10,7 @@ use crate::keeper::Keeper;
 use imap_world::{Change, World};
 use std::alloc::Global;
 
-/// Passes so many saves on to its keeper, and refuses all later ones: for tests of what stands above.
+/// Passes `left` saves on to its keeper, and refuses all later ones: for tests of what stands above.
 pub struct Refuser<K: Keeper> {
     pub keeper: K,
     /// How many saves are passed on.

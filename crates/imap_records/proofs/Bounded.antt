@@ -4,7 +4,7 @@ use Rattle.std.specs.List.{AllByRecursion}
 use Rattle.std.proofs.lemmas.List.Elements.{All-from_recursion}
 use Rattle.imap_batch.specs.Batch.{flag_count, one_if}
 use Rattle.imap_batch.specs.Entered.{mark_place, own_added, own_change, own_marked}
-use Rattle.imap_batch.specs.declared.batch.Mark.{Mark}
+use Rattle.imap_batch.specs.declared.batch.FlagUpdate.{FlagUpdate}
 use Rattle.imap_batch.specs.declared.batch.NewMessage.{NewMessage}
 use Rattle.imap_batch.specs.declared.write.BatchWrite.{BatchWrite}
 use Rattle.imap_mailbox.specs.declared.own.SeenChange.{SeenChange}
@@ -30,7 +30,7 @@ change_low : (place uid : ℕ) (seen : Option Bool) → place ≤ max_events →
 change_low place uid None h = tt
 change_low place uid (Some seen) h = (h, tt)
 
-marked_low : (place : ℕ) (marks : List Mark) → place + flag_count marks ≤ max_events → AllByRecursion IsLow (own_marked place marks)
+marked_low : (place : ℕ) (marks : List FlagUpdate) → place + flag_count marks ≤ max_events → AllByRecursion IsLow (own_marked place marks)
 marked_low place [] h = tt
 marked_low place (k ∷ marks) h =
     both_low (own_change (place + one_if (is_some k.flags)) k.uid k.seen) (own_marked (place + one_if (is_some k.flags)) marks)

@@ -16,7 +16,7 @@ use Rattle.sqlite_rules.proofs.ProbeLemmas.{has_mapped}
 use Rattle.imap_batch.specs.Entered.{FlagChange, flag_change, flag_changes, flags_from, messages_added, messages_from, with_flag_changes}
 use Rattle.imap_batch.specs.Batch.{event_count, has_uids, one_if}
 use Rattle.imap_batch.specs.Written.{MayWrite as MayWriteBatch, with_batch}
-use Rattle.imap_batch.specs.declared.batch.Mark.{Mark}
+use Rattle.imap_batch.specs.declared.batch.FlagUpdate.{FlagUpdate}
 use Rattle.imap_batch.specs.declared.batch.NewMessage.{NewMessage}
 use Rattle.imap_batch.specs.declared.write.BatchWrite.{BatchWrite}
 use Rattle.imap_batch.proofs.Entering.{writes_are_entered}
@@ -68,7 +68,7 @@ added_have uid place (x ∷ added) valid m (inr there) = added_have (uid + 1) (p
 abbrev FlagsHave : List FlagChange → Type 0
 FlagsHave cs = (c : FlagChange) → Has cs c → AreKeywords c.flags.keywords
 
-flags_have : (place : ℕ) (marks : List Mark) → AllByRecursion IsNewMark marks → FlagsHave (flags_from place marks)
+flags_have : (place : ℕ) (marks : List FlagUpdate) → AllByRecursion IsNewMark marks → FlagsHave (flags_from place marks)
 flags_have place [] valid c none = absurd none
 flags_have place (k ∷ marks) valid c there = by (has_either (flag_change place k.uid k.flags) (flags_from (place + one_if (is_some k.flags)) marks) c there) (flags_have (place + one_if (is_some k.flags)) marks valid.1 c)
   where

@@ -6,7 +6,7 @@ use Rattle.std.specs.List.{AllByRecursion}
 use Rattle.std.specs.Str.{is_utf8}
 use Rattle.sqlite_rules.specs.Lists.{Has}
 use Rattle.imap_batch.specs.declared.batch.Batch.{Batch}
-use Rattle.imap_batch.specs.declared.batch.Mark.{Mark}
+use Rattle.imap_batch.specs.declared.batch.FlagUpdate.{FlagUpdate}
 use Rattle.imap_batch.specs.declared.batch.NewMessage.{NewMessage}
 use Rattle.imap_mailbox.specs.declared.flags.SharedFlags.{SharedFlags}
 use Rattle.imap_mailbox.specs.declared.message.Message.{Message}
@@ -61,7 +61,7 @@ abbrev pub AreNewFlags : Option SharedFlags → Type 0
 AreNewFlags None = Unit {0}
 AreNewFlags (Some flags) = AreKeywords flags.keywords
 
-abbrev pub IsNewMark : Mark → Type 0
+abbrev pub IsNewMark : FlagUpdate → Type 0
 IsNewMark k = AreNewFlags k.flags
 
 pub record BatchHasValues (b : Batch) : Type 0 where

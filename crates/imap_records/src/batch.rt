@@ -17,10 +17,10 @@ ghost use Rattle.imap_syntax.specs.Keywords.{AreKeywords};
 
 use crate::columns::{date_text, flag_bits, keywords_text, place_value};
 use crate::list::push;
-use imap_batch::{BatchWrite, Mark, NewMessage, flag_count};
+use imap_batch::{BatchWrite, FlagUpdate, NewMessage, flag_count};
 use imap_mailbox::{SeenChange, SharedFlags};
 use imap_modseq::MAX_EVENTS;
-use imap_tables::{ChangeBelow, FlagsRow, MarkRow, MessageRow};
+use imap_tables::{ChangeBelow, FlagsRow, MessageRow, SeenFlagRow};
 use std::alloc::{AllocError, Global};
 
 fn push_message(
@@ -99,7 +99,7 @@ fn push_flag(
 fn push_mark_flags(
     changes: &mut Vec<ChangeBelow>,
     alloc: Global,
-    mark: &Mark,
+    mark: &FlagUpdate,
     place: u64,
 ) -> Result<u64, AllocError>
     requires { place + one_if (is_some mark.now.flags) ≤ max_events }
@@ -121,7 +121,7 @@ fn push_mark_flags(
 fn push_flags(
     changes: &mut Vec<ChangeBelow>,
     alloc: Global,
-    marks: &[Mark],
+    marks: &[FlagUpdate],
     place: u64,
 ) -> Result<(), AllocError>
     requires { place + flag_count marks.now ≤ max_events }
@@ -182,7 +182,7 @@ fn push_own_added(
     Ok(())
 }
 
-/// Appends that the user has seen a message after so many events, if so.
+/// Appends the change by which the user has seen a message, if `seen`. It comes after `before` shared events.
 fn push_seen(own: &mut Vec<SeenChange>, seen: bool, uid: u32, before: u64) -> Result<(), AllocError>
     ensures { OnOk result (own.new.items ≡ own.old.items
         ++ (if seen then record { before = before; uid = uid; seen = true } ∷ [] else [])) }
@@ -199,7 +199,11 @@ fn push_seen(own: &mut Vec<SeenChange>, seen: bool, uid: u32, before: u64) -> Re
 }
 
 /// Appends the user's own change of a mark, if there is one. Returns the place after its event.
-fn push_own_mark(own: &mut Vec<SeenChange>, mark: &Mark, place: u64) -> Result<u64, AllocError>
+fn push_own_mark(
+    own: &mut Vec<SeenChange>,
+    mark: &FlagUpdate,
+    place: u64,
+) -> Result<u64, AllocError>
     requires { place + one_if (is_some mark.now.flags) ≤ max_events }
     ensures own { OnOk result (own.new.items ≡ own.old.items
         ++ own_change (place + one_if (is_some mark.now.flags)) mark.now.uid mark.now.seen) }
@@ -217,7 +221,11 @@ fn push_own_mark(own: &mut Vec<SeenChange>, mark: &Mark, place: u64) -> Result<u
 }
 
 /// Appends the user's own changes of marks, the first event of which has the place.
-fn push_own_marks(own: &mut Vec<SeenChange>, marks: &[Mark], place: u64) -> Result<(), AllocError>
+fn push_own_marks(
+    own: &mut Vec<SeenChange>,
+    marks: &[FlagUpdate],
+    place: u64,
+) -> Result<(), AllocError>
     requires { place + flag_count marks.now ≤ max_events }
     ensures { OnOk result (own.new.items ≡ own.old.items ++ own_marked place marks.now) }
 {
@@ -256,7 +264,7 @@ fn push_mark(
         ≡ map below_of changes.old.items ++ mark_steps user.now place (change.now ∷ [])) }
 {
     let user = String::from_str(alloc, user)?;
-    let row = MarkRow {
+    let row = SeenFlagRow {
         user,
         own: place_value(place),
         before: change.before as i64,

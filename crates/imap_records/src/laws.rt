@@ -7,7 +7,7 @@ pub fn new_store_stands()
     ensures { NewStoresStand }
 {}
 
-/// Tables stand for one world at most.
+/// Tables stand for one world at most of those that are kept soundly and whose values the columns can hold.
 pub fn tables_stand_for_one()
     ensures { StandForOne }
 {}

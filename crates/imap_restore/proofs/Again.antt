@@ -28,7 +28,7 @@ use Rattle.imap_tables.specs.Rows.{acl_row, flag_of, gone_row, mark_row, message
 use Rattle.imap_tables.specs.declared.stored.StoredEntry.{StoredEntry}
 use Rattle.imap_tables.specs.declared.stored.StoredGone.{StoredGone}
 use Rattle.imap_tables.specs.declared.stored.StoredMailbox.{StoredMailbox}
-use Rattle.imap_tables.specs.declared.stored.StoredMark.{StoredMark}
+use Rattle.imap_tables.specs.declared.stored.StoredSeenFlag.{StoredSeenFlag}
 use Rattle.imap_tables.specs.declared.stored.StoredMessage.{StoredMessage}
 use Rattle.imap_world.specs.Mailbox.{Mailbox}
 use Rattle.imap_world.specs.World.{World}
@@ -51,14 +51,14 @@ message_shown x y is n = λ i. Int n ∷ Int (pos (is.0.uid i)) ∷ Words (is.0.
 gone_shown : (x : StoredGone) (y : GoneMessage) → IsGoneMessageFor x y → (n : ℤ) → gone_values n y ≡ Int n ∷ Int (pos x.uid) ∷ Int x.place ∷ []
 gone_shown x y is n = λ i. Int n ∷ Int (pos (is.0 i)) ∷ Int (is.1 i) ∷ []
 
-mark_shown : (x : StoredMark) (y : UserChange) → IsChangeFor x y → (n : ℤ)
+mark_shown : (x : StoredSeenFlag) (y : UserChange) → IsChangeFor x y → (n : ℤ)
     → mark_values n y.user y.place y.change ≡ Int n ∷ Words (string_bytes x.row.user) ∷ Int x.row.own ∷ Int x.row.before ∷ Int (pos x.row.uid) ∷ Int (flag_of x.row.seen) ∷ []
 mark_shown x y is n = λ i. Int n ∷ Words (is.0.user i) ∷ Int (is.0.place i) ∷ Int (is.0.before i) ∷ Int (pos (is.0.uid i)) ∷ Int (flag_of (is.0.seen i)) ∷ []
 
 abbrev value_of : UserChange → List ℕ × ℤ
 value_of y = (y.user, place_value y.place)
 
-abbrev mark_key : StoredMark → List ℕ × ℤ
+abbrev mark_key : StoredSeenFlag → List ℕ × ℤ
 mark_key x = (string_bytes x.row.user, x.row.own)
 
 same_own : (n k : ℤ) (x y : UserChange) → mark_values n x.user x.place x.change ≡ mark_values k y.user y.place y.change → x ≡ y
@@ -167,7 +167,7 @@ module _ (db : Trees) (w : World) (hold : Hold db w) (b : Rows db) (distinct : A
 
   -- ---- users' own changes
 
-  pub own_again : (items : List UserChange) → AllZip IsChangeFor (below (λ (r : StoredMark). r.mailbox) s.id b.t.marks.items) items → AreOwn items m.messages.own
+  pub own_again : (items : List UserChange) → AllZip IsChangeFor (below (λ (r : StoredSeenFlag). r.mailbox) s.id b.t.marks.items) items → AreOwn items m.messages.own
   own_again items zip = (
     all_own m.messages.own,
     same_sets value_of place_of items (all_own m.messages.own) apart (all_own_apart m.messages.own) to from,
@@ -176,13 +176,13 @@ module _ (db : Trees) (w : World) (hold : Hold db w) (b : Rows db) (distinct : A
     where
       apart : Apart value_of items
       apart =
-          zip_apart IsChangeFor mark_key value_of (λ x y is. λ i. (sym is.0.user i, sym is.0.place i)) (below (λ (r : StoredMark). r.mailbox) s.id b.t.marks.items) items zip
-          (below_apart (λ (r : StoredMark). r.mailbox) mark_key (λ (r : StoredMark). r.rowid) b.t.marks.items s.id distinct.marks
+          zip_apart IsChangeFor mark_key value_of (λ x y is. λ i. (sym is.0.user i, sym is.0.place i)) (below (λ (r : StoredSeenFlag). r.mailbox) s.id b.t.marks.items) items zip
+          (below_apart (λ (r : StoredSeenFlag). r.mailbox) mark_key (λ (r : StoredSeenFlag). r.rowid) b.t.marks.items s.id distinct.marks
           (λ x y hx hy at e. same_change db b x y hx hy at (ap (λ (t : List ℕ × ℤ). t.0) e) (ap (λ (t : List ℕ × ℤ). t.1) e)))
 
       to : (y : UserChange) → Has items y → Has (all_own m.messages.own) y
       to y h =
-          let x = filtered_zip IsChangeFor (λ (r : StoredMark). int_eq r.mailbox s.id) b.t.marks.items items zip y h in
+          let x = filtered_zip IsChangeFor (λ (r : StoredSeenFlag). int_eq r.mailbox s.id) b.t.marks.items items zip y h in
           let t = mark_told db w hold.0.stands b x.0 x.1 in
           let own = owned_by t.name t.mailbox x.0.mailbox t.there t.id_is (tested x.0.mailbox s.id x.2) in
           let z : UserChange = record { user = t.user; place = t.place; change = t.change } in
@@ -198,5 +198,5 @@ module _ (db : Trees) (w : World) (hold : Hold db w) (b : Rows db) (distinct : A
           let x = (mark_rows db b).to (Int row.0 ∷ values) row.1 in
           let same : Int row.0 ∷ values ≡ mark_row x.0.mailbox (string_bytes x.0.row.user) x.0.row.own x.0.row.before x.0.row.uid x.0.row.seen x.0.rowid = mark_is db b (Int row.0 ∷ values) row.1 x.0 x.2 in
           let ids = same_int (hold.0.stands.id name) x.0.mailbox (ap (λ (v : Row). column v 1) same) in
-          let z = zip_filtered IsChangeFor (λ (r : StoredMark). int_eq r.mailbox s.id) b.t.marks.items items zip x.0 x.1 (same_test x.0.mailbox s.id (sym ids ∙ is_id)) in
+          let z = zip_filtered IsChangeFor (λ (r : StoredSeenFlag). int_eq r.mailbox s.id) b.t.marks.items items zip x.0 x.1 (same_test x.0.mailbox s.id (sym ids ∙ is_id)) in
           subst (Has items) (same_own x.0.mailbox (hold.0.stands.id name) z.0 y (mark_shown x.0 z.0 z.2 x.0.mailbox ∙ sym (ap (drop 1) same))) z.1

@@ -22,7 +22,7 @@ use Rattle.imap_tables.specs.declared.stored.StoredEntry.{StoredEntry}
 use Rattle.imap_tables.specs.declared.stored.StoredEpoch.{StoredEpoch}
 use Rattle.imap_tables.specs.declared.stored.StoredGone.{StoredGone}
 use Rattle.imap_tables.specs.declared.stored.StoredMailbox.{StoredMailbox}
-use Rattle.imap_tables.specs.declared.stored.StoredMark.{StoredMark}
+use Rattle.imap_tables.specs.declared.stored.StoredSeenFlag.{StoredSeenFlag}
 use Rattle.imap_tables.specs.declared.stored.StoredMessage.{StoredMessage}
 use Rattle.imap_tables.specs.declared.stored.StoredMeta.{StoredMeta}
 use Rattle.imap_tables.specs.declared.stored.StoredSubscription.{StoredSubscription}
@@ -81,7 +81,7 @@ gone_form (a ∷ b ∷ c ∷ []) x low is = absurd (null_int _ (ap (λ r. column
 gone_form (a ∷ b ∷ c ∷ d ∷ []) x low is = is.0
 gone_form (a ∷ b ∷ c ∷ d ∷ y ∷ ys) x low is = absurd (omega (arith, low))
 
-pub mark_form : (row : Row) (x : StoredMark) → length (drop 1 row) ≤ 6 → IsMark (shown_at 4 row) x → row ≡ mark_row x.mailbox (string_bytes x.row.user) x.row.own x.row.before x.row.uid x.row.seen x.rowid
+pub mark_form : (row : Row) (x : StoredSeenFlag) → length (drop 1 row) ≤ 6 → IsMark (shown_at 4 row) x → row ≡ mark_row x.mailbox (string_bytes x.row.user) x.row.own x.row.before x.row.uid x.row.seen x.rowid
 mark_form [] x low is = absurd (null_int _ (ap (λ r. column r 6) is.0))
 mark_form (a ∷ []) x low is = absurd (null_int _ (ap (λ r. column r 6) is.0))
 mark_form (a ∷ b ∷ []) x low is = absurd (null_int _ (ap (λ r. column r 6) is.0))

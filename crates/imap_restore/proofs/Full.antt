@@ -9,10 +9,11 @@ use Rattle.imap_names.specs.declared.error.NameError.TheVariants.{Control, Reser
 use Rattle.imap_names.specs.Name.{Name, is_empty, path_of, root_of}
 use Rattle.imap_names.specs.Reading.{NameParts, full_name_read, in_tree, parts_of, read_by, root_at}
 use Rattle.imap_names.specs.Showing.{shown}
-use Rattle.imap_names.specs.Text.{composed, has_control}
+use Rattle.imap_nfc.specs.Nfc.{composed}
+use Rattle.imap_names.specs.Text.{has_control}
 use Rattle.imap_names.specs.UserName.{is_user_name}
 use Rattle.imap_names.specs.Valid.{IsName}
-use Rattle.imap_names.proofs.Composed.{composed-nfc}
+use Rattle.imap_nfc.proofs.Nfc.{composed-nfc}
 use Rattle.imap_names.proofs.PrefixLaws.{other_parts-user}
 use Rattle.imap_names.proofs.ShownLaws.{owned_root, shown_reads_back}
 use Rattle.imap_names.proofs.UserLaws.{UserNameFacts, undelimited-user, user_name_facts}

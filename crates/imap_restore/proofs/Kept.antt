@@ -19,8 +19,9 @@ use Rattle.std.specs.Str.{is_utf8}
 use Rattle.std.proofs.lemmas.Bool.{and_parts}
 use Rattle.std.proofs.lemmas.Str.{IsUtf8-string_bytes, is_utf8-from_IsUtf8}
 use Rattle.unicode_normalization.specs.Forms.{is_nfc}
-use Rattle.imap_names.proofs.Composed.{composed-nfc}
-use Rattle.imap_rights.specs.Identifier.{composed, identifier_read, if_identifier, is_identifier}
+use Rattle.imap_nfc.proofs.Nfc.{composed-nfc}
+use Rattle.imap_nfc.specs.Nfc.{composed}
+use Rattle.imap_rights.specs.Identifier.{identifier_read, if_identifier, is_identifier}
 use Rattle.std.proofs.Common.{subst}
 
 pub if_bad : {X : Type 0} (Is Fits : X → Type 0) (e : PartsError) → (e ≡ Bad → (x : X) → Fits x → Is x → ⊥) → Restores {X = X} Is Fits (Err e)

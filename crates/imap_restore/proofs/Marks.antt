@@ -14,7 +14,7 @@ use Rattle.sqlite_rules.proofs.ListLemmas.{has_filtered, has_kept}
 use Rattle.imap_records.specs.Columns.{mark_values}
 use Rattle.imap_records.specs.Standing.{AreRows, IsMark as MarkOf, IsUnder, marks}
 use Rattle.imap_tables.specs.Rows.{flag_of}
-use Rattle.imap_tables.specs.declared.stored.StoredMark.{StoredMark}
+use Rattle.imap_tables.specs.declared.stored.StoredSeenFlag.{StoredSeenFlag}
 use Rattle.imap_world.specs.World.{World}
 use Rattle.imap_restore.specs.Parts.{IsChangeFor}
 use Rattle.imap_restore.proofs.Children.{above, same_test, tested}
@@ -42,7 +42,7 @@ put_at user k (y ∷ own) zero place s at h = inl (λ i. record { user = user; p
 put_at user k (y ∷ own) (suc j) place s at h = inr (put_at user (k + 1) own j place s (omega (arith, at)) h)
 
 module _ (db : Trees) (w : World) (c : Read db w) where
-  mark_same : (x : StoredMark) (y : UserChange) → IsChangeFor x y → (n : ℤ) → n ≡ x.mailbox
+  mark_same : (x : StoredSeenFlag) (y : UserChange) → IsChangeFor x y → (n : ℤ) → n ≡ x.mailbox
       → mark_values n y.user y.place y.change
       ≡ Int x.mailbox ∷ Words (string_bytes x.row.user) ∷ Int x.row.own ∷ Int x.row.before ∷ Int (pos x.row.uid) ∷ Int (flag_of x.row.seen) ∷ []
   mark_same x y is n e =
@@ -55,7 +55,7 @@ module _ (db : Trees) (w : World) (c : Read db w) where
         let form = mark_is db c.rows row h x.0 x.2 in
         let k = c.restored.known.marks x.0 x.1 in
         let a = above db w c x.0.mailbox k.0 k.1 k.2 in
-        let y = zip_filtered IsChangeFor (λ (r : StoredMark). int_eq r.mailbox a.s.id) c.rows.t.marks.items a.it.by.row.messages.own.items a.it.by.for_it.messages.own x.0 x.1 (same_test x.0.mailbox a.s.id (sym a.same)) in
+        let y = zip_filtered IsChangeFor (λ (r : StoredSeenFlag). int_eq r.mailbox a.s.id) c.rows.t.marks.items a.it.by.row.messages.own.items a.it.by.for_it.messages.own x.0 x.1 (same_test x.0.mailbox a.s.id (sym a.same)) in
         let own = a.it.by.is.messages.own in
         let among = has_kept (λ (d : UserChange). bytes_eq d.user y.0.user) own.0 y.0 (has_moved a.it.by.row.messages.own.items own.0 own.1 y.0 y.1) ((bytes_eq-Decides y.0.user y.0.user).1 refl) in
         let at = taken_at y.0.user 0 (own_at a.it.mailbox.messages.own y.0.user) y.0 (subst (λ l. Has l y.0) (own.2 y.0.user) among) in
@@ -85,7 +85,7 @@ module _ (db : Trees) (w : World) (c : Read db w) where
         let put = put_at e.user 0 (own_at u.mailbox.messages.own e.user) e.place e.place e.change (omega (arith)) e.there in
         let among = has_filtered (λ (d : UserChange). bytes_eq d.user e.user) own.0 y (subst (λ l. Has l y) (sym (own.2 e.user)) put) in
         let there = has_moved own.0 o.1.row.messages.own.items (IsPermutation-sym o.1.row.messages.own.items own.0 own.1) y among.0 in
-        let x = filtered_zip IsChangeFor (λ (r : StoredMark). int_eq r.mailbox o.0.id) c.rows.t.marks.items o.1.row.messages.own.items o.1.for_it.messages.own y there in
+        let x = filtered_zip IsChangeFor (λ (r : StoredSeenFlag). int_eq r.mailbox o.0.id) c.rows.t.marks.items o.1.row.messages.own.items o.1.for_it.messages.own y there in
         let row = (mark_rows db c.rows).from x.0 x.1 in
         let form = mark_is db c.rows row.0 row.1 x.0 row.2 in
         let ids : id db w c u.name ≡ x.0.mailbox = id_is db w c u.name u.mailbox o.0 u.there o.1 ∙ sym (tested x.0.mailbox o.0.id x.2) in

@@ -17,7 +17,7 @@ use Rattle.imap_tables.specs.declared.stored.StoredEntry.{StoredEntry}
 use Rattle.imap_tables.specs.declared.stored.StoredEpoch.{StoredEpoch}
 use Rattle.imap_tables.specs.declared.stored.StoredGone.{StoredGone}
 use Rattle.imap_tables.specs.declared.stored.StoredMailbox.{StoredMailbox}
-use Rattle.imap_tables.specs.declared.stored.StoredMark.{StoredMark}
+use Rattle.imap_tables.specs.declared.stored.StoredSeenFlag.{StoredSeenFlag}
 use Rattle.imap_tables.specs.declared.stored.StoredMessage.{StoredMessage}
 use Rattle.imap_tables.specs.declared.stored.StoredSubscription.{StoredSubscription}
 use Rattle.imap_world.specs.Subscription.{Subscription}
@@ -46,7 +46,7 @@ module _ (db : Trees) (w : World) (hold : Hold db w) (b : Rows db) where
   gone_part : (x : StoredGone) → Has b.t.gone.items x → (y : GoneMessage) × IsGoneMessageFor x y
   gone_part x h = let t = gone_told db w hold.0.stands b x h in (t.message, t.is)
 
-  mark_part : (x : StoredMark) → Has b.t.marks.items x → (y : UserChange) × IsChangeFor x y
+  mark_part : (x : StoredSeenFlag) → Has b.t.marks.items x → (y : UserChange) × IsChangeFor x y
   mark_part x h =
       let t = mark_told db w hold.0.stands b x h in
       (record { user = t.user; place = t.place; change = t.change }, (t.is, subst (λ u. is_utf8 u ≡ true) (sym t.is.user) (string_utf8 x.row.user)))
@@ -68,7 +68,7 @@ module _ (db : Trees) (w : World) (hold : Hold db w) (b : Rows db) where
         shared = (t.mailbox.messages.shared, t.shared);
         messages = zip_all IsMessageFor _ (λ x k. message_part x (has_filtered (λ (r : StoredMessage). int_eq r.mailbox s.id) b.t.messages.items x k).0);
         gone = zip_all IsGoneMessageFor _ (λ x k. gone_part x (has_filtered (λ (r : StoredGone). int_eq r.mailbox s.id) b.t.gone.items x k).0);
-        own = zip_all IsChangeFor _ (λ x k. mark_part x (has_filtered (λ (r : StoredMark). int_eq r.mailbox s.id) b.t.marks.items x k).0);
+        own = zip_all IsChangeFor _ (λ x k. mark_part x (has_filtered (λ (r : StoredSeenFlag). int_eq r.mailbox s.id) b.t.marks.items x k).0);
       }
 
   has_mailbox : (s : StoredMailbox) → Has b.t.mailboxes.items s → HasMailbox b.t s

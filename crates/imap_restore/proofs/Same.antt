@@ -13,7 +13,7 @@ use Rattle.std.specs.Prelude.{false}
 use Rattle.imap_tables.specs.declared.stored.StoredEntry.{StoredEntry}
 use Rattle.imap_tables.specs.declared.stored.StoredEpoch.{StoredEpoch}
 use Rattle.imap_tables.specs.declared.stored.StoredGone.{StoredGone}
-use Rattle.imap_tables.specs.declared.stored.StoredMark.{StoredMark}
+use Rattle.imap_tables.specs.declared.stored.StoredSeenFlag.{StoredSeenFlag}
 use Rattle.imap_tables.specs.declared.stored.StoredMessage.{StoredMessage}
 use Rattle.imap_tables.specs.declared.stored.StoredSubscription.{StoredSubscription}
 use Rattle.imap_restore.proofs.TableRows.{Rows, entry_is, entry_rows, epoch_is, epoch_rows, gone_is, gone_rows, mark_is, mark_rows, message_is, message_rows, sub_is, sub_rows}
@@ -57,7 +57,7 @@ module _ (db : Trees) (b : Rows db) where
         (agree 2 r.0 s.0 (Int (pos y.uid)) refl (ap (λ v. column v 2) rx ∙ ap (λ n. Int (pos n)) e) (ap (λ v. column v 2) ry), tt),
       ) x.rowid y.rowid (ap rowid rx) (ap rowid ry)
 
-  pub same_change : (x y : StoredMark) → Has b.t.marks.items x → Has b.t.marks.items y → x.mailbox ≡ y.mailbox → string_bytes x.row.user ≡ string_bytes y.row.user → x.row.own ≡ y.row.own → x.rowid ≡ y.rowid
+  pub same_change : (x y : StoredSeenFlag) → Has b.t.marks.items x → Has b.t.marks.items y → x.mailbox ≡ y.mailbox → string_bytes x.row.user ≡ string_bytes y.row.user → x.row.own ≡ y.row.own → x.rowid ≡ y.rowid
   same_change x y hx hy m u e =
       let r = (mark_rows db b).from x hx in
       let s = (mark_rows db b).from y hy in

@@ -15,7 +15,7 @@ use Rattle.imap_tables.specs.declared.stored.StoredEntry.{StoredEntry}
 use Rattle.imap_tables.specs.declared.stored.StoredEpoch.{StoredEpoch}
 use Rattle.imap_tables.specs.declared.stored.StoredGone.{StoredGone}
 use Rattle.imap_tables.specs.declared.stored.StoredMailbox.{StoredMailbox}
-use Rattle.imap_tables.specs.declared.stored.StoredMark.{StoredMark}
+use Rattle.imap_tables.specs.declared.stored.StoredSeenFlag.{StoredSeenFlag}
 use Rattle.imap_tables.specs.declared.stored.StoredMessage.{StoredMessage}
 use Rattle.imap_tables.specs.declared.stored.StoredMeta.{StoredMeta}
 use Rattle.imap_tables.specs.declared.stored.StoredSubscription.{StoredSubscription}
@@ -56,10 +56,10 @@ module _ (db : Trees) (b : Rows db) where
   pub gone_is : (row : Row) → Has (db 6) row → (x : StoredGone) → IsGone (shown_at 3 row) x → row ≡ gone_row x.mailbox x.uid x.place x.rowid
   gone_is row h x is = gone_form row x (few db b.are.obeyed gone_table (inr (inr (inr (inl refl)))) row h) is
 
-  pub mark_rows : Match (λ row (x : StoredMark). IsMark (shown_at 4 row) x) (db 8) b.t.marks.items
+  pub mark_rows : Match (λ row (x : StoredSeenFlag). IsMark (shown_at 4 row) x) (db 8) b.t.marks.items
   mark_rows = let it = b.are.stored.marks in read_match (shown_at 4) IsMark (db 8) it.rows b.t.marks.items it.all it.read
 
-  pub mark_is : (row : Row) → Has (db 8) row → (x : StoredMark) → IsMark (shown_at 4 row) x → row ≡ mark_row x.mailbox (string_bytes x.row.user) x.row.own x.row.before x.row.uid x.row.seen x.rowid
+  pub mark_is : (row : Row) → Has (db 8) row → (x : StoredSeenFlag) → IsMark (shown_at 4 row) x → row ≡ mark_row x.mailbox (string_bytes x.row.user) x.row.own x.row.before x.row.uid x.row.seen x.rowid
   mark_is row h x is = mark_form row x (few db b.are.obeyed mark_table (inr (inr (inr (inr (inl refl))))) row h) is
 
   pub epoch_rows : Match (λ row (x : StoredEpoch). IsEpoch (shown_at 5 row) x) (db 10) b.t.epochs.items

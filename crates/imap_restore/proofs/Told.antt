@@ -23,7 +23,7 @@ use Rattle.imap_tables.specs.declared.stored.StoredEntry.{StoredEntry}
 use Rattle.imap_tables.specs.declared.stored.StoredEpoch.{StoredEpoch}
 use Rattle.imap_tables.specs.declared.stored.StoredGone.{StoredGone}
 use Rattle.imap_tables.specs.declared.stored.StoredMailbox.{StoredMailbox}
-use Rattle.imap_tables.specs.declared.stored.StoredMark.{StoredMark}
+use Rattle.imap_tables.specs.declared.stored.StoredSeenFlag.{StoredSeenFlag}
 use Rattle.imap_tables.specs.declared.stored.StoredMessage.{StoredMessage}
 use Rattle.imap_tables.specs.declared.stored.StoredSubscription.{StoredSubscription}
 use Rattle.imap_world.specs.Mailbox.{Mailbox}
@@ -195,7 +195,7 @@ module _ (db : Trees) (w : World) (stands : StandFor db w) (b : Rows db) where
         is = (same_number y.uid x.uid (ap (λ (v : Row). column v 2) same), same_int (place_value y.place) x.place (ap (λ (v : Row). column v 3) same));
       }
 
-  pub record MarkTold (x : StoredMark) : Type 0 where
+  pub record MarkTold (x : StoredSeenFlag) : Type 0 where
     pub name : Name
     pub mailbox : Mailbox
     pub there : map.get w.mailboxes name ≡ Some mailbox
@@ -206,7 +206,7 @@ module _ (db : Trees) (w : World) (stands : StandFor db w) (b : Rows db) where
     pub listed : slice_get (own_at mailbox.messages.own user) place ≡ Some change
     pub is : IsMarkFor x.row (record { user = user; place = place; change = change })
 
-  pub mark_told : (x : StoredMark) → Has b.t.marks.items x → MarkTold x
+  pub mark_told : (x : StoredSeenFlag) → Has b.t.marks.items x → MarkTold x
   mark_told x h =
       let r = (mark_rows db b).from x h in
       let n = (stands.below marks).sound r.0 r.1 in

@@ -19,7 +19,7 @@ use Rattle.imap_rights.specs.declared.acl.Entry.{Entry}
 use Rattle.imap_tables.specs.declared.stored.StoredEntry.{StoredEntry}
 use Rattle.imap_tables.specs.declared.stored.StoredGone.{StoredGone}
 use Rattle.imap_tables.specs.declared.stored.StoredMailbox.{StoredMailbox}
-use Rattle.imap_tables.specs.declared.stored.StoredMark.{StoredMark}
+use Rattle.imap_tables.specs.declared.stored.StoredSeenFlag.{StoredSeenFlag}
 use Rattle.imap_tables.specs.declared.stored.StoredMessage.{StoredMessage}
 use Rattle.imap_tables.specs.declared.tables.StoredTables.{StoredTables}
 use Rattle.imap_world.specs.Subscription.{Subscription}
@@ -37,7 +37,7 @@ IsMessageFor row it = IsRowFor row.row it × IsFit it
 abbrev pub IsGoneMessageFor : StoredGone → GoneMessage → Type 0
 IsGoneMessageFor row it = IsGoneFor row.uid row.place it
 
-abbrev pub IsChangeFor : StoredMark → UserChange → Type 0
+abbrev pub IsChangeFor : StoredSeenFlag → UserChange → Type 0
 IsChangeFor row it = IsMarkFor row.row it × (is_utf8 it.user ≡ true)
 
 -- of the rows those below the mailbox with this id
@@ -153,14 +153,14 @@ pub record AreInGroups (rows : RowsBelow) : Type 0 where
   pub gone : AreGrouped (λ r. r.mailbox) rows.gone.items
 
 -- the rows below the mailbox keep these changes
-abbrev pub IsOwn : List StoredMark → StoredMailbox → List UserChange → Type 0
+abbrev pub IsOwn : List StoredSeenFlag → StoredMailbox → List UserChange → Type 0
 IsOwn marks s own = AllZip IsChangeFor (below (λ r. r.mailbox) s.id marks) own
 
-abbrev pub HasOwn : List StoredMark → StoredMailbox → Type 0
+abbrev pub HasOwn : List StoredSeenFlag → StoredMailbox → Type 0
 HasOwn marks s = (own : List UserChange) × IsOwn marks s own
 
 -- it is the mailbox, with the changes that rows below it keep
-abbrev pub IsWithOwn : List StoredMark → StoredMailbox → MailboxWithOwn → Type 0
+abbrev pub IsWithOwn : List StoredSeenFlag → StoredMailbox → MailboxWithOwn → Type 0
 IsWithOwn marks s it = (it.stored ≡ s) × IsOwn marks s it.own.items
 
 module _ (t : StoredTables) (s : StoredMailbox) where

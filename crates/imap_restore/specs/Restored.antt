@@ -15,7 +15,7 @@ use Rattle.imap_rights.specs.Entries.{pair_of}
 use Rattle.imap_rights.specs.declared.acl.Entry.{Entry}
 use Rattle.imap_syntax.specs.Keywords.{AreAtoms, AreKeywords}
 use Rattle.imap_tables.specs.declared.changes.MailboxKey.{MailboxKey}
-use Rattle.imap_tables.specs.declared.changes.MarkRow.{MarkRow}
+use Rattle.imap_tables.specs.declared.changes.SeenFlagRow.{SeenFlagRow}
 use Rattle.imap_tables.specs.declared.changes.MessageRow.{MessageRow}
 use Rattle.imap_tables.specs.declared.stored.StoredEpoch.{StoredEpoch}
 use Rattle.imap_tables.specs.declared.stored.StoredSubscription.{StoredSubscription}
@@ -64,7 +64,7 @@ abbrev pub IsGoneFor : (uid : ℕ) (place : ℤ) → GoneMessage → Type 0
 IsGoneFor uid place g = (g.uid ≡ uid) × (place_value g.place ≡ place)
 
 -- the row is that of the own change
-pub record IsMarkFor (row : MarkRow) (c : UserChange) : Type 0 where
+pub record IsMarkFor (row : SeenFlagRow) (c : UserChange) : Type 0 where
   pub user : c.user ≡ string_bytes row.user
   pub place : place_value c.place ≡ row.own
   pub before : pos (c.change).before ≡ row.before

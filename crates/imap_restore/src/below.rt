@@ -10,7 +10,7 @@ use crate::grouping::rows_of;
 use crate::rows::{read_change, read_entry, read_gone, read_message};
 use imap_mailbox::{GoneMessage, Message, PartsError, UserChange};
 use imap_rights::Entry;
-use imap_tables::{StoredEntry, StoredGone, StoredMark, StoredMessage};
+use imap_tables::{StoredEntry, StoredGone, StoredMessage, StoredSeenFlag};
 use std::alloc::Global;
 
 /// What is read again from a row below a mailbox.
@@ -76,16 +76,16 @@ impl Restore<StoredGone> for GoneMessage {
     }
 }
 
-impl Restore<StoredMark> for UserChange {
+impl Restore<StoredSeenFlag> for UserChange {
     ghost is_for = { λ row it. IsMarkFor row.row it × (is_utf8 it.user ≡ true) };
 
     ghost mailbox = { λ row. row.mailbox };
 
-    fn mailbox(row: &StoredMark) -> i64 {
+    fn mailbox(row: &StoredSeenFlag) -> i64 {
         row.mailbox
     }
 
-    fn restore(alloc: Global, row: &StoredMark) -> Result<UserChange, PartsError> {
+    fn restore(alloc: Global, row: &StoredSeenFlag) -> Result<UserChange, PartsError> {
         read_change(alloc, &row.row)
     }
 }

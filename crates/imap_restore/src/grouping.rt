@@ -1,4 +1,6 @@
 //! The rows of a table, in the order of their mailboxes.
+//!
+//! Rows below mailboxes are brought into their order once, by a stable sort, and found by two searches.
 
 ghost use Rattle.std.specs.Prelude.{◌≡◌, ◌≤◌, ℤ, false, length, take, true, IfOk, OnOk};
 ghost use Rattle.std.specs.List.Sorted.{IsPartitionPoint};

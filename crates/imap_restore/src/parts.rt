@@ -1,4 +1,7 @@
 //! What a store keeps of a world, read again from its tables.
+//!
+//! Users' own changes are read again before the messages, so that the rows of the one are let go before the
+//! other are made.
 
 ghost use Rattle.std.specs.Prelude.{◌≡◌, ◌↔◌, ℤ, Contains, List, Err, IfOk, IsTrue, map};
 ghost use Rattle.std.specs.BTreeSet as sorted;
@@ -16,7 +19,7 @@ use crate::values::read_count;
 use imap_mailbox::{GoneMessage, MailboxParts, Message, PartsError, UserChange};
 use imap_rights::Entry;
 use imap_tables::{
-    StoredEntry, StoredGone, StoredMailbox, StoredMark, StoredMessage, StoredTables,
+    StoredEntry, StoredGone, StoredMailbox, StoredMessage, StoredSeenFlag, StoredTables,
 };
 use imap_world::{MailboxRow, WorldParts};
 use std::alloc::{AllocError, Global};
@@ -98,9 +101,9 @@ struct RowsBelow {
 fn with_own(
     alloc: Global,
     mailboxes: Vec<StoredMailbox>,
-    marks: Vec<StoredMark>,
+    marks: Vec<StoredSeenFlag>,
 ) -> Result<Vec<MailboxWithOwn>, PartsError>
-    requires { AreGrouped (λ (mark : StoredMark). mark.mailbox) marks.items }
+    requires { AreGrouped (λ (mark : StoredSeenFlag). mark.mailbox) marks.items }
     ensures ok { IfOk result (λ all. AllZip (IsWithOwn marks.items) mailboxes.items all.items) }
     ensures bad { result ≡ Err PartsError.Bad → AllByRecursion (HasOwn marks.items) mailboxes.items → ⊥ }
 {
@@ -170,7 +173,7 @@ fn read_mailbox(
     })
 }
 
-/// Reads mailboxes. Fails with `Bad` if there is none for one of them.
+/// Reads mailboxes. Fails with `Bad` if a row is that of no mailbox.
 #[tactic(auto, using(crate::proofs::Zipped::read_start))]
 fn read_mailboxes(
     alloc: Global,

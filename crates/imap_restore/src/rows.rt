@@ -9,7 +9,7 @@ ghost use Rattle.imap_restore.specs.Restored.{IsRowFor, Restores};
 use crate::values::{read_count, read_date, read_flags, read_place, read_rights};
 use imap_mailbox::{GoneMessage, Message, PartsError, SeenChange, UserChange};
 use imap_rights::{Entry, Identifier, IdentifierError};
-use imap_tables::{MarkRow, MessageRow};
+use imap_tables::{MessageRow, SeenFlagRow};
 use std::alloc::Global;
 
 /// Reads an entry of an access control list. Fails with `Bad` if there is no such identifier, or these are
@@ -89,7 +89,7 @@ pub fn read_gone(uid: u32, place: i64) -> Option<GoneMessage>
 
 /// Reads a user's own change. Fails with `Bad` if its place, or the number of events before it, is none.
 #[tactic(auto, using(crate::proofs::Kept::string_utf8))]
-pub fn read_change(alloc: Global, row: &MarkRow) -> Result<UserChange, PartsError>
+pub fn read_change(alloc: Global, row: &SeenFlagRow) -> Result<UserChange, PartsError>
     ensures { Restores (IsMarkFor row.now) (λ change. is_utf8 change.user ≡ true) result }
 {
     let Some(place) = read_place(row.own) else {

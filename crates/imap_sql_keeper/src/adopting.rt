@@ -1,4 +1,4 @@
-//! A database is taken over.
+//! Taking a database over.
 
 ghost use Rattle.std.specs.Prelude.{◌≡◌, ◌≢◌, ◌↔◌, false, Err, IfErr, IfOk, IsTrue, OnErr, OnOk};
 ghost use Rattle.std.specs.List.{AllByRecursion};
@@ -21,7 +21,7 @@ ghost use Rattle.sqlite_rules.specs.Lists.{Has};
 
 use crate::refusal::{damage, refusal};
 use imap_keeper::KeepError;
-use imap_tables::{STORE_VERSION, Stored, StoredMeta, is_blank, is_store, make_store, read_meta};
+use imap_tables::{FromRow, STORE_VERSION, StoredMeta, is_blank, is_store, make_store, read_meta};
 use sqlite::{Alter, Connection, Error, Row};
 
 /// Whether a row of `meta` says that the tables are of this version.
@@ -47,8 +47,8 @@ fn have_version(rows: &[Row]) -> Result<bool, Error>
     Ok(false)
 }
 
-/// Reads which version the tables are of. Fails with `Damaged` if it is another than this, or a row of `meta`
-/// is not read.
+/// Checks that the tables are of this version. Fails with `Damaged` if they are of another, or if a row of `meta`
+/// can't be read.
 fn check_version<S: Alter>(conn: &mut Connection<S>) -> Result<(), KeepError>
     requires rest { IsAtRest (state S.Store conn.old) }
     ensures rest { IsAtRest (state S.Store conn.new) }

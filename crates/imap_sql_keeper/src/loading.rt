@@ -1,4 +1,4 @@
-//! A world is read from a database.
+//! Reading a world from a database.
 
 ghost use Rattle.std.specs.Prelude.{◌≡◌, Err, IfOk};
 ghost use Rattle.imap_keeper.specs.declared.error.KeepError.TheVariants.{Damaged};

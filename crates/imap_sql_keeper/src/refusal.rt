@@ -1,4 +1,4 @@
-//! What a refusal of the database says.
+//! Refusals of the database.
 
 ghost use Rattle.std.specs.Prelude.{◌≡◌, ◌≢◌, Err, IfErr};
 ghost use Rattle.imap_keeper.specs.declared.error.KeepError.TheVariants.{Damaged, Memory, Refused};
@@ -10,7 +10,7 @@ use imap_keeper::KeepError;
 use imap_mailbox::PartsError;
 use sqlite::{Error, ErrorCode};
 
-/// Why the database did not do what it was asked.
+/// Returns why a statement failed.
 pub(crate) fn refusal(error: Error) -> KeepError
     ensures { result ≢ Damaged }
 {
@@ -20,7 +20,7 @@ pub(crate) fn refusal(error: Error) -> KeepError
     }
 }
 
-/// Why rows of the database were not read.
+/// Returns why rows could not be read.
 pub(crate) fn damage(error: Error) -> KeepError
     ensures { result ≡ Damaged → error ≢ SqliteFailure OutOfMemory }
 {
@@ -30,7 +30,7 @@ pub(crate) fn damage(error: Error) -> KeepError
     }
 }
 
-/// Why no world was made of the rows.
+/// Returns why the rows are those of no world.
 pub(crate) fn fault(error: PartsError) -> KeepError
     ensures { result ≡ Damaged → error ≡ parts.Bad }
 {

@@ -1,4 +1,4 @@
-//! A change is saved in a database.
+//! Saving a change in a database.
 
 ghost use Rattle.std.specs.Prelude.{◌≡◌, ◌≢◌, [], Err, IsTrue, OnErr, OnOk};
 ghost use Rattle.imap_keeper.specs.declared.error.KeepError.TheVariants.{Damaged};

@@ -53,7 +53,7 @@ impl<S: Alter> Model for SqlKeeper<S> {
 impl<S: Alter> SqlKeeper<S> {
     /// Takes a database over. If nothing was made in it so far, the tables of a store are made in one
     /// transaction. Fails with `Damaged` if it has other tables, or these say that they are of another
-    /// version. A refusal hands the connection back, and has committed nothing.
+    /// version. A refusal returns the connection, and has committed nothing.
     pub fn adopt(mut conn: Connection<S>) -> Result<SqlKeeper<S>, (Connection<S>, KeepError)>
         ensures finds { IfOk result (λ k. HasCleanDisk (state S.Store k.conn)
             → IsTrue (state S.Store k.conn).is_open
@@ -80,7 +80,7 @@ impl<S: Alter> SqlKeeper<S> {
         }
     }
 
-    /// Hands the connection back.
+    /// Returns the connection.
     pub fn release(self) -> Connection<S>
         ensures { result ≡ self.conn }
     {

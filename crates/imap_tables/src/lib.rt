@@ -17,7 +17,7 @@ mod stored;
 mod tables;
 mod updates;
 
-pub use changes::{ChangeBelow, FlagsRow, MailboxKey, MarkRow, MessageRow, RowChange};
+pub use changes::{ChangeBelow, FlagsRow, MailboxKey, MessageRow, RowChange, SeenFlagRow};
 pub use deletes::{delete_acl, delete_epoch, delete_mailbox, delete_message, delete_subscription};
 pub use finding::find_mailbox;
 pub use inserts::{
@@ -29,8 +29,8 @@ pub use reading::{check_open, read_meta, read_tables};
 pub use saving::save_rows;
 pub use schema::{is_blank, is_store};
 pub use stored::{
-    Stored, StoredEntry, StoredEpoch, StoredGone, StoredMailbox, StoredMark, StoredMessage,
-    StoredMeta, StoredSubscription,
+    FromRow, StoredEntry, StoredEpoch, StoredGone, StoredMailbox, StoredMessage, StoredMeta,
+    StoredSeenFlag, StoredSubscription,
 };
 pub use tables::{StoredTables, are_all_apart};
 pub use updates::{count_mailbox, flag_message, move_mailbox};

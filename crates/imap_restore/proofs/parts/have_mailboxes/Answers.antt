@@ -5,7 +5,7 @@ use Rattle.std.specs.Ordering.{int_cmp}
 use Rattle.imap_tables.specs.declared.stored.StoredEntry.{StoredEntry}
 use Rattle.imap_tables.specs.declared.stored.StoredGone.{StoredGone}
 use Rattle.imap_tables.specs.declared.stored.StoredMailbox.{StoredMailbox}
-use Rattle.imap_tables.specs.declared.stored.StoredMark.{StoredMark}
+use Rattle.imap_tables.specs.declared.stored.StoredSeenFlag.{StoredSeenFlag}
 use Rattle.imap_tables.specs.declared.stored.StoredMessage.{StoredMessage}
 use Rattle.imap_restore.specs.Parts.{AreKnown}
 use Rattle.imap_restore.proofs.Known.{below_known, known_below}
@@ -57,7 +57,7 @@ returns c =
         entries = known_below boxes test tells (λ (r : StoredEntry). r.mailbox) c.args.tables.now.entries.items (subst (AreKnown (λ (r : StoredEntry). r.mailbox) test) c.deref-2.ensures.value (c.are_known.ensures.0 c.if-not-are_known.false));
         messages = known_below boxes test tells (λ (r : StoredMessage). r.mailbox) c.args.tables.now.messages.items (subst (AreKnown (λ (r : StoredMessage). r.mailbox) test) c.deref-3.ensures.value (c.are_known-2.ensures.0 c.if-not-are_known-2.false));
         gone = known_below boxes test tells (λ (r : StoredGone). r.mailbox) c.args.tables.now.gone.items (subst (AreKnown (λ (r : StoredGone). r.mailbox) test) c.deref-4.ensures.value (c.are_known-3.ensures.0 c.if-not-are_known-3.false));
-        marks = known_below boxes test tells (λ (r : StoredMark). r.mailbox) c.args.tables.now.marks.items (subst (AreKnown (λ (r : StoredMark). r.mailbox) test) c.deref-5.ensures.value (c.are_known-4.ensures.0 h));
+        marks = known_below boxes test tells (λ (r : StoredSeenFlag). r.mailbox) c.args.tables.now.marks.items (subst (AreKnown (λ (r : StoredSeenFlag). r.mailbox) test) c.deref-5.ensures.value (c.are_known-4.ensures.0 h));
       },
-      λ have. c.are_known-4.ensures.1 (subst (AreKnown (λ (r : StoredMark). r.mailbox) test) (sym c.deref-5.ensures.value) (below_known boxes test tells (λ (r : StoredMark). r.mailbox) c.args.tables.now.marks.items have.marks)),
+      λ have. c.are_known-4.ensures.1 (subst (AreKnown (λ (r : StoredSeenFlag). r.mailbox) test) (sym c.deref-5.ensures.value) (below_known boxes test tells (λ (r : StoredSeenFlag). r.mailbox) c.args.tables.now.marks.items have.marks)),
     )
