@@ -1,4 +1,7 @@
 //! The messages that a session knows.
+//!
+//! If the last known message has its UID at its place in the mailbox, and those before it have lower UIDs,
+//! all known ones are there. Then mod-sequences alone are compared.
 
 ghost use Rattle.std.specs.Prelude.{◌≡◌, ◌+◌, ◌<◌, ◌≤◌, [], length, map, nat_lt, slice_index_or, IfOk, OnOk};
 ghost use Rattle.std.specs.List.{prefix_len};

@@ -42,12 +42,13 @@ pub fn notices_keep_in_step()
     ensures { NoticesKeepInStep }
 {}
 
-/// A client that follows EXPUNGE or VANISHED, EXISTS and FETCH lines holds what the session knows.
+/// A client that follows EXPUNGE or VANISHED, EXISTS and FETCH lines holds what the session knows. Of messages
+/// that EXISTS alone tells it knows that they are there.
 pub fn client_follows()
     ensures { ClientFollows }
 {}
 
-/// If expunges may be told, it holds the messages of the mailbox.
+/// If expunges may be told, it holds the messages of the mailbox, but for what it doesn't know of new ones.
 pub fn client_holds_mailbox()
     ensures { ClientHoldsMailbox }
 {}

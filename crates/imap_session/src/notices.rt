@@ -1,4 +1,9 @@
 //! What a session is told of its mailbox.
+//!
+//! After a command of its own the session's messages before the next one that the batch marks are as it
+//! knows them, if the last of them has the UID that is known at its place: known lists and rows rise, and
+//! each row up to what was told is known. One look stands for all of them. If it is another one, half of
+//! the run is tried.
 
 ghost use Rattle.std.specs.Prelude.{◌≡◌, ℕ, [], ◌++◌, true, IfOk, if◌then◌else◌};
 ghost use Rattle.imap_print.specs.declared.response.Response.TheVariants as response;

@@ -18,7 +18,7 @@ use crate::known_list::KnownList;
 use crate::selection::NewSelection;
 use crate::session::{Selected, Session};
 use bitflags::Flags;
-use imap_answer::{Answer, Call, missing_right_refusal};
+use imap_answer::{Answer, CommandContext, missing_right_refusal};
 use imap_lex::Octets;
 use imap_list::mailbox_line;
 use imap_mailbox::Rows;
@@ -41,82 +41,86 @@ pub struct Selecting {
 
 /// Answers SELECT, or EXAMINE if `read_only`, of a mailbox, as it is named in the command.
 pub fn select_answer(
-    call: &Call<'_>,
+    context: &CommandContext<'_>,
     session: &Session,
     read_only: bool,
     mailbox: &Octets,
 ) -> Result<Selecting, AllocError>
-    ensures { let answer = specs.select_answer call.now.view (state_of session.now) call.now.tag in
+    ensures { let answer = specs.select_answer context.now.view (state_of session.now) context.now.tag in
         IfOk result (λ given. given ≡ answer read_only mailbox.now) }
 {
-    match call.name(mailbox)? {
-        Some(name) => select_of_name(call, session, read_only, name),
-        None => refuse_selecting(call, session, Refusal::NonExistent),
+    match context.name(mailbox)? {
+        Some(name) => select_of_name(context, session, read_only, name),
+        None => refuse_selecting(context, session, Refusal::NonExistent),
     }
 }
 
 fn select_of_name(
-    call: &Call<'_>,
+    context: &CommandContext<'_>,
     session: &Session,
     read_only: bool,
     name: Name,
 ) -> Result<Selecting, AllocError>
-    ensures { let view = call.now.view in
-        let answer = specs.select_if_readable view (state_of session.now) call.now.tag read_only name in
+    ensures { let view = context.now.view in
+        let answer = specs.select_if_readable view (state_of session.now) context.now.tag read_only name in
         IfOk result (λ given. given ≡ answer (readable_in view name)) }
 {
-    match call.view().readable(&name.as_ref()) {
-        Some(mailbox) => select_readable(call, session, read_only, name, &mailbox),
+    match context.view().readable(&name.as_ref()) {
+        Some(mailbox) => select_readable(context, session, read_only, name, &mailbox),
         None => {
-            let rights = call.view().rights(&name.as_ref());
-            refuse_selecting(call, session, missing_right_refusal(rights))
+            let rights = context.view().rights(&name.as_ref());
+            refuse_selecting(context, session, missing_right_refusal(rights))
         }
     }
 }
 
 fn select_readable(
-    call: &Call<'_>,
+    context: &CommandContext<'_>,
     session: &Session,
     read_only: bool,
     name: Name,
     mailbox: &Readable<'_>,
 ) -> Result<Selecting, AllocError>
     requires { AreRowsInOrder mailbox.now.next_uid mailbox.now.highest mailbox.now.rows }
-    ensures { let answer = specs.selecting call.now.view (state_of session.now) call.now.tag in
+    ensures { let answer = specs.selecting context.now.view (state_of session.now) context.now.tag in
         IfOk result (λ given. given ≡ answer read_only name mailbox.now) }
 {
-    let rights = call.view().rights(&name.as_ref());
-    let lines = mailbox_lines(call, &name, rights_to_change(read_only, rights), mailbox)?;
-    let answer = call.carried_out(lines, Some(mode(read_only, rights)), None)?;
+    let rights = context.view().rights(&name.as_ref());
+    let lines = mailbox_lines(context, &name, rights_to_change(read_only, rights), mailbox)?;
+    let answer = context.carried_out(lines, Some(mode(read_only, rights)), None)?;
     Ok(Selecting {
-        answer: closing(call, session, answer)?,
-        selection: selection_of(call.alloc(), name, read_only, mailbox)?,
+        answer: closing(context, session, answer)?,
+        selection: selection_of(context.alloc(), name, read_only, mailbox)?,
     })
 }
 
 /// Refuses SELECT or EXAMINE: then no mailbox is selected any more.
 pub fn refuse_selecting(
-    call: &Call<'_>,
+    context: &CommandContext<'_>,
     session: &Session,
     refusal: Refusal,
 ) -> Result<Selecting, AllocError>
-    ensures { let meant = specs.refused_selecting (state_of session.now) call.now.tag refusal in
+    ensures { let meant = specs.refused_selecting (state_of session.now) context.now.tag refusal in
         IfOk result (λ given. given ≡ meant) }
 {
-    let answer = call.refuse(refusal)?;
+    let answer = context.refuse(refusal)?;
     Ok(Selecting {
-        answer: closing(call, session, answer)?,
+        answer: closing(context, session, answer)?,
         selection: NewSelection::none(),
     })
 }
 
 /// The answer after the line that closes the mailbox which was selected, if one was.
-fn closing(call: &Call<'_>, session: &Session, answer: Answer) -> Result<Answer, AllocError>
+fn closing(
+    context: &CommandContext<'_>,
+    session: &Session,
+    answer: Answer,
+) -> Result<Answer, AllocError>
     ensures { let closed = specs.closed_line (state_of session.now).selected in
         IfOk result (λ given. given ≡ preceded_by closed answer) }
 {
     match &session.selected {
-        Some(_) => answer.preceded_by(vec![in call.alloc(); Response::Closed]?),
+        Some(_) => answer.preceded_by(vec![in context.alloc(); Response::Closed]?),
         None => Ok(answer),
     }
 }
@@ -143,25 +147,25 @@ fn selection_of(
 
 /// The untagged lines that tell of the mailbox.
 fn mailbox_lines(
-    call: &Call<'_>,
+    context: &CommandContext<'_>,
     name: &Name,
     rights: Rights,
     mailbox: &Readable<'_>,
 ) -> Result<Vec<Response>, AllocError>
     requires { AreRowsInOrder mailbox.now.next_uid mailbox.now.highest mailbox.now.rows }
-    ensures lines { let meant = specs.mailbox_lines call.now.view name.now (bits rights) mailbox.now in
+    ensures lines { let meant = specs.mailbox_lines context.now.view name.now (bits rights) mailbox.now in
         IfOk result (λ lines. lines.items ≡ meant) }
     ensures printable { IfOk result (λ lines. AllByRecursion IsPrintable lines.items) }
 {
-    let keywords = keywords_of(call.alloc(), &mailbox.rows)?;
-    let flags = permanent_flags(call.alloc(), rights, &keywords)?;
+    let keywords = keywords_of(context.alloc(), &mailbox.rows)?;
+    let flags = permanent_flags(context.alloc(), rights, &keywords)?;
     let any = rights.has_any(Rights::WRITE);
     flags_are_printable(&keywords);
     permanent_flags_are_printable(&flags, any);
-    Ok(vec![in call.alloc();
+    Ok(vec![in context.alloc();
         Response::Flags { keywords },
         Response::Exists(count(&mailbox.rows, mailbox.next_uid)),
-        mailbox_line(call, name)?,
+        mailbox_line(context, name)?,
         Response::PermanentFlags { flags, any },
         Response::UidValidity(mailbox.validity),
         Response::UidNext(mailbox.next_uid),

@@ -6,8 +6,8 @@ ghost use Rattle.imap_session.specs.State.{HasRoomFor, room_in, room_of};
 ghost use Rattle.imap_session.specs.State as specs;
 
 use crate::known_list::KnownList;
+use crate::known_update::KnownUpdate;
 use crate::selection::NewSelection;
-use crate::told::Told;
 use imap_lex::Tag;
 use imap_names::Name;
 use imap_print::EnabledCapabilities;
@@ -104,7 +104,7 @@ impl Session {
     }
 
     /// Notes what the session is told of its mailbox, in room that is there.
-    pub fn tell(&mut self, told: Told)
+    pub fn tell(&mut self, told: KnownUpdate)
         requires { IsTellingReady told (room_of self.old) (state_of self.old).selected }
         ensures state { state_of self.new ≡ specs.with_told told (state_of self.old) }
         ensures room { room_of self.old ≤ room_of self.new + length told.added }
@@ -156,7 +156,7 @@ fn reserve_in(selected: &mut Selected, more: usize) -> Result<(), AllocError>
     selected.known.reserve(more)
 }
 
-fn tell(selected: &mut Option<Selected>, told: Told)
+fn tell(selected: &mut Option<Selected>, told: KnownUpdate)
     requires { IsTellingReady told (room_in selected.old) (option_map selection_of selected.old) }
     ensures state { option_map selection_of selected.new
         ≡ option_map (with_telling told) (option_map selection_of selected.old) }
@@ -168,7 +168,7 @@ fn tell(selected: &mut Option<Selected>, told: Told)
     }
 }
 
-fn tell_selected(selected: &mut Selected, told: Told)
+fn tell_selected(selected: &mut Selected, told: KnownUpdate)
     requires { IsTellingReady told selected.old.known.room (Some (selection_of selected.old)) }
     ensures state { selection_of selected.new ≡ with_telling told (selection_of selected.old) }
     ensures room { selected.old.known.room ≤ selected.new.known.room + length told.added }

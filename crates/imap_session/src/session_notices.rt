@@ -7,11 +7,11 @@ ghost use Rattle.imap_print.specs.Lines.{IsPrintable};
 ghost use Rattle.imap_session.specs.State.{IsTellingFor, selection_of, state_of};
 ghost use Rattle.imap_session.specs.Told.{IsInStepIfSelected, session_lines, session_telling};
 
+use crate::known_update::KnownUpdate;
 use crate::notices::Notices;
 use crate::options::NoticeOptions;
 use crate::row_cursor::RowCursor;
 use crate::session::{Selected, Session};
-use crate::told::Told;
 use imap_print::Response;
 use std::alloc::{AllocError, Global};
 
@@ -20,7 +20,7 @@ use std::alloc::{AllocError, Global};
 pub struct SessionNotices {
     pub lines: Vec<Response>,
     /// `None` if the session stays as it is. Then there is no line.
-    pub told: Option<Told>,
+    pub told: Option<KnownUpdate>,
 }
 
 impl Session {
@@ -84,6 +84,6 @@ fn selected_notices<C: RowCursor>(
         .known
         .notices(alloc, rows, options, told, up_to, highest)?;
     let Notices { lines, delta } = found;
-    let told = Told::if_any(delta, highest);
+    let told = KnownUpdate::if_any(delta, highest);
     Ok(SessionNotices { lines, told })
 }

@@ -19,7 +19,7 @@ use Rattle.imap_batch.proofs.Planning.{planned_of}
 use Rattle.imap_batch.proofs.Steps.{among_given, known_rise}
 use Rattle.imap_batch.specs.Batch.{added_seen_count, are_known, has_messages, mark_seen_count, mark_uids, one_if}
 use Rattle.imap_batch.specs.declared.batch.Batch.{Batch}
-use Rattle.imap_batch.specs.declared.batch.Mark.{Mark}
+use Rattle.imap_batch.specs.declared.batch.FlagUpdate.{FlagUpdate}
 use Rattle.imap_batch.specs.declared.batch.NewMessage.{NewMessage}
 use Rattle.imap_batch.specs.declared.write.BatchWrite.{BatchWrite}
 use Rattle.imap_batch.specs.Entered.{own_added, own_change, own_marked, own_changes}
@@ -37,7 +37,7 @@ added_own uid place (m ∷ added) = by m.seen (added_own (uid + 1) (place + 1) a
     by true rest = omega (arith, rest)
     by false rest = omega (arith, rest)
 
-marked_own : (place : ℕ) (marks : List Mark) → length (own_marked place marks) ≡ mark_seen_count marks
+marked_own : (place : ℕ) (marks : List FlagUpdate) → length (own_marked place marks) ≡ mark_seen_count marks
 marked_own place [] = refl
 marked_own place (k ∷ marks) = by k.seen (marked_own (place + one_if (is_some k.flags)) marks)
   where
@@ -74,12 +74,12 @@ uid_seen own n (Some seen) r = by (nat_lt own max_events)
     by true = refl
     by false = refl
 
-uid_marked : (shared own : ℕ) (k : Mark) (r : Row) → (row_marked shared own k r).uid ≡ r.uid
+uid_marked : (shared own : ℕ) (k : FlagUpdate) (r : Row) → (row_marked shared own k r).uid ≡ r.uid
 uid_marked shared own k r =
     uid_seen own (number_after (shared + one_if (is_some k.flags)) own) k.seen (row_with_flags (number_after shared own) k.flags r) ∙ uid_flagged (number_after shared own) k.flags r
 
 -- marks change no UID
-marked_uids : (shared own : ℕ) (marks : List Mark) (rows : List Row) → row_uids (rows_marked shared own marks rows) ≡ row_uids rows
+marked_uids : (shared own : ℕ) (marks : List FlagUpdate) (rows : List Row) → row_uids (rows_marked shared own marks rows) ≡ row_uids rows
 marked_uids shared own [] rows = refl
 marked_uids shared own (k ∷ marks) [] = refl
 marked_uids shared own (k ∷ marks) (r ∷ rows) =

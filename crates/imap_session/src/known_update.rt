@@ -10,12 +10,12 @@ use std::marker::Model;
 /// What a session is told of its mailbox at the end of a command: a change of its known list, and the
 /// mod-sequence up to which it was then told all. Contracts see the change by lists.
 #[derive(Drop)]
-pub struct Told {
+pub struct KnownUpdate {
     delta: Delta,
     up_to: u64,
 }
 
-impl Model for Told {
+impl Model for KnownUpdate {
     ghost use Rattle.imap_session.specs.Telling.{Telling, telling_code, telling_of};
 
     ghost Value = { Telling };
@@ -25,12 +25,12 @@ impl Model for Told {
     ghost view = { λ told. telling_of told.delta told.up_to };
 }
 
-impl Told {
+impl KnownUpdate {
     /// Returns the change with the mod-sequence, or `None` if the known list stays.
-    pub(crate) fn if_any(delta: Delta, up_to: u64) -> Option<Told>
+    pub(crate) fn if_any(delta: Delta, up_to: u64) -> Option<KnownUpdate>
         ensures { result ≡ if_any (telling_of delta up_to) }
     {
-        let told = Told { delta, up_to };
+        let told = KnownUpdate { delta, up_to };
         if told.is_empty() { None } else { Some(told) }
     }
 
@@ -58,7 +58,7 @@ impl Told {
         ensures room { known.old.room ≤ known.new.room + length self.added }
         ensures up_to { result ≡ self.up_to }
     {
-        let Told { delta, up_to } = self;
+        let KnownUpdate { delta, up_to } = self;
         known.apply(delta);
         up_to
     }
