@@ -1,8 +1,8 @@
--- Answers to commands: a call, its answer, and what holds of each.
+-- Answers to commands: the context of a command, its answer, and what holds of each.
 pub mod Access
 pub mod Alike
 pub mod Answer
-pub mod Call
+pub mod CommandContext
 pub mod Fit
 pub mod Moment
 pub mod Name

@@ -7,6 +7,7 @@ ghost use Rattle.imap_answer.specs.Answer.{enabling, followed_by, nothing_enable
 ghost use Rattle.imap_mailbox.specs.Summary.{AreRising};
 
 use imap_print::{EnabledCapabilities, Response};
+use imap_values::{beside, joined};
 use imap_world::Effect;
 use std::alloc::{AllocError, Global};
 use std::marker::Model;
@@ -127,15 +128,14 @@ impl Answer {
         requires { AllByRecursion IsPrintable front.items }
         ensures { IfOk result (λ answer. answer ≡ preceded_by front.items self) }
     {
-        let mut untagged = front;
-        let mut later = self.untagged;
-        untagged.append(&mut later)?;
+        let rest = (self.last, self.effect, self.told);
+        let (untagged, (last, effect, told)) = beside(joined(front, self.untagged), rest)?;
         Ok(Answer {
             untagged,
-            last: self.last,
-            effect: self.effect,
+            last,
+            effect,
             enables: self.enables,
-            told: self.told,
+            told,
         })
     }
 
@@ -144,15 +144,14 @@ impl Answer {
         requires { AllByRecursion IsPrintable back.items }
         ensures { IfOk result (λ answer. answer ≡ followed_by back.items self) }
     {
-        let mut untagged = self.untagged;
-        let mut back = back;
-        untagged.append(&mut back)?;
+        let rest = (self.last, self.effect, self.told);
+        let (untagged, (last, effect, told)) = beside(joined(self.untagged, back), rest)?;
         Ok(Answer {
             untagged,
-            last: self.last,
-            effect: self.effect,
+            last,
+            effect,
             enables: self.enables,
-            told: self.told,
+            told,
         })
     }
 

@@ -19,7 +19,8 @@ use Rattle.imap_world.specs.declared.effect.Effect.{Effect}
 use Rattle.imap_targets.specs.Left.{events_left}
 use Rattle.imap_targets.specs.MessageNumbers.{last_of}
 use Rattle.imap_targets.proofs.Possible.{chosen_known, may_change, rows_rise, taken_known}
-use Rattle.imap_changes.specs.Expunge.{batch_of, close_answer, close_effect, close_if_selected, expunge_answer, expunge_code, expunge_effect, expunge_if_readable, expunge_if_selected, expunged_uids, is_saved_set, is_taken, may_expunge}
+use Rattle.imap_batch.specs.Batch.{expunging}
+use Rattle.imap_changes.specs.Expunge.{close_answer, close_effect, close_if_selected, expunge_answer, expunge_code, expunge_effect, expunge_if_readable, expunge_if_selected, expunged_uids, is_saved_set, is_taken, may_expunge}
 
 -- ---- what is asked
 
@@ -36,15 +37,15 @@ module _ (view : View) (s : Selection) (mailbox : Readable) (e : readable_in vie
   by_uids : IsViewed view → (uids : List ℕ) → length uids ≤ events_left mailbox → are_known 0 uids (row_uids mailbox.rows) ≡ true → MayBeAsked view (expunge_effect view.user s.name uids)
   by_uids viewed [] few known = tt
   by_uids viewed (uid ∷ uids) few known = (
-    may_change view viewed s.name mailbox (batch_of view.user (uid ∷ uids))
+    may_change view viewed s.name mailbox (expunging view.user (uid ∷ uids))
         (record { none = refl; keywords = refl; events = few_events (length (uid ∷ uids)) (events_left mailbox) few; marked = refl; expunged = known }) e refl,
     tt,
   )
 
   -- the user may expunge the messages
-  may_ask : (asked : Option MessageSet) → IsViewed view → MayBeAsked view (expunge_effect view.user s.name (expunged_uids asked s.known mailbox))
-  may_ask asked viewed =
-      let taken = is_taken asked (last_of numbering.Uid mailbox.next_uid s.known) s.known in
+  may_ask : (set : Option MessageSet) → IsViewed view → MayBeAsked view (expunge_effect view.user s.name (expunged_uids set s.known mailbox))
+  may_ask set viewed =
+      let taken = is_taken set (last_of numbering.Uid mailbox.next_uid s.known) s.known in
       let left = events_left mailbox in
       let uids = row_uids (filter taken mailbox.rows) in
       let rise = rows_rise view viewed s.name mailbox e in
@@ -57,12 +58,12 @@ module _ (view : View) (tag : List ℕ) where
   made : (code : Option Code) (effect : Option Effect) → (IsViewed view → MayBeAsked view effect) → IsFit view (carried_out [] tag code effect)
   made code effect may = record { asks = may; refused = λ e. absurd (cc e); available = refl }
 
-  module _ (qresync : Bool) (asked : Option MessageSet) (s : Selection) where
-    readable_fits : (mailbox : Option Readable) → readable_in view s.name ≡ mailbox → IsFit view (expunge_if_readable view qresync tag asked s mailbox)
+  module _ (qresync : Bool) (set : Option MessageSet) (s : Selection) where
+    readable_fits : (mailbox : Option Readable) → readable_in view s.name ≡ mailbox → IsFit view (expunge_if_readable view qresync tag set s mailbox)
     readable_fits None e = fits_alone view _ _ refl
-    readable_fits (Some mailbox) e = made (expunge_code qresync mailbox (expunged_uids asked s.known mailbox)) _ (may_ask view s mailbox e asked)
+    readable_fits (Some mailbox) e = made (expunge_code qresync mailbox (expunged_uids set s.known mailbox)) _ (may_ask view s mailbox e set)
 
-    selected_by : (saved may : Bool) → IsFit view (cond saved (refusal tag Cannot) (cond (not may) (refusal tag NoPerm) (expunge_if_readable view qresync tag asked s (readable_in view s.name))))
+    selected_by : (saved may : Bool) → IsFit view (cond saved (refusal tag Cannot) (cond (not may) (refusal tag NoPerm) (expunge_if_readable view qresync tag set s (readable_in view s.name))))
     selected_by true may = fits_alone view _ _ refl
     selected_by false false = fits_alone view _ _ refl
     selected_by false true = readable_fits (readable_in view s.name) refl
@@ -75,12 +76,12 @@ module _ (view : View) (tag : List ℕ) where
       either true = made None _ (may_ask view s mailbox e None)
       either false = made None None (λ _. tt)
 
-pub expunge_fits : (view : View) (own : SessionState) (tag : List ℕ) (asked : Option MessageSet) → IsFit view (expunge_answer view own tag asked)
-expunge_fits view own tag asked = by own.selected
+pub expunge_fits : (view : View) (own : SessionState) (tag : List ℕ) (set : Option MessageSet) → IsFit view (expunge_answer view own tag set)
+expunge_fits view own tag set = by own.selected
   where
-    by : (s : Option Selection) → IsFit view (expunge_if_selected view own.enabled.qresync tag asked s)
+    by : (s : Option Selection) → IsFit view (expunge_if_selected view own.enabled.qresync tag set s)
     by None = fits_alone view _ _ refl
-    by (Some s) = selected_by view tag own.enabled.qresync asked s (is_saved_set asked) (may_expunge view s)
+    by (Some s) = selected_by view tag own.enabled.qresync set s (is_saved_set set) (may_expunge view s)
 
 pub close_fits : (view : View) (own : SessionState) (tag : List ℕ) → IsFit view (close_answer view own tag)
 close_fits view own tag = by own.selected
@@ -91,8 +92,8 @@ close_fits view own tag = by own.selected
 
 -- ---- alike
 
-pub expunge_alike : (own : SessionState) (tag : List ℕ) (asked : Option MessageSet) → AnswersAlike (λ view. expunge_answer view own tag asked)
-expunge_alike own tag asked = answers_alike (λ view. expunge_answer view own tag asked) (λ view. expunge_fits view own tag asked)
+pub expunge_alike : (own : SessionState) (tag : List ℕ) (set : Option MessageSet) → AnswersAlike (λ view. expunge_answer view own tag set)
+expunge_alike own tag set = answers_alike (λ view. expunge_answer view own tag set) (λ view. expunge_fits view own tag set)
 
 pub close_alike : (own : SessionState) (tag : List ℕ) → AnswersAlike (λ view. close_answer view own tag)
 close_alike own tag = answers_alike (λ view. close_answer view own tag) (λ view. close_fits view own tag)

@@ -47,35 +47,35 @@ fewer p (r ∷ rows) = by (p r) (fewer p rows)
 
 -- ---- the rows that are taken
 
-module _ (asked : Option MessageSet) (last : ℕ) (known : List KnownMessage) (uid : ℕ) where
-  among_taken : (rows : List Row) → is_among uid (row_uids (filter (is_taken asked last known) rows)) ≡ (is_deleted uid rows && is_wanted asked last known uid)
+module _ (set : Option MessageSet) (last : ℕ) (known : List KnownMessage) (uid : ℕ) where
+  among_taken : (rows : List Row) → is_among uid (row_uids (filter (is_taken set last known) rows)) ≡ (is_deleted uid rows && is_wanted set last known uid)
   among_taken [] = refl
-  among_taken (r ∷ rows) = by (eqb r.uid uid) refl r.flags.deleted (is_wanted asked last known r.uid) refl (among_taken rows)
+  among_taken (r ∷ rows) = by (eqb r.uid uid) refl r.flags.deleted (is_wanted set last known r.uid) refl (among_taken rows)
     where
-      by : (b : Bool) → eqb r.uid uid ≡ b → (d w : Bool) → is_wanted asked last known r.uid ≡ w
-          → is_among uid (row_uids (filter (is_taken asked last known) rows)) ≡ (is_deleted uid rows && is_wanted asked last known uid)
-          → is_among uid (row_uids (cond (d && w) (r ∷ filter (is_taken asked last known) rows) (filter (is_taken asked last known) rows)))
-          ≡ (((b && d) || is_deleted uid rows) && is_wanted asked last known uid)
+      by : (b : Bool) → eqb r.uid uid ≡ b → (d w : Bool) → is_wanted set last known r.uid ≡ w
+          → is_among uid (row_uids (filter (is_taken set last known) rows)) ≡ (is_deleted uid rows && is_wanted set last known uid)
+          → is_among uid (row_uids (cond (d && w) (r ∷ filter (is_taken set last known) rows) (filter (is_taken set last known) rows)))
+          ≡ (((b && d) || is_deleted uid rows) && is_wanted set last known uid)
       by true e true true h before =
-          ap (λ t. t || is_among uid (row_uids (filter (is_taken asked last known) rows))) e
-          ∙ sym h ∙ ap (is_wanted asked last known) (eqb-true r.uid uid e)
+          ap (λ t. t || is_among uid (row_uids (filter (is_taken set last known) rows))) e
+          ∙ sym h ∙ ap (is_wanted set last known) (eqb-true r.uid uid e)
       by true e true false h before =
-          let none : is_wanted asked last known uid ≡ false = sym (ap (is_wanted asked last known) (eqb-true r.uid uid e)) ∙ h in
+          let none : is_wanted set last known uid ≡ false = sym (ap (is_wanted set last known) (eqb-true r.uid uid e)) ∙ h in
           before ∙ ap (λ t. is_deleted uid rows && t) none ∙ and_false (is_deleted uid rows) ∙ sym none
       by true e false w h before = before
-      by false e true true h before = ap (λ t. t || is_among uid (row_uids (filter (is_taken asked last known) rows))) e ∙ before
+      by false e true true h before = ap (λ t. t || is_among uid (row_uids (filter (is_taken set last known) rows))) e ∙ before
       by false e true false h before = before
       by false e false w h before = before
 
 pub only_deleted : ExpungesDeleted
-only_deleted asked known mailbox uid e =
+only_deleted set known mailbox uid e =
     let last = last_of numbering.Uid mailbox.next_uid known in
-    sym (among_taken asked last known uid mailbox.rows)
-    ∙ first_among uid (events_left mailbox) (row_uids (filter (is_taken asked last known) mailbox.rows)) e
+    sym (among_taken set last known uid mailbox.rows)
+    ∙ first_among uid (events_left mailbox) (row_uids (filter (is_taken set last known) mailbox.rows)) e
 
 pub all_deleted : ExpungesAll
-all_deleted asked known mailbox uid few =
+all_deleted set known mailbox uid few =
     let last = last_of numbering.Uid mailbox.next_uid known in
-    let le = fewer (is_taken asked last known) mailbox.rows in
-    ap (is_among uid) (all_taken (events_left mailbox) (row_uids (filter (is_taken asked last known) mailbox.rows)) (omega (arith, le, few)))
-    ∙ among_taken asked last known uid mailbox.rows
+    let le = fewer (is_taken set last known) mailbox.rows in
+    ap (is_among uid) (all_taken (events_left mailbox) (row_uids (filter (is_taken set last known) mailbox.rows)) (omega (arith, le, few)))
+    ∙ among_taken set last known uid mailbox.rows

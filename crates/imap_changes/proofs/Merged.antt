@@ -3,7 +3,7 @@ use Rattle.std.proofs.Common.{◌≡◌, ℕ, ◌+◌, ◌<◌, ◌≤◌, Bool,
 use Rattle.std.specs.Prelude.{Vec}
 use Rattle.std.specs.declared.alloc.Global.{Global}
 use Rattle.std.proofs.lemmas.Bool.{ne_eqb, eqb-true}
-use Rattle.imap_grammar.specs.declared.commands.store.StoreSpec.{StoreSpec}
+use Rattle.imap_commands.specs.declared.commands.store.StoreSpec.{StoreSpec}
 use Rattle.imap_mailbox.specs.declared.known.KnownMessage.{KnownMessage}
 use Rattle.imap_mailbox.specs.Lent.{row_uids}
 use Rattle.imap_mailbox.specs.Rows.{Row}
@@ -12,7 +12,7 @@ use Rattle.imap_mailbox.proofs.Rising.{rises_lower}
 use Rattle.imap_targets.specs.declared.message_numbers.Numbered.{Numbered}
 use Rattle.imap_targets.specs.MessageNumbers.{row_with, uids_of}
 use Rattle.imap_targets.proofs.Named.{row_below}
-use Rattle.imap_changes.specs.declared.stored.Stored.{Stored}
+use Rattle.imap_changes.specs.declared.store_outcome.StoreOutcome.{StoreOutcome}
 use Rattle.imap_changes.specs.Store.{number_with, stored_all, stored_if_named, stored_of}
 use Rattle.imap_changes.specs.Storing.{Stores, stored_if_there, stored_named}
 
@@ -47,7 +47,7 @@ module _ (rights : ℕ) (spec : StoreSpec) (known : List KnownMessage) where
 
   -- one message that is named before others, whose UIDs are greater
   module _ (m : Numbered) (messages : List Numbered) (top : ℕ) (up : Rises (m.uid + 1) top (uids_of messages)) where
-    abbrev first : Option Row → List Stored
+    abbrev first : Option Row → List StoreOutcome
     first row = stored_if_there rights spec known m.number row
 
     one_first : (low high : ℕ) (rows : List Row) → Rises low high (row_uids rows)
@@ -55,10 +55,10 @@ module _ (rights : ℕ) (spec : StoreSpec) (known : List KnownMessage) where
     one_first low high [] h = refl
     one_first low high (r ∷ rows) h = by_row (eqb r.uid m.uid) refl (one_first (r.uid + 1) high rows h.1)
       where
-        all : List Stored
+        all : List StoreOutcome
         all = stored_all rights spec known messages rows
 
-        named : Option ℕ → List Stored
+        named : Option ℕ → List StoreOutcome
         named number = stored_if_named rights spec known number r
 
         between : (o : Option ℕ) → number_with r.uid messages ≡ o → stored_all rights spec known (m ∷ messages) rows ≡ first (row_with m.uid rows) ++ all
@@ -94,23 +94,23 @@ module _ (rights : ℕ) (spec : StoreSpec) (known : List KnownMessage) where
 
   -- their UIDs rise, as those of the rows do
   pub stored_rise : (messages : List Numbered) (low high : ℕ) (rows : List Row) → Rises low high (row_uids rows)
-      → Rises low high (map (λ (m : Stored). m.uid) (stored_all rights spec known messages rows))
+      → Rises low high (map (λ (m : StoreOutcome). m.uid) (stored_all rights spec known messages rows))
   stored_rise messages low high [] h = h
   stored_rise messages low high (r ∷ rows) h = by (number_with r.uid messages) (stored_rise messages (r.uid + 1) high rows h.1)
     where
       at : low ≤ r.uid
       at = h.0
 
-      by : (o : Option ℕ) → Rises (r.uid + 1) high (map (λ (m : Stored). m.uid) (stored_all rights spec known messages rows))
-          → Rises low high (map (λ (m : Stored). m.uid) (stored_if_named rights spec known o r ++ stored_all rights spec known messages rows))
-      by None rest = rises_lower (r.uid + 1) low high (map (λ (m : Stored). m.uid) (stored_all rights spec known messages rows)) (omega (arith, at)) rest
+      by : (o : Option ℕ) → Rises (r.uid + 1) high (map (λ (m : StoreOutcome). m.uid) (stored_all rights spec known messages rows))
+          → Rises low high (map (λ (m : StoreOutcome). m.uid) (stored_if_named rights spec known o r ++ stored_all rights spec known messages rows))
+      by None rest = rises_lower (r.uid + 1) low high (map (λ (m : StoreOutcome). m.uid) (stored_all rights spec known messages rows)) (omega (arith, at)) rest
       by (Some n) rest = (at, rest)
 
-  pub found_rise : (messages : List Numbered) (low high : ℕ) (rows : List Row) (found : Option (Vec Stored Global)) (stored : Vec Stored Global) (given : List Stored) → Rises low high (row_uids rows)
-      → Stores (stored_all rights spec known messages rows) found → found ≡ Some stored → given ≡ stored.items → AreRising (map (λ (m : Stored). m.uid) given)
+  pub found_rise : (messages : List Numbered) (low high : ℕ) (rows : List Row) (found : Option (Vec StoreOutcome Global)) (stored : Vec StoreOutcome Global) (given : List StoreOutcome) → Rises low high (row_uids rows)
+      → Stores (stored_all rights spec known messages rows) found → found ≡ Some stored → given ≡ stored.items → AreRising (map (λ (m : StoreOutcome). m.uid) given)
   found_rise messages low high rows found stored given h stores is same =
       let made : Stores (stored_all rights spec known messages rows) (Some stored) = subst (Stores (stored_all rights spec known messages rows)) is stores in (
         low,
         high,
-        subst (λ (ms : List Stored). Rises low high (map (λ (m : Stored). m.uid) ms)) (sym (same ∙ made.0)) (stored_rise messages low high rows h),
+        subst (λ (ms : List StoreOutcome). Rises low high (map (λ (m : StoreOutcome). m.uid) ms)) (sym (same ∙ made.0)) (stored_rise messages low high rows h),
       )

@@ -8,9 +8,9 @@ use Rattle.imap_answer.specs.Answer.{carried_out, done_line, refusal, telling}
 use Rattle.imap_answer.specs.Fit.{IsFit, IsViewed, MayBeAsked, is_refusal, is_unavailable}
 use Rattle.imap_answer.proofs.Alike.{answers_alike}
 use Rattle.imap_answer.proofs.Fits.{fits_alone, fits_telling}
-use Rattle.imap_batch.specs.declared.batch.Mark.{Mark}
+use Rattle.imap_batch.specs.declared.batch.FlagUpdate.{FlagUpdate}
 use Rattle.imap_batch.specs.Batch.{are_few, are_known, flag_count, mark_uids}
-use Rattle.imap_grammar.specs.declared.commands.store.StoreSpec.{StoreSpec}
+use Rattle.imap_commands.specs.declared.commands.store.StoreSpec.{StoreSpec}
 use Rattle.imap_mailbox.specs.declared.known.KnownMessage.{KnownMessage}
 use Rattle.imap_mailbox.specs.Flags.{has_too_many}
 use Rattle.imap_mailbox.specs.Lent.{row_uids}
@@ -30,36 +30,37 @@ use Rattle.imap_targets.specs.declared.message_numbers.Numbered.{Numbered}
 use Rattle.imap_targets.specs.Left.{events_left}
 use Rattle.imap_targets.specs.MessageNumbers.{has_known_numbers, is_by_uid, is_refused}
 use Rattle.imap_targets.proofs.Possible.{known_more, may_change, rows_rise}
-use Rattle.imap_changes.specs.declared.stored.Stored.{Stored}
-use Rattle.imap_changes.specs.Store.{Store, are_many, event_count, flag_changes, full_line, is_impossible, lacks_events, lacks_right, line_of, lines_from, marks_of, message_after, messages_of, number_with, short_line, store_answer, store_effect, store_events, store_if_readable, store_if_selected, store_messages, stored_all, stored_if_named, stored_of, storing_rights}
+use Rattle.imap_changes.specs.declared.store_outcome.StoreOutcome.{StoreOutcome}
+use Rattle.imap_targets.specs.Effects.{marking_effect}
+use Rattle.imap_changes.specs.Store.{StoreArguments, are_many, event_count, flag_changes, full_line, is_impossible, lacks_changes, lacks_right, line_of, lines_from, marks_of, message_after, messages_of, number_with, short_line, store_answer, store_events, store_if_readable, store_if_selected, store_messages, stored_all, stored_if_named, stored_of, storing_rights}
 
 -- ---- marks of messages
 
 -- each has as many keywords as it may have
-few_marks : (messages : List Stored) → are_many messages ≡ false → list_all (λ (k : Mark). are_few k.flags) (marks_of messages) ≡ true
+few_marks : (messages : List StoreOutcome) → are_many messages ≡ false → list_all (λ (k : FlagUpdate). are_few k.flags) (marks_of messages) ≡ true
 few_marks [] few = refl
 few_marks (m ∷ messages) few = by (has_too_many m.flags) refl few (few_marks messages)
   where
-    marks : Bool → Bool → List Mark
+    marks : Bool → Bool → List FlagUpdate
     marks f s = cond (f || s) (record { uid = m.uid; flags = cond f (Some m.flags) None; seen = cond s (Some m.seen) None } ∷ []) []
 
-    with_rest : (f s : Bool) → has_too_many m.flags ≡ false → list_all (λ (k : Mark). are_few k.flags) (marks_of messages) ≡ true
-        → list_all (λ (k : Mark). are_few k.flags) (marks f s ++ marks_of messages) ≡ true
-    with_rest true s one rest = ap (λ b. not b && list_all (λ (k : Mark). are_few k.flags) (marks_of messages)) one ∙ rest
+    with_rest : (f s : Bool) → has_too_many m.flags ≡ false → list_all (λ (k : FlagUpdate). are_few k.flags) (marks_of messages) ≡ true
+        → list_all (λ (k : FlagUpdate). are_few k.flags) (marks f s ++ marks_of messages) ≡ true
+    with_rest true s one rest = ap (λ b. not b && list_all (λ (k : FlagUpdate). are_few k.flags) (marks_of messages)) one ∙ rest
     with_rest false true one rest = rest
     with_rest false false one rest = rest
 
-    by : (b : Bool) → has_too_many m.flags ≡ b → (b || are_many messages) ≡ false → (are_many messages ≡ false → list_all (λ (k : Mark). are_few k.flags) (marks_of messages) ≡ true)
-        → list_all (λ (k : Mark). are_few k.flags) (marks_of (m ∷ messages)) ≡ true
+    by : (b : Bool) → has_too_many m.flags ≡ b → (b || are_many messages) ≡ false → (are_many messages ≡ false → list_all (λ (k : FlagUpdate). are_few k.flags) (marks_of messages) ≡ true)
+        → list_all (λ (k : FlagUpdate). are_few k.flags) (marks_of (m ∷ messages)) ≡ true
     by true is few rest = absurd (cc few)
     by false is few rest = with_rest m.flags_change m.seen_changes is (rest few)
 
 -- one shared event for each message that gets other flags
-events_counted : (messages : List Stored) → flag_count (marks_of messages) ≡ flag_changes messages
+events_counted : (messages : List StoreOutcome) → flag_count (marks_of messages) ≡ flag_changes messages
 events_counted [] = refl
 events_counted (m ∷ messages) = by m.flags_change m.seen_changes (events_counted messages)
   where
-    marks : Bool → Bool → List Mark
+    marks : Bool → Bool → List FlagUpdate
     marks f s = cond (f || s) (record { uid = m.uid; flags = cond f (Some m.flags) None; seen = cond s (Some m.seen) None } ∷ []) []
 
     by : (f s : Bool) → flag_count (marks_of messages) ≡ flag_changes messages → flag_count (marks f s ++ marks_of messages) ≡ cond f 1 0 + flag_changes messages
@@ -89,7 +90,7 @@ module _ (rights : ℕ) (spec : StoreSpec) (known : List KnownMessage) (messages
           (and_from (is_among r.uid (r.uid ∷ row_uids rows)) (are_known (r.uid + 1) (uids_in rows) (r.uid ∷ row_uids rows)) (ap (λ b. b || is_among r.uid (row_uids rows)) (eq-eqb r.uid r.uid refl))
           (known_more (r.uid + 1) r.uid (uids_in rows) (row_uids rows) (later (r.uid + 1) (omega arith))))
 
-      by_change : (m : Stored) → m.uid ≡ r.uid → (f s : Bool) → Later
+      by_change : (m : StoreOutcome) → m.uid ≡ r.uid → (f s : Bool) → Later
           → are_known l (mark_uids (cond (f || s) (record { uid = m.uid; flags = cond f (Some m.flags) None; seen = cond s (Some m.seen) None } ∷ []) [] ++ marks_of (stored_all rights spec known messages rows))) (r.uid ∷ row_uids rows) ≡ true
       by_change m is true s later = with_mark m.uid is later
       by_change m is false true later = with_mark m.uid is later
@@ -108,8 +109,8 @@ both_false true b e = absurd (cc e)
 both_false false b e = refl
 
 module _ (view : View) (s : Selection) (mailbox : Readable) (e : readable_in view s.name ≡ Some mailbox) where
-  by_marks : IsViewed view → (marks : List Mark) → list_all (λ (k : Mark). are_few k.flags) marks ≡ true → flag_count marks ≤ events_left mailbox
-      → are_known 0 (mark_uids marks) (row_uids mailbox.rows) ≡ true → MayBeAsked view (store_effect view.user s.name marks)
+  by_marks : IsViewed view → (marks : List FlagUpdate) → list_all (λ (k : FlagUpdate). are_few k.flags) marks ≡ true → flag_count marks ≤ events_left mailbox
+      → are_known 0 (mark_uids marks) (row_uids mailbox.rows) ≡ true → MayBeAsked view (marking_effect view.user s.name marks)
   by_marks viewed [] few events known = tt
   by_marks viewed (k ∷ marks) few events known = (
     may_change view viewed s.name mailbox (record { user = view.user; added = []; marks = k ∷ marks; expunged = [] })
@@ -117,11 +118,10 @@ module _ (view : View) (s : Selection) (mailbox : Readable) (e : readable_in vie
     tt,
   )
 
-  may_ask : (spec : StoreSpec) (messages : List Numbered) → IsViewed view → are_many (stored_all (storing_rights view s) spec s.known messages mailbox.rows) ≡ false
-      → lacks_events mailbox (stored_all (storing_rights view s) spec s.known messages mailbox.rows) ≡ false
-      → MayBeAsked view (store_effect view.user s.name (marks_of (stored_all (storing_rights view s) spec s.known messages mailbox.rows)))
-  may_ask spec messages viewed few suffice =
-      let rights = storing_rights view s in
+  may_ask : (rights : ℕ) (spec : StoreSpec) (messages : List Numbered) → IsViewed view → are_many (stored_all rights spec s.known messages mailbox.rows) ≡ false
+      → lacks_changes mailbox (stored_all rights spec s.known messages mailbox.rows) ≡ false
+      → MayBeAsked view (marking_effect view.user s.name (marks_of (stored_all rights spec s.known messages mailbox.rows)))
+  may_ask rights spec messages viewed few suffice =
       let stored = stored_all rights spec s.known messages mailbox.rows in
       let rise = rows_rise view viewed s.name mailbox e in
       let left = ltb-false (events_left mailbox) (flag_changes stored) (both_false (nat_lt (events_left mailbox) (flag_changes stored)) _ suffice) in
@@ -132,7 +132,7 @@ module _ (view : View) (s : Selection) (mailbox : Readable) (e : readable_in vie
 
 -- lines of STORE don't pass a test that no line of FETCH passes
 module _ (test : Response → Bool) (fetch : (number : ℕ) (items : FetchedItems) → test (response.Fetch number items) ≡ false) (silent condstore : Bool) where
-  line_passes : (after : ℕ) (m : Stored) (rest : List Response) → list_any test (line_of silent condstore after m ++ rest) ≡ list_any test rest
+  line_passes : (after : ℕ) (m : StoreOutcome) (rest : List Response) → list_any test (line_of silent condstore after m ++ rest) ≡ list_any test rest
   line_passes after m rest = by (not silent || m.behind) condstore
     where
       by : (b c : Bool) → list_any test (cond b (full_line condstore m.number (message_after after m) ∷ []) (cond c (short_line m.number (message_after after m) ∷ []) []) ++ rest) ≡ list_any test rest
@@ -140,7 +140,7 @@ module _ (test : Response → Bool) (fetch : (number : ℕ) (items : FetchedItem
       by false true = ap (λ t. t || list_any test rest) (fetch m.number _)
       by false false = refl
 
-  lines_pass : (highest : ℕ) (messages : List Stored) (rest : List Response) → list_any test (lines_from silent condstore highest messages ++ rest) ≡ list_any test rest
+  lines_pass : (highest : ℕ) (messages : List StoreOutcome) (rest : List Response) → list_any test (lines_from silent condstore highest messages ++ rest) ≡ list_any test rest
   lines_pass highest [] rest = refl
   lines_pass highest (m ∷ messages) rest =
       let after = highest + event_count m in
@@ -148,60 +148,60 @@ module _ (test : Response → Bool) (fetch : (number : ℕ) (items : FetchedItem
       ∙ line_passes after m (lines_from silent condstore after messages ++ rest)
       ∙ lines_pass after messages rest
 
-module _ (view : View) (enabled : EnabledCapabilities) (tag : List ℕ) (asked : Store) (s : Selection) where
-  carried : (mailbox : Readable) (messages : List Stored) (effect : Option Effect) → (IsViewed view → MayBeAsked view effect)
-      → IsFit view (telling (map (λ (m : Stored). m.uid) messages) (carried_out (lines_from asked.spec.silent enabled.condstore mailbox.highest messages) tag None effect))
+module _ (view : View) (enabled : EnabledCapabilities) (tag : List ℕ) (arguments : StoreArguments) (rights : ℕ) (s : Selection) where
+  carried : (mailbox : Readable) (messages : List StoreOutcome) (effect : Option Effect) → (IsViewed view → MayBeAsked view effect)
+      → IsFit view (telling (map (λ (m : StoreOutcome). m.uid) messages) (carried_out (lines_from arguments.spec.silent enabled.condstore mailbox.highest messages) tag None effect))
   carried mailbox messages effect may =
-      let lines = lines_from asked.spec.silent enabled.condstore mailbox.highest messages in
-      let passes = lines_pass is_refusal (λ number items. refl) asked.spec.silent enabled.condstore mailbox.highest messages (done_line tag ∷ []) in
-      fits_telling view (map (λ (m : Stored). m.uid) messages) (carried_out lines tag None effect) (record {
+      let lines = lines_from arguments.spec.silent enabled.condstore mailbox.highest messages in
+      let passes = lines_pass is_refusal (λ number items. refl) arguments.spec.silent enabled.condstore mailbox.highest messages (done_line tag ∷ []) in
+      fits_telling view (map (λ (m : StoreOutcome). m.uid) messages) (carried_out lines tag None effect) (record {
         asks = may;
         refused = λ e. absurd (true≢false (sym e ∙ passes));
-        available = lines_pass is_unavailable (λ number items. refl) asked.spec.silent enabled.condstore mailbox.highest messages (done_line tag ∷ []);
+        available = lines_pass is_unavailable (λ number items. refl) arguments.spec.silent enabled.condstore mailbox.highest messages (done_line tag ∷ []);
       })
 
-  events_fit : (mailbox : Readable) (messages : List Stored) → (lacks : Bool) → (lacks ≡ false → IsViewed view → MayBeAsked view (store_effect view.user s.name (marks_of messages)))
-      → IsFit view (cond lacks (refusal tag Limit) (telling (map (λ (m : Stored). m.uid) messages) (carried_out (lines_from asked.spec.silent enabled.condstore mailbox.highest messages) tag None (store_effect view.user s.name (marks_of messages)))))
+  events_fit : (mailbox : Readable) (messages : List StoreOutcome) → (lacks : Bool) → (lacks ≡ false → IsViewed view → MayBeAsked view (marking_effect view.user s.name (marks_of messages)))
+      → IsFit view (cond lacks (refusal tag Limit) (telling (map (λ (m : StoreOutcome). m.uid) messages) (carried_out (lines_from arguments.spec.silent enabled.condstore mailbox.highest messages) tag None (marking_effect view.user s.name (marks_of messages)))))
   events_fit mailbox messages true may = fits_alone view _ _ refl
-  events_fit mailbox messages false may = carried mailbox messages (store_effect view.user s.name (marks_of messages)) (may refl)
+  events_fit mailbox messages false may = carried mailbox messages (marking_effect view.user s.name (marks_of messages)) (may refl)
 
-  messages_fit : (mailbox : Readable) → readable_in view s.name ≡ Some mailbox → (messages : List Numbered) → (many : Bool) → are_many (stored_all (storing_rights view s) asked.spec s.known messages mailbox.rows) ≡ many
-      → IsFit view (cond many (refusal tag Limit) (store_events view enabled tag asked s mailbox (stored_all (storing_rights view s) asked.spec s.known messages mailbox.rows)))
+  messages_fit : (mailbox : Readable) → readable_in view s.name ≡ Some mailbox → (messages : List Numbered) → (many : Bool) → are_many (stored_all rights arguments.spec s.known messages mailbox.rows) ≡ many
+      → IsFit view (cond many (refusal tag Limit) (store_events view enabled tag arguments s mailbox (stored_all rights arguments.spec s.known messages mailbox.rows)))
   messages_fit mailbox is messages true many = fits_alone view _ _ refl
   messages_fit mailbox is messages false few =
-      let stored = stored_all (storing_rights view s) asked.spec s.known messages mailbox.rows in
-      by (lacks_events mailbox stored) refl
+      let stored = stored_all rights arguments.spec s.known messages mailbox.rows in
+      by (lacks_changes mailbox stored) refl
     where
-      by : (lacks : Bool) → lacks_events mailbox (stored_all (storing_rights view s) asked.spec s.known messages mailbox.rows) ≡ lacks
-          → IsFit view (cond lacks (refusal tag Limit) (telling (map (λ (m : Stored). m.uid) (stored_all (storing_rights view s) asked.spec s.known messages mailbox.rows)) (carried_out (lines_from asked.spec.silent enabled.condstore mailbox.highest (stored_all (storing_rights view s) asked.spec s.known messages mailbox.rows)) tag None (store_effect view.user s.name (marks_of (stored_all (storing_rights view s) asked.spec s.known messages mailbox.rows))))))
-      by lacks e = events_fit mailbox (stored_all (storing_rights view s) asked.spec s.known messages mailbox.rows) lacks (λ no_lack viewed. may_ask view s mailbox is asked.spec messages viewed few (e ∙ no_lack))
+      by : (lacks : Bool) → lacks_changes mailbox (stored_all rights arguments.spec s.known messages mailbox.rows) ≡ lacks
+          → IsFit view (cond lacks (refusal tag Limit) (telling (map (λ (m : StoreOutcome). m.uid) (stored_all rights arguments.spec s.known messages mailbox.rows)) (carried_out (lines_from arguments.spec.silent enabled.condstore mailbox.highest (stored_all rights arguments.spec s.known messages mailbox.rows)) tag None (marking_effect view.user s.name (marks_of (stored_all rights arguments.spec s.known messages mailbox.rows))))))
+      by lacks e = events_fit mailbox (stored_all rights arguments.spec s.known messages mailbox.rows) lacks (λ no_lack viewed. may_ask view s mailbox is rights arguments.spec messages viewed few (e ∙ no_lack))
 
   named_fit : (mailbox : Readable) → readable_in view s.name ≡ Some mailbox → (messages : List Numbered) → (refused : Bool)
-      → IsFit view (cond refused (refusal tag ExpungeIssued) (store_messages view enabled tag asked s mailbox (stored_all (storing_rights view s) asked.spec s.known messages mailbox.rows)))
+      → IsFit view (cond refused (refusal tag ExpungeIssued) (store_messages view enabled tag arguments s mailbox (stored_all rights arguments.spec s.known messages mailbox.rows)))
   named_fit mailbox is messages true = fits_alone view _ _ refl
-  named_fit mailbox is messages false = messages_fit mailbox is messages (are_many (stored_all (storing_rights view s) asked.spec s.known messages mailbox.rows)) refl
+  named_fit mailbox is messages false = messages_fit mailbox is messages (are_many (stored_all rights arguments.spec s.known messages mailbox.rows)) refl
 
-  readable_fits : (mailbox : Option Readable) → readable_in view s.name ≡ mailbox → IsFit view (store_if_readable view enabled tag asked s mailbox)
+  readable_fits : (mailbox : Option Readable) → readable_in view s.name ≡ mailbox → IsFit view (store_if_readable view enabled tag arguments rights s mailbox)
   readable_fits None is = fits_alone view _ _ refl
   readable_fits (Some mailbox) is =
-      let messages = messages_of asked mailbox.next_uid s.known in
-      named_fit mailbox is messages (is_refused (is_by_uid asked.numbering) mailbox.rows messages)
+      let messages = messages_of arguments mailbox.next_uid s.known in
+      named_fit mailbox is messages (is_refused (is_by_uid arguments.numbering) mailbox.rows messages)
 
   selected_by : (known impossible lacks : Bool)
-      → IsFit view (cond (not known) (refusal tag Malformed) (cond impossible (refusal tag Cannot) (cond lacks (refusal tag NoPerm) (store_if_readable view enabled tag asked s (readable_in view s.name)))))
+      → IsFit view (cond (not known) (refusal tag Malformed) (cond impossible (refusal tag Cannot) (cond lacks (refusal tag NoPerm) (store_if_readable view enabled tag arguments rights s (readable_in view s.name)))))
   selected_by false impossible lacks = fits_alone view _ _ refl
   selected_by true true lacks = fits_alone view _ _ refl
   selected_by true false true = fits_alone view _ _ refl
   selected_by true false false = readable_fits (readable_in view s.name) refl
 
-pub store_fits : (view : View) (own : SessionState) (tag : List ℕ) (asked : Store) → IsFit view (store_answer view own tag asked)
-store_fits view own tag asked = by own.selected
+pub store_fits : (view : View) (own : SessionState) (tag : List ℕ) (arguments : StoreArguments) → IsFit view (store_answer view own tag arguments)
+store_fits view own tag arguments = by own.selected
   where
-    by : (s : Option Selection) → IsFit view (store_if_selected view own.enabled tag asked s)
+    by : (s : Option Selection) → IsFit view (store_if_selected view own.enabled tag arguments s)
     by None = fits_alone view _ _ refl
-    by (Some s) = selected_by view own.enabled tag asked s (has_known_numbers asked.numbering (length s.known) asked.messages) (is_impossible asked) (lacks_right (storing_rights view s) asked.spec.flags)
+    by (Some s) = selected_by view own.enabled tag arguments (storing_rights view s) s (has_known_numbers arguments.numbering (length s.known) arguments.messages) (is_impossible arguments) (lacks_right (storing_rights view s) arguments.spec.flags)
 
 -- ---- alike
 
-pub store_alike : (own : SessionState) (tag : List ℕ) (asked : Store) → AnswersAlike (λ view. store_answer view own tag asked)
-store_alike own tag asked = answers_alike (λ view. store_answer view own tag asked) (λ view. store_fits view own tag asked)
+pub store_alike : (own : SessionState) (tag : List ℕ) (arguments : StoreArguments) → AnswersAlike (λ view. store_answer view own tag arguments)
+store_alike own tag arguments = answers_alike (λ view. store_answer view own tag arguments) (λ view. store_fits view own tag arguments)

@@ -10,8 +10,8 @@ use Rattle.imap_view.specs.declared.readable.Readable.{Readable}
 use Rattle.imap_targets.specs.Left.{events_left}
 use Rattle.imap_print.specs.declared.response.Response.{Response}
 use Rattle.imap_print.specs.Lines.{IsPrintable}
-use Rattle.imap_changes.specs.declared.stored.Stored.{Stored}
-use Rattle.imap_changes.specs.Store.{changes_by, event_count, flag_changes, lacks_events, line_of, lines_from, seen_changes}
+use Rattle.imap_changes.specs.declared.store_outcome.StoreOutcome.{StoreOutcome}
+use Rattle.imap_changes.specs.Store.{changes_by, event_count, flag_changes, lacks_changes, line_of, lines_from, seen_changes}
 use Rattle.imap_changes.specs.Storing.{events_in}
 
 -- ---- how many events there are
@@ -20,7 +20,7 @@ both_false : (a b : Bool) → (a || b) ≡ false → (a ≡ false) × (b ≡ fal
 both_false true b e = absurd (cc e)
 both_false false b e = (refl, e)
 
-counted : (messages : List Stored) → events_in messages ≡ flag_changes messages + seen_changes messages
+counted : (messages : List StoreOutcome) → events_in messages ≡ flag_changes messages + seen_changes messages
 counted [] = refl
 counted (m ∷ messages) = by (one_if m.flags_change) (one_if m.seen_changes) (counted messages)
   where
@@ -28,20 +28,20 @@ counted (m ∷ messages) = by (one_if m.flags_change) (one_if m.seen_changes) (c
     by f s e = omega (arith, e)
 
 -- no mod-sequence is too large
-pub numbers_fit : (mailbox : Readable) (messages : List Stored) → mailbox.highest ≤ max_number → lacks_events mailbox messages ≡ false → mailbox.highest + events_in messages < 2 ^ 64
+pub numbers_fit : (mailbox : Readable) (messages : List StoreOutcome) → mailbox.highest ≤ max_number → lacks_changes mailbox messages ≡ false → mailbox.highest + events_in messages < 2 ^ 64
 numbers_fit mailbox messages bounded suffice =
     let parts = both_false (nat_lt (events_left mailbox) (flag_changes messages)) (nat_lt max_events (mailbox.own + seen_changes messages)) suffice in
     let shared = ltb-false (events_left mailbox) (flag_changes messages) parts.0 in
     let own = ltb-false max_events (mailbox.own + seen_changes messages) parts.1 in
     omega (arith, bounded, shared, own, counted messages)
 
-module _ (test : Stored → Bool) (messages : List Stored) where
+module _ (test : StoreOutcome → Bool) (messages : List StoreOutcome) where
   -- of those before the place i
   pub record AreCounted (i count : ℕ) : Type 0 where
     pub rest : count + changes_by test (drop i messages) ≡ changes_by test messages
     pub few : count ≤ i
 
-  pub one_more : (i : ℕ) (m : Stored) (count : ℕ) → i < length messages → m ≡ get_or messages i m → AreCounted i count → AreCounted (i + 1) (count + one_if (test m))
+  pub one_more : (i : ℕ) (m : StoreOutcome) (count : ℕ) → i < length messages → m ≡ get_or messages i m → AreCounted i count → AreCounted (i + 1) (count + one_if (test m))
   one_more i m count within is before =
       let next : drop i messages ≡ m ∷ drop (i + 1) messages = drop-cons messages i m within ∙ λ j. sym is j ∷ drop (sym (add-one i) j) messages in
       let all : count + (one_if (test m) + changes_by test (drop (i + 1) messages)) ≡ changes_by test messages = ap (λ ms. count + changes_by test ms) (sym next) ∙ before.rest in
@@ -53,7 +53,7 @@ module _ (test : Stored → Bool) (messages : List Stored) where
 
 -- ---- lines
 
-module _ (silent condstore : Bool) (highest : ℕ) (messages : List Stored) where
+module _ (silent condstore : Bool) (highest : ℕ) (messages : List StoreOutcome) where
   -- of those before the place i. `before` is HIGHESTMODSEQ after their events
   pub record AreLinesTo (i before : ℕ) (lines : List Response) : Type 0 where
     pub rest : lines ++ lines_from silent condstore before (drop i messages) ≡ lines_from silent condstore highest messages
@@ -70,7 +70,7 @@ module _ (silent condstore : Bool) (highest : ℕ) (messages : List Stored) wher
   pub at_last : (i before : ℕ) (lines : List Response) → drop i messages ≡ [] → AreLinesTo i before lines → lines ≡ lines_from silent condstore highest messages
   at_last i before lines none so_far = sym (append-nil lines) ∙ ap (λ ms. lines ++ lines_from silent condstore before ms) (sym none) ∙ so_far.rest
 
-  module _ (i : ℕ) (m : Stored) (within : i < length messages) (is : m ≡ get_or messages i m) where
+  module _ (i : ℕ) (m : StoreOutcome) (within : i < length messages) (is : m ≡ get_or messages i m) where
     next : drop i messages ≡ m ∷ drop (i + 1) messages
     next = drop-cons messages i m within ∙ λ j. sym is j ∷ drop (sym (add-one i) j) messages
 

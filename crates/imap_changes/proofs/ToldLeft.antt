@@ -2,12 +2,12 @@
 use Rattle.std.proofs.Common.{◌≡◌, ℕ, ◌+◌, ◌<◌, ◌≤◌, Bool, true, false, cond, not, ◌||◌, List, [], ◌∷◌, ◌++◌, append-nil, Option, Some, None, refl, sym, ap, ◌∙◌, arith}
 use Rattle.std.specs.Prelude.{is_some}
 use Rattle.std.proofs.lemmas.Bool.{eq-eqb, lt-ltb, ne_eqb}
-use Rattle.imap_batch.specs.declared.batch.Mark.{Mark}
+use Rattle.imap_batch.specs.declared.batch.FlagUpdate.{FlagUpdate}
 use Rattle.imap_batch.specs.Batch.{mark_uids, one_if}
 use Rattle.imap_batch.specs.Planned.{own_after, row_marked, row_with_flags, rows_left, rows_marked}
 use Rattle.imap_batch.proofs.Known.{known_within}
 use Rattle.imap_batch.proofs.Planning.{is_planned}
-use Rattle.imap_grammar.specs.declared.commands.store.StoreSpec.{StoreSpec}
+use Rattle.imap_commands.specs.declared.commands.store.StoreSpec.{StoreSpec}
 use Rattle.imap_mailbox.specs.declared.flags.SharedFlags.{SharedFlags}
 use Rattle.imap_mailbox.specs.declared.known.KnownMessage.{KnownMessage}
 use Rattle.imap_mailbox.specs.Brought.{highest_in, told_of}
@@ -20,7 +20,7 @@ use Rattle.imap_mailbox.proofs.Sameness.{flags_are_tested}
 use Rattle.imap_modseq.specs.Numbers.{highest_after, max_events, number_after}
 use Rattle.imap_print.specs.declared.response.Response.{Response}
 use Rattle.imap_targets.specs.declared.message_numbers.Numbered.{Numbered}
-use Rattle.imap_changes.specs.declared.stored.Stored.{Stored}
+use Rattle.imap_changes.specs.declared.store_outcome.StoreOutcome.{StoreOutcome}
 use Rattle.imap_changes.specs.Laws.{StoreTellsWhatItLeaves, line_if_named, lines_of, marking}
 use Rattle.imap_changes.specs.Store.{full_line, lines_from, marks_of, number_with, seen_changes, stored_all, stored_if_named, stored_of}
 use Rattle.imap_changes.proofs.StoreFitting.{marks_known}
@@ -40,7 +40,7 @@ none_left [] = refl
 none_left (r ∷ rows) = ap (λ rs. r ∷ rs) (none_left rows)
 
 -- marks of greater UIDs pass over a row
-skipped : (shared own low high : ℕ) (r : Row) (marks : List Mark) (rows : List Row) → r.uid < low → Rises low high (mark_uids marks)
+skipped : (shared own low high : ℕ) (r : Row) (marks : List FlagUpdate) (rows : List Row) → r.uid < low → Rises low high (mark_uids marks)
     → rows_marked shared own marks (r ∷ rows) ≡ r ∷ rows_marked shared own marks rows
 skipped shared own low high r [] rows lt h = refl
 skipped shared own low high r (k ∷ marks) rows lt h =
@@ -49,7 +49,7 @@ skipped shared own low high r (k ∷ marks) rows lt h =
     (ne_eqb k.uid r.uid (λ e. omega (arith, e, at, lt)))
 
 module _ (rights : ℕ) (spec : StoreSpec) (known : List KnownMessage) (condstore : Bool) (messages : List Numbered) where
-  abbrev stored : List Row → List Stored
+  abbrev stored : List Row → List StoreOutcome
   stored rows = stored_all rights spec known messages rows
 
   rise : (low high : ℕ) (rows : List Row) → Rises low high (row_uids rows) → Rises low high (mark_uids (marks_of (stored rows)))
@@ -68,7 +68,7 @@ module _ (rights : ℕ) (spec : StoreSpec) (known : List KnownMessage) (condstor
     Later = (s o b : ℕ) → b ≡ highest_after s o → o + seen_changes (stored rows) ≤ max_events
         → lines_from false condstore b (stored rows) ≡ lines_of condstore messages (rows_marked s o (marks_of (stored rows)) rows)
 
-    abbrev marks : List Mark
+    abbrev marks : List FlagUpdate
     marks = marks_of (stored rows)
 
     skip : rows_marked shared own marks (r ∷ rows) ≡ r ∷ rows_marked shared own marks rows
@@ -78,12 +78,12 @@ module _ (rights : ℕ) (spec : StoreSpec) (known : List KnownMessage) (condstor
     at_row : (flags : Option SharedFlags) (seen : Option Bool) → rows_marked shared own (record { uid = r.uid; flags = flags; seen = seen } ∷ marks) (r ∷ rows)
         ≡ row_marked shared own (record { uid = r.uid; flags = flags; seen = seen }) r ∷ rows_marked (shared + one_if (is_some flags)) (own_after own seen) marks rows
     at_row flags seen =
-        let k : Mark = record { uid = r.uid; flags = flags; seen = seen } in
+        let k : FlagUpdate = record { uid = r.uid; flags = flags; seen = seen } in
         ap (λ b. cond b (row_marked shared own k r ∷ rows_marked (shared + one_if (is_some flags)) (own_after own seen) marks rows) (r ∷ rows_marked shared own (k ∷ marks) rows))
         (eq-eqb r.uid r.uid refl)
 
     module _ (n : ℕ) (e : number_with r.uid messages ≡ Some n) where
-      abbrev m : Stored
+      abbrev m : StoreOutcome
       m = stored_of rights spec known n r
 
       same_flags_left : m.flags_change ≡ false → m.flags ≡ r.flags
@@ -95,7 +95,7 @@ module _ (rights : ℕ) (spec : StoreSpec) (known : List KnownMessage) (condstor
       abbrev told : Bool → Bool → KnownMessage
       told f s = record { uid = r.uid; flags = m.flags; seen = m.seen; number = cond (f || s) (before + (one_if f + one_if s)) r.number }
 
-      abbrev mark : Bool → Bool → List Mark
+      abbrev mark : Bool → Bool → List FlagUpdate
       mark f s = cond (f || s) (record { uid = r.uid; flags = cond f (Some m.flags) None; seen = cond s (Some m.seen) None } ∷ []) []
 
       -- a row that got other flags, and then its mark of `\Seen`
@@ -153,7 +153,7 @@ module _ (rights : ℕ) (spec : StoreSpec) (known : List KnownMessage) (condstor
 
 pub told_as_left : StoreTellsWhatItLeaves
 told_as_left user rights spec known condstore messages c ordered few =
-    let marks : List Mark = marks_of (stored_all rights spec known messages c.rows) in
+    let marks : List FlagUpdate = marks_of (stored_all rights spec known messages c.rows) in
     let rises : Rises first_uid c.next (row_uids c.rows) = ordered.uids in
     let shared : c.shared + 0 ≡ c.shared = omega arith in
     let planned = is_planned (marking user marks) c rises (marks_known rights spec known messages 0 first_uid c.next c.rows (omega arith) rises) refl in

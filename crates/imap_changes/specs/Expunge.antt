@@ -2,7 +2,7 @@
 use Rattle.std.specs.Prelude.{ℕ, ◌+◌, Bool, true, false, not, ◌&&◌, List, [], ◌∷◌, filter, length, take}
 use Rattle.std.specs.Prelude.{Option, Some, None, if◌then◌else◌}
 use Rattle.imap_answer.specs.Answer.{Answer, carried_out, refusal}
-use Rattle.imap_batch.specs.declared.batch.Batch.{Batch}
+use Rattle.imap_batch.specs.Batch.{expunging}
 use Rattle.imap_mailbox.specs.declared.known.KnownMessage.{KnownMessage}
 use Rattle.imap_mailbox.specs.Brought.{known_uids}
 use Rattle.imap_mailbox.specs.Lent.{row_uids}
@@ -19,40 +19,37 @@ use Rattle.imap_view.specs.declared.readable.Readable.{Readable}
 use Rattle.imap_view.specs.Readable.{readable_in}
 use Rattle.imap_view.specs.View.{View, rights_in}
 use Rattle.imap_world.specs.declared.effect.Effect.{Effect}
-use Rattle.imap_world.specs.declared.effect.Effect.TheVariants as effect
+use Rattle.imap_targets.specs.Effects.{batch_effect}
 use Rattle.imap_targets.specs.Left.{events_left}
 use Rattle.imap_targets.specs.MessageNumbers.{in_set, is_saved, last_of, ranges_of}
 
 -- ---- the messages that go
 
 -- the set has the UID, if one is asked for
-abbrev pub is_in_asked : (asked : Option MessageSet) → (last uid : ℕ) → Bool
+abbrev pub is_in_asked : (set : Option MessageSet) → (last uid : ℕ) → Bool
 is_in_asked None last uid = true
 is_in_asked (Some set) last uid = in_set last (ranges_of set) uid
 
 -- and the session knows the message
-abbrev pub is_wanted : (asked : Option MessageSet) → (last : ℕ) → List KnownMessage → (uid : ℕ) → Bool
-is_wanted asked last known uid = is_among uid (known_uids known) && is_in_asked asked last uid
+abbrev pub is_wanted : (set : Option MessageSet) → (last : ℕ) → List KnownMessage → (uid : ℕ) → Bool
+is_wanted set last known uid = is_among uid (known_uids known) && is_in_asked set last uid
 
 -- and it has \Deleted
-abbrev pub is_taken : (asked : Option MessageSet) → (last : ℕ) → List KnownMessage → Row → Bool
-is_taken asked last known r = r.flags.deleted && is_wanted asked last known r.uid
+abbrev pub is_taken : (set : Option MessageSet) → (last : ℕ) → List KnownMessage → Row → Bool
+is_taken set last known r = r.flags.deleted && is_wanted set last known r.uid
 
 -- as many as the mailbox has events left for, in the order of UIDs
-abbrev pub expunged_uids : (asked : Option MessageSet) → List KnownMessage → Readable → List ℕ
-expunged_uids asked known mailbox =
+abbrev pub expunged_uids : (set : Option MessageSet) → List KnownMessage → Readable → List ℕ
+expunged_uids set known mailbox =
     let last = last_of numbering.Uid mailbox.next_uid known in
-    take (events_left mailbox) (row_uids (filter (is_taken asked last known) mailbox.rows))
+    take (events_left mailbox) (row_uids (filter (is_taken set last known) mailbox.rows))
 
 -- ---- what is asked of the mailbox
-
-abbrev pub batch_of : (user : List ℕ) → (uids : List ℕ) → Batch
-batch_of user uids = record { user = user; added = []; marks = []; expunged = uids }
 
 abbrev pub expunge_effect : (user : List ℕ) → Name → (uids : List ℕ) → Option Effect
 expunge_effect user name [] = None
 expunge_effect user name (uid ∷ uids) =
-    Some (effect.Messages (record { name = name; batch = batch_of user (uid ∷ uids) }) None)
+    Some (batch_effect name (expunging user (uid ∷ uids)))
 
 -- one who holds `e`, unless the mailbox is examined
 abbrev pub may_expunge : View → Selection → Bool
@@ -71,32 +68,32 @@ abbrev pub expunge_messages : View → (qresync : Bool) → (tag : List ℕ) →
 expunge_messages view qresync tag s mailbox uids =
     carried_out [] tag (expunge_code qresync mailbox uids) (expunge_effect view.user s.name uids)
 
-abbrev pub expunge_if_readable : View → (qresync : Bool) → (tag : List ℕ) → (asked : Option MessageSet) →
+abbrev pub expunge_if_readable : View → (qresync : Bool) → (tag : List ℕ) → (set : Option MessageSet) →
     Selection → Option Readable → Answer
-expunge_if_readable view qresync tag asked s None = refusal tag NonExistent
-expunge_if_readable view qresync tag asked s (Some mailbox) =
-    expunge_messages view qresync tag s mailbox (expunged_uids asked s.known mailbox)
+expunge_if_readable view qresync tag set s None = refusal tag NonExistent
+expunge_if_readable view qresync tag set s (Some mailbox) =
+    expunge_messages view qresync tag s mailbox (expunged_uids set s.known mailbox)
 
 -- `$` isn't served
 abbrev pub is_saved_set : Option MessageSet → Bool
 is_saved_set None = false
 is_saved_set (Some set) = is_saved set
 
-abbrev pub expunge_selected : View → (qresync : Bool) → (tag : List ℕ) → (asked : Option MessageSet) →
+abbrev pub expunge_selected : View → (qresync : Bool) → (tag : List ℕ) → (set : Option MessageSet) →
     Selection → Answer
-expunge_selected view qresync tag asked s =
-    if is_saved_set asked then refusal tag Cannot
+expunge_selected view qresync tag set s =
+    if is_saved_set set then refusal tag Cannot
     else if not (may_expunge view s) then refusal tag NoPerm
-    else expunge_if_readable view qresync tag asked s (readable_in view s.name)
+    else expunge_if_readable view qresync tag set s (readable_in view s.name)
 
-abbrev pub expunge_if_selected : View → (qresync : Bool) → (tag : List ℕ) → (asked : Option MessageSet) →
+abbrev pub expunge_if_selected : View → (qresync : Bool) → (tag : List ℕ) → (set : Option MessageSet) →
     Option Selection → Answer
-expunge_if_selected view qresync tag asked None = refusal tag WrongState
-expunge_if_selected view qresync tag asked (Some s) = expunge_selected view qresync tag asked s
+expunge_if_selected view qresync tag set None = refusal tag WrongState
+expunge_if_selected view qresync tag set (Some s) = expunge_selected view qresync tag set s
 
 -- of the messages of the set, or of all
-abbrev pub expunge_answer : View → SessionState → (tag : List ℕ) → (asked : Option MessageSet) → Answer
-expunge_answer view own tag asked = expunge_if_selected view own.enabled.qresync tag asked own.selected
+abbrev pub expunge_answer : View → SessionState → (tag : List ℕ) → (set : Option MessageSet) → Answer
+expunge_answer view own tag set = expunge_if_selected view own.enabled.qresync tag set own.selected
 
 -- ---- CLOSE
 

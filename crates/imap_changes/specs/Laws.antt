@@ -3,9 +3,9 @@ use Rattle.std.specs.Prelude.{◌≡◌, ℕ, ◌+◌, ◌==◌, ◌≤◌, Bool
 use Rattle.std.specs.Prelude.{Option, Some, None}
 use Rattle.std.specs.List.{list_any}
 use Rattle.imap_batch.specs.declared.batch.Batch.{Batch}
-use Rattle.imap_batch.specs.declared.batch.Mark.{Mark}
+use Rattle.imap_batch.specs.declared.batch.FlagUpdate.{FlagUpdate}
 use Rattle.imap_batch.specs.Seen.{content_batched}
-use Rattle.imap_grammar.specs.declared.commands.store.StoreSpec.{StoreSpec}
+use Rattle.imap_commands.specs.declared.commands.store.StoreSpec.{StoreSpec}
 use Rattle.imap_mailbox.specs.declared.known.KnownMessage.{KnownMessage}
 use Rattle.imap_mailbox.specs.Brought.{IsOrdered, highest_in, told_of}
 use Rattle.imap_mailbox.specs.Rows.{Row, is_among}
@@ -28,22 +28,22 @@ abbrev pub is_deleted : (uid : ℕ) → List Row → Bool
 is_deleted uid rows = list_any (λ r. (r.uid == uid) && r.flags.deleted) rows
 
 -- it is deleted, the session knows it, and the set has its UID, if there is one
-abbrev pub may_go : (asked : Option MessageSet) → List KnownMessage → Readable → (uid : ℕ) → Bool
-may_go asked known mailbox uid =
-    is_deleted uid mailbox.rows && is_wanted asked (last_of numbering.Uid mailbox.next_uid known) known uid
+abbrev pub may_go : (set : Option MessageSet) → List KnownMessage → Readable → (uid : ℕ) → Bool
+may_go set known mailbox uid =
+    is_deleted uid mailbox.rows && is_wanted set (last_of numbering.Uid mailbox.next_uid known) known uid
 
 -- no other message goes
 abbrev pub ExpungesDeleted : Type 0
 ExpungesDeleted =
-    (asked : Option MessageSet) (known : List KnownMessage) (mailbox : Readable) (uid : ℕ)
-    → is_among uid (expunged_uids asked known mailbox) ≡ true → may_go asked known mailbox uid ≡ true
+    (set : Option MessageSet) (known : List KnownMessage) (mailbox : Readable) (uid : ℕ)
+    → is_among uid (expunged_uids set known mailbox) ≡ true → may_go set known mailbox uid ≡ true
 
 -- and each of them goes, if the mailbox has an event left for every row
 abbrev pub ExpungesAll : Type 0
 ExpungesAll =
-    (asked : Option MessageSet) (known : List KnownMessage) (mailbox : Readable) (uid : ℕ)
+    (set : Option MessageSet) (known : List KnownMessage) (mailbox : Readable) (uid : ℕ)
     → length mailbox.rows ≤ events_left mailbox
-    → is_among uid (expunged_uids asked known mailbox) ≡ may_go asked known mailbox uid
+    → is_among uid (expunged_uids set known mailbox) ≡ may_go set known mailbox uid
 
 -- ---- STORE
 
@@ -57,7 +57,7 @@ lines_of condstore messages [] = []
 lines_of condstore messages (row ∷ rows) =
     line_if_named condstore (number_with row.uid messages) row ++ lines_of condstore messages rows
 
-abbrev pub marking : (user : List ℕ) → List Mark → Batch
+abbrev pub marking : (user : List ℕ) → List FlagUpdate → Batch
 marking user marks = record { user = user; added = []; marks = marks; expunged = [] }
 
 -- The lines of a STORE that isn't silent tell each message that it names as the user then sees it.

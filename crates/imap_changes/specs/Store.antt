@@ -3,11 +3,11 @@ use Rattle.std.specs.Prelude.{ℕ, ◌+◌, ◌==◌, nat_lt, Bool, true, false,
 use Rattle.std.specs.Prelude.{length, map, Option, Some, None, is_some, if◌then◌else◌}
 use Rattle.std.specs.List.{list_any}
 use Rattle.imap_answer.specs.Answer.{Answer, carried_out, refusal, telling}
-use Rattle.imap_batch.specs.declared.batch.Mark.{Mark}
+use Rattle.imap_batch.specs.declared.batch.FlagUpdate.{FlagUpdate}
 use Rattle.imap_batch.specs.Batch.{one_if}
-use Rattle.imap_grammar.specs.declared.commands.store.StoreChange.{StoreChange}
-use Rattle.imap_grammar.specs.declared.commands.store.StoreChange.TheVariants.{Add, Remove, Replace}
-use Rattle.imap_grammar.specs.declared.commands.store.StoreSpec.{StoreSpec}
+use Rattle.imap_commands.specs.declared.commands.store.StoreChange.{StoreChange}
+use Rattle.imap_commands.specs.declared.commands.store.StoreChange.TheVariants.{Add, Remove, Replace}
+use Rattle.imap_commands.specs.declared.commands.store.StoreSpec.{StoreSpec}
 use Rattle.imap_mailbox.specs.declared.flags.SharedFlags.{SharedFlags}
 use Rattle.imap_mailbox.specs.declared.known.KnownMessage.{KnownMessage}
 use Rattle.imap_mailbox.specs.Calls.{is_same, same_flags}
@@ -29,16 +29,15 @@ use Rattle.imap_syntax.specs.declared.set.Numbering.{Numbering}
 use Rattle.imap_view.specs.declared.readable.Readable.{Readable}
 use Rattle.imap_view.specs.Readable.{readable_in}
 use Rattle.imap_view.specs.View.{View, rights_in}
-use Rattle.imap_world.specs.declared.effect.Effect.{Effect}
-use Rattle.imap_world.specs.declared.effect.Effect.TheVariants as effect
-use Rattle.imap_targets.specs.Left.{events_left}
-use Rattle.imap_changes.specs.declared.stored.Stored.{Stored}
+use Rattle.imap_targets.specs.Effects.{marking_effect}
+use Rattle.imap_targets.specs.Left.{lacks_events}
+use Rattle.imap_changes.specs.declared.store_outcome.StoreOutcome.{StoreOutcome}
 use Rattle.imap_targets.specs.declared.message_numbers.Numbered.{Numbered}
 use Rattle.imap_targets.specs.MessageNumbers.{has_known_numbers, is_by_uid, is_refused, is_saved, known_with, messages_named, ranges_of}
 use Rattle.imap_targets.specs.NewFlags.{is_seen, right_for, with_permitted}
 
 -- the arguments of STORE
-pub record Store : Type 0 where
+pub record StoreArguments : Type 0 where
   pub numbering : Numbering
   pub messages : MessageSet
   pub spec : StoreSpec
@@ -109,7 +108,7 @@ abbrev pub is_behind : Option KnownMessage → Row → Bool
 is_behind None row = false
 is_behind (Some k) row = nat_lt k.number row.number
 
-abbrev pub stored_as : (number : ℕ) → (behind : Bool) → Row → SharedFlags → (is : Bool) → Stored
+abbrev pub stored_as : (number : ℕ) → (behind : Bool) → Row → SharedFlags → (is : Bool) → StoreOutcome
 stored_as number behind row flags is = record {
   number = number;
   uid = row.uid;
@@ -121,7 +120,7 @@ stored_as number behind row flags is = record {
   seen_changes = not (is_same row.seen is);
 }
 
-abbrev pub stored_of : (rights : ℕ) → StoreSpec → List KnownMessage → (number : ℕ) → Row → Stored
+abbrev pub stored_of : (rights : ℕ) → StoreSpec → List KnownMessage → (number : ℕ) → Row → StoreOutcome
 stored_of rights spec known number row = stored_as number (is_behind (known_with row.uid known) row) row
     (flags_changed rights spec.change spec.flags row.flags)
     (seen_if_permitted rights spec.change spec.flags row.seen)
@@ -132,12 +131,13 @@ number_with uid [] = None
 number_with uid (m ∷ messages) = if uid == m.uid then Some m.number else number_with uid messages
 
 abbrev pub stored_if_named : (rights : ℕ) → StoreSpec → List KnownMessage → (number : Option ℕ) → Row →
-    List Stored
+    List StoreOutcome
 stored_if_named rights spec known None row = []
 stored_if_named rights spec known (Some number) row = stored_of rights spec known number row ∷ []
 
 -- the messages that are named and are there, in the order of UIDs
-abbrev pub stored_all : (rights : ℕ) → StoreSpec → List KnownMessage → List Numbered → List Row → List Stored
+abbrev pub stored_all : (rights : ℕ) → StoreSpec → List KnownMessage → List Numbered → List Row →
+    List StoreOutcome
 stored_all rights spec known messages [] = []
 stored_all rights spec known messages (row ∷ rows) =
     stored_if_named rights spec known (number_with row.uid messages) row
@@ -146,7 +146,7 @@ stored_all rights spec known messages (row ∷ rows) =
 -- ---- what is asked of the mailbox
 
 -- of a message that changes
-abbrev pub mark_of : Stored → List Mark
+abbrev pub mark_of : StoreOutcome → List FlagUpdate
 mark_of m = if m.flags_change || m.seen_changes
     then record {
       uid = m.uid;
@@ -155,47 +155,40 @@ mark_of m = if m.flags_change || m.seen_changes
     } ∷ []
     else []
 
-abbrev pub marks_of : List Stored → List Mark
+abbrev pub marks_of : List StoreOutcome → List FlagUpdate
 marks_of [] = []
 marks_of (m ∷ messages) = mark_of m ++ marks_of messages
 
-abbrev pub store_effect : (user : List ℕ) → Name → List Mark → Option Effect
-store_effect user name [] = None
-store_effect user name (k ∷ marks) = Some (effect.Messages (record {
-  name = name;
-  batch = record { user = user; added = []; marks = k ∷ marks; expunged = [] };
-}) None)
-
 -- ---- limits
 
-abbrev pub changes_by : (test : Stored → Bool) → List Stored → ℕ
+abbrev pub changes_by : (test : StoreOutcome → Bool) → List StoreOutcome → ℕ
 changes_by test [] = 0
 changes_by test (m ∷ messages) = one_if (test m) + changes_by test messages
 
-abbrev pub flag_changes : List Stored → ℕ
+abbrev pub flag_changes : List StoreOutcome → ℕ
 flag_changes messages = changes_by (λ m. m.flags_change) messages
 
-abbrev pub seen_changes : List Stored → ℕ
+abbrev pub seen_changes : List StoreOutcome → ℕ
 seen_changes messages = changes_by (λ m. m.seen_changes) messages
 
 -- events don't suffice for all changes
-abbrev pub lacks_events : Readable → List Stored → Bool
-lacks_events mailbox messages =
-    nat_lt (events_left mailbox) (flag_changes messages)
+abbrev pub lacks_changes : Readable → List StoreOutcome → Bool
+lacks_changes mailbox messages =
+    lacks_events mailbox (flag_changes messages)
     || nat_lt max_events (mailbox.own + seen_changes messages)
 
 -- a message has more keywords than it may have
-abbrev pub are_many : List Stored → Bool
+abbrev pub are_many : List StoreOutcome → Bool
 are_many messages = list_any (λ m. has_too_many m.flags) messages
 
 -- ---- lines
 
 -- the events of a message: that of its shared flags, and then that of \Seen
-abbrev pub event_count : Stored → ℕ
+abbrev pub event_count : StoreOutcome → ℕ
 event_count m = one_if m.flags_change + one_if m.seen_changes
 
 -- the message afterwards. `after` is HIGHESTMODSEQ after its events
-abbrev pub message_after : (after : ℕ) → Stored → KnownMessage
+abbrev pub message_after : (after : ℕ) → StoreOutcome → KnownMessage
 message_after after m = record {
   uid = m.uid;
   flags = m.flags;
@@ -218,14 +211,14 @@ short_line number k = response.Fetch number (record {
 })
 
 -- With .SILENT a message has its flags told only if the session knows an older state of it
-abbrev pub line_of : (silent condstore : Bool) → (after : ℕ) → Stored → List Response
+abbrev pub line_of : (silent condstore : Bool) → (after : ℕ) → StoreOutcome → List Response
 line_of silent condstore after m =
     if not silent || m.behind then full_line condstore m.number (message_after after m) ∷ []
     else if condstore then short_line m.number (message_after after m) ∷ []
     else []
 
 -- `highest` is HIGHESTMODSEQ before them
-abbrev pub lines_from : (silent condstore : Bool) → (highest : ℕ) → List Stored → List Response
+abbrev pub lines_from : (silent condstore : Bool) → (highest : ℕ) → List StoreOutcome → List Response
 lines_from silent condstore highest [] = []
 lines_from silent condstore highest (m ∷ messages) =
     let after = highest + event_count m in
@@ -234,50 +227,60 @@ lines_from silent condstore highest (m ∷ messages) =
 -- ---- the answer
 
 -- All messages are told: of one without a line the session knows the new flags, too.
-abbrev pub store_events : View → EnabledCapabilities → (tag : List ℕ) → Store → Selection → Readable →
-    List Stored → Answer
-store_events view enabled tag asked s mailbox messages =
-    if lacks_events mailbox messages then refusal tag Limit
+abbrev pub store_events : View → EnabledCapabilities → (tag : List ℕ) → StoreArguments → Selection →
+    Readable → List StoreOutcome → Answer
+store_events view enabled tag arguments s mailbox messages =
+    if lacks_changes mailbox messages then refusal tag Limit
     else telling (map (λ m. m.uid) messages)
-    (carried_out (lines_from asked.spec.silent enabled.condstore mailbox.highest messages) tag None
-    (store_effect view.user s.name (marks_of messages)))
+    (carried_out (lines_from arguments.spec.silent enabled.condstore mailbox.highest messages) tag None
+    (marking_effect view.user s.name (marks_of messages)))
 
 -- no message gets too many keywords
-abbrev pub store_messages : View → EnabledCapabilities → (tag : List ℕ) → Store → Selection → Readable →
-    List Stored → Answer
-store_messages view enabled tag asked s mailbox messages =
-    if are_many messages then refusal tag Limit else store_events view enabled tag asked s mailbox messages
+abbrev pub store_messages : View → EnabledCapabilities → (tag : List ℕ) → StoreArguments → Selection →
+    Readable → List StoreOutcome → Answer
+store_messages view enabled tag arguments s mailbox messages =
+    if are_many messages then refusal tag Limit
+    else store_events view enabled tag arguments s mailbox messages
 
-abbrev pub store_named : View → EnabledCapabilities → (tag : List ℕ) → Store → Selection → Readable →
-    List Numbered → Answer
-store_named view enabled tag asked s mailbox messages =
-    if is_refused (is_by_uid asked.numbering) mailbox.rows messages then refusal tag ExpungeIssued
-    else store_messages view enabled tag asked s mailbox
-    (stored_all (storing_rights view s) asked.spec s.known messages mailbox.rows)
+-- `rights` are those by which flags are stored
+abbrev pub store_named : View → EnabledCapabilities → (tag : List ℕ) → StoreArguments → (rights : ℕ) →
+    Selection → Readable → List Numbered → Answer
+store_named view enabled tag arguments rights s mailbox messages =
+    if is_refused (is_by_uid arguments.numbering) mailbox.rows messages then refusal tag ExpungeIssued
+    else store_messages view enabled tag arguments s mailbox
+    (stored_all rights arguments.spec s.known messages mailbox.rows)
 
-abbrev pub messages_of : Store → (next_uid : ℕ) → List KnownMessage → List Numbered
-messages_of asked next_uid known = messages_named asked.numbering next_uid (ranges_of asked.messages) known
+abbrev pub messages_of : StoreArguments → (next_uid : ℕ) → List KnownMessage → List Numbered
+messages_of arguments next_uid known =
+    messages_named arguments.numbering next_uid (ranges_of arguments.messages) known
 
-abbrev pub store_if_readable : View → EnabledCapabilities → (tag : List ℕ) → Store → Selection →
-    Option Readable → Answer
-store_if_readable view enabled tag asked s None = refusal tag NonExistent
-store_if_readable view enabled tag asked s (Some mailbox) =
-    store_named view enabled tag asked s mailbox (messages_of asked mailbox.next_uid s.known)
+abbrev pub store_if_readable : View → EnabledCapabilities → (tag : List ℕ) → StoreArguments → (rights : ℕ) →
+    Selection → Option Readable → Answer
+store_if_readable view enabled tag arguments rights s None = refusal tag NonExistent
+store_if_readable view enabled tag arguments rights s (Some mailbox) =
+    store_named view enabled tag arguments rights s mailbox (messages_of arguments mailbox.next_uid s.known)
 
 -- `$` isn't served, and UNCHANGEDSINCE isn't built yet
-abbrev pub is_impossible : Store → Bool
-is_impossible asked = is_saved asked.messages || is_some asked.spec.unchanged_since
+abbrev pub is_impossible : StoreArguments → Bool
+is_impossible arguments = is_saved arguments.messages || is_some arguments.spec.unchanged_since
 
-abbrev pub store_selected : View → EnabledCapabilities → (tag : List ℕ) → Store → Selection → Answer
-store_selected view enabled tag asked s =
-    if not (has_known_numbers asked.numbering (length s.known) asked.messages) then refusal tag Malformed
-    else if is_impossible asked then refusal tag Cannot
-    else if lacks_right (storing_rights view s) asked.spec.flags then refusal tag NoPerm
-    else store_if_readable view enabled tag asked s (readable_in view s.name)
+abbrev pub store_by_rights : View → EnabledCapabilities → (tag : List ℕ) → StoreArguments → (rights : ℕ) →
+    Selection → Answer
+store_by_rights view enabled tag arguments rights s =
+    if not (has_known_numbers arguments.numbering (length s.known) arguments.messages)
+    then refusal tag Malformed
+    else if is_impossible arguments then refusal tag Cannot
+    else if lacks_right rights arguments.spec.flags then refusal tag NoPerm
+    else store_if_readable view enabled tag arguments rights s (readable_in view s.name)
 
-abbrev pub store_if_selected : View → EnabledCapabilities → (tag : List ℕ) → Store → Option Selection → Answer
-store_if_selected view enabled tag asked None = refusal tag WrongState
-store_if_selected view enabled tag asked (Some s) = store_selected view enabled tag asked s
+abbrev pub store_selected : View → EnabledCapabilities → (tag : List ℕ) → StoreArguments → Selection → Answer
+store_selected view enabled tag arguments s =
+    store_by_rights view enabled tag arguments (storing_rights view s) s
 
-abbrev pub store_answer : View → SessionState → (tag : List ℕ) → Store → Answer
-store_answer view own tag asked = store_if_selected view own.enabled tag asked own.selected
+abbrev pub store_if_selected : View → EnabledCapabilities → (tag : List ℕ) → StoreArguments →
+    Option Selection → Answer
+store_if_selected view enabled tag arguments None = refusal tag WrongState
+store_if_selected view enabled tag arguments (Some s) = store_selected view enabled tag arguments s
+
+abbrev pub store_answer : View → SessionState → (tag : List ℕ) → StoreArguments → Answer
+store_answer view own tag arguments = store_if_selected view own.enabled tag arguments own.selected

@@ -8,78 +8,78 @@ ghost use Rattle.imap_mailbox.specs.Rows.{Row, is_among};
 ghost use Rattle.imap_modseq.specs.Numbers.{max_events, max_number};
 ghost use Rattle.imap_session.specs.State.{selection_of, state_of};
 
-use imap_answer::{Answer, Call};
+use imap_answer::{Answer, CommandContext};
 use imap_batch::Batch;
 use imap_mailbox::Rows;
 use imap_names::{Name, UserName};
 use imap_print::{Code, Refusal};
 use imap_rights::Rights;
 use imap_session::{KnownList, Selected, Session};
-use imap_syntax::{Items, MessageSet, Numbering};
-use imap_targets::{events_left, in_set, is_saved, last_of, ranges_of};
+use imap_syntax::{MessageSet, Numbering};
+use imap_targets::{batch_effect, events_left, in_set, is_saved, last_of, ranges_of};
 use imap_view::{Readable, View};
-use imap_world::{Effect, NamedBatch};
+use imap_world::Effect;
 use std::alloc::{AllocError, Global};
 
 /// Answers EXPUNGE: all messages with `\Deleted` that the session knows are expunged.
-pub fn expunge_answer(call: &Call<'_>, session: &Session) -> Result<Answer, AllocError>
-    ensures { let meant = specs.expunge_answer call.now.view (state_of session.now) call.now.tag None in
+pub fn expunge_answer(context: &CommandContext<'_>, session: &Session) -> Result<Answer, AllocError>
+    ensures { let meant = specs.expunge_answer context.now.view (state_of session.now) context.now.tag None in
         IfOk result (λ answer. answer ≡ meant) }
 {
-    answer_of_asked(call, session, None)
+    answer_of_asked(context, session, None)
 }
 
 /// Answers UID EXPUNGE: of these messages those of the set are expunged (RFC 9051, section 6.4.9).
 pub fn uid_expunge_answer(
-    call: &Call<'_>,
+    context: &CommandContext<'_>,
     session: &Session,
     messages: &MessageSet,
 ) -> Result<Answer, AllocError>
-    ensures { let answer = specs.expunge_answer call.now.view (state_of session.now) call.now.tag in
+    ensures { let answer = specs.expunge_answer context.now.view (state_of session.now) context.now.tag in
         IfOk result (λ given. given ≡ answer (Some messages.now)) }
 {
-    answer_of_asked(call, session, Some(messages))
+    answer_of_asked(context, session, Some(messages))
 }
 
 fn answer_of_asked(
-    call: &Call<'_>,
+    context: &CommandContext<'_>,
     session: &Session,
-    asked: Option<&MessageSet>,
+    set: Option<&MessageSet>,
 ) -> Result<Answer, AllocError>
-    ensures { let answer = specs.expunge_answer call.now.view (state_of session.now) call.now.tag in
-        IfOk result (λ given. given ≡ answer (option_copied asked.entry)) }
+    ensures { let answer = specs.expunge_answer context.now.view (state_of session.now) context.now.tag in
+        IfOk result (λ given. given ≡ answer (option_copied set.entry)) }
 {
     match &session.selected {
-        Some(selected) => expunge_selected(call, session.enabled.qresync, asked, selected),
-        None => call.refuse(Refusal::WrongState),
+        Some(selected) => expunge_selected(context, session.enabled.qresync, set, selected),
+        None => context.refuse(Refusal::WrongState),
     }
 }
 
 fn expunge_selected(
-    call: &Call<'_>,
+    context: &CommandContext<'_>,
     qresync: bool,
-    asked: Option<&MessageSet>,
+    set: Option<&MessageSet>,
     selected: &Selected,
 ) -> Result<Answer, AllocError>
-    ensures { let answer = specs.expunge_selected call.now.view qresync call.now.tag in
-        IfOk result (λ given. given ≡ answer (option_copied asked.entry) (selection_of selected.now)) }
+    ensures { let answer = specs.expunge_selected context.now.view qresync context.now.tag in
+        IfOk result (λ given. given ≡ answer (option_copied set.entry) (selection_of selected.now)) }
 {
-    if is_saved_set(asked) {
-        return call.refuse(Refusal::Cannot);
+    if is_saved_set(set) {
+        return context.refuse(Refusal::Cannot);
     }
-    if !may_expunge(call.view(), selected) {
-        return call.refuse(Refusal::NoPerm);
+    if !may_expunge(context.view(), selected) {
+        return context.refuse(Refusal::NoPerm);
     }
-    match call.view().readable(&selected.name.as_ref()) {
-        Some(mailbox) => expunge_readable(call, qresync, asked, selected, &mailbox),
-        None => call.refuse(Refusal::NonExistent),
+    match context.view().readable(&selected.name.as_ref()) {
+        Some(mailbox) => expunge_readable(context, qresync, set, selected, &mailbox),
+        None => context.refuse(Refusal::NonExistent),
     }
 }
 
-fn is_saved_set(asked: Option<&MessageSet>) -> bool
-    ensures { result ≡ specs.is_saved_set (option_copied asked.entry) }
+fn is_saved_set(set: Option<&MessageSet>) -> bool
+    ensures { result ≡ specs.is_saved_set (option_copied set.entry) }
 {
-    match asked {
+    match set {
         Some(messages) => is_saved(messages),
         None => false,
     }
@@ -96,23 +96,23 @@ fn may_expunge(view: &View<'_>, selected: &Selected) -> bool
 }
 
 fn expunge_readable(
-    call: &Call<'_>,
+    context: &CommandContext<'_>,
     qresync: bool,
-    asked: Option<&MessageSet>,
+    set: Option<&MessageSet>,
     selected: &Selected,
     mailbox: &Readable<'_>,
 ) -> Result<Answer, AllocError>
     requires few { mailbox.now.own ≤ max_events }
     requires bounded { mailbox.now.highest ≤ max_number }
     ensures { let s = selection_of selected.now in
-        let uids = specs.expunged_uids (option_copied asked.entry) s.known mailbox.now in
-        let answer = specs.expunge_messages call.now.view qresync call.now.tag s mailbox.now uids in
+        let uids = specs.expunged_uids (option_copied set.entry) s.known mailbox.now in
+        let answer = specs.expunge_messages context.now.view qresync context.now.tag s mailbox.now uids in
         IfOk result (λ given. given ≡ answer) }
 {
-    let uids = expunged_uids(call.alloc(), asked, &selected.known, mailbox)?;
+    let uids = expunged_uids(context.alloc(), set, &selected.known, mailbox)?;
     let code = expunge_code(qresync, mailbox, &uids);
-    let effect = expunge_effect(call.alloc(), call.view().user(), &selected.name, uids)?;
-    call.carried_out(Vec::new(call.alloc()), code, effect)
+    let effect = expunge_effect(context.alloc(), context.view().user(), &selected.name, uids)?;
+    context.carried_out(Vec::new(context.alloc()), code, effect)
 }
 
 /// HIGHESTMODSEQ afterwards, if messages went and QRESYNC is enabled (RFC 7162, section 3.2.7).
@@ -129,16 +129,16 @@ fn expunge_code(qresync: bool, mailbox: &Readable<'_>, uids: &[u32]) -> Option<C
 /// The UIDs of the messages that go: as many as the mailbox has events left for.
 fn expunged_uids(
     alloc: Global,
-    asked: Option<&MessageSet>,
+    set: Option<&MessageSet>,
     known: &KnownList,
     mailbox: &Readable<'_>,
 ) -> Result<Vec<u32>, AllocError>
     requires { mailbox.now.own ≤ max_events }
-    ensures { let uids = specs.expunged_uids (option_copied asked.entry) known.now.list mailbox.now in
+    ensures { let uids = specs.expunged_uids (option_copied set.entry) known.now.list mailbox.now in
         IfOk result (λ given. given.items ≡ uids) }
 {
     let last = last_of(Numbering::Uid, mailbox.next_uid, known);
-    let mut uids = taken_uids(alloc, asked, last, known, &mailbox.rows)?;
+    let mut uids = taken_uids(alloc, set, last, known, &mailbox.rows)?;
     let left = events_left(mailbox);
     if left < uids.len() as u64 {
         uids.truncate(left as usize);
@@ -150,43 +150,43 @@ fn expunged_uids(
 /// share alone.
 fn taken_uids(
     alloc: Global,
-    asked: Option<&MessageSet>,
+    set: Option<&MessageSet>,
     last: u32,
     known: &KnownList,
     rows: &Rows<'_>,
 ) -> Result<Vec<u32>, AllocError>
-    ensures { let taken = specs.is_taken (option_copied asked.entry) last known.now.list in
+    ensures { let taken = specs.is_taken (option_copied set.entry) last known.now.list in
         IfOk result (λ uids. uids.items ≡ row_uids (filter taken rows.now)) }
 {
     let mut uids = Vec::new(alloc);
-    for place in 0..rows.len() {
-        if is_taken(asked, last, known, rows, place) {
-            uids.push(rows.uid(place))?;
+    for index in 0..rows.len() {
+        if is_taken(set, last, known, rows, index) {
+            uids.push(rows.uid(index))?;
         }
     }
     Ok(uids)
 }
 
-/// Whether the message at `place` goes.
+/// Whether the message at `index` goes.
 fn is_taken(
-    asked: Option<&MessageSet>,
+    set: Option<&MessageSet>,
     last: u32,
     known: &KnownList,
     rows: &Rows<'_>,
-    place: usize,
+    index: usize,
 ) -> bool
-    requires { place < length rows.now }
-    ensures { let taken = specs.is_taken (option_copied asked.entry) last known.now.list in
-        (r : Row) → r ≡ slice_index_or rows.now place r → result ≡ taken r }
+    requires { index < length rows.now }
+    ensures { let taken = specs.is_taken (option_copied set.entry) last known.now.list in
+        (r : Row) → r ≡ slice_index_or rows.now index r → result ≡ taken r }
 {
-    rows.flags(place).deleted && is_wanted(asked, last, known, rows.uid(place))
+    rows.flags(index).deleted && is_wanted(set, last, known, rows.uid(index))
 }
 
 /// Whether the session knows the message, and the set has its UID, if there is one.
-fn is_wanted(asked: Option<&MessageSet>, last: u32, known: &KnownList, uid: u32) -> bool
-    ensures { result ≡ specs.is_wanted (option_copied asked.entry) last known.now.list uid }
+fn is_wanted(set: Option<&MessageSet>, last: u32, known: &KnownList, uid: u32) -> bool
+    ensures { result ≡ specs.is_wanted (option_copied set.entry) last known.now.list uid }
 {
-    knows(known, uid) && is_in_asked(asked, last, uid)
+    knows(known, uid) && is_in_asked(set, last, uid)
 }
 
 /// Whether the session knows the message, by a search that halves.
@@ -196,10 +196,10 @@ fn knows(known: &KnownList, uid: u32) -> bool
     known.place_of(uid).is_some()
 }
 
-fn is_in_asked(asked: Option<&MessageSet>, last: u32, uid: u32) -> bool
-    ensures { result ≡ specs.is_in_asked (option_copied asked.entry) last uid }
+fn is_in_asked(set: Option<&MessageSet>, last: u32, uid: u32) -> bool
+    ensures { result ≡ specs.is_in_asked (option_copied set.entry) last uid }
 {
-    match asked {
+    match set {
         Some(messages) => in_set(last, ranges_of(messages), uid),
         None => true,
     }
@@ -217,52 +217,46 @@ fn expunge_effect(
     if uids.is_empty() {
         return Ok(None);
     }
-    let batch = Batch {
-        user: user.try_copy()?,
-        added: Items::from_vec(Vec::new(alloc)),
-        marks: Items::from_vec(Vec::new(alloc)),
-        expunged: Items::from_vec(uids),
-    };
-    let name = name.try_copy()?;
-    Ok(Some(Effect::Messages(NamedBatch { name, batch }, None)))
+    let batch = Batch::expunging(alloc, user, uids)?;
+    Ok(Some(batch_effect(name, batch)?))
 }
 
 /// Answers CLOSE (RFC 9051, section 6.4.1): it expunges as EXPUNGE does, if the user may. What becomes of the
 /// session is not part of the answer.
-pub fn close_answer(call: &Call<'_>, session: &Session) -> Result<Answer, AllocError>
-    ensures { let meant = specs.close_answer call.now.view (state_of session.now) call.now.tag in
+pub fn close_answer(context: &CommandContext<'_>, session: &Session) -> Result<Answer, AllocError>
+    ensures { let meant = specs.close_answer context.now.view (state_of session.now) context.now.tag in
         IfOk result (λ answer. answer ≡ meant) }
 {
     match &session.selected {
-        Some(selected) => close_selected(call, selected),
-        None => call.refuse(Refusal::WrongState),
+        Some(selected) => close_selected(context, selected),
+        None => context.refuse(Refusal::WrongState),
     }
 }
 
-fn close_selected(call: &Call<'_>, selected: &Selected) -> Result<Answer, AllocError>
-    ensures { let answer = specs.close_selected call.now.view call.now.tag in
+fn close_selected(context: &CommandContext<'_>, selected: &Selected) -> Result<Answer, AllocError>
+    ensures { let answer = specs.close_selected context.now.view context.now.tag in
         IfOk result (λ given. given ≡ answer (selection_of selected.now)) }
 {
-    let effect = match call.view().readable(&selected.name.as_ref()) {
-        Some(mailbox) => close_effect(call, selected, &mailbox)?,
+    let effect = match context.view().readable(&selected.name.as_ref()) {
+        Some(mailbox) => close_effect(context, selected, &mailbox)?,
         None => None,
     };
-    call.carried_out(Vec::new(call.alloc()), None, effect)
+    context.carried_out(Vec::new(context.alloc()), None, effect)
 }
 
 fn close_effect(
-    call: &Call<'_>,
+    context: &CommandContext<'_>,
     selected: &Selected,
     mailbox: &Readable<'_>,
 ) -> Result<Option<Effect>, AllocError>
     requires { mailbox.now.own ≤ max_events }
     ensures { let s = selection_of selected.now in
-        let effect = specs.close_effect call.now.view s (Some mailbox.now) in
+        let effect = specs.close_effect context.now.view s (Some mailbox.now) in
         IfOk result (λ given. given ≡ effect) }
 {
-    if !may_expunge(call.view(), selected) {
+    if !may_expunge(context.view(), selected) {
         return Ok(None);
     }
-    let uids = expunged_uids(call.alloc(), None, &selected.known, mailbox)?;
-    expunge_effect(call.alloc(), call.view().user(), &selected.name, uids)
+    let uids = expunged_uids(context.alloc(), None, &selected.known, mailbox)?;
+    expunge_effect(context.alloc(), context.view().user(), &selected.name, uids)
 }

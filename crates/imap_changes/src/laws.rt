@@ -4,17 +4,17 @@ ghost use Rattle.std.specs.Prelude.{ℕ, List, Option};
 ghost use Rattle.imap_answer.specs.Alike.{AnswersAlike};
 ghost use Rattle.imap_changes.specs.Expunge.{close_answer, expunge_answer};
 ghost use Rattle.imap_changes.specs.Laws.{ExpungesAll, ExpungesDeleted, StoreTellsWhatItLeaves};
-ghost use Rattle.imap_changes.specs.Store.{Store, store_answer};
+ghost use Rattle.imap_changes.specs.Store.{StoreArguments, store_answer};
 ghost use Rattle.imap_session.specs.State.{SessionState};
 ghost use Rattle.imap_syntax.specs.declared.set.MessageSet.{MessageSet};
 
 /// In two worlds that are alike to its user each command is answered alike, and leaves them alike to that
 /// user.
 pub fn commands_are_alike()
-    ensures expunge { (own : SessionState) (tag : List ℕ) (asked : Option MessageSet)
-        → AnswersAlike (λ view. expunge_answer view own tag asked) }
-    ensures store { (own : SessionState) (tag : List ℕ) (asked : Store)
-        → AnswersAlike (λ view. store_answer view own tag asked) }
+    ensures expunge { (own : SessionState) (tag : List ℕ) (set : Option MessageSet)
+        → AnswersAlike (λ view. expunge_answer view own tag set) }
+    ensures store { (own : SessionState) (tag : List ℕ) (arguments : StoreArguments)
+        → AnswersAlike (λ view. store_answer view own tag arguments) }
     ensures close { (own : SessionState) (tag : List ℕ)
         → AnswersAlike (λ view. close_answer view own tag) }
 {}

@@ -10,7 +10,7 @@ pub mod laws;
 mod store;
 mod store_flags;
 mod store_lines;
-mod stored;
+mod store_outcome;
 
 pub use expunge::{close_answer, expunge_answer, uid_expunge_answer};
-pub use store::{Store, store_answer};
+pub use store::{StoreArguments, store_answer};

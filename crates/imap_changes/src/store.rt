@@ -7,48 +7,51 @@ ghost use Rattle.imap_mailbox.specs.Summary.{AreRising};
 ghost use Rattle.imap_modseq.specs.Numbers.{max_events, max_number};
 ghost use Rattle.imap_rights.specs.Rights.{bits};
 ghost use Rattle.imap_session.specs.State.{selection_of, state_of};
+ghost use Rattle.imap_targets.specs.Effects.{marking_effect};
 
 use crate::store_flags::lacks_right;
 use crate::store_lines::store_lines;
-use crate::stored::{Stored, flag_changes, marks_of, seen_changes, stored_all, uids_of};
+use crate::store_outcome::{
+    StoreOutcome, flag_changes, marks_of, seen_changes, stored_all, uids_of,
+};
 use bitflags::Flags;
-use imap_answer::{Answer, Call};
-use imap_batch::{Batch, Mark};
+use imap_answer::{Answer, CommandContext};
 use imap_grammar::StoreSpec;
 use imap_modseq::MAX_EVENTS;
-use imap_names::{Name, UserName};
 use imap_print::{EnabledCapabilities, Refusal};
 use imap_rights::Rights;
 use imap_session::{Selected, Session};
-use imap_syntax::{Items, MessageSet, Numbering};
+use imap_syntax::{MessageSet, Numbering};
 use imap_targets::{
-    events_left, has_known_numbers, is_refused, is_saved, known_count, messages_named,
+    has_known_numbers, is_refused, is_saved, known_count, lacks_events, marking_effect,
+    messages_named,
 };
+use imap_values::beside;
 use imap_view::{Readable, View};
-use imap_world::{Effect, NamedBatch};
-use std::alloc::{AllocError, Global};
+use imap_world::Effect;
+use std::alloc::AllocError;
 use std::marker::Model;
 
 /// The arguments of STORE, as they stand in the command.
 #[derive(Drop)]
-pub struct Store<'a> {
+pub struct StoreArguments<'a> {
     pub numbering: Numbering,
     pub messages: &'a MessageSet,
     pub spec: &'a StoreSpec,
 }
 
-impl<'a> Model for Store<'a> {
+impl<'a> Model for StoreArguments<'a> {
     ghost use Rattle.std.specs.Prelude.{refl};
     ghost use Rattle.std.specs.Coded.{code_by, codes};
     ghost use Rattle.imap_changes.specs.Store as specs;
-    ghost use Rattle.imap_grammar.specs.contracts.commands.store.StoreSpec.{the_row as spec_row};
-    ghost use Rattle.imap_grammar.specs.declared.commands.store.StoreSpec.{StoreSpec};
+    ghost use Rattle.imap_commands.specs.contracts.commands.store.StoreSpec.{the_row as spec_row};
+    ghost use Rattle.imap_commands.specs.declared.commands.store.StoreSpec.{StoreSpec};
     ghost use Rattle.imap_syntax.specs.contracts.set.MessageSet.{the_row as messages_row};
     ghost use Rattle.imap_syntax.specs.contracts.set.Numbering.{the_row as numbering_row};
     ghost use Rattle.imap_syntax.specs.declared.set.MessageSet.{MessageSet};
     ghost use Rattle.imap_syntax.specs.declared.set.Numbering.{Numbering};
 
-    ghost Value = { specs.Store };
+    ghost Value = { specs.StoreArguments };
 
     ghost coded = { code_by (Numbering × (MessageSet × StoreSpec))
         (Prim.hlevel (codes, numbering_row.coded, messages_row.coded, spec_row.coded))
@@ -66,52 +69,50 @@ impl<'a> Model for Store<'a> {
 /// stay as they are. One message that is named by its number and is gone refuses the command; UIDs of messages
 /// that are gone are passed over.
 pub fn store_answer(
-    call: &Call<'_>,
+    context: &CommandContext<'_>,
     session: &Session,
-    asked: &Store<'_>,
+    arguments: &StoreArguments<'_>,
 ) -> Result<Answer, AllocError>
-    ensures { let meant = specs.store_answer call.now.view (state_of session.now) call.now.tag asked.now in
-        IfOk result (λ answer. answer ≡ meant) }
+    ensures { let answer = specs.store_answer context.now.view (state_of session.now) context.now.tag in
+        IfOk result (λ given. given ≡ answer arguments.now) }
 {
     match &session.selected {
-        Some(selected) => store_selected(call, session.enabled, asked, selected),
-        None => call.refuse(Refusal::WrongState),
+        Some(selected) => store_selected(context, session.enabled, arguments, selected),
+        None => context.refuse(Refusal::WrongState),
     }
 }
 
 fn store_selected(
-    call: &Call<'_>,
+    context: &CommandContext<'_>,
     enabled: EnabledCapabilities,
-    asked: &Store<'_>,
+    arguments: &StoreArguments<'_>,
     selected: &Selected,
 ) -> Result<Answer, AllocError>
-    ensures { let answer = specs.store_selected call.now.view enabled call.now.tag asked.now in
+    ensures { let answer = specs.store_selected context.now.view enabled context.now.tag arguments.now in
         IfOk result (λ given. given ≡ answer (selection_of selected.now)) }
 {
     let count = known_count(&selected.known);
-    if !has_known_numbers(asked.numbering, count, asked.messages) {
-        return call.refuse(Refusal::Malformed);
+    if !has_known_numbers(arguments.numbering, count, arguments.messages) {
+        return context.refuse(Refusal::Malformed);
     }
-    if is_impossible(asked) {
-        return call.refuse(Refusal::Cannot);
+    if is_impossible(arguments) {
+        return context.refuse(Refusal::Cannot);
     }
-    if lacks_right(
-        storing_rights(call.view(), selected),
-        asked.spec.flags.as_slice(),
-    ) {
-        return call.refuse(Refusal::NoPerm);
+    let rights = storing_rights(context.view(), selected);
+    if lacks_right(rights, arguments.spec.flags.as_slice()) {
+        return context.refuse(Refusal::NoPerm);
     }
-    match call.view().readable(&selected.name.as_ref()) {
-        Some(mailbox) => store_readable(call, enabled, asked, selected, &mailbox),
-        None => call.refuse(Refusal::NonExistent),
+    match context.view().readable(&selected.name.as_ref()) {
+        Some(mailbox) => store_readable(context, enabled, arguments, rights, selected, &mailbox),
+        None => context.refuse(Refusal::NonExistent),
     }
 }
 
 /// Whether the set is `$`, or UNCHANGEDSINCE is asked for, which isn't built yet.
-fn is_impossible(asked: &Store<'_>) -> bool
-    ensures { result ≡ specs.is_impossible asked.now }
+fn is_impossible(arguments: &StoreArguments<'_>) -> bool
+    ensures { result ≡ specs.is_impossible arguments.now }
 {
-    is_saved(asked.messages) || asked.spec.unchanged_since.is_some()
+    is_saved(arguments.messages) || arguments.spec.unchanged_since.is_some()
 }
 
 /// The rights on the selected mailbox: none, if it is examined.
@@ -125,101 +126,104 @@ fn storing_rights(view: &View<'_>, selected: &Selected) -> Rights
 }
 
 fn store_readable(
-    call: &Call<'_>,
+    context: &CommandContext<'_>,
     enabled: EnabledCapabilities,
-    asked: &Store<'_>,
+    arguments: &StoreArguments<'_>,
+    rights: Rights,
     selected: &Selected,
     mailbox: &Readable<'_>,
 ) -> Result<Answer, AllocError>
     requires order { AreRowsInOrder mailbox.now.next_uid mailbox.now.highest mailbox.now.rows }
     requires few { mailbox.now.own ≤ max_events }
     requires bounded { mailbox.now.highest ≤ max_number }
-    ensures { let answer = specs.store_if_readable call.now.view enabled call.now.tag asked.now in
-        IfOk result (λ given. given ≡ answer (selection_of selected.now) (Some mailbox.now)) }
+    ensures { let store = specs.store_if_readable context.now.view enabled context.now.tag in
+        let answer = store arguments.now (bits rights) (selection_of selected.now) (Some mailbox.now) in
+        IfOk result (λ given. given ≡ answer) }
 {
     let named = messages_named(
-        call.alloc(),
-        asked.numbering,
-        asked.messages,
+        context.alloc(),
+        arguments.numbering,
+        arguments.messages,
         mailbox.next_uid,
         &selected.known,
     )?;
-    if is_refused(asked.numbering, named.as_slice(), &mailbox.rows) {
-        return call.refuse(Refusal::ExpungeIssued);
+    if is_refused(arguments.numbering, named.as_slice(), &mailbox.rows) {
+        return context.refuse(Refusal::ExpungeIssued);
     }
-    let rights = storing_rights(call.view(), selected);
     match stored_all(
-        call.alloc(),
+        context.alloc(),
         rights,
-        asked.spec,
+        arguments.spec,
         &selected.known,
         &mailbox.rows,
         named.as_slice(),
     )? {
-        Some(stored) => store_messages(call, enabled, asked, selected, mailbox, stored.as_slice()),
-        None => call.refuse(Refusal::Limit),
+        Some(stored) => store_messages(
+            context,
+            enabled,
+            arguments,
+            selected,
+            mailbox,
+            stored.as_slice(),
+        ),
+        None => context.refuse(Refusal::Limit),
     }
 }
 
 /// Whether the mailbox has no event left for one of the changes.
-fn lacks_events(mailbox: &Readable<'_>, messages: &[Stored]) -> bool
+fn lacks_changes(mailbox: &Readable<'_>, messages: &[StoreOutcome]) -> bool
     requires { mailbox.now.own ≤ max_events }
-    ensures { result ≡ specs.lacks_events mailbox.now messages.now }
+    ensures { result ≡ specs.lacks_changes mailbox.now messages.now }
 {
-    events_left(mailbox) < flag_changes(messages)
+    lacks_events(mailbox, flag_changes(messages))
         || MAX_EVENTS < mailbox.own + seen_changes(messages)
 }
 
 fn store_messages(
-    call: &Call<'_>,
+    context: &CommandContext<'_>,
     enabled: EnabledCapabilities,
-    asked: &Store<'_>,
+    arguments: &StoreArguments<'_>,
     selected: &Selected,
     mailbox: &Readable<'_>,
-    messages: &[Stored],
+    messages: &[StoreOutcome],
 ) -> Result<Answer, AllocError>
     requires rise { AreRising (map (λ m. m.uid) messages.now) }
     requires few { mailbox.now.own ≤ max_events }
     requires bounded { mailbox.now.highest ≤ max_number }
-    ensures { let answer = specs.store_events call.now.view enabled call.now.tag asked.now in
+    ensures { let answer = specs.store_events context.now.view enabled context.now.tag arguments.now in
         IfOk result (λ given. given ≡ answer (selection_of selected.now) mailbox.now messages.now) }
 {
-    if lacks_events(mailbox, messages) {
-        return call.refuse(Refusal::Limit);
+    if lacks_changes(mailbox, messages) {
+        return context.refuse(Refusal::Limit);
     }
+    let effect = flags_effect(context, selected, messages)?;
     let lines = store_lines(
-        call.alloc(),
-        asked.spec.silent,
+        context.alloc(),
+        arguments.spec.silent,
         enabled.condstore,
         mailbox.highest,
         messages,
-    )?;
-    let marks = marks_of(call.alloc(), messages)?;
-    let effect = store_effect(call.alloc(), call.view().user(), &selected.name, marks)?;
-    let told = uids_of(call.alloc(), messages)?;
-    let answer = call.carried_out(lines, None, effect)?;
-    Ok(answer.telling(told))
+    );
+    let (lines, effect) = beside(lines, effect)?;
+    let answer = context.carried_out(lines, None, effect);
+    let (told, answer) = beside(uids_of(context.alloc(), messages), answer)?;
+    Ok(answer?.telling(told))
 }
 
-/// Asks for the marks, if there are any.
-fn store_effect(
-    alloc: Global,
-    user: &UserName,
-    name: &Name,
-    marks: Vec<Mark>,
+/// The effect that changes the flags, if one changes.
+fn flags_effect(
+    context: &CommandContext<'_>,
+    selected: &Selected,
+    messages: &[StoreOutcome],
 ) -> Result<Option<Effect>, AllocError>
-    ensures { let effect = specs.store_effect user.now name.now marks.items in
-        IfOk result (λ given. given ≡ effect) }
+    ensures { let effect = marking_effect context.now.view.user (selection_of selected.now).name in
+        IfOk result (λ given. given ≡ effect (specs.marks_of messages.now)) }
 {
-    if marks.is_empty() {
-        return Ok(None);
-    }
-    let batch = Batch {
-        user: user.try_copy()?,
-        added: Items::from_vec(Vec::new(alloc)),
-        marks: Items::from_vec(marks),
-        expunged: Items::from_vec(Vec::new(alloc)),
-    };
-    let name = name.try_copy()?;
-    Ok(Some(Effect::Messages(NamedBatch { name, batch }, None)))
+    let marks = marks_of(context.alloc(), messages)?;
+    marking_effect(
+        context.alloc(),
+        context.view().user(),
+        &selected.name,
+        marks,
+    )
 }

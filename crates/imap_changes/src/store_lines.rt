@@ -6,7 +6,7 @@ ghost use Rattle.imap_changes.specs.Store as specs;
 ghost use Rattle.imap_changes.specs.Storing.{events_in};
 ghost use Rattle.imap_print.specs.Lines.{IsPrintable};
 
-use crate::stored::Stored;
+use crate::store_outcome::StoreOutcome;
 use imap_mailbox::KnownMessage;
 use imap_print::{FetchedItems, Response, fetch_is_printable};
 use imap_session::fetch_line;
@@ -20,7 +20,7 @@ pub(crate) fn store_lines(
     silent: bool,
     condstore: bool,
     highest: u64,
-    messages: &[Stored],
+    messages: &[StoreOutcome],
 ) -> Result<Vec<Response>, AllocError>
     requires { highest + events_in messages.now < 2 ^ 64 }
     ensures lines { let meant = specs.lines_from silent condstore highest messages.now in
@@ -37,7 +37,7 @@ pub(crate) fn store_lines(
     Ok(lines)
 }
 
-fn event_count(message: &Stored) -> u64
+fn event_count(message: &StoreOutcome) -> u64
     ensures { result ≡ specs.event_count message.now }
 {
     u64::from(message.flags_change) + u64::from(message.seen_changes)
@@ -50,7 +50,7 @@ fn push_line(
     silent: bool,
     condstore: bool,
     after: u64,
-    message: &Stored,
+    message: &StoreOutcome,
 ) -> Result<(), AllocError>
     ensures line { let line = specs.line_of silent condstore after message.now in
         OnOk result (lines.new.items ≡ lines.old.items ++ line) }
@@ -69,7 +69,11 @@ fn push_line(
 }
 
 /// The message after its events. `after` is HIGHESTMODSEQ then.
-fn message_after(alloc: Global, after: u64, message: &Stored) -> Result<KnownMessage, AllocError>
+fn message_after(
+    alloc: Global,
+    after: u64,
+    message: &StoreOutcome,
+) -> Result<KnownMessage, AllocError>
     ensures { IfOk result (λ k. k ≡ specs.message_after after message.now) }
 {
     Ok(KnownMessage {

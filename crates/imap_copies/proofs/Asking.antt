@@ -27,7 +27,8 @@ use Rattle.imap_view.specs.View.{View}
 use Rattle.imap_world.specs.Mailbox.{Mailbox}
 use Rattle.imap_world.specs.Messages.{is_same_name}
 use Rattle.imap_copies.specs.Copies.{copies_of, copy_of}
-use Rattle.imap_copies.specs.Transfer.{adding, copy_effect, expunging, lacks_events, lacks_room, move_between, move_effect, move_within}
+use Rattle.imap_batch.specs.Batch.{adding, expunging}
+use Rattle.imap_copies.specs.Transfer.{copy_effect, lacks_move_events, lacks_room, move_between, move_effect, move_within}
 use Rattle.imap_copies.proofs.Possible.{IsReadOf, IsShown, few_chosen, few_copies, may_add, may_move, read_by_rights, shown_is}
 
 -- the events of a batch that only expunges
@@ -86,7 +87,7 @@ module _ (view : View) (target : Name) (seen : Seen) (is : map.get view.seen tar
 
     -- ---- MOVE
 
-    within : s.name ≡ target → (copies : List NewMessage) (uids : List ℕ) (count : ℕ) → length copies ≡ suc count → length uids ≡ suc count → lacks_room seen (suc count) ≡ false → lacks_events mailbox true (suc count) ≡ false
+    within : s.name ≡ target → (copies : List NewMessage) (uids : List ℕ) (count : ℕ) → length copies ≡ suc count → length uids ≡ suc count → lacks_room seen (suc count) ≡ false → lacks_move_events mailbox true (suc count) ≡ false
         → (viewed : IsViewed view) → list_all (λ (m : NewMessage). not (has_too_many m.flags)) copies ≡ true → are_known 0 uids (row_uids mailbox.rows) ≡ true
         → MayAskOf view (record { name = target; batch = record { user = view.user; added = copies; marks = []; expunged = uids } })
     within same copies uids count long also room events viewed few known =
@@ -100,14 +101,14 @@ module _ (view : View) (target : Name) (seen : Seen) (is : map.get view.seen tar
               (ap (λ (k : Seen). lacks_room k (suc count)) shows.same ∙ room) events known));
         }
 
-    takes : (viewed : IsViewed view) (uids : List ℕ) → lacks_events mailbox false (length uids) ≡ false → are_known 0 uids (row_uids mailbox.rows) ≡ true → MayAskOf view (record { name = s.name; batch = expunging view.user uids })
+    takes : (viewed : IsViewed view) (uids : List ℕ) → lacks_move_events mailbox false (length uids) ≡ false → are_known 0 uids (row_uids mailbox.rows) ≡ true → MayAskOf view (record { name = s.name; batch = expunging view.user uids })
     takes viewed uids events known =
         let le = ltb-false (events_left mailbox) (length uids) events in
         may_change view viewed s.name mailbox (expunging view.user uids)
         (record { none = refl; keywords = refl; events = few_events (length uids) (events_left mailbox) le; marked = refl; expunged = known }) reads refl
 
     moves_by : (copied : List Row) → (IsViewed view → list_all (λ (m : NewMessage). not (has_too_many m.flags)) (copies_of seen.rights copied) ≡ true) → (IsViewed view → are_known 0 (row_uids copied) (row_uids mailbox.rows) ≡ true)
-        → lacks_room seen (length (row_uids copied)) ≡ false → (same : Bool) → is_same_name s.name target ≡ same → lacks_events mailbox same (length (row_uids copied)) ≡ false
+        → lacks_room seen (length (row_uids copied)) ≡ false → (same : Bool) → is_same_name s.name target ≡ same → lacks_move_events mailbox same (length (row_uids copied)) ≡ false
         → IsViewed view → MayBeAsked view (move_effect view.user target s.name (copies_of seen.rights copied) (row_uids copied))
     moves_by [] few known room same test events viewed = tt
     moves_by (r ∷ copied) few known room same test events viewed =
@@ -122,11 +123,11 @@ module _ (view : View) (target : Name) (seen : Seen) (is : map.get view.seen tar
         long : length copies ≡ length uids
         long = length-map (r ∷ copied) (copy_of seen.rights) ∙ sym (length-map (r ∷ copied) (λ (x : Row). x.uid))
 
-        either : (b : Bool) → is_same_name s.name target ≡ b → lacks_events mailbox b (length uids) ≡ false
+        either : (b : Bool) → is_same_name s.name target ≡ b → lacks_move_events mailbox b (length uids) ≡ false
             → MayBeAsked view (cond b (Some (move_within view.user target copies uids)) (Some (move_between view.user target s.name copies uids)))
         either true e enough = (within (equal_names s.name target e) copies uids (length (row_uids copied)) long refl room enough viewed (few viewed) (known viewed), tt)
         either false e enough = (adds viewed copies (length (row_uids copied)) long (few viewed) room, (e, takes viewed uids enough (known viewed)))
 
-    pub may_transfer : lacks_room seen (length (row_uids rows)) ≡ false → lacks_events mailbox (is_same_name s.name target) (length (row_uids rows)) ≡ false
+    pub may_transfer : lacks_room seen (length (row_uids rows)) ≡ false → lacks_move_events mailbox (is_same_name s.name target) (length (row_uids rows)) ≡ false
         → IsViewed view → MayBeAsked view (move_effect view.user target s.name (copies_of seen.rights rows) (row_uids rows))
     may_transfer room events = moves_by rows all_few all_known room (is_same_name s.name target) refl events

@@ -27,7 +27,7 @@ use Rattle.imap_copies.specs.declared.kind.TransferKind.{TransferKind}
 use Rattle.imap_copies.specs.declared.kind.TransferKind.TheVariants.{Copy, Move}
 use Rattle.imap_copies.specs.Copies.{copies_of, rows_named}
 use Rattle.imap_copies.specs.CopiedUids.{copied_uids}
-use Rattle.imap_copies.specs.Transfer.{Transfer, copy_code, copy_effect, lacks_events, lacks_room, may_take, messages_of, move_effect, moved_lines, transfer_answer, transfer_if_readable, transfer_if_selected, transfer_named, transfer_rows, transfer_to_name, transfer_to_seen}
+use Rattle.imap_copies.specs.Transfer.{TransferArguments, copy_code, copy_effect, lacks_move_events, lacks_room, may_take, messages_of, move_effect, moved_lines, transfer_answer, transfer_if_readable, transfer_if_selected, transfer_named, transfer_rows, transfer_to_name, transfer_to_seen}
 use Rattle.imap_copies.proofs.Asking.{may_copy, may_transfer}
 
 module _ (view : View) (tag : List ℕ) where
@@ -56,7 +56,7 @@ module _ (view : View) (tag : List ℕ) where
       copy_fits true e = fits_alone view _ _ refl
       copy_fits false e = copied_fits (copy_code (copied_uids seen (row_uids rows))) _ (may_copy view target seen is s mailbox reads chosen e)
 
-      move_fits : (full : Bool) → lacks_room seen (length (row_uids rows)) ≡ full → (many : Bool) → lacks_events mailbox (is_same_name s.name target) (length (row_uids rows)) ≡ many
+      move_fits : (full : Bool) → lacks_room seen (length (row_uids rows)) ≡ full → (many : Bool) → lacks_move_events mailbox (is_same_name s.name target) (length (row_uids rows)) ≡ many
           → IsFit view (cond full (refusal tag OverQuota) (cond many (refusal tag Limit) (carried_out (moved_lines (copied_uids seen (row_uids rows))) tag None (move_effect view.user target s.name (copies_of seen.rights rows) (row_uids rows)))))
       move_fits true e many f = fits_alone view _ _ refl
       move_fits false e true f = fits_alone view _ _ refl
@@ -66,41 +66,41 @@ module _ (view : View) (tag : List ℕ) where
       rows_fit Copy = copy_fits _ refl
       rows_fit Move = move_fits _ refl _ refl
 
-    named_fits : (asked : Transfer) (messages : List Numbered) (gone : Bool) → IsFit view (cond gone (refusal tag ExpungeIssued) (transfer_rows asked.kind view tag s mailbox target seen (rows_named messages mailbox.rows)))
-    named_fits asked messages true = fits_alone view _ _ refl
-    named_fits asked messages false = rows_fit (λ (r : Row). is_among r.uid (uids_of messages)) asked.kind
+    named_fits : (arguments : TransferArguments) (messages : List Numbered) (gone : Bool) → IsFit view (cond gone (refusal tag ExpungeIssued) (transfer_rows arguments.kind view tag s mailbox target seen (rows_named messages mailbox.rows)))
+    named_fits arguments messages true = fits_alone view _ _ refl
+    named_fits arguments messages false = rows_fit (λ (r : Row). is_among r.uid (uids_of messages)) arguments.kind
 
-    held_fits : (asked : Transfer) (held : Bool) → IsFit view (cond (not held) (refusal tag (target_refusal view target)) (transfer_named view tag asked s mailbox target seen (messages_of asked mailbox.next_uid s.known)))
-    held_fits asked false = target_fits target
-    held_fits asked true =
-        let messages = messages_of asked mailbox.next_uid s.known in
-        named_fits asked messages (is_refused (is_by_uid asked.numbering) mailbox.rows messages)
+    held_fits : (arguments : TransferArguments) (held : Bool) → IsFit view (cond (not held) (refusal tag (target_refusal view target)) (transfer_named view tag arguments s mailbox target seen (messages_of arguments mailbox.next_uid s.known)))
+    held_fits arguments false = target_fits target
+    held_fits arguments true =
+        let messages = messages_of arguments mailbox.next_uid s.known in
+        named_fits arguments messages (is_refused (is_by_uid arguments.numbering) mailbox.rows messages)
 
-  module _ (asked : Transfer) (s : Selection) where
-    seen_fits : (mailbox : Readable) → readable_in view s.name ≡ Some mailbox → (target : Name) (seen : Option Seen) → map.get view.seen target ≡ seen → IsFit view (transfer_to_seen view tag asked s mailbox target seen)
+  module _ (arguments : TransferArguments) (s : Selection) where
+    seen_fits : (mailbox : Readable) → readable_in view s.name ≡ Some mailbox → (target : Name) (seen : Option Seen) → map.get view.seen target ≡ seen → IsFit view (transfer_to_seen view tag arguments s mailbox target seen)
     seen_fits mailbox reads target None is = target_fits target
-    seen_fits mailbox reads target (Some seen) is = held_fits s mailbox reads target seen is asked (has_any seen.rights insert)
+    seen_fits mailbox reads target (Some seen) is = held_fits s mailbox reads target seen is arguments (has_any seen.rights insert)
 
-    readable_fits : (mailbox : Option Readable) → readable_in view s.name ≡ mailbox → IsFit view (transfer_if_readable view tag asked s mailbox)
+    readable_fits : (mailbox : Option Readable) → readable_in view s.name ≡ mailbox → IsFit view (transfer_if_readable view tag arguments s mailbox)
     readable_fits None reads = fits_alone view _ _ refl
     readable_fits (Some mailbox) reads =
-        fits_if_named view tag asked.mailbox (transfer_to_name view tag asked s mailbox) (λ target. seen_fits mailbox reads target (map.get view.seen target) refl)
+        fits_if_named view tag arguments.mailbox (transfer_to_name view tag arguments s mailbox) (λ target. seen_fits mailbox reads target (map.get view.seen target) refl)
 
     selected_by : (known saved may : Bool)
-        → IsFit view (cond (not known) (refusal tag Malformed) (cond saved (refusal tag Cannot) (cond (not may) (refusal tag NoPerm) (transfer_if_readable view tag asked s (readable_in view s.name)))))
+        → IsFit view (cond (not known) (refusal tag Malformed) (cond saved (refusal tag Cannot) (cond (not may) (refusal tag NoPerm) (transfer_if_readable view tag arguments s (readable_in view s.name)))))
     selected_by false saved may = fits_alone view _ _ refl
     selected_by true true may = fits_alone view _ _ refl
     selected_by true false false = fits_alone view _ _ refl
     selected_by true false true = readable_fits (readable_in view s.name) refl
 
-pub transfer_fits : (view : View) (own : SessionState) (tag : List ℕ) (asked : Transfer) → IsFit view (transfer_answer view own tag asked)
-transfer_fits view own tag asked = by own.selected
+pub transfer_fits : (view : View) (own : SessionState) (tag : List ℕ) (arguments : TransferArguments) → IsFit view (transfer_answer view own tag arguments)
+transfer_fits view own tag arguments = by own.selected
   where
-    by : (s : Option Selection) → IsFit view (transfer_if_selected view tag asked s)
+    by : (s : Option Selection) → IsFit view (transfer_if_selected view tag arguments s)
     by None = fits_alone view _ _ refl
-    by (Some s) = selected_by view tag asked s (has_known_numbers asked.numbering (length s.known) asked.messages) (is_saved asked.messages) (may_take asked.kind view s)
+    by (Some s) = selected_by view tag arguments s (has_known_numbers arguments.numbering (length s.known) arguments.messages) (is_saved arguments.messages) (may_take arguments.kind view s)
 
 -- ---- alike
 
-pub transfer_alike : (own : SessionState) (tag : List ℕ) (asked : Transfer) → AnswersAlike (λ view. transfer_answer view own tag asked)
-transfer_alike own tag asked = answers_alike (λ view. transfer_answer view own tag asked) (λ view. transfer_fits view own tag asked)
+pub transfer_alike : (own : SessionState) (tag : List ℕ) (arguments : TransferArguments) → AnswersAlike (λ view. transfer_answer view own tag arguments)
+transfer_alike own tag arguments = answers_alike (λ view. transfer_answer view own tag arguments) (λ view. transfer_fits view own tag arguments)

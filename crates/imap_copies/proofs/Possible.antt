@@ -29,7 +29,8 @@ use Rattle.imap_view.specs.View.{View}
 use Rattle.imap_view.proofs.Views.{get_seen}
 use Rattle.imap_targets.specs.Left.{events_left}
 use Rattle.imap_copies.specs.Copies.{copies_of, flags_kept}
-use Rattle.imap_copies.specs.Transfer.{adding, lacks_events, lacks_room, room_left}
+use Rattle.imap_batch.specs.Batch.{adding}
+use Rattle.imap_copies.specs.Transfer.{lacks_move_events, lacks_room, room_left}
 
 -- ---- keywords
 
@@ -160,7 +161,7 @@ module _ (view : View) (m : Mailbox) (kept : IsKept m.messages) (rights : ℕ) w
 
   -- and messages that are read may be expunged after that
   pub may_move : (mailbox : Readable) → readable_of seen ≡ Some mailbox → (copies : List NewMessage) (uids : List ℕ) (count : ℕ) → length copies ≡ suc count → length uids ≡ suc count
-      → list_all (λ (n : NewMessage). not (has_too_many n.flags)) copies ≡ true → lacks_room seen (suc count) ≡ false → lacks_events mailbox true (suc count) ≡ false
+      → list_all (λ (n : NewMessage). not (has_too_many n.flags)) copies ≡ true → lacks_room seen (suc count) ≡ false → lacks_move_events mailbox true (suc count) ≡ false
       → are_known 0 uids (row_uids mailbox.rows) ≡ true → IsPossible (record { user = view.user; added = copies; marks = []; expunged = uids }) seen.messages
   may_move mailbox reads copies uids count long also few room events known = record {
     keywords = and_from (list_all (λ (n : NewMessage). not (has_too_many n.flags)) copies) true few refl;

@@ -16,7 +16,8 @@ use Rattle.imap_world.specs.declared.effect.Effect.{Effect}
 use Rattle.imap_world.specs.declared.effect.Effect.TheVariants as effect
 use Rattle.imap_world.specs.Messages.{is_same_name}
 use Rattle.imap_copies.specs.Copies.{copies_of}
-use Rattle.imap_copies.specs.Transfer.{adding, move_effect}
+use Rattle.imap_batch.specs.Batch.{adding}
+use Rattle.imap_copies.specs.Transfer.{move_effect}
 
 -- ---- copies
 

@@ -4,7 +4,7 @@ use Rattle.std.specs.Prelude.{Option, Some, None, option_map, if◌then◌else�
 use Rattle.std.specs.FinMap as map
 use Rattle.imap_answer.specs.Answer.{Answer, carried_out, refusal}
 use Rattle.imap_answer.specs.Name.{if_named}
-use Rattle.imap_batch.specs.declared.batch.Batch.{Batch}
+use Rattle.imap_batch.specs.Batch.{adding, expunging}
 use Rattle.imap_batch.specs.declared.batch.NewMessage.{NewMessage}
 use Rattle.imap_mailbox.specs.declared.known.KnownMessage.{KnownMessage}
 use Rattle.imap_mailbox.specs.Lent.{row_uids}
@@ -22,7 +22,8 @@ use Rattle.imap_session.specs.State.{Selection, SessionState}
 use Rattle.imap_syntax.specs.declared.set.MessageSet.{MessageSet}
 use Rattle.imap_syntax.specs.declared.set.Numbering.{Numbering}
 use Rattle.imap_targets.specs.declared.message_numbers.Numbered.{Numbered}
-use Rattle.imap_targets.specs.Left.{events_left}
+use Rattle.imap_targets.specs.Effects.{batch_effect, named_batch}
+use Rattle.imap_targets.specs.Left.{lacks_events}
 use Rattle.imap_targets.specs.MessageNumbers.{has_known_numbers, is_by_uid, is_refused, is_saved, messages_named}
 use Rattle.imap_targets.specs.MessageNumbers.{ranges_of}
 use Rattle.imap_targets.specs.Target.{target_refusal}
@@ -39,7 +40,7 @@ use Rattle.imap_copies.specs.Copies.{copies_of, rows_named}
 use Rattle.imap_copies.specs.CopiedUids.{copied_uids}
 
 -- the arguments of COPY or MOVE
-pub record Transfer : Type 0 where
+pub record TransferArguments : Type 0 where
   pub kind : TransferKind
   pub numbering : Numbering
   pub messages : MessageSet
@@ -47,30 +48,21 @@ pub record Transfer : Type 0 where
 
 -- ---- what is asked of the mailboxes
 
-abbrev pub adding : (user : List ℕ) → List NewMessage → Batch
-adding user copies = record { user = user; added = copies; marks = []; expunged = [] }
-
-abbrev pub expunging : (user : List ℕ) → (uids : List ℕ) → Batch
-expunging user uids = record { user = user; added = []; marks = []; expunged = uids }
-
 abbrev pub copy_effect : (user : List ℕ) → (target : Name) → List NewMessage → Option Effect
 copy_effect user target [] = None
 copy_effect user target (m ∷ copies) =
-    Some (effect.Messages (record { name = target; batch = adding user (m ∷ copies) }) None)
+    Some (batch_effect target (adding user (m ∷ copies)))
 
 -- within one mailbox: all copies are added before a message is expunged
 abbrev pub move_within : (user : List ℕ) → Name → List NewMessage → (uids : List ℕ) → Effect
-move_within user name copies uids = effect.Messages (record {
-  name = name;
-  batch = record { user = user; added = copies; marks = []; expunged = uids };
-}) None
+move_within user name copies uids =
+    batch_effect name (record { user = user; added = copies; marks = []; expunged = uids })
 
 -- between two mailboxes: both change at once, the target first
 abbrev pub move_between :
     (user : List ℕ) → (target source : Name) → List NewMessage → (uids : List ℕ) → Effect
 move_between user target source copies uids = effect.Messages
-    (record { name = target; batch = adding user copies })
-    (Some (record { name = source; batch = expunging user uids }))
+    (named_batch target (adding user copies)) (Some (named_batch source (expunging user uids)))
 
 abbrev pub move_effect :
     (user : List ℕ) → (target source : Name) → List NewMessage → (uids : List ℕ) → Option Effect
@@ -93,8 +85,8 @@ lacks_room seen count = nat_lt (room_left seen.messages.room) count
 abbrev pub source_events : (within : Bool) → (count : ℕ) → ℕ
 source_events within count = if within then count + count else count
 
-abbrev pub lacks_events : Readable → (within : Bool) → (count : ℕ) → Bool
-lacks_events mailbox within count = nat_lt (events_left mailbox) (source_events within count)
+abbrev pub lacks_move_events : Readable → (within : Bool) → (count : ℕ) → Bool
+lacks_move_events mailbox within count = lacks_events mailbox (source_events within count)
 
 -- ---- COPY
 
@@ -121,7 +113,7 @@ abbrev pub move_messages :
     List NewMessage → Answer
 move_messages view tag s mailbox target seen uids copies =
     if lacks_room seen (length uids) then refusal tag OverQuota
-    else if lacks_events mailbox (is_same_name s.name target) (length uids) then refusal tag Limit
+    else if lacks_move_events mailbox (is_same_name s.name target) (length uids) then refusal tag Limit
     else carried_out (moved_lines (copied_uids seen uids)) tag None
     (move_effect view.user target s.name copies uids)
 
@@ -141,32 +133,35 @@ transfer_rows kind view tag s mailbox target seen rows =
     transfer_messages kind view tag s mailbox target seen (row_uids rows) (copies_of seen.rights rows)
 
 abbrev pub transfer_named :
-    View → (tag : List ℕ) → Transfer → Selection → Readable → (target : Name) → Seen → List Numbered → Answer
-transfer_named view tag asked s mailbox target seen messages =
-    if is_refused (is_by_uid asked.numbering) mailbox.rows messages then refusal tag ExpungeIssued
-    else transfer_rows asked.kind view tag s mailbox target seen (rows_named messages mailbox.rows)
+    View → (tag : List ℕ) → TransferArguments → Selection → Readable → (target : Name) → Seen →
+    List Numbered → Answer
+transfer_named view tag arguments s mailbox target seen messages =
+    if is_refused (is_by_uid arguments.numbering) mailbox.rows messages then refusal tag ExpungeIssued
+    else transfer_rows arguments.kind view tag s mailbox target seen (rows_named messages mailbox.rows)
 
-abbrev pub messages_of : Transfer → (next_uid : ℕ) → List KnownMessage → List Numbered
-messages_of asked next_uid known = messages_named asked.numbering next_uid (ranges_of asked.messages) known
+abbrev pub messages_of : TransferArguments → (next_uid : ℕ) → List KnownMessage → List Numbered
+messages_of arguments next_uid known =
+    messages_named arguments.numbering next_uid (ranges_of arguments.messages) known
 
 -- the rights on the target are the user's own, also if it is the selected mailbox and was examined
 abbrev pub transfer_to_seen :
-    View → (tag : List ℕ) → Transfer → Selection → Readable → (target : Name) → Option Seen → Answer
-transfer_to_seen view tag asked s mailbox target None = refusal tag (target_refusal view target)
-transfer_to_seen view tag asked s mailbox target (Some seen) =
+    View → (tag : List ℕ) → TransferArguments → Selection → Readable → (target : Name) → Option Seen → Answer
+transfer_to_seen view tag arguments s mailbox target None = refusal tag (target_refusal view target)
+transfer_to_seen view tag arguments s mailbox target (Some seen) =
     if not (has_any seen.rights insert) then refusal tag (target_refusal view target)
-    else transfer_named view tag asked s mailbox target seen (messages_of asked mailbox.next_uid s.known)
+    else transfer_named view tag arguments s mailbox target seen
+    (messages_of arguments mailbox.next_uid s.known)
 
 abbrev pub transfer_to_name :
-    View → (tag : List ℕ) → Transfer → Selection → Readable → (target : Name) → Answer
-transfer_to_name view tag asked s mailbox target =
-    transfer_to_seen view tag asked s mailbox target (map.get view.seen target)
+    View → (tag : List ℕ) → TransferArguments → Selection → Readable → (target : Name) → Answer
+transfer_to_name view tag arguments s mailbox target =
+    transfer_to_seen view tag arguments s mailbox target (map.get view.seen target)
 
 abbrev pub transfer_if_readable :
-    View → (tag : List ℕ) → Transfer → Selection → Option Readable → Answer
-transfer_if_readable view tag asked s None = refusal tag NonExistent
-transfer_if_readable view tag asked s (Some mailbox) =
-    if_named view tag asked.mailbox (transfer_to_name view tag asked s mailbox)
+    View → (tag : List ℕ) → TransferArguments → Selection → Option Readable → Answer
+transfer_if_readable view tag arguments s None = refusal tag NonExistent
+transfer_if_readable view tag arguments s (Some mailbox) =
+    if_named view tag arguments.mailbox (transfer_to_name view tag arguments s mailbox)
 
 -- `t` and `e` on the selected mailbox
 abbrev pub holds_move_rights : View → Selection → Bool
@@ -179,16 +174,17 @@ may_take Copy view s = true
 may_take Move view s = not s.read_only && holds_move_rights view s
 
 -- `$` isn't served
-abbrev pub transfer_selected : View → (tag : List ℕ) → Transfer → Selection → Answer
-transfer_selected view tag asked s =
-    if not (has_known_numbers asked.numbering (length s.known) asked.messages) then refusal tag Malformed
-    else if is_saved asked.messages then refusal tag Cannot
-    else if not (may_take asked.kind view s) then refusal tag NoPerm
-    else transfer_if_readable view tag asked s (readable_in view s.name)
+abbrev pub transfer_selected : View → (tag : List ℕ) → TransferArguments → Selection → Answer
+transfer_selected view tag arguments s =
+    if not (has_known_numbers arguments.numbering (length s.known) arguments.messages)
+    then refusal tag Malformed
+    else if is_saved arguments.messages then refusal tag Cannot
+    else if not (may_take arguments.kind view s) then refusal tag NoPerm
+    else transfer_if_readable view tag arguments s (readable_in view s.name)
 
-abbrev pub transfer_if_selected : View → (tag : List ℕ) → Transfer → Option Selection → Answer
-transfer_if_selected view tag asked None = refusal tag WrongState
-transfer_if_selected view tag asked (Some s) = transfer_selected view tag asked s
+abbrev pub transfer_if_selected : View → (tag : List ℕ) → TransferArguments → Option Selection → Answer
+transfer_if_selected view tag arguments None = refusal tag WrongState
+transfer_if_selected view tag arguments (Some s) = transfer_selected view tag arguments s
 
-abbrev pub transfer_answer : View → SessionState → (tag : List ℕ) → Transfer → Answer
-transfer_answer view own tag asked = transfer_if_selected view tag asked own.selected
+abbrev pub transfer_answer : View → SessionState → (tag : List ℕ) → TransferArguments → Answer
+transfer_answer view own tag arguments = transfer_if_selected view tag arguments own.selected

@@ -78,8 +78,8 @@ fn numbers_from(alloc: Global, first: u32, count: usize) -> Result<Vec<u32>, All
     ensures { IfOk result (λ numbers. numbers.items ≡ range_with_len first count) }
 {
     let mut numbers = Vec::with_capacity(alloc, count)?;
-    for place in 0..count {
-        numbers.push(first + place as u32)?;
+    for index in 0..count {
+        numbers.push(first + index as u32)?;
     }
     Ok(numbers)
 }

@@ -9,32 +9,35 @@ ghost use Rattle.imap_view.specs.Seen.{shown};
 use crate::copied_uids::copied_uids;
 use crate::copies::Copies;
 use crate::room::lacks_room;
-use imap_answer::{Answer, Call};
+use imap_answer::{Answer, CommandContext};
 use imap_batch::{Batch, NewMessage};
 use imap_names::{Name, UserName};
 use imap_print::{Code, CopiedUids, Refusal};
-use imap_syntax::Items;
+use imap_targets::batch_effect;
+use imap_values::beside;
 use imap_view::Seen;
-use imap_world::{Effect, NamedBatch};
+use imap_world::Effect;
 use std::alloc::{AllocError, Global};
 
 /// Answers a COPY of these messages: all are copied, or none.
 pub(crate) fn copy_messages(
-    call: &Call<'_>,
-    name: Name,
+    context: &CommandContext<'_>,
+    name: &Name,
     target: &Seen<'_>,
     copies: Copies,
 ) -> Result<Answer, AllocError>
     requires { (high : ℕ) × Rises first_uid high copies.uids.items }
-    ensures { let answer = specs.copy_messages call.now.view call.now.tag name (shown target.now) in
+    ensures { let answer = specs.copy_messages context.now.view context.now.tag name.now (shown target.now) in
         IfOk result (λ given. given ≡ answer copies.uids.items copies.messages.items) }
 {
     if lacks_room(target, copies.uids.len()) {
-        return call.refuse(Refusal::OverQuota);
+        return context.refuse(Refusal::OverQuota);
     }
-    let copied = copied_uids(call.alloc(), target, copies.uids.as_slice())?;
-    let effect = copy_effect(call.alloc(), call.view().user(), name, copies.messages)?;
-    call.carried_out(Vec::new(call.alloc()), copy_code(copied), effect)
+    let copied = copied_uids(context.alloc(), target, copies.uids.as_slice());
+    let (copied, messages) = beside(copied, copies.messages)?;
+    let effect = copy_effect(context.alloc(), context.view().user(), name, messages);
+    let (effect, copied) = beside(effect, copied)?;
+    context.carried_out(Vec::new(context.alloc()), copy_code(copied), effect)
 }
 
 /// The response code COPYUID.
@@ -50,37 +53,14 @@ fn copy_code(copied: Option<CopiedUids>) -> Option<Code>
 fn copy_effect(
     alloc: Global,
     user: &UserName,
-    target: Name,
+    target: &Name,
     copies: Vec<NewMessage>,
 ) -> Result<Option<Effect>, AllocError>
-    ensures { IfOk result (λ given. given ≡ specs.copy_effect user.now target copies.items) }
+    ensures { IfOk result (λ given. given ≡ specs.copy_effect user.now target.now copies.items) }
 {
     if copies.is_empty() {
         return Ok(None);
     }
-    let batch = adding(alloc, user, copies)?;
-    Ok(Some(Effect::Messages(
-        NamedBatch {
-            name: target,
-            batch,
-        },
-        None,
-    )))
-}
-
-/// Adds the copies.
-pub(crate) fn adding(
-    alloc: Global,
-    user: &UserName,
-    copies: Vec<NewMessage>,
-) -> Result<Batch, AllocError>
-    ensures { IfOk result (λ batch. batch ≡ specs.adding user.now copies.items) }
-{
-    let user = user.try_copy()?;
-    Ok(Batch {
-        user,
-        added: Items::from_vec(copies),
-        marks: Items::from_vec(Vec::new(alloc)),
-        expunged: Items::from_vec(Vec::new(alloc)),
-    })
+    let batch = Batch::adding(alloc, user, copies)?;
+    Ok(Some(batch_effect(target, batch)?))
 }

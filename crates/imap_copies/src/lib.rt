@@ -5,7 +5,6 @@
 //! an answer.
 #![tactic(auto)]
 
-mod asked;
 mod copied_uids;
 mod copies;
 mod copying;
@@ -14,7 +13,8 @@ pub mod laws;
 mod moving;
 mod room;
 mod transfer;
+mod transfer_arguments;
 
-pub use asked::Transfer;
 pub use kind::TransferKind;
 pub use transfer::transfer_answer;
+pub use transfer_arguments::TransferArguments;

@@ -5,7 +5,7 @@ ghost use Rattle.imap_copies.specs.Transfer as specs;
 ghost use Rattle.imap_modseq.specs.Numbers.{max_events};
 ghost use Rattle.imap_view.specs.Seen.{shown};
 
-use imap_targets::events_left;
+use imap_targets::lacks_events;
 use imap_view::{Readable, Seen};
 
 /// Whether the target has no room for so many messages, as far as the user may know.
@@ -19,11 +19,11 @@ pub(crate) fn lacks_room(target: &Seen<'_>, count: usize) -> bool
 }
 
 /// Whether the source has no event left for one of the messages. A move within it has two for each.
-pub(crate) fn lacks_events(source: &Readable<'_>, within: bool, uids: &[u32]) -> bool
+pub(crate) fn lacks_move_events(source: &Readable<'_>, within: bool, uids: &[u32]) -> bool
     requires { source.now.own ≤ max_events }
-    ensures { result ≡ specs.lacks_events source.now within (length uids.now) }
+    ensures { result ≡ specs.lacks_move_events source.now within (length uids.now) }
 {
-    events_left(source) < source_events(within, uids)
+    lacks_events(source, source_events(within, uids))
 }
 
 fn source_events(within: bool, uids: &[u32]) -> u64

@@ -9,12 +9,12 @@ ghost use Rattle.imap_modseq.specs.Numbers.{max_events};
 ghost use Rattle.imap_session.specs.State.{selection_of, state_of};
 ghost use Rattle.imap_view.specs.Seen.{shown};
 
-use crate::asked::Transfer;
 use crate::copies::{Copies, copies_of_named};
 use crate::copying::copy_messages;
 use crate::kind::TransferKind;
 use crate::moving::move_messages;
-use imap_answer::{Answer, Call};
+use crate::transfer_arguments::TransferArguments;
+use imap_answer::{Answer, CommandContext};
 use imap_names::Name;
 use imap_print::Refusal;
 use imap_rights::Rights;
@@ -29,40 +29,40 @@ use std::alloc::AllocError;
 /// copy gets the flags for which the user holds the right on the target. One message that is named by its
 /// number and is gone refuses the command; UIDs of messages that are gone are passed over.
 pub fn transfer_answer(
-    call: &Call<'_>,
+    context: &CommandContext<'_>,
     session: &Session,
-    asked: &Transfer<'_>,
+    arguments: &TransferArguments<'_>,
 ) -> Result<Answer, AllocError>
-    ensures { let answer = specs.transfer_answer call.now.view (state_of session.now) call.now.tag in
-        IfOk result (λ given. given ≡ answer asked.now) }
+    ensures { let answer = specs.transfer_answer context.now.view (state_of session.now) context.now.tag in
+        IfOk result (λ given. given ≡ answer arguments.now) }
 {
     match &session.selected {
-        Some(selected) => transfer_selected(call, asked, selected),
-        None => call.refuse(Refusal::WrongState),
+        Some(selected) => transfer_selected(context, arguments, selected),
+        None => context.refuse(Refusal::WrongState),
     }
 }
 
 fn transfer_selected(
-    call: &Call<'_>,
-    asked: &Transfer<'_>,
+    context: &CommandContext<'_>,
+    arguments: &TransferArguments<'_>,
     selected: &Selected,
 ) -> Result<Answer, AllocError>
-    ensures { let answer = specs.transfer_selected call.now.view call.now.tag asked.now in
+    ensures { let answer = specs.transfer_selected context.now.view context.now.tag arguments.now in
         IfOk result (λ given. given ≡ answer (selection_of selected.now)) }
 {
     let count = known_count(&selected.known);
-    if !has_known_numbers(asked.numbering, count, asked.messages) {
-        return call.refuse(Refusal::Malformed);
+    if !has_known_numbers(arguments.numbering, count, arguments.messages) {
+        return context.refuse(Refusal::Malformed);
     }
-    if is_saved(asked.messages) {
-        return call.refuse(Refusal::Cannot);
+    if is_saved(arguments.messages) {
+        return context.refuse(Refusal::Cannot);
     }
-    if !may_take(asked.kind, call.view(), selected) {
-        return call.refuse(Refusal::NoPerm);
+    if !may_take(arguments.kind, context.view(), selected) {
+        return context.refuse(Refusal::NoPerm);
     }
-    match call.view().readable(&selected.name.as_ref()) {
-        Some(mailbox) => transfer_readable(call, asked, selected, &mailbox),
-        None => call.refuse(Refusal::NonExistent),
+    match context.view().readable(&selected.name.as_ref()) {
+        Some(mailbox) => transfer_readable(context, arguments, selected, &mailbox),
+        None => context.refuse(Refusal::NonExistent),
     }
 }
 
@@ -85,94 +85,102 @@ fn holds_move_rights(view: &View<'_>, selected: &Selected) -> bool
 }
 
 fn transfer_readable(
-    call: &Call<'_>,
-    asked: &Transfer<'_>,
+    context: &CommandContext<'_>,
+    arguments: &TransferArguments<'_>,
     selected: &Selected,
     mailbox: &Readable<'_>,
 ) -> Result<Answer, AllocError>
     requires order { AreRowsInOrder mailbox.now.next_uid mailbox.now.highest mailbox.now.rows }
     requires few { mailbox.now.own ≤ max_events }
-    ensures { let answer = specs.transfer_if_readable call.now.view call.now.tag asked.now in
+    ensures { let answer = specs.transfer_if_readable context.now.view context.now.tag arguments.now in
         IfOk result (λ given. given ≡ answer (selection_of selected.now) (Some mailbox.now)) }
 {
-    match call.name(asked.mailbox)? {
-        Some(name) => transfer_to_name(call, asked, selected, mailbox, name),
-        None => call.refuse(Refusal::NonExistent),
+    match context.name(arguments.mailbox)? {
+        Some(name) => transfer_to_name(context, arguments, selected, mailbox, &name),
+        None => context.refuse(Refusal::NonExistent),
     }
 }
 
 fn transfer_to_name(
-    call: &Call<'_>,
-    asked: &Transfer<'_>,
+    context: &CommandContext<'_>,
+    arguments: &TransferArguments<'_>,
     selected: &Selected,
     mailbox: &Readable<'_>,
-    name: Name,
+    name: &Name,
 ) -> Result<Answer, AllocError>
     requires order { AreRowsInOrder mailbox.now.next_uid mailbox.now.highest mailbox.now.rows }
     requires few { mailbox.now.own ≤ max_events }
     ensures { let s = selection_of selected.now in
-        let answer = specs.transfer_to_name call.now.view call.now.tag asked.now s mailbox.now name in
-        IfOk result (λ given. given ≡ answer) }
+        let answer = specs.transfer_to_name context.now.view context.now.tag arguments.now s mailbox.now in
+        IfOk result (λ given. given ≡ answer name.now) }
 {
-    match call.view().seen(&name.as_ref()) {
-        Some(target) => transfer_to_seen(call, asked, selected, mailbox, name, &target),
-        None => call.refuse(target_refusal(call.view(), &name)),
+    match context.view().seen(&name.as_ref()) {
+        Some(target) => transfer_to_seen(context, arguments, selected, mailbox, name, &target),
+        None => context.refuse(target_refusal(context.view(), name)),
     }
 }
 
 fn transfer_to_seen(
-    call: &Call<'_>,
-    asked: &Transfer<'_>,
+    context: &CommandContext<'_>,
+    arguments: &TransferArguments<'_>,
     selected: &Selected,
     mailbox: &Readable<'_>,
-    name: Name,
+    name: &Name,
     target: &Seen<'_>,
 ) -> Result<Answer, AllocError>
     requires order { AreRowsInOrder mailbox.now.next_uid mailbox.now.highest mailbox.now.rows }
     requires few { mailbox.now.own ≤ max_events }
     ensures { let s = selection_of selected.now in
-        let answer = specs.transfer_to_seen call.now.view call.now.tag asked.now s mailbox.now name in
-        IfOk result (λ given. given ≡ answer (Some (shown target.now))) }
+        let answer = specs.transfer_to_seen context.now.view context.now.tag arguments.now s mailbox.now in
+        IfOk result (λ given. given ≡ answer name.now (Some (shown target.now))) }
 {
     if !target.rights().has_any(Rights::INSERT) {
-        return call.refuse(target_refusal(call.view(), &name));
+        return context.refuse(target_refusal(context.view(), name));
     }
     let named = messages_named(
-        call.alloc(),
-        asked.numbering,
-        asked.messages,
+        context.alloc(),
+        arguments.numbering,
+        arguments.messages,
         mailbox.next_uid,
         &selected.known,
     )?;
-    if is_refused(asked.numbering, named.as_slice(), &mailbox.rows) {
-        return call.refuse(Refusal::ExpungeIssued);
+    if is_refused(arguments.numbering, named.as_slice(), &mailbox.rows) {
+        return context.refuse(Refusal::ExpungeIssued);
     }
     let copies = copies_of_named(
-        call.alloc(),
+        context.alloc(),
         target.rights(),
         named.as_slice(),
         &mailbox.rows,
     )?;
-    transfer_messages(call, asked.kind, selected, mailbox, name, target, copies)
+    transfer_messages(
+        context,
+        arguments.kind,
+        selected,
+        mailbox,
+        name,
+        target,
+        copies,
+    )
 }
 
 fn transfer_messages(
-    call: &Call<'_>,
+    context: &CommandContext<'_>,
     kind: TransferKind,
     selected: &Selected,
     mailbox: &Readable<'_>,
-    name: Name,
+    name: &Name,
     target: &Seen<'_>,
     copies: Copies,
 ) -> Result<Answer, AllocError>
     requires rise { (high : ℕ) × Rises first_uid high copies.uids.items }
     requires few { mailbox.now.own ≤ max_events }
     ensures { let s = selection_of selected.now in
-        let answer = specs.transfer_messages kind call.now.view call.now.tag s mailbox.now name in
+        let answer = specs.transfer_messages kind context.now.view context.now.tag s mailbox.now name.now in
         IfOk result (λ given. given ≡ answer (shown target.now) copies.uids.items copies.messages.items) }
 {
     match kind {
-        TransferKind::Copy => copy_messages(call, name, target, copies),
-        TransferKind::Move => move_messages(call, selected, mailbox, name, target, copies),
+        TransferKind::Copy => copy_messages(context, name, target, copies),
+        TransferKind::Move => move_messages(context, selected, mailbox, name, target, copies),
     }
 }

@@ -19,7 +19,7 @@ use Rattle.imap_view.specs.Readable.{readable_in}
 use Rattle.imap_view.specs.View.{View, rights_in}
 use Rattle.imap_world.specs.declared.effect.Effect.TheVariants.{Subscribe, Unsubscribe}
 use Rattle.imap_list.specs.declared.line.Line.{Line}
-use Rattle.imap_list.specs.ListCommand.{Query, asks_for_root, given_line, is_unbuilt, lines_of, list_answer, may_have_status, namespace_answer, responses_of, status_after, status_items, status_of_text}
+use Rattle.imap_list.specs.ListCommand.{ListArguments, asks_for_root, given_line, is_unbuilt, lines_of, list_answer, may_have_status, namespace_answer, responses_of, status_after, status_items, status_of_text}
 use Rattle.imap_list.specs.Status.{answer_of_line, enabled_by, status_answer, status_in, status_line, status_of_name}
 use Rattle.imap_list.specs.Subscriptions.{is_listed, max_subscriptions, subscribe_answer, subscribe_of_name, unsubscribe_answer, unsubscribe_of_name}
 
@@ -50,7 +50,7 @@ module _ (view : View) (tag : List ℕ) where
 
   -- ---- lists
 
-  module _ (query : Query) where
+  module _ (arguments : ListArguments) where
     -- lines of LIST and of STATUS don't pass a test that none of these lines passes
     module _ (test : Response → Bool) (list : (attributes : ListAttributes) (mailbox : List ℕ) → test (response.List attributes mailbox) ≡ false)
         (status : (mailbox : List ℕ) (items : List StatusValue) → test (response.Status mailbox items) ≡ false) (last : test (done_line tag) ≡ false) where
@@ -64,31 +64,31 @@ module _ (view : View) (tag : List ℕ) where
       text_passes items rest None = refl
       text_passes items rest (Some name) = status_passes name items rest (readable_in view name)
 
-      after_passes : (line : Line) (rest : List Response) → list_any test (status_after view query line ++ rest) ≡ list_any test rest
-      after_passes line rest = by (length (status_items query) == 0) (may_have_status query line)
+      after_passes : (line : Line) (rest : List Response) → list_any test (status_after view arguments line ++ rest) ≡ list_any test rest
+      after_passes line rest = by (length (status_items arguments) == 0) (may_have_status arguments line)
         where
-          by : (none may : Bool) → list_any test (cond none [] (cond may (status_of_text view (status_items query) line.name) []) ++ rest) ≡ list_any test rest
+          by : (none may : Bool) → list_any test (cond none [] (cond may (status_of_text view (status_items arguments) line.name) []) ++ rest) ≡ list_any test rest
           by true may = refl
-          by false true = text_passes (status_items query) rest (name_of_text view line.name)
+          by false true = text_passes (status_items arguments) rest (name_of_text view line.name)
           by false false = refl
 
-      lines_pass : (lines : List Line) → list_any test (flat_map (responses_of view query) lines ++ done_line tag ∷ []) ≡ false
+      lines_pass : (lines : List Line) → list_any test (flat_map (responses_of view arguments) lines ++ done_line tag ∷ []) ≡ false
       lines_pass [] = ap (λ b. b || false) last
       lines_pass (line ∷ lines) =
-          ap (list_any test) (append_assoc (responses_of view query line) (flat_map (responses_of view query) lines) (done_line tag ∷ []))
-          ∙ ap (λ b. b || list_any test (status_after view query line ++ (flat_map (responses_of view query) lines ++ done_line tag ∷ []))) (list _ _)
-          ∙ after_passes line (flat_map (responses_of view query) lines ++ done_line tag ∷ [])
+          ap (list_any test) (append_assoc (responses_of view arguments line) (flat_map (responses_of view arguments) lines) (done_line tag ∷ []))
+          ∙ ap (λ b. b || list_any test (status_after view arguments line ++ (flat_map (responses_of view arguments) lines ++ done_line tag ∷ []))) (list _ _)
+          ∙ after_passes line (flat_map (responses_of view arguments) lines ++ done_line tag ∷ [])
           ∙ lines_pass lines
 
     list_by : (unbuilt root : Bool) (lines : List Line) → IsFit view
-        (cond unbuilt (refusal tag Cannot) (cond root (done_after (response.ListRoot ∷ []) tag) (enabling (enabled_by (status_items query)) (done_after (flat_map (responses_of view query) lines) tag))))
+        (cond unbuilt (refusal tag Cannot) (cond root (done_after (response.ListRoot ∷ []) tag) (enabling (enabled_by (status_items arguments)) (done_after (flat_map (responses_of view arguments) lines) tag))))
     list_by true root lines = fits_alone view _ _ refl
     list_by false true lines = fits_alone view _ _ refl
-    list_by false false lines = fits_enabling view (enabled_by (status_items query)) _ (lines_pass is_refusal (λ attributes mailbox. refl) (λ mailbox items. refl) refl lines)
+    list_by false false lines = fits_enabling view (enabled_by (status_items arguments)) _ (lines_pass is_refusal (λ attributes mailbox. refl) (λ mailbox items. refl) refl lines)
         (fits_alone view _ _ (lines_pass is_unavailable (λ attributes mailbox. refl) (λ mailbox items. refl) refl lines))
 
-    pub list_fits : IsFit view (list_answer view tag query)
-    list_fits = list_by (is_unbuilt query) (asks_for_root query) (lines_of view query)
+    pub list_fits : IsFit view (list_answer view tag arguments)
+    list_fits = list_by (is_unbuilt arguments) (asks_for_root arguments) (lines_of view arguments)
 
   -- ---- STATUS
 

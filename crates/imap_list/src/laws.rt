@@ -4,7 +4,7 @@ ghost use Rattle.std.specs.Prelude.{ℕ, List};
 ghost use Rattle.imap_answer.specs.Alike.{AnswersAlike};
 ghost use Rattle.imap_list.specs.Laws.{LevelsNeedPercent, ListingIsExact, ListingIsOne};
 ghost use Rattle.imap_list.specs.Laws.{OrderMakesNoDifference, SubscribedListingIsExact};
-ghost use Rattle.imap_list.specs.ListCommand.{Query, list_answer};
+ghost use Rattle.imap_list.specs.ListCommand.{ListArguments, list_answer};
 ghost use Rattle.imap_list.specs.Namespaces.{NamespacesArePrinted};
 ghost use Rattle.imap_list.specs.Status.{status_answer};
 ghost use Rattle.imap_list.specs.Subscriptions.{subscribe_answer, unsubscribe_answer};
@@ -57,7 +57,8 @@ pub fn namespaces_are_printed()
 /// In two worlds that are alike to its user each command is answered alike, and leaves them alike to
 /// that user.
 pub fn commands_are_alike()
-    ensures list { (tag : List ℕ) (query : Query) → AnswersAlike (λ view. list_answer view tag query) }
+    ensures list { (tag : List ℕ) (arguments : ListArguments)
+        → AnswersAlike (λ view. list_answer view tag arguments) }
     ensures status { (tag mailbox : List ℕ) (items : List StatusItem)
         → AnswersAlike (λ view. status_answer view tag mailbox items) }
     ensures subscribe { (tag mailbox : List ℕ) → AnswersAlike (λ view. subscribe_answer view tag mailbox) }

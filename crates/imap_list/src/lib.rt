@@ -8,23 +8,23 @@
 pub mod laws;
 mod levels;
 mod line;
+mod list_arguments;
 mod list_command;
 mod listing;
 mod marks;
 mod matching;
 mod one_line;
 mod ordered;
-mod query;
 mod shown_name;
 mod status;
 mod subscriptions;
 mod view_names;
 
 pub use line::Line;
+pub use list_arguments::ListArguments;
 pub use list_command::{list_answer, namespace_answer};
 pub use listing::{list, list_subscribed};
 pub use one_line::mailbox_line;
-pub use query::Query;
 pub use shown_name::ShownName;
 pub use status::status_answer;
 pub use subscriptions::{subscribe_answer, unsubscribe_answer};

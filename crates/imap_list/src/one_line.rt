@@ -7,7 +7,7 @@ ghost use Rattle.imap_print.specs.Lines.{IsPrintable};
 use crate::line::Line;
 use crate::list_command::list_line;
 use crate::shown_name::ShownName;
-use imap_answer::Call;
+use imap_answer::CommandContext;
 use imap_names::Name;
 use imap_print::Response;
 use imap_rights::Rights;
@@ -15,15 +15,15 @@ use imap_view::View;
 use std::alloc::AllocError;
 
 /// Returns the LIST line of a mailbox that is there, as SELECT gives it (RFC 9051, section 6.3.2).
-pub fn mailbox_line(call: &Call<'_>, name: &Name) -> Result<Response, AllocError>
-    ensures line { IfOk result (λ line. line ≡ specs.mailbox_line call.now.view name.now) }
+pub fn mailbox_line(context: &CommandContext<'_>, name: &Name) -> Result<Response, AllocError>
+    ensures line { IfOk result (λ line. line ≡ specs.mailbox_line context.now.view name.now) }
     ensures printable { IfOk result IsPrintable }
 {
-    let view = call.view();
+    let view = context.view();
     list_line(
         false,
         Line {
-            name: ShownName::of(call.alloc(), view, name)?,
+            name: ShownName::of(context.alloc(), view, name)?,
             is_there: true,
             has_children: has_listable_below(view, name),
             is_subscribed: false,

@@ -5,7 +5,7 @@ ghost use Rattle.std.specs.List.{list_any};
 ghost use Rattle.imap_list.specs.Status as specs;
 ghost use Rattle.imap_print.specs.Lines.{IsPrintable};
 
-use imap_answer::{Answer, Call, missing_right_refusal};
+use imap_answer::{Answer, CommandContext, missing_right_refusal};
 use imap_lex::Octets;
 use imap_names::Name;
 use imap_print::{EnabledCapabilities, Refusal, Response, StatusValue};
@@ -16,29 +16,33 @@ use std::alloc::{AllocError, Global};
 
 /// Answers STATUS of a mailbox, as it is named in the command.
 pub fn status_answer(
-    call: &Call<'_>,
+    context: &CommandContext<'_>,
     mailbox: &Octets,
     items: &Items<StatusItem>,
 ) -> Result<Answer, AllocError>
-    ensures { let meant = specs.status_answer call.now.view call.now.tag mailbox.now items.now in
+    ensures { let meant = specs.status_answer context.now.view context.now.tag mailbox.now items.now in
         IfOk result (λ answer. answer ≡ meant) }
 {
-    match call.name(mailbox)? {
-        Some(name) => status_of_name(call, &name, items.as_slice()),
-        None => call.refuse(Refusal::NonExistent),
+    match context.name(mailbox)? {
+        Some(name) => status_of_name(context, &name, items.as_slice()),
+        None => context.refuse(Refusal::NonExistent),
     }
 }
 
-fn status_of_name(call: &Call<'_>, name: &Name, items: &[StatusItem]) -> Result<Answer, AllocError>
-    ensures { let meant = specs.status_of_name call.now.view call.now.tag items.now name.now in
+fn status_of_name(
+    context: &CommandContext<'_>,
+    name: &Name,
+    items: &[StatusItem],
+) -> Result<Answer, AllocError>
+    ensures { let meant = specs.status_of_name context.now.view context.now.tag items.now name.now in
         IfOk result (λ answer. answer ≡ meant) }
 {
-    match status_line(call, name, items)? {
+    match status_line(context, name, items)? {
         Some(line) => {
-            let answer = call.done_after(vec![in call.alloc(); line]?)?;
+            let answer = context.done_after(vec![in context.alloc(); line]?)?;
             Ok(answer.enabling(enabled_by(items)))
         }
-        None => call.refuse(missing_right_refusal(call.view().rights(&name.as_ref()))),
+        None => context.refuse(missing_right_refusal(context.view().rights(&name.as_ref()))),
     }
 }
 
@@ -64,18 +68,18 @@ fn has_highest(items: &[StatusItem]) -> bool
 
 /// Returns the line with the numbers of the mailbox, or `None` if the user may not read it.
 pub(crate) fn status_line(
-    call: &Call<'_>,
+    context: &CommandContext<'_>,
     name: &Name,
     items: &[StatusItem],
 ) -> Result<Option<Response>, AllocError>
-    ensures line { IfOk result (λ line. line ≡ specs.status_in call.now.view items.now name.now) }
+    ensures line { IfOk result (λ line. line ≡ specs.status_in context.now.view items.now name.now) }
     ensures printable { IfOk result (λ line. IfSome line IsPrintable) }
 {
-    match call.view().readable(&name.as_ref()) {
+    match context.view().readable(&name.as_ref()) {
         Some(mailbox) => {
-            let values = status_values(call.alloc(), &mailbox, items)?;
+            let values = status_values(context.alloc(), &mailbox, items)?;
             Ok(Some(Response::Status {
-                mailbox: call.shown(name)?,
+                mailbox: context.shown(name)?,
                 items: Items::from_vec(values),
             }))
         }

@@ -26,8 +26,9 @@ use Rattle.imap_view.specs.declared.readable.Readable.{Readable}
 use Rattle.imap_view.specs.Readable.{readable_in}
 use Rattle.imap_view.specs.Seen.{Seen}
 use Rattle.imap_view.specs.View.{View, rights_in}
-use Rattle.imap_messages.specs.Append.{Append, append_answer, append_code, append_message, append_to_name, append_to_seen, appends, batch_of, is_full, message_of}
-use Rattle.imap_messages.specs.Fetch.{Fetch, enabled_by, fetch_answer, fetch_if_readable, fetch_if_selected, fetched_lines, fetched_uids, is_impossible, is_malformed, messages_of, sets_seen}
+use Rattle.imap_batch.specs.Batch.{adding}
+use Rattle.imap_messages.specs.Append.{AppendArguments, append_answer, append_code, append_message, append_to_name, append_to_seen, appends, is_full, message_of}
+use Rattle.imap_messages.specs.Fetch.{FetchArguments, enabled_by, fetch_answer, fetch_if_readable, fetch_if_selected, fetched_lines, fetched_uids, is_impossible, is_malformed, messages_of, sets_seen}
 use Rattle.imap_messages.specs.Fetched.{Wanted, wanted_of}
 use Rattle.imap_targets.specs.declared.message_numbers.Numbered.{Numbered}
 use Rattle.imap_targets.specs.MessageNumbers.{is_by_uid, is_refused, row_with}
@@ -53,21 +54,21 @@ module _ (view : View) (tag : List ℕ) where
   append_by name seen is m false few true f = fits_alone view _ _ refl
   append_by name seen is m false few false room =
       fits_asking_there view tag (append_code seen) (appends view.user name m)
-      (λ viewed. (record { own = refl; possible = subst (IsPossibleAt (batch_of view.user m)) (sym is) (possible view viewed name seen m room is few) }, tt))
+      (λ viewed. (record { own = refl; possible = subst (IsPossibleAt (adding view.user (m ∷ []))) (sym is) (possible view viewed name seen m room is few) }, tt))
 
-  append_held : (at : Moment) (asked : Append) (name : Name) (seen : Seen) → map.get view.seen name ≡ Some seen → (held nul : Bool)
-      → IsFit view (cond (not held) (refusal tag (target_refusal view name)) (cond nul (refusal tag Cannot) (append_message view tag name seen (message_of seen.rights at asked))))
-  append_held at asked name seen is false nul = target_fits name
-  append_held at asked name seen is true true = fits_alone view _ _ refl
-  append_held at asked name seen is true false = append_by name seen is (message_of seen.rights at asked) _ refl _ refl
+  append_held : (at : Moment) (arguments : AppendArguments) (name : Name) (seen : Seen) → map.get view.seen name ≡ Some seen → (held nul : Bool)
+      → IsFit view (cond (not held) (refusal tag (target_refusal view name)) (cond nul (refusal tag Cannot) (append_message view tag name seen (message_of seen.rights at arguments))))
+  append_held at arguments name seen is false nul = target_fits name
+  append_held at arguments name seen is true true = fits_alone view _ _ refl
+  append_held at arguments name seen is true false = append_by name seen is (message_of seen.rights at arguments) _ refl _ refl
 
-  append_seen : (at : Moment) (asked : Append) (name : Name) (seen : Option Seen) → map.get view.seen name ≡ seen → IsFit view (append_to_seen view tag at asked name seen)
-  append_seen at asked name None is = target_fits name
-  append_seen at asked name (Some seen) is = append_held at asked name seen is (has_any seen.rights insert) (has_nul asked.message)
+  append_seen : (at : Moment) (arguments : AppendArguments) (name : Name) (seen : Option Seen) → map.get view.seen name ≡ seen → IsFit view (append_to_seen view tag at arguments name seen)
+  append_seen at arguments name None is = target_fits name
+  append_seen at arguments name (Some seen) is = append_held at arguments name seen is (has_any seen.rights insert) (has_nul arguments.message)
 
-  pub append_fits : (at : Moment) (asked : Append) → IsFit view (append_answer view tag at asked)
-  append_fits at asked =
-      fits_if_named view tag asked.mailbox (append_to_name view tag at asked) (λ name. append_seen at asked name (map.get view.seen name) refl)
+  pub append_fits : (at : Moment) (arguments : AppendArguments) → IsFit view (append_answer view tag at arguments)
+  append_fits at arguments =
+      fits_if_named view tag arguments.mailbox (append_to_name view tag at arguments) (λ name. append_seen at arguments name (map.get view.seen name) refl)
 
 -- ---- FETCH
 
@@ -87,46 +88,46 @@ module _ (test : Response → Bool) (fetch : (number : ℕ) (items : FetchedItem
       ∙ line_passes highest own m.number (lines_from wanted sets rows h o messages ++ rest) row
       ∙ lines_pass h o messages rest
 
-module _ (view : View) (tag : List ℕ) (enabled : EnabledCapabilities) (asked : Fetch) (s : Selection) where
+module _ (view : View) (tag : List ℕ) (enabled : EnabledCapabilities) (arguments : FetchArguments) (s : Selection) where
   messages_fit : (mailbox : Readable) (messages : List Numbered) → readable_in view s.name ≡ Some mailbox → (refused : Bool)
-      → IsFit view (cond refused (refusal tag ExpungeIssued) (telling (fetched_uids enabled asked (sets_seen view s asked) mailbox messages) (enabling (enabled_by asked.items)
-      (carried_out (fetched_lines enabled asked (sets_seen view s asked) mailbox messages) tag None (read_effect (sets_seen view s asked) view.user s.name messages mailbox.rows)))))
+      → IsFit view (cond refused (refusal tag ExpungeIssued) (telling (fetched_uids enabled arguments (sets_seen view s arguments) mailbox messages) (enabling (enabled_by arguments.items)
+      (carried_out (fetched_lines enabled arguments (sets_seen view s arguments) mailbox messages) tag None (read_effect (sets_seen view s arguments) view.user s.name messages mailbox.rows)))))
   messages_fit mailbox messages is true = fits_alone view _ _ refl
   messages_fit mailbox messages is false =
-      let sets = sets_seen view s asked in
-      let wanted = wanted_of (is_by_uid asked.numbering) enabled.condstore asked.items in
-      let answer = carried_out (fetched_lines enabled asked sets mailbox messages) tag None (read_effect sets view.user s.name messages mailbox.rows) in
+      let sets = sets_seen view s arguments in
+      let wanted = wanted_of (is_by_uid arguments.numbering) enabled.condstore arguments.items in
+      let answer = carried_out (fetched_lines enabled arguments sets mailbox messages) tag None (read_effect sets view.user s.name messages mailbox.rows) in
       let carried = lines_pass is_refusal (λ number items. refl) wanted sets mailbox.rows mailbox.highest mailbox.own messages (done_line tag ∷ []) in
-      fits_telling view (fetched_uids enabled asked sets mailbox messages) (enabling (enabled_by asked.items) answer)
-      (fits_enabling view (enabled_by asked.items) answer carried (record {
+      fits_telling view (fetched_uids enabled arguments sets mailbox messages) (enabling (enabled_by arguments.items) answer)
+      (fits_enabling view (enabled_by arguments.items) answer carried (record {
         asks = λ viewed. may_read view s.name messages mailbox viewed sets is;
         refused = λ e. absurd (true≢false (sym e ∙ carried));
         available = lines_pass is_unavailable (λ number items. refl) wanted sets mailbox.rows mailbox.highest mailbox.own messages (done_line tag ∷ []);
       }))
 
-  readable_fits : (mailbox : Option Readable) → readable_in view s.name ≡ mailbox → IsFit view (fetch_if_readable view enabled tag asked s mailbox)
+  readable_fits : (mailbox : Option Readable) → readable_in view s.name ≡ mailbox → IsFit view (fetch_if_readable view enabled tag arguments s mailbox)
   readable_fits None is = fits_alone view _ _ refl
   readable_fits (Some mailbox) is =
-      let messages = messages_of asked s.known mailbox in
-      messages_fit mailbox messages is (is_refused (is_by_uid asked.numbering) mailbox.rows messages)
+      let messages = messages_of arguments s.known mailbox in
+      messages_fit mailbox messages is (is_refused (is_by_uid arguments.numbering) mailbox.rows messages)
 
   selected_by : (malformed impossible : Bool)
-      → IsFit view (cond malformed (refusal tag Malformed) (cond impossible (refusal tag Cannot) (fetch_if_readable view enabled tag asked s (readable_in view s.name))))
+      → IsFit view (cond malformed (refusal tag Malformed) (cond impossible (refusal tag Cannot) (fetch_if_readable view enabled tag arguments s (readable_in view s.name))))
   selected_by true impossible = fits_alone view _ _ refl
   selected_by false true = fits_alone view _ _ refl
   selected_by false false = readable_fits (readable_in view s.name) refl
 
-pub fetch_fits : (view : View) (tag : List ℕ) (own : SessionState) (asked : Fetch) → IsFit view (fetch_answer view own tag asked)
-fetch_fits view tag own asked = by own.selected
+pub fetch_fits : (view : View) (tag : List ℕ) (own : SessionState) (arguments : FetchArguments) → IsFit view (fetch_answer view own tag arguments)
+fetch_fits view tag own arguments = by own.selected
   where
-    by : (s : Option Selection) → IsFit view (fetch_if_selected view own.enabled tag asked s)
+    by : (s : Option Selection) → IsFit view (fetch_if_selected view own.enabled tag arguments s)
     by None = fits_alone view _ _ refl
-    by (Some s) = selected_by view tag own.enabled asked s (is_malformed own.enabled (length s.known) asked) (is_impossible asked)
+    by (Some s) = selected_by view tag own.enabled arguments s (is_malformed own.enabled (length s.known) arguments) (is_impossible arguments)
 
 -- ---- alike
 
-pub append_alike : (tag : List ℕ) (at : Moment) (asked : Append) → AnswersAlike (λ view. append_answer view tag at asked)
-append_alike tag at asked = answers_alike (λ view. append_answer view tag at asked) (λ view. append_fits view tag at asked)
+pub append_alike : (tag : List ℕ) (at : Moment) (arguments : AppendArguments) → AnswersAlike (λ view. append_answer view tag at arguments)
+append_alike tag at arguments = answers_alike (λ view. append_answer view tag at arguments) (λ view. append_fits view tag at arguments)
 
-pub fetch_alike : (own : SessionState) (tag : List ℕ) (asked : Fetch) → AnswersAlike (λ view. fetch_answer view own tag asked)
-fetch_alike own tag asked = answers_alike (λ view. fetch_answer view own tag asked) (λ view. fetch_fits view tag own asked)
+pub fetch_alike : (own : SessionState) (tag : List ℕ) (arguments : FetchArguments) → AnswersAlike (λ view. fetch_answer view own tag arguments)
+fetch_alike own tag arguments = answers_alike (λ view. fetch_answer view own tag arguments) (λ view. fetch_fits view tag own arguments)

@@ -2,7 +2,7 @@
 use Rattle.std.proofs.Common.{◌≡◌, ℕ, ◌+◌, ◌<◌, ◌≤◌, Bool, true, false, cond, ◌||◌, ◌&&◌, not, List, [], ◌∷◌, ◌++◌, filter, map, eqb, Option, Some, None, refl, sym, ap, subst, ◌∙◌, arith}
 use Rattle.std.specs.List.{list_any}
 use Rattle.std.proofs.lemmas.Bool.{ne_eqb, eqb-true, eq-eqb}
-use Rattle.imap_batch.specs.declared.batch.Mark.{Mark}
+use Rattle.imap_batch.specs.declared.batch.FlagUpdate.{FlagUpdate}
 use Rattle.imap_mailbox.specs.Lent.{row_uids}
 use Rattle.imap_mailbox.specs.Rows.{Row}
 use Rattle.imap_mailbox.specs.Summary.{Rises}
@@ -13,7 +13,8 @@ use Rattle.imap_messages.specs.Found.{marks_named}
 use Rattle.imap_targets.specs.declared.message_numbers.Numbered.{Numbered}
 use Rattle.imap_targets.specs.MessageNumbers.{row_with, uids_of}
 use Rattle.imap_targets.proofs.Named.{row_below}
-use Rattle.imap_messages.specs.Reading.{count_after, is_set, is_unread, mark_effect, marks_if_there, read_effect, seen_mark, seen_marks, uid_told, uids_told}
+use Rattle.imap_messages.specs.Reading.{count_after, is_set, is_unread, marks_if_there, read_effect, seen_mark, seen_marks, uid_told, uids_told}
+use Rattle.imap_targets.specs.Effects.{marking_effect}
 
 -- ---- one message that is named before others, whose UIDs are greater
 
@@ -53,7 +54,7 @@ module _ (m : Numbered) (messages : List Numbered) where
       λ j. cond (same j) (r ∷ rest j) (rest j)
 
   module _ (top high : ℕ) (up : Rises (m.uid + 1) top (uids_of messages)) (r : Row) (rows : List Row) (h : Rises (r.uid + 1) high (row_uids rows)) where
-    abbrev marks : Bool → List Numbered → List Mark
+    abbrev marks : Bool → List Numbered → List FlagUpdate
     marks b ms = map seen_mark (cond b (r ∷ filter (is_unread ms) rows) (filter (is_unread ms) rows))
 
     unnamed : m.uid ≡ r.uid → (x : Bool) → names_uid r.uid messages ≡ x → x ≡ false
@@ -112,9 +113,9 @@ no_marks rows (m ∷ messages) = ap (λ ms. ms ++ marks_named false rows message
     by (Some r) = refl
 
 pub reading_is : (sets : Bool) (user : List ℕ) (name : Name) (top low high less : ℕ) (messages : List Numbered) (rows : List Row) → Rises less top (uids_of messages) → Rises low high (row_uids rows)
-    → mark_effect user name (marks_named sets rows messages) ≡ read_effect sets user name messages rows
-reading_is true user name top low high less messages rows up h = ap (mark_effect user name) (marks_are top low high less messages rows up h)
-reading_is false user name top low high less messages rows up h = ap (mark_effect user name) (no_marks rows messages)
+    → marking_effect user name (marks_named sets rows messages) ≡ read_effect sets user name messages rows
+reading_is true user name top low high less messages rows up h = ap (marking_effect user name) (marks_are top low high less messages rows up h)
+reading_is false user name top low high less messages rows up h = ap (marking_effect user name) (no_marks rows messages)
 
 -- ---- UIDs that are told
 

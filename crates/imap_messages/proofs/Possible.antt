@@ -16,7 +16,8 @@ use Rattle.imap_world.specs.Mailbox.{Mailbox}
 use Rattle.imap_view.specs.Seen.{Seen, is_root, owner_of, rights_shown, seen_at, seen_by_rights}
 use Rattle.imap_view.specs.View.{View}
 use Rattle.imap_view.proofs.Views.{get_seen}
-use Rattle.imap_messages.specs.Append.{batch_of, is_full}
+use Rattle.imap_batch.specs.Batch.{adding}
+use Rattle.imap_messages.specs.Append.{is_full}
 
 -- ---- one mailbox
 
@@ -26,7 +27,7 @@ has_room (Some zero) full = absurd (true≢false full)
 has_room (Some (suc n)) full = omega arith
 
 module _ (user : List ℕ) (most : ℕ) (s : Summary) (m : NewMessage) (few : s.shared ≤ max_events) where
-  can_change : (p x : Bool) → HasRoomToAdd 1 (cond x (Some (room_of most s)) None) → CanChange (batch_of user m) (cond p (Some (content_of user s)) None)
+  can_change : (p x : Bool) → HasRoomToAdd 1 (cond x (Some (room_of most s)) None) → CanChange (adding user (m ∷ [])) (cond p (Some (content_of user s)) None)
   can_change false x room = (refl, refl)
   can_change true true room =
       let left : s.shared + 1 ≤ max_events = omega (arith, room, few) in
@@ -45,21 +46,21 @@ module _ (view : View) (viewed : IsViewed view) (name : Name) (seen : Seen) (m :
   abbrev shows : Mailbox → Seen
   shows mailbox = seen_by_rights view.site view.user (rights_on mailbox) mailbox
 
-  by_tests : (mailbox : Mailbox) → mailbox.messages.shared ≤ max_events → (root visible : Bool) → cond root None (cond visible (Some (shows mailbox)) None) ≡ Some seen → CanChange (batch_of view.user m) seen.messages.content
+  by_tests : (mailbox : Mailbox) → mailbox.messages.shared ≤ max_events → (root visible : Bool) → cond root None (cond visible (Some (shows mailbox)) None) ≡ Some seen → CanChange (adding view.user (m ∷ [])) seen.messages.content
   by_tests mailbox few true visible e = absurd (cc e)
   by_tests mailbox few false false e = absurd (cc e)
   by_tests mailbox few false true e =
       let same = some_one (shows mailbox) seen e in
       let r = rights_shown (rights_on mailbox) in
-      subst (λ (k : Seen). CanChange (batch_of view.user m) k.messages.content) same
+      subst (λ (k : Seen). CanChange (adding view.user (m ∷ [])) k.messages.content) same
       (can_change view.user view.site.limits.max_messages mailbox.messages m few (r.read || r.admin) (r.read || (r.insert || r.admin))
       (subst (λ (k : Seen). HasRoomToAdd 1 k.messages.room) (sym same) (has_room seen.messages.room room)))
 
-  by_mailbox : (o : Option Mailbox) → map.get viewed.world.mailboxes name ≡ o → option_and_then (seen_at view.site view.user name) o ≡ Some seen → CanChange (batch_of view.user m) seen.messages.content
+  by_mailbox : (o : Option Mailbox) → map.get viewed.world.mailboxes name ≡ o → option_and_then (seen_at view.site view.user name) o ≡ Some seen → CanChange (adding view.user (m ∷ [])) seen.messages.content
   by_mailbox None there e = absurd (cc e)
   by_mailbox (Some mailbox) there e = by_tests mailbox (viewed.kept.at name mailbox there).few (is_root name) (has_any (rights_on mailbox) visible_rights) e
 
-  pub possible : map.get view.seen name ≡ Some seen → has_too_many m.flags ≡ false → IsPossible (batch_of view.user m) seen.messages
+  pub possible : map.get view.seen name ≡ Some seen → has_too_many m.flags ≡ false → IsPossible (adding view.user (m ∷ [])) seen.messages
   possible is few = record {
     keywords = ap (λ b. (not b && true) && true) few;
     room = has_room seen.messages.room room;

@@ -3,7 +3,7 @@ use Rattle.std.proofs.Common.{◌≡◌, ℕ, ◌+◌, ◌≤◌, Bool, true, fa
 use Rattle.std.specs.List.{list_all}
 use Rattle.imap_answer.specs.Fit.{IsViewed, MayBeAsked}
 use Rattle.imap_batch.specs.declared.batch.Batch.{Batch}
-use Rattle.imap_batch.specs.declared.batch.Mark.{Mark}
+use Rattle.imap_batch.specs.declared.batch.FlagUpdate.{FlagUpdate}
 use Rattle.imap_batch.specs.Batch.{are_few, are_known, flag_count, mark_uids}
 use Rattle.imap_mailbox.specs.Lent.{row_uids}
 use Rattle.imap_mailbox.specs.Rows.{Row}
@@ -13,7 +13,8 @@ use Rattle.imap_targets.proofs.Possible.{ChangesRows, chosen_known, may_change, 
 use Rattle.imap_view.specs.declared.readable.Readable.{Readable}
 use Rattle.imap_view.specs.Readable.{readable_in}
 use Rattle.imap_view.specs.View.{View}
-use Rattle.imap_messages.specs.Reading.{is_unread, mark_effect, read_effect, seen_mark, seen_marks}
+use Rattle.imap_messages.specs.Reading.{is_unread, read_effect, seen_mark, seen_marks}
+use Rattle.imap_targets.specs.Effects.{marking_effect}
 
 -- ---- marks of rows
 
@@ -22,7 +23,7 @@ uids_of_marks [] = refl
 uids_of_marks (r ∷ rows) = ap (λ uids. r.uid ∷ uids) (uids_of_marks rows)
 
 module _ (messages : List Numbered) where
-  abbrev chosen : Bool → Row → List Row → List Mark
+  abbrev chosen : Bool → Row → List Row → List FlagUpdate
   chosen b r rows = map seen_mark (cond b (r ∷ filter (is_unread messages) rows) (filter (is_unread messages) rows))
 
   no_flags : (rows : List Row) → flag_count (seen_marks messages rows) ≡ 0
@@ -33,11 +34,11 @@ module _ (messages : List Numbered) where
       by true e = ap (λ n. 0 + n) e
       by false e = e
 
-  few_keywords : (rows : List Row) → list_all (λ (k : Mark). are_few k.flags) (seen_marks messages rows) ≡ true
+  few_keywords : (rows : List Row) → list_all (λ (k : FlagUpdate). are_few k.flags) (seen_marks messages rows) ≡ true
   few_keywords [] = refl
   few_keywords (r ∷ rows) = by (is_unread messages r) (few_keywords rows)
     where
-      by : (b : Bool) → list_all (λ (k : Mark). are_few k.flags) (seen_marks messages rows) ≡ true → list_all (λ (k : Mark). are_few k.flags) (chosen b r rows) ≡ true
+      by : (b : Bool) → list_all (λ (k : FlagUpdate). are_few k.flags) (seen_marks messages rows) ≡ true → list_all (λ (k : FlagUpdate). are_few k.flags) (chosen b r rows) ≡ true
       by true e = e
       by false e = e
 
@@ -47,7 +48,7 @@ none_shared n left none = omega (arith, none)
 
 -- ---- what is asked
 
-abbrev batch_with : List ℕ → List Mark → Batch
+abbrev batch_with : List ℕ → List FlagUpdate → Batch
 batch_with user marks = record { user = user; added = []; marks = marks; expunged = [] }
 
 module _ (view : View) (name : Name) (messages : List Numbered) (mailbox : Readable) (viewed : IsViewed view) (e : readable_in view name ≡ Some mailbox) where
@@ -65,11 +66,11 @@ module _ (view : View) (name : Name) (messages : List Numbered) (mailbox : Reada
         expunged = refl;
       }
 
-  by_marks : (marks : List Mark) → seen_marks messages mailbox.rows ≡ marks → MayBeAsked view (mark_effect view.user name marks)
+  by_marks : (marks : List FlagUpdate) → seen_marks messages mailbox.rows ≡ marks → MayBeAsked view (marking_effect view.user name marks)
   by_marks [] is = tt
   by_marks (k ∷ marks) is = (
     may_change view viewed name mailbox (batch_with view.user (k ∷ marks))
-        (subst (λ (ms : List Mark). ChangesRows (batch_with view.user ms) mailbox) is changes) e refl,
+        (subst (λ (ms : List FlagUpdate). ChangesRows (batch_with view.user ms) mailbox) is changes) e refl,
     tt,
   )
 

@@ -3,7 +3,7 @@ use Rattle.std.specs.Prelude.{ℕ, Bool, true, not, ◌==◌, List, [], ◌∷�
 use Rattle.std.specs.FinMap as map
 use Rattle.imap_answer.specs.Answer.{Answer, done_with_code, refusal}
 use Rattle.imap_answer.specs.Name.{if_named}
-use Rattle.imap_batch.specs.declared.batch.Batch.{Batch}
+use Rattle.imap_batch.specs.Batch.{adding}
 use Rattle.imap_batch.specs.declared.batch.NewMessage.{NewMessage}
 use Rattle.imap_mailbox.specs.Flags.{has_too_many}
 use Rattle.imap_mailbox.specs.Shown.{Content}
@@ -18,12 +18,12 @@ use Rattle.imap_syntax.specs.Moments.{Moment}
 use Rattle.imap_view.specs.Seen.{Seen}
 use Rattle.imap_view.specs.View.{View}
 use Rattle.imap_world.specs.declared.effect.Effect.{Effect}
-use Rattle.imap_world.specs.declared.effect.Effect.TheVariants as effect
+use Rattle.imap_targets.specs.Effects.{batch_effect}
 use Rattle.imap_targets.specs.NewFlags.{is_new_seen, new_flags}
 use Rattle.imap_targets.specs.Target.{target_refusal}
 
 -- the arguments of APPEND
-pub record Append : Type 0 where
+pub record AppendArguments : Type 0 where
   pub mailbox : List ℕ
   pub flags : List Flag
   pub date : Option Moment
@@ -39,19 +39,16 @@ abbrev pub date_or : Option Moment → Moment → Moment
 date_or (Some date) at = date
 date_or None at = at
 
-abbrev pub message_of : (rights : ℕ) → (at : Moment) → Append → NewMessage
-message_of rights at asked = record {
-  date = date_or asked.date at;
-  octets = asked.message;
-  flags = new_flags rights asked.flags;
-  seen = is_new_seen rights asked.flags;
+abbrev pub message_of : (rights : ℕ) → (at : Moment) → AppendArguments → NewMessage
+message_of rights at arguments = record {
+  date = date_or arguments.date at;
+  octets = arguments.message;
+  flags = new_flags rights arguments.flags;
+  seen = is_new_seen rights arguments.flags;
 }
 
-abbrev pub batch_of : (user : List ℕ) → NewMessage → Batch
-batch_of user message = record { user = user; added = message ∷ []; marks = []; expunged = [] }
-
 abbrev pub appends : (user : List ℕ) → Name → NewMessage → Effect
-appends user name message = effect.Messages (record { name = name; batch = batch_of user message }) None
+appends user name message = batch_effect name (adding user (message ∷ []))
 
 -- ---- the response code APPENDUID
 
@@ -71,15 +68,17 @@ append_message view tag name seen message =
     else if is_full seen.messages.room then refusal tag OverQuota
     else done_with_code tag (append_code seen) (appends view.user name message)
 
-abbrev pub append_to_seen : View → (tag : List ℕ) → (at : Moment) → Append → Name → Option Seen → Answer
-append_to_seen view tag at asked name None = refusal tag (target_refusal view name)
-append_to_seen view tag at asked name (Some seen) =
+abbrev pub append_to_seen : View → (tag : List ℕ) → (at : Moment) → AppendArguments → Name → Option Seen →
+    Answer
+append_to_seen view tag at arguments name None = refusal tag (target_refusal view name)
+append_to_seen view tag at arguments name (Some seen) =
     if not (has_any seen.rights insert) then refusal tag (target_refusal view name)
-    else if has_nul asked.message then refusal tag Cannot
-    else append_message view tag name seen (message_of seen.rights at asked)
+    else if has_nul arguments.message then refusal tag Cannot
+    else append_message view tag name seen (message_of seen.rights at arguments)
 
-abbrev pub append_to_name : View → (tag : List ℕ) → (at : Moment) → Append → Name → Answer
-append_to_name view tag at asked name = append_to_seen view tag at asked name (map.get view.seen name)
+abbrev pub append_to_name : View → (tag : List ℕ) → (at : Moment) → AppendArguments → Name → Answer
+append_to_name view tag at arguments name = append_to_seen view tag at arguments name (map.get view.seen name)
 
-abbrev pub append_answer : View → (tag : List ℕ) → (at : Moment) → Append → Answer
-append_answer view tag at asked = if_named view tag asked.mailbox (append_to_name view tag at asked)
+abbrev pub append_answer : View → (tag : List ℕ) → (at : Moment) → AppendArguments → Answer
+append_answer view tag at arguments =
+    if_named view tag arguments.mailbox (append_to_name view tag at arguments)

@@ -26,7 +26,7 @@ use Rattle.imap_targets.specs.MessageNumbers.{has_known_numbers, is_by_uid, is_r
 use Rattle.imap_messages.specs.Reading.{lines_from, read_effect, uids_told}
 
 -- the arguments of FETCH
-pub record Fetch : Type 0 where
+pub record FetchArguments : Type 0 where
   pub numbering : Numbering
   pub messages : MessageSet
   pub items : List FetchItem
@@ -36,14 +36,14 @@ pub record Fetch : Type 0 where
 -- ---- what is malformed
 
 -- VANISHED is for UID FETCH with CHANGEDSINCE, once QRESYNC is enabled (RFC 7162, section 3.2.6)
-abbrev pub may_ask_vanished : EnabledCapabilities → Fetch → Bool
-may_ask_vanished enabled asked =
-    enabled.qresync && (is_by_uid asked.numbering && is_some asked.changed_since)
+abbrev pub may_ask_vanished : EnabledCapabilities → FetchArguments → Bool
+may_ask_vanished enabled arguments =
+    enabled.qresync && (is_by_uid arguments.numbering && is_some arguments.changed_since)
 
-abbrev pub is_malformed : EnabledCapabilities → (count : ℕ) → Fetch → Bool
-is_malformed enabled count asked =
-    (asked.vanished && not (may_ask_vanished enabled asked))
-    || not (has_known_numbers asked.numbering count asked.messages)
+abbrev pub is_malformed : EnabledCapabilities → (count : ℕ) → FetchArguments → Bool
+is_malformed enabled count arguments =
+    (arguments.vanished && not (may_ask_vanished enabled arguments))
+    || not (has_known_numbers arguments.numbering count arguments.messages)
 
 -- ---- what can't be done
 
@@ -52,9 +52,9 @@ is_unserved item.Unserved = true
 is_unserved _ = false
 
 -- items that aren't served; `$`; and CHANGEDSINCE, which isn't built yet
-abbrev pub is_impossible : Fetch → Bool
-is_impossible asked =
-    list_any is_unserved asked.items || (is_saved asked.messages || is_some asked.changed_since)
+abbrev pub is_impossible : FetchArguments → Bool
+is_impossible arguments =
+    list_any is_unserved arguments.items || (is_saved arguments.messages || is_some arguments.changed_since)
 
 -- ---- what sets \Seen
 
@@ -64,9 +64,9 @@ is_reading (item.Section body) = not body.peek
 is_reading _ = false
 
 -- one who holds `s` sets it, unless the mailbox is examined
-abbrev pub sets_seen : View → Selection → Fetch → Bool
-sets_seen view s asked =
-    list_any is_reading asked.items && (not s.read_only && has_any (rights_in view s.name) seen)
+abbrev pub sets_seen : View → Selection → FetchArguments → Bool
+sets_seen view s arguments =
+    list_any is_reading arguments.items && (not s.read_only && has_any (rights_in view s.name) seen)
 
 -- ---- the answer
 
@@ -78,46 +78,48 @@ is_mod_seq _ = false
 abbrev pub enabled_by : List FetchItem → EnabledCapabilities
 enabled_by items = record { condstore = list_any is_mod_seq items; imap4rev2 = false; qresync = false }
 
-abbrev pub messages_of : Fetch → List KnownMessage → Readable → List Numbered
-messages_of asked known mailbox =
-    messages_named asked.numbering mailbox.next_uid (ranges_of asked.messages) known
+abbrev pub messages_of : FetchArguments → List KnownMessage → Readable → List Numbered
+messages_of arguments known mailbox =
+    messages_named arguments.numbering mailbox.next_uid (ranges_of arguments.messages) known
 
-abbrev pub fetched_lines : EnabledCapabilities → Fetch → (sets : Bool) → Readable → List Numbered →
+abbrev pub fetched_lines : EnabledCapabilities → FetchArguments → (sets : Bool) → Readable → List Numbered →
     List Response
-fetched_lines enabled asked sets mailbox messages =
-    let wanted = wanted_of (is_by_uid asked.numbering) enabled.condstore asked.items in
+fetched_lines enabled arguments sets mailbox messages =
+    let wanted = wanted_of (is_by_uid arguments.numbering) enabled.condstore arguments.items in
     lines_from wanted sets mailbox.rows mailbox.highest mailbox.own messages
 
-abbrev pub fetched_uids : EnabledCapabilities → Fetch → (sets : Bool) → Readable → List Numbered → List ℕ
-fetched_uids enabled asked sets mailbox messages =
-    let wanted = wanted_of (is_by_uid asked.numbering) enabled.condstore asked.items in
+abbrev pub fetched_uids : EnabledCapabilities → FetchArguments → (sets : Bool) → Readable → List Numbered →
+    List ℕ
+fetched_uids enabled arguments sets mailbox messages =
+    let wanted = wanted_of (is_by_uid arguments.numbering) enabled.condstore arguments.items in
     uids_told wanted sets mailbox.rows mailbox.own messages
 
-abbrev pub fetch_messages : View → EnabledCapabilities → (tag : List ℕ) → Fetch → Selection → Readable →
-    List Numbered → Answer
-fetch_messages view enabled tag asked s mailbox messages =
-    let sets = sets_seen view s asked in
-    if is_refused (is_by_uid asked.numbering) mailbox.rows messages then refusal tag ExpungeIssued
-    else telling (fetched_uids enabled asked sets mailbox messages)
-    (enabling (enabled_by asked.items)
-    (carried_out (fetched_lines enabled asked sets mailbox messages) tag None
+abbrev pub fetch_messages : View → EnabledCapabilities → (tag : List ℕ) → FetchArguments → Selection →
+    Readable → List Numbered → Answer
+fetch_messages view enabled tag arguments s mailbox messages =
+    let sets = sets_seen view s arguments in
+    if is_refused (is_by_uid arguments.numbering) mailbox.rows messages then refusal tag ExpungeIssued
+    else telling (fetched_uids enabled arguments sets mailbox messages)
+    (enabling (enabled_by arguments.items)
+    (carried_out (fetched_lines enabled arguments sets mailbox messages) tag None
     (read_effect sets view.user s.name messages mailbox.rows)))
 
-abbrev pub fetch_if_readable : View → EnabledCapabilities → (tag : List ℕ) → Fetch → Selection →
+abbrev pub fetch_if_readable : View → EnabledCapabilities → (tag : List ℕ) → FetchArguments → Selection →
     Option Readable → Answer
-fetch_if_readable view enabled tag asked s None = refusal tag NonExistent
-fetch_if_readable view enabled tag asked s (Some mailbox) =
-    fetch_messages view enabled tag asked s mailbox (messages_of asked s.known mailbox)
+fetch_if_readable view enabled tag arguments s None = refusal tag NonExistent
+fetch_if_readable view enabled tag arguments s (Some mailbox) =
+    fetch_messages view enabled tag arguments s mailbox (messages_of arguments s.known mailbox)
 
-abbrev pub fetch_selected : View → EnabledCapabilities → (tag : List ℕ) → Fetch → Selection → Answer
-fetch_selected view enabled tag asked s =
-    if is_malformed enabled (length s.known) asked then refusal tag Malformed
-    else if is_impossible asked then refusal tag Cannot
-    else fetch_if_readable view enabled tag asked s (readable_in view s.name)
+abbrev pub fetch_selected : View → EnabledCapabilities → (tag : List ℕ) → FetchArguments → Selection → Answer
+fetch_selected view enabled tag arguments s =
+    if is_malformed enabled (length s.known) arguments then refusal tag Malformed
+    else if is_impossible arguments then refusal tag Cannot
+    else fetch_if_readable view enabled tag arguments s (readable_in view s.name)
 
-abbrev pub fetch_if_selected : View → EnabledCapabilities → (tag : List ℕ) → Fetch → Option Selection → Answer
-fetch_if_selected view enabled tag asked None = refusal tag WrongState
-fetch_if_selected view enabled tag asked (Some s) = fetch_selected view enabled tag asked s
+abbrev pub fetch_if_selected : View → EnabledCapabilities → (tag : List ℕ) → FetchArguments →
+    Option Selection → Answer
+fetch_if_selected view enabled tag arguments None = refusal tag WrongState
+fetch_if_selected view enabled tag arguments (Some s) = fetch_selected view enabled tag arguments s
 
-abbrev pub fetch_answer : View → SessionState → (tag : List ℕ) → Fetch → Answer
-fetch_answer view own tag asked = fetch_if_selected view own.enabled tag asked own.selected
+abbrev pub fetch_answer : View → SessionState → (tag : List ℕ) → FetchArguments → Answer
+fetch_answer view own tag arguments = fetch_if_selected view own.enabled tag arguments own.selected

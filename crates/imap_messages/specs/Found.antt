@@ -1,7 +1,7 @@
 -- What a FETCH finds along the messages that a session knows.
 use Rattle.std.specs.Prelude.{◌≡◌, ℕ, ◌+◌, ◌<◌, ◌≤◌, Bool, true, List, [], length, drop, flat_map, slice_index_or}
 use Rattle.std.specs.List.{AllByRecursion}
-use Rattle.imap_batch.specs.declared.batch.Mark.{Mark}
+use Rattle.imap_batch.specs.declared.batch.FlagUpdate.{FlagUpdate}
 use Rattle.imap_mailbox.specs.declared.known.KnownMessage.{KnownMessage}
 use Rattle.imap_mailbox.specs.Rows.{Row}
 use Rattle.imap_print.specs.Lines.{IsPrintable}
@@ -19,7 +19,7 @@ use Rattle.imap_messages.specs.Reading.{lines_from, marks_if_there, uids_told}
 -- ---- what is found
 
 -- in the order of the messages
-abbrev pub marks_named : (sets : Bool) → List Row → List Numbered → List Mark
+abbrev pub marks_named : (sets : Bool) → List Row → List Numbered → List FlagUpdate
 marks_named sets rows messages = flat_map (λ m. marks_if_there sets (row_with m.uid rows)) messages
 
 pub record IsReading (wanted : Wanted) (sets : Bool) (mailbox : Readable) (messages : List Numbered)

@@ -2,17 +2,17 @@
 use Rattle.std.specs.Prelude.{◌≡◌, ℕ, ◌+◌, ◌==◌, Bool, true, false, not, ◌&&◌, ◌||◌, nat_lt, List, [], ◌∷◌, ◌++◌, filter, map}
 use Rattle.std.specs.Prelude.{Option, Some, None, if◌then◌else◌}
 use Rattle.std.specs.List.{AllByRecursion, list_any}
-use Rattle.imap_batch.specs.declared.batch.Mark.{Mark}
+use Rattle.imap_batch.specs.declared.batch.FlagUpdate.{FlagUpdate}
 use Rattle.imap_mailbox.specs.Rows.{Row}
 use Rattle.imap_modseq.specs.Numbers.{max_events}
 use Rattle.imap_names.specs.Name.{Name}
 use Rattle.imap_print.specs.declared.response.Response.{Response}
 use Rattle.imap_print.specs.Lines.{IsPrintable}
 use Rattle.imap_world.specs.declared.effect.Effect.{Effect}
-use Rattle.imap_world.specs.declared.effect.Effect.TheVariants as effect
 use Rattle.imap_messages.specs.declared.reading.Reading.{Reading}
 use Rattle.imap_messages.specs.Fetched.{Wanted, fetch_line}
 use Rattle.imap_targets.specs.declared.message_numbers.Numbered.{Numbered}
+use Rattle.imap_targets.specs.Effects.{marking_effect}
 use Rattle.imap_targets.specs.MessageNumbers.{row_with}
 
 -- ---- lines. The user made `own` changes of `\Seen`, and `highest` is HIGHESTMODSEQ
@@ -61,14 +61,14 @@ uids_told wanted sets rows own (m ∷ messages) =
 
 -- ---- what is found on the way
 
-abbrev pub seen_mark : Row → Mark
+abbrev pub seen_mark : Row → FlagUpdate
 seen_mark row = record { uid = row.uid; flags = None; seen = Some true }
 
 -- nothing, if it is set
-abbrev pub marks_of : (sets : Bool) → Row → List Mark
+abbrev pub marks_of : (sets : Bool) → Row → List FlagUpdate
 marks_of sets row = if sets && not row.seen then seen_mark row ∷ [] else []
 
-abbrev pub marks_if_there : (sets : Bool) → Option Row → List Mark
+abbrev pub marks_if_there : (sets : Bool) → Option Row → List FlagUpdate
 marks_if_there sets None = []
 marks_if_there sets (Some row) = marks_of sets row
 
@@ -89,16 +89,9 @@ abbrev pub is_unread : List Numbered → Row → Bool
 is_unread messages row = not row.seen && list_any (λ m. m.uid == row.uid) messages
 
 -- in the order of UIDs
-abbrev pub seen_marks : List Numbered → List Row → List Mark
+abbrev pub seen_marks : List Numbered → List Row → List FlagUpdate
 seen_marks messages rows = map seen_mark (filter (is_unread messages) rows)
-
-abbrev pub mark_effect : (user : List ℕ) → Name → List Mark → Option Effect
-mark_effect user name [] = None
-mark_effect user name (k ∷ marks) = Some (effect.Messages (record {
-  name = name;
-  batch = record { user = user; added = []; marks = k ∷ marks; expunged = [] };
-}) None)
 
 abbrev pub read_effect : (sets : Bool) → (user : List ℕ) → Name → List Numbered → List Row → Option Effect
 read_effect sets user name messages rows =
-    if sets then mark_effect user name (seen_marks messages rows) else None
+    if sets then marking_effect user name (seen_marks messages rows) else None

@@ -6,30 +6,31 @@ ghost use Rattle.imap_messages.specs.Append as specs;
 ghost use Rattle.imap_rights.specs.Rights.{bits};
 ghost use Rattle.imap_view.specs.Seen.{shown};
 
-use imap_answer::{Answer, Call};
+use imap_answer::{Answer, CommandContext};
 use imap_batch::{Batch, NewMessage};
 use imap_lex::Octets;
 use imap_mailbox::SharedFlags;
 use imap_names::{Name, UserName};
 use imap_print::{Code, Refusal};
 use imap_rights::Rights;
-use imap_syntax::{DateTime, Flags, Items, has_nul};
-use imap_targets::{is_new_seen, new_flags, target_refusal};
+use imap_syntax::{DateTime, Flags, has_nul};
+use imap_targets::{batch_effect, is_new_seen, new_flags, target_refusal};
+use imap_values::{beside, pushed};
 use imap_view::Seen;
-use imap_world::{Effect, NamedBatch};
+use imap_world::Effect;
 use std::alloc::{AllocError, Global};
 use std::marker::Model;
 
 /// The arguments of APPEND, as they stand in the command.
 #[derive(Drop)]
-pub struct Append<'a> {
+pub struct AppendArguments<'a> {
     pub mailbox: &'a Octets,
     pub flags: &'a Flags,
     pub date: Option<DateTime>,
     pub message: &'a Octets,
 }
 
-impl<'a> Model for Append<'a> {
+impl<'a> Model for AppendArguments<'a> {
     ghost use Rattle.std.specs.Prelude.{ℕ, List, Option, refl};
     ghost use Rattle.std.specs.Coded.{code_by, codes};
     ghost use Rattle.imap_messages.specs.Append as specs;
@@ -38,7 +39,7 @@ impl<'a> Model for Append<'a> {
     ghost use Rattle.imap_syntax.specs.declared.flag.Flag.{Flag};
     ghost use Rattle.imap_syntax.specs.Moments.{Moment};
 
-    ghost Value = { specs.Append };
+    ghost Value = { specs.AppendArguments };
 
     ghost coded = { code_by (List ℕ × (List Flag × (Option Moment × List ℕ)))
         (Prim.hlevel (codes, flag_row.coded, date_row.coded))
@@ -54,71 +55,79 @@ impl<'a> Model for Append<'a> {
 }
 
 /// Answers APPEND of a message.
-pub fn append_answer(call: &Call<'_>, asked: &Append<'_>) -> Result<Answer, AllocError>
-    ensures { let meant = specs.append_answer call.now.view call.now.tag call.now.at asked.now in
+pub fn append_answer(
+    context: &CommandContext<'_>,
+    arguments: &AppendArguments<'_>,
+) -> Result<Answer, AllocError>
+    ensures { let meant = specs.append_answer context.now.view context.now.tag context.now.at arguments.now in
         IfOk result (λ answer. answer ≡ meant) }
 {
-    match call.name(asked.mailbox)? {
-        Some(name) => append_to_name(call, asked, name),
-        None => call.refuse(Refusal::NonExistent),
+    match context.name(arguments.mailbox)? {
+        Some(name) => append_to_name(context, arguments, &name),
+        None => context.refuse(Refusal::NonExistent),
     }
 }
 
-fn append_to_name(call: &Call<'_>, asked: &Append<'_>, name: Name) -> Result<Answer, AllocError>
-    ensures { let meant = specs.append_to_name call.now.view call.now.tag call.now.at asked.now name in
-        IfOk result (λ answer. answer ≡ meant) }
+fn append_to_name(
+    context: &CommandContext<'_>,
+    arguments: &AppendArguments<'_>,
+    name: &Name,
+) -> Result<Answer, AllocError>
+    ensures { let answer = specs.append_to_name context.now.view context.now.tag context.now.at in
+        IfOk result (λ given. given ≡ answer arguments.now name.now) }
 {
-    match call.view().seen(&name.as_ref()) {
-        Some(seen) => append_to_seen(call, asked, name, &seen),
-        None => call.refuse(target_refusal(call.view(), &name)),
+    match context.view().seen(&name.as_ref()) {
+        Some(seen) => append_to_seen(context, arguments, name, &seen),
+        None => context.refuse(target_refusal(context.view(), name)),
     }
 }
 
 fn append_to_seen(
-    call: &Call<'_>,
-    asked: &Append<'_>,
-    name: Name,
+    context: &CommandContext<'_>,
+    arguments: &AppendArguments<'_>,
+    name: &Name,
     seen: &Seen<'_>,
 ) -> Result<Answer, AllocError>
-    ensures { let answer = specs.append_to_seen call.now.view call.now.tag call.now.at in
-        IfOk result (λ given. given ≡ answer asked.now name (Some (shown seen.now))) }
+    ensures { let answer = specs.append_to_seen context.now.view context.now.tag context.now.at in
+        IfOk result (λ given. given ≡ answer arguments.now name.now (Some (shown seen.now))) }
 {
     if !seen.rights().has_any(Rights::INSERT) {
-        return call.refuse(target_refusal(call.view(), &name));
+        return context.refuse(target_refusal(context.view(), name));
     }
-    if has_nul(asked.message.as_slice()) {
-        return call.refuse(Refusal::Cannot);
+    if has_nul(arguments.message.as_slice()) {
+        return context.refuse(Refusal::Cannot);
     }
-    match new_flags(call.alloc(), seen.rights(), asked.flags.as_slice())? {
-        Some(flags) => append_with_flags(call, asked, name, seen, flags),
-        None => call.refuse(Refusal::Limit),
+    match new_flags(context.alloc(), seen.rights(), arguments.flags.as_slice())? {
+        Some(flags) => append_with_flags(context, arguments, name, seen, flags),
+        None => context.refuse(Refusal::Limit),
     }
 }
 
 fn append_with_flags(
-    call: &Call<'_>,
-    asked: &Append<'_>,
-    name: Name,
+    context: &CommandContext<'_>,
+    arguments: &AppendArguments<'_>,
+    name: &Name,
     seen: &Seen<'_>,
     flags: SharedFlags,
 ) -> Result<Answer, AllocError>
-    requires flags { flags ≡ (specs.message_of (shown seen.now).rights call.now.at asked.now).flags }
+    requires flags { flags ≡ (specs.message_of (shown seen.now).rights context.now.at arguments.now).flags }
     requires few { has_too_many flags ≡ false }
-    ensures { let message = specs.message_of (shown seen.now).rights call.now.at asked.now in
-        let answer = specs.append_message call.now.view call.now.tag name (shown seen.now) message in
-        IfOk result (λ given. given ≡ answer) }
+    ensures { let message = specs.message_of (shown seen.now).rights context.now.at arguments.now in
+        let answer = specs.append_message context.now.view context.now.tag name.now in
+        IfOk result (λ given. given ≡ answer (shown seen.now) message) }
 {
     if is_full(seen.room()) {
-        return call.refuse(Refusal::OverQuota);
+        return context.refuse(Refusal::OverQuota);
     }
+    let (octets, flags) = beside(arguments.message.try_copy(), flags)?;
     let message = NewMessage {
-        date: asked.date.unwrap_or(call.at().date_time()),
-        octets: asked.message.try_copy()?,
+        date: arguments.date.unwrap_or(context.at().date_time()),
+        octets,
         flags,
-        seen: is_new_seen(seen.rights(), asked.flags.as_slice()),
+        seen: is_new_seen(seen.rights(), arguments.flags.as_slice()),
     };
-    let effect = appends(call.alloc(), call.view().user(), name, message)?;
-    call.done_with_code(append_code(seen), effect)
+    let effect = appends(context.alloc(), context.view().user(), name, message)?;
+    context.done_with_code(append_code(seen), effect)
 }
 
 fn is_full(room: Option<u64>) -> bool
@@ -133,19 +142,14 @@ fn is_full(room: Option<u64>) -> bool
 fn appends(
     alloc: Global,
     user: &UserName,
-    name: Name,
+    name: &Name,
     message: NewMessage,
 ) -> Result<Effect, AllocError>
-    ensures { IfOk result (λ effect. effect ≡ specs.appends user.now name message) }
+    ensures { IfOk result (λ effect. effect ≡ specs.appends user.now name.now message) }
 {
-    let user = user.try_copy()?;
-    let batch = Batch {
-        user,
-        added: Items::from_vec(vec![in alloc; message]?),
-        marks: Items::from_vec(Vec::new(alloc)),
-        expunged: Items::from_vec(Vec::new(alloc)),
-    };
-    Ok(Effect::Messages(NamedBatch { name, batch }, None))
+    let added = pushed(Vec::new(alloc), message)?;
+    let batch = Batch::adding(alloc, user, added)?;
+    batch_effect(name, batch)
 }
 
 /// The response code APPENDUID, which only one who may read is told.

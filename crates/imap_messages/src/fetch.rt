@@ -1,4 +1,7 @@
 //! FETCH and UID FETCH (RFC 9051, sections 6.4.5 and 6.4.9).
+//!
+//! The known messages between the first and the last of the set are tested, and each named one is looked up
+//! by halving: one message costs a few searches, `1,20000` a test of all between.
 
 ghost use Rattle.std.specs.Prelude.{◌≡◌, ◌≤◌, ◌&&◌, not, is_none, is_some, option_map, None, IfOk, IfSome};
 ghost use Rattle.std.specs.List.{AllByRecursion, list_any};
@@ -8,7 +11,7 @@ ghost use Rattle.imap_mailbox.specs.Lent.{row_shown, row_uids};
 ghost use Rattle.imap_mailbox.specs.Order.{AreRowsInOrder};
 ghost use Rattle.imap_messages.specs.Fetch as specs;
 ghost use Rattle.imap_messages.specs.Found.{IsReading};
-ghost use Rattle.imap_messages.specs.Reading.{mark_effect};
+ghost use Rattle.imap_targets.specs.Effects.{marking_effect};
 ghost use Rattle.imap_modseq.specs.Numbers.{max_events, max_number};
 ghost use Rattle.imap_targets.specs.MessageNumbers.{is_by_uid as by_uid_in, is_refused};
 ghost use Rattle.imap_targets.specs.Spans.{named_in};
@@ -18,9 +21,9 @@ ghost use Rattle.imap_session.specs.Held.{UidsRise};
 ghost use Rattle.imap_session.specs.State.{selection_of, state_of};
 ghost use Rattle.imap_view.specs.View.{rights_in};
 
-use crate::reading::{Reading, mark_effect};
+use crate::reading::Reading;
 use crate::wanted::Wanted;
-use imap_answer::{Answer, Call};
+use imap_answer::{Answer, CommandContext};
 use imap_mailbox::Row;
 use imap_names::Name;
 use imap_print::{EnabledCapabilities, Refusal};
@@ -30,15 +33,16 @@ use imap_session::{KnownList, Selected, Session};
 use imap_syntax::{Items, MessageSet, Numbering};
 use imap_targets::{
     MessageNumbers, RowFinder, has_known_numbers, is_by_uid, is_saved, known_count, last_of,
-    number_at, ranges_of,
+    marking_effect, number_at, ranges_of,
 };
+use imap_values::beside;
 use imap_view::{Readable, View};
 use std::alloc::{AllocError, Global};
 use std::marker::Model;
 
 /// The arguments of FETCH, as they stand in the command.
 #[derive(Drop)]
-pub struct Fetch<'a> {
+pub struct FetchArguments<'a> {
     pub numbering: Numbering,
     pub messages: &'a MessageSet,
     pub items: &'a Items<FetchItem>,
@@ -48,7 +52,7 @@ pub struct Fetch<'a> {
     pub vanished: bool,
 }
 
-impl<'a> Model for Fetch<'a> {
+impl<'a> Model for FetchArguments<'a> {
     ghost use Rattle.std.specs.Prelude.{ℕ, Bool, List, Option, refl};
     ghost use Rattle.std.specs.Coded.{code_by, codes};
     ghost use Rattle.imap_messages.specs.Fetch as specs;
@@ -59,7 +63,7 @@ impl<'a> Model for Fetch<'a> {
     ghost use Rattle.imap_syntax.specs.declared.set.MessageSet.{MessageSet};
     ghost use Rattle.imap_syntax.specs.declared.set.Numbering.{Numbering};
 
-    ghost Value = { specs.Fetch };
+    ghost Value = { specs.FetchArguments };
 
     ghost coded = { code_by (Numbering × (MessageSet × (List FetchItem × (Option ℕ × Bool))))
         (Prim.hlevel (codes, numbering_row.coded, messages_row.coded, item_row.coded))
@@ -85,60 +89,60 @@ impl<'a> Model for Fetch<'a> {
 /// session knows them. One that is named by its number and is gone refuses the command; UIDs of messages that
 /// are gone are passed over.
 pub fn fetch_answer(
-    call: &Call<'_>,
+    context: &CommandContext<'_>,
     session: &Session,
-    asked: &Fetch<'_>,
+    arguments: &FetchArguments<'_>,
 ) -> Result<Answer, AllocError>
-    ensures { let meant = specs.fetch_answer call.now.view (state_of session.now) call.now.tag asked.now in
-        IfOk result (λ answer. answer ≡ meant) }
+    ensures { let answer = specs.fetch_answer context.now.view (state_of session.now) context.now.tag in
+        IfOk result (λ given. given ≡ answer arguments.now) }
 {
     match &session.selected {
-        Some(selected) => fetch_selected(call, session.enabled, asked, selected),
-        None => call.refuse(Refusal::WrongState),
+        Some(selected) => fetch_selected(context, session.enabled, arguments, selected),
+        None => context.refuse(Refusal::WrongState),
     }
 }
 
 fn fetch_selected(
-    call: &Call<'_>,
+    context: &CommandContext<'_>,
     enabled: EnabledCapabilities,
-    asked: &Fetch<'_>,
+    arguments: &FetchArguments<'_>,
     selected: &Selected,
 ) -> Result<Answer, AllocError>
-    ensures { let answer = specs.fetch_selected call.now.view enabled call.now.tag asked.now in
+    ensures { let answer = specs.fetch_selected context.now.view enabled context.now.tag arguments.now in
         IfOk result (λ given. given ≡ answer (selection_of selected.now)) }
 {
-    if is_malformed(enabled, known_count(&selected.known), asked) {
-        return call.refuse(Refusal::Malformed);
+    if is_malformed(enabled, known_count(&selected.known), arguments) {
+        return context.refuse(Refusal::Malformed);
     }
-    if is_impossible(asked) {
-        return call.refuse(Refusal::Cannot);
+    if is_impossible(arguments) {
+        return context.refuse(Refusal::Cannot);
     }
-    match call.view().readable(&selected.name.as_ref()) {
-        Some(mailbox) => fetch_readable(call, enabled, asked, selected, &mailbox),
-        None => call.refuse(Refusal::NonExistent),
+    match context.view().readable(&selected.name.as_ref()) {
+        Some(mailbox) => fetch_readable(context, enabled, arguments, selected, &mailbox),
+        None => context.refuse(Refusal::NonExistent),
     }
 }
 
 /// Whether a number is that of no message, or VANISHED may not be asked for.
-fn is_malformed(enabled: EnabledCapabilities, count: u32, asked: &Fetch<'_>) -> bool
-    ensures { result ≡ specs.is_malformed enabled count asked.now }
+fn is_malformed(enabled: EnabledCapabilities, count: u32, arguments: &FetchArguments<'_>) -> bool
+    ensures { result ≡ specs.is_malformed enabled count arguments.now }
 {
-    (asked.vanished && !may_ask_vanished(enabled, asked))
-        || !has_known_numbers(asked.numbering, count, asked.messages)
+    (arguments.vanished && !may_ask_vanished(enabled, arguments))
+        || !has_known_numbers(arguments.numbering, count, arguments.messages)
 }
 
-fn may_ask_vanished(enabled: EnabledCapabilities, asked: &Fetch<'_>) -> bool
-    ensures { result ≡ specs.may_ask_vanished enabled asked.now }
+fn may_ask_vanished(enabled: EnabledCapabilities, arguments: &FetchArguments<'_>) -> bool
+    ensures { result ≡ specs.may_ask_vanished enabled arguments.now }
 {
-    enabled.qresync && (is_by_uid(asked.numbering) && asked.changed_since.is_some())
+    enabled.qresync && (is_by_uid(arguments.numbering) && arguments.changed_since.is_some())
 }
 
 /// Whether an item isn't served, or a modifier not built yet.
-fn is_impossible(asked: &Fetch<'_>) -> bool
-    ensures { result ≡ specs.is_impossible asked.now }
+fn is_impossible(arguments: &FetchArguments<'_>) -> bool
+    ensures { result ≡ specs.is_impossible arguments.now }
 {
-    has_unserved(asked.items.as_slice())
-        || (is_saved(asked.messages) || asked.changed_since.is_some())
+    has_unserved(arguments.items.as_slice())
+        || (is_saved(arguments.messages) || arguments.changed_since.is_some())
 }
 
 fn has_unserved(items: &[FetchItem]) -> bool
@@ -155,10 +159,10 @@ fn is_reading(items: &[FetchItem]) -> bool
 }
 
 /// Whether the command sets `\Seen` of the messages.
-fn sets_seen(view: &View<'_>, selected: &Selected, asked: &Fetch<'_>) -> bool
-    ensures { result ≡ specs.sets_seen view.now (selection_of selected.now) asked.now }
+fn sets_seen(view: &View<'_>, selected: &Selected, arguments: &FetchArguments<'_>) -> bool
+    ensures { result ≡ specs.sets_seen view.now (selection_of selected.now) arguments.now }
 {
-    is_reading(asked.items.as_slice()) && may_set_seen(view, selected)
+    is_reading(arguments.items.as_slice()) && may_set_seen(view, selected)
 }
 
 /// Whether the user may set `\Seen` of messages of the selected mailbox.
@@ -170,9 +174,9 @@ fn may_set_seen(view: &View<'_>, selected: &Selected) -> bool
 }
 
 fn fetch_readable(
-    call: &Call<'_>,
+    context: &CommandContext<'_>,
     enabled: EnabledCapabilities,
-    asked: &Fetch<'_>,
+    arguments: &FetchArguments<'_>,
     selected: &Selected,
     mailbox: &Readable<'_>,
 ) -> Result<Answer, AllocError>
@@ -180,46 +184,47 @@ fn fetch_readable(
     requires few { mailbox.now.own ≤ max_events }
     requires bounded { mailbox.now.highest ≤ max_number }
     ensures { let s = selection_of selected.now in
-        let answer = specs.fetch_messages call.now.view enabled call.now.tag asked.now s mailbox.now in
-        IfOk result (λ given. given ≡ answer (specs.messages_of asked.now s.known mailbox.now)) }
+        let answer = specs.fetch_messages context.now.view enabled context.now.tag arguments.now s in
+        let messages = specs.messages_of arguments.now s.known mailbox.now in
+        IfOk result (λ given. given ≡ answer mailbox.now messages) }
 {
-    let by_uid = is_by_uid(asked.numbering);
+    let by_uid = is_by_uid(arguments.numbering);
     let wanted = Wanted::of_items(
-        call.alloc(),
+        context.alloc(),
         by_uid,
         enabled.condstore,
-        asked.items.as_slice(),
+        arguments.items.as_slice(),
     )?;
     let messages = MessageNumbers {
-        numbering: asked.numbering,
-        last: last_of(asked.numbering, mailbox.next_uid, &selected.known),
-        ranges: ranges_of(asked.messages),
+        numbering: arguments.numbering,
+        last: last_of(arguments.numbering, mailbox.next_uid, &selected.known),
+        ranges: ranges_of(arguments.messages),
     };
-    let sets = sets_seen(call.view(), selected, asked);
+    let sets = sets_seen(context.view(), selected, arguments);
     match read_messages(
-        call.alloc(),
+        context.alloc(),
         &messages,
         &wanted,
         &selected.known,
         mailbox,
         sets,
     )? {
-        Some(reading) => answer_of_reading(call, asked, &selected.name, reading),
-        None => call.refuse(Refusal::ExpungeIssued),
+        Some(reading) => answer_of_reading(context, arguments, &selected.name, reading),
+        None => context.refuse(Refusal::ExpungeIssued),
     }
 }
 
 fn answer_of_reading(
-    call: &Call<'_>,
-    asked: &Fetch<'_>,
+    context: &CommandContext<'_>,
+    arguments: &FetchArguments<'_>,
     name: &Name,
     reading: Reading,
 ) -> Result<Answer, AllocError>
     requires lines { AllByRecursion IsPrintable reading.lines.items }
     requires told { AreRising reading.told.items }
-    ensures { let asks = mark_effect call.now.view.user name.now reading.marks.items in
-        let answer = carried_out reading.lines.items call.now.tag None asks in
-        let enabled = enabling (specs.enabled_by asked.now.items) answer in
+    ensures { let asks = marking_effect context.now.view.user name.now reading.marks.items in
+        let answer = carried_out reading.lines.items context.now.tag None asks in
+        let enabled = enabling (specs.enabled_by arguments.now.items) answer in
         IfOk result (λ given. given ≡ telling reading.told.items enabled) }
 {
     let Reading {
@@ -228,9 +233,10 @@ fn answer_of_reading(
         told,
         ..
     } = reading;
-    let effect = mark_effect(call.alloc(), call.view().user(), name, marks)?;
-    let answer = call.carried_out(lines, None, effect)?;
-    let answer = answer.enabling(enabled_by(asked.items.as_slice()));
+    let effect = marking_effect(context.alloc(), context.view().user(), name, marks);
+    let (effect, (lines, told)) = beside(effect, (lines, told))?;
+    let answer = context.carried_out(lines, None, effect)?;
+    let answer = answer.enabling(enabled_by(arguments.items.as_slice()));
     Ok(answer.telling(told))
 }
 
@@ -276,9 +282,9 @@ fn read_messages(
     let mut reading = Reading::new(alloc, sets, mailbox.highest, mailbox.own);
     let mut finder = RowFinder::start();
     let (start, end) = messages.span(known);
-    for place in start..end {
-        let number = number_at(known, place);
-        let uid = known.get(place).uid;
+    for index in start..end {
+        let number = number_at(known, index);
+        let uid = known.get(index).uid;
         if !messages.has(number, uid) {
             continue;
         }

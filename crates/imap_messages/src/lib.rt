@@ -11,5 +11,5 @@ pub mod laws;
 mod reading;
 mod wanted;
 
-pub use append::{Append, append_answer};
-pub use fetch::{Fetch, fetch_answer};
+pub use append::{AppendArguments, append_answer};
+pub use fetch::{FetchArguments, fetch_answer};

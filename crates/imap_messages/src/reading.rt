@@ -1,17 +1,14 @@
 //! Messages that FETCH reads, and of which it sets `\Seen` (RFC 9051, section 6.4.5).
 
-ghost use Rattle.std.specs.Prelude.{◌≡◌, ◌<◌, ◌^◌, ◌++◌, ◌-◌, [], ◌∷◌, Some, IfOk, OnOk, option_map, if◌then◌else◌};
+ghost use Rattle.std.specs.Prelude.{◌≡◌, ◌<◌, ◌^◌, ◌++◌, ◌-◌, [], ◌∷◌, Some, OnOk, option_map, if◌then◌else◌};
 ghost use Rattle.imap_mailbox.specs.Lent.{row_shown};
 ghost use Rattle.imap_messages.specs.Reading as specs;
 
 use crate::wanted::Wanted;
-use imap_batch::{Batch, Mark};
+use imap_batch::FlagUpdate;
 use imap_mailbox::Row;
 use imap_modseq::MAX_EVENTS;
-use imap_names::{Name, UserName};
 use imap_print::Response;
-use imap_syntax::Items;
-use imap_world::{Effect, NamedBatch};
 use std::alloc::{AllocError, Global};
 
 /// What FETCH has found so far: lines of messages, marks of those of which it sets `\Seen`, and UIDs of those
@@ -25,7 +22,7 @@ pub(crate) struct Reading {
     /// The number of changes of the user's own `\Seen` after the marks.
     pub(crate) own: u64,
     pub(crate) lines: Vec<Response>,
-    pub(crate) marks: Vec<Mark>,
+    pub(crate) marks: Vec<FlagUpdate>,
     pub(crate) told: Vec<u32>,
 }
 
@@ -113,12 +110,12 @@ fn row_read<'a>(set: bool, highest: u64, row: &Row<'a>) -> Row<'a>
     }
 }
 
-fn push_mark(marks: &mut Vec<Mark>, sets: bool, row: &Row<'_>) -> Result<(), AllocError>
+fn push_mark(marks: &mut Vec<FlagUpdate>, sets: bool, row: &Row<'_>) -> Result<(), AllocError>
     ensures { let mark = specs.marks_of sets (row_shown row.now) in
         OnOk result (marks.new.items ≡ marks.old.items ++ mark) }
 {
     if sets && !row.seen {
-        marks.push(Mark {
+        marks.push(FlagUpdate {
             uid: row.uid,
             flags: None,
             seen: Some(true),
@@ -134,26 +131,4 @@ fn push_told(told: &mut Vec<u32>, tells: bool, uid: u32) -> Result<(), AllocErro
         told.push(uid)?;
     }
     Ok(())
-}
-
-/// Asks for the marks, if there are any.
-pub(crate) fn mark_effect(
-    alloc: Global,
-    user: &UserName,
-    name: &Name,
-    marks: Vec<Mark>,
-) -> Result<Option<Effect>, AllocError>
-    ensures { IfOk result (λ asked. asked ≡ specs.mark_effect user.now name.now marks.items) }
-{
-    if marks.is_empty() {
-        return Ok(None);
-    }
-    let batch = Batch {
-        user: user.try_copy()?,
-        added: Items::from_vec(Vec::new(alloc)),
-        marks: Items::from_vec(marks),
-        expunged: Items::from_vec(Vec::new(alloc)),
-    };
-    let name = name.try_copy()?;
-    Ok(Some(Effect::Messages(NamedBatch { name, batch }, None)))
 }

@@ -26,18 +26,18 @@ named_rise by last ranges low high n (k ∷ known) h =
     either true rest = (h.0, rest)
     either false rest = let at : low ≤ k.uid = h.0 in rises_lower (k.uid + 1) low high (uids_of (messages_from by last ranges (n + 1) known)) (omega arith) rest
 
-known_at_place : (known : List KnownMessage) (place : ℕ) → place < length known → (d : KnownMessage) × (d ≡ get_or known place d)
-known_at_place [] place within = absurd (omega (arith, within))
-known_at_place (k ∷ known) zero within = (k, refl)
-known_at_place (k ∷ known) (suc place) within = known_at_place known place (omega (arith, within))
+known_at_index : (known : List KnownMessage) (index : ℕ) → index < length known → (d : KnownMessage) × (d ≡ get_or known index d)
+known_at_index [] index within = absurd (omega (arith, within))
+known_at_index (k ∷ known) zero within = (k, refl)
+known_at_index (k ∷ known) (suc index) within = known_at_index known index (omega (arith, within))
 
 module _ (m : MessageNumbers) (known : List KnownMessage) where
   abbrev later : ℕ → List Numbered
-  later place = messages_from m.numbering m.last m.ranges.now (place + 1) (drop place known)
+  later index = messages_from m.numbering m.last m.ranges.now (index + 1) (drop index known)
 
   -- those before the place
-  pub record IsListed (place : ℕ) (named : List Numbered) : Type 0 where
-    pub rest : named ++ later place ≡ named_in m known
+  pub record IsListed (index : ℕ) (named : List Numbered) : Type 0 where
+    pub rest : named ++ later index ≡ named_in m known
 
   pub at_first : (start : ℕ) (named : List Numbered) → later start ≡ named_in m known → named ≡ [] → IsListed start named
   at_first start named all none = record { rest = λ j. none j ++ all j }
@@ -45,35 +45,35 @@ module _ (m : MessageNumbers) (known : List KnownMessage) where
   pub at_last : (end : ℕ) (named : List Numbered) → later end ≡ [] → IsListed end named → named ≡ named_in m known
   at_last end named none before = sym (append-nil named) ∙ ap (λ ms. named ++ ms) (sym none) ∙ before.rest
 
-  pub all_rise : (end place : ℕ) (named : List Numbered) → UidsRise known → later end ≡ [] → place ≡ end → IsListed place named → AreRising (uids_of named)
-  all_rise end place named rise none same before = (
+  pub all_rise : (end index : ℕ) (named : List Numbered) → UidsRise known → later end ≡ [] → index ≡ end → IsListed index named → AreRising (uids_of named)
+  all_rise end index named rise none same before = (
     first_uid,
     uid_limit,
-    subst (λ (ms : List Numbered). Rises first_uid uid_limit (uids_of ms)) (sym (at_last place named (ap later same ∙ none) before))
+    subst (λ (ms : List Numbered). Rises first_uid uid_limit (uids_of ms)) (sym (at_last index named (ap later same ∙ none) before))
         (named_rise m.numbering m.last m.ranges.now first_uid uid_limit 1 known rise),
   )
 
-  module _ (place : ℕ) (one : Numbered) (within : place < length known) (number : one.number ≡ place + 1) (is : (d : KnownMessage) → d ≡ get_or known place d → one.uid ≡ d.uid) where
+  module _ (index : ℕ) (one : Numbered) (within : index < length known) (number : one.number ≡ index + 1) (is : (d : KnownMessage) → d ≡ get_or known index d → one.uid ≡ d.uid) where
     abbrev front : ℕ → ℕ → List KnownMessage → List Numbered
     front n uid rest = let x : Numbered = record { number = n; uid = uid } in
-        cond (in_set m.last m.ranges.now (number_by m.numbering x)) (x ∷ messages_from m.numbering m.last m.ranges.now (place + 1 + 1) rest) (messages_from m.numbering m.last m.ranges.now (place + 1 + 1) rest)
+        cond (in_set m.last m.ranges.now (number_by m.numbering x)) (x ∷ messages_from m.numbering m.last m.ranges.now (index + 1 + 1) rest) (messages_from m.numbering m.last m.ranges.now (index + 1 + 1) rest)
 
-    ahead : later place ≡ front one.number one.uid (drop (place + 1) known)
+    ahead : later index ≡ front one.number one.uid (drop (index + 1) known)
     ahead =
-        let at = known_at_place known place within in
-        let uid : one.uid ≡ (get_or known place at.0).uid = is at.0 at.1 ∙ ap (λ (k : KnownMessage). k.uid) at.1 in
-        ap (messages_from m.numbering m.last m.ranges.now (place + 1)) (drop-cons known place at.0 within) ∙ λ j. front (sym number j) (sym uid j) (drop (sym (add-one place) j) known)
+        let at = known_at_index known index within in
+        let uid : one.uid ≡ (get_or known index at.0).uid = is at.0 at.1 ∙ ap (λ (k : KnownMessage). k.uid) at.1 in
+        ap (messages_from m.numbering m.last m.ranges.now (index + 1)) (drop-cons known index at.0 within) ∙ λ j. front (sym number j) (sym uid j) (drop (sym (add-one index) j) known)
 
-    pub skipped : (named : List Numbered) → in_set m.last m.ranges.now (number_by m.numbering one) ≡ false → IsListed place named → IsListed (place + 1) named
+    pub skipped : (named : List Numbered) → in_set m.last m.ranges.now (number_by m.numbering one) ≡ false → IsListed index named → IsListed (index + 1) named
     skipped named unnamed before = record {
-      rest = ap (λ ms. named ++ ms) (sym (ahead ∙ ap (λ b. cond b (one ∷ later (place + 1)) (later (place + 1))) unnamed)) ∙ before.rest;
+      rest = ap (λ ms. named ++ ms) (sym (ahead ∙ ap (λ b. cond b (one ∷ later (index + 1)) (later (index + 1))) unnamed)) ∙ before.rest;
     }
 
-    pub pushed : (named new : List Numbered) → new ≡ named ++ one ∷ [] → in_set m.last m.ranges.now (number_by m.numbering one) ≡ true → IsListed place named → IsListed (place + 1) new
+    pub pushed : (named new : List Numbered) → new ≡ named ++ one ∷ [] → in_set m.last m.ranges.now (number_by m.numbering one) ≡ true → IsListed index named → IsListed (index + 1) new
     pushed named new made is_named before = record {
       rest =
-          ap (λ ms. ms ++ later (place + 1)) made
-          ∙ append_assoc named (one ∷ []) (later (place + 1))
-          ∙ ap (λ ms. named ++ ms) (sym (ahead ∙ ap (λ b. cond b (one ∷ later (place + 1)) (later (place + 1))) is_named))
+          ap (λ ms. ms ++ later (index + 1)) made
+          ∙ append_assoc named (one ∷ []) (later (index + 1))
+          ∙ ap (λ ms. named ++ ms) (sym (ahead ∙ ap (λ b. cond b (one ∷ later (index + 1)) (later (index + 1))) is_named))
           ∙ before.rest;
     }

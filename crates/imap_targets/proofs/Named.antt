@@ -73,8 +73,8 @@ turned : (a b : Bool) → a ≡ not b → b ≡ not a
 turned a true e = ap not (sym e)
 turned a false e = ap not (sym e)
 
-pub is_nowhere : (uid : ℕ) (rows : List Row) (place : Option ℕ) (b : Bool) → place ≡ place_in uid (row_uids rows) → is_some place ≡ not b → b ≡ not (is_some (row_with uid rows))
-is_nowhere uid rows place b is none = turned (is_some (row_with uid rows)) b (sym (there_is uid rows) ∙ ap is_some (sym is) ∙ none)
+pub is_nowhere : (uid : ℕ) (rows : List Row) (index : Option ℕ) (b : Bool) → index ≡ place_in uid (row_uids rows) → is_some index ≡ not b → b ≡ not (is_some (row_with uid rows))
+is_nowhere uid rows index b is none = turned (is_some (row_with uid rows)) b (sym (there_is uid rows) ∙ ap is_some (sym is) ∙ none)
 
 -- numbers that rise stand once
 pub place_here : (uid low high : ℕ) (us : List ℕ) (i d : ℕ) → Rises low high us → i < length us → get_or us i d ≡ uid → place_in uid us ≡ Some i

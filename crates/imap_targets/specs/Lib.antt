@@ -1,4 +1,5 @@
 -- What commands on messages act on.
+pub mod Effects
 pub mod Left
 pub mod MessageNumbers
 pub mod NewFlags

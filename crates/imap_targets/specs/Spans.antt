@@ -19,19 +19,19 @@ abbrev pub AreBounds : (last : ℕ) → List SeqRange → (low high : ℕ) → T
 AreBounds last ranges low high =
     (n : ℕ) → in_set last ranges n ≡ true → (low ≤ n) × (n ≤ high)
 
-abbrev pub name_at : Numbering → List KnownMessage → (place : ℕ) → KnownMessage → ℕ
-name_at by known place d =
-    number_by by (record { number = place + 1; uid = (slice_index_or known place d).uid })
+abbrev pub name_at : Numbering → List KnownMessage → (index : ℕ) → KnownMessage → ℕ
+name_at by known index d =
+    number_by by (record { number = index + 1; uid = (slice_index_or known index d).uid })
 
--- before the place `start` they are named by less than `low`, and from the place `end` on by more than `high`
+-- before the index `start` they are named by less than `low`, and from the index `end` on by more than `high`
 pub record IsWithin (by : Numbering) (low high : ℕ) (known : List KnownMessage) (start end : ℕ) : Type 0 where
   pub order : start ≤ end
   pub within : end ≤ length known
-  pub less : (place : ℕ) (d : KnownMessage) → place < start → name_at by known place d < low
-  pub more : (place : ℕ) (d : KnownMessage) → end ≤ place → place < length known
-      → high < name_at by known place d
+  pub less : (index : ℕ) (d : KnownMessage) → index < start → name_at by known index d < low
+  pub more : (index : ℕ) (d : KnownMessage) → end ≤ index → index < length known
+      → high < name_at by known index d
 
--- those of the set stand from the place `start` up to the place `end`
+-- those of the set stand from the index `start` up to, but without, the index `end`
 pub record IsSpan (m : MessageNumbers) (known : List KnownMessage) (start end : ℕ) : Type 0 where
   pub rise : UidsRise known
   pub order : start ≤ end

@@ -1,4 +1,4 @@
-//! What a mailbox has left for changes.
+//! The events that a mailbox has left.
 
 ghost use Rattle.std.specs.Prelude.{◌≡◌, ◌≤◌};
 ghost use Rattle.imap_modseq.specs.Numbers.{max_events};
@@ -14,4 +14,12 @@ pub fn events_left(mailbox: &Readable<'_>) -> u64
 {
     let shared = mailbox.highest.saturating_sub(1 + mailbox.own);
     MAX_EVENTS.saturating_sub(shared)
+}
+
+/// Whether the mailbox has fewer than `count` shared events left.
+pub fn lacks_events(mailbox: &Readable<'_>, count: u64) -> bool
+    requires { mailbox.now.own ≤ max_events }
+    ensures { result ≡ specs.lacks_events mailbox.now count }
+{
+    events_left(mailbox) < count
 }

@@ -1,16 +1,18 @@
 //! What commands on messages act on: the messages that a command names (RFC 9051, sections 2.3.1 and 9,
-//! `sequence-set`), the flags that a user may give them, the mailbox into which they are put, and what a
-//! mailbox has left for changes.
+//! `sequence-set`), the flags that a user may give them, the mailbox into which they are put, the events that a
+//! mailbox has left, and the effects that the commands ask for.
 #![tactic(auto)]
 
+mod effects;
 mod flags;
 mod left;
 mod message_numbers;
 mod row_finder;
 mod target;
 
+pub use effects::{batch_effect, marking_effect, named_batch};
 pub use flags::{has_seen, has_too_many, is_new_seen, new_flags, right_for, with_permitted};
-pub use left::events_left;
+pub use left::{events_left, lacks_events};
 pub use message_numbers::{
     MessageNumbers, Numbered, has_known_numbers, in_set, is_by_uid, is_refused, is_saved,
     known_count, known_with, last_of, messages_named, number_at, ranges_of, row_with,

@@ -46,7 +46,7 @@ impl MessageNumbers<'_> {
 }
 
 impl MessageNumbers<'_> {
-    /// The places from which and up to which messages of the set may stand among those that are known.
+    /// The range of indexes of the known messages that the set may name: from the first, up to but without the second.
     pub fn span(&self, known: &KnownList) -> (usize, usize)
         ensures { IsSpan self.now known.now.list result.0 result.1 }
     {
@@ -90,8 +90,8 @@ fn numbers_named(
 {
     let mut named = Vec::new(alloc);
     let (start, end) = messages.span(known);
-    for place in start..end {
-        let message = numbered_at(known, place);
+    for index in start..end {
+        let message = numbered_at(known, index);
         if !messages.has(message.number, message.uid) {
             continue;
         }
@@ -100,15 +100,15 @@ fn numbers_named(
     Ok(named)
 }
 
-/// The message at the place.
-fn numbered_at(known: &KnownList, place: usize) -> Numbered
-    requires { place < length known.now.list }
-    ensures number { result.number ≡ place + 1 }
-    ensures uid { (d : KnownMessage) → d ≡ slice_index_or known.now.list place d → result.uid ≡ d.uid }
+/// The message at the index.
+fn numbered_at(known: &KnownList, index: usize) -> Numbered
+    requires { index < length known.now.list }
+    ensures number { result.number ≡ index + 1 }
+    ensures uid { (d : KnownMessage) → d ≡ slice_index_or known.now.list index d → result.uid ≡ d.uid }
 {
     Numbered {
-        number: number_at(known, place),
-        uid: known.get(place).uid,
+        number: number_at(known, index),
+        uid: known.get(index).uid,
     }
 }
 
@@ -131,7 +131,7 @@ fn is_gone(message: &Numbered, rows: &Rows<'_>) -> bool
     rows.place_of(message.uid).is_none()
 }
 
-/// The places of messages with numbers from `low` to `high`.
+/// The range of indexes of messages with numbers from `low` to `high`.
 fn number_span(low: u32, high: u32, known: &KnownList) -> (usize, usize)
     ensures { IsWithin Sequence low high known.now.list result.0 result.1 }
 {
@@ -139,19 +139,19 @@ fn number_span(low: u32, high: u32, known: &KnownList) -> (usize, usize)
     ((low.saturating_sub(1) as usize).min(end), end)
 }
 
-/// The places of messages with UIDs from `low` to `high`, by searches that halve.
+/// The range of indexes of messages with UIDs from `low` to `high`, by binary searches.
 fn uid_span(low: u32, high: u32, known: &KnownList) -> (usize, usize)
     ensures { IsWithin Uid low high known.now.list result.0 result.1 }
 {
-    let end = place_after(high, known);
+    let end = index_after(high, known);
     (known.place_from(low).min(end), end)
 }
 
-/// The place after all messages with UIDs up to `high`.
-fn place_after(high: u32, known: &KnownList) -> usize
+/// The index after all messages with UIDs up to `high`.
+fn index_after(high: u32, known: &KnownList) -> usize
     ensures within { result ≤ length known.now.list }
-    ensures more { (place : ℕ) (d : KnownMessage) → result ≤ place → place < length known.now.list
-        → high < (slice_index_or known.now.list place d).uid }
+    ensures more { (index : ℕ) (d : KnownMessage) → result ≤ index → index < length known.now.list
+        → high < (slice_index_or known.now.list index d).uid }
 {
     let count = known.len();
     match high.checked_add(1) {
@@ -236,13 +236,13 @@ pub fn known_count(known: &KnownList) -> u32
     known.len() as u32
 }
 
-/// The number of the message at the place.
-pub fn number_at(known: &KnownList, place: usize) -> u32
-    requires { place < length known.now.list }
-    ensures { result ≡ place + 1 }
+/// The number of the message at the index.
+pub fn number_at(known: &KnownList, index: usize) -> u32
+    requires { index < length known.now.list }
+    ensures { result ≡ index + 1 }
 {
     let _count = known.len();
-    place as u32 + 1
+    index as u32 + 1
 }
 
 /// What `*` stands for.
@@ -265,12 +265,12 @@ fn last_uid(next_uid: u32, known: &KnownList) -> u32
     known.get(count - 1).uid
 }
 
-/// The message with the UID, if it is there, by a search that halves.
+/// The message with the UID, if it is there, by a binary search.
 pub fn row_with<'a>(rows: &Rows<'a>, uid: u32) -> Option<Row<'a>>
     ensures { option_map row_shown result ≡ specs.row_with uid rows.now }
 {
     match rows.place_of(uid) {
-        Some(place) => Some(rows.get(place)),
+        Some(index) => Some(rows.get(index)),
         None => None,
     }
 }
@@ -305,12 +305,12 @@ pub fn is_saved(messages: &MessageSet) -> bool
     }
 }
 
-/// What the session knows of the message with the UID, by a search that halves.
+/// What the session knows of the message with the UID, by a binary search.
 pub fn known_with(known: &KnownList, uid: u32) -> Option<&KnownMessage>
     ensures { option_copied result ≡ specs.known_with uid known.now.list }
 {
     match known.place_of(uid) {
-        Some(place) => Some(known.get(place)),
+        Some(index) => Some(known.get(index)),
         None => None,
     }
 }

@@ -7,11 +7,11 @@ ghost use Rattle.imap_targets.specs.MessageNumbers.{row_with};
 
 use imap_mailbox::{Near, Row, Rows};
 
-/// Where the last message was found, so that the next one is looked for there first. What is found is right
-/// whatever it says; it makes a walk over messages in the order of their UIDs quick.
+/// The index after the message that was found last, where the next one is looked for first. It makes a walk over
+/// messages in the order of their UIDs quick. What is found doesn't depend on it.
 #[derive(Clone, Copy)]
 pub struct RowFinder {
-    place: usize,
+    index: usize,
     near: Near,
 }
 
@@ -19,7 +19,7 @@ impl RowFinder {
     /// For the first message.
     pub fn start() -> RowFinder {
         RowFinder {
-            place: 0,
+            index: 0,
             near: Near::start(),
         }
     }
@@ -29,23 +29,23 @@ impl RowFinder {
         requires { AreRising (row_uids rows.now) }
         ensures { option_map row_shown result ≡ row_with uid rows.now }
     {
-        match place_near(rows, uid, self.place) {
-            Some(place) => {
-                self.place = place.saturating_add(1);
-                Some(rows.get_near(place, &mut self.near))
+        match index_near(rows, uid, self.index) {
+            Some(index) => {
+                self.index = index.saturating_add(1);
+                Some(rows.get_near(index, &mut self.near))
             }
             None => None,
         }
     }
 }
 
-/// The place of the message with the UID, which is quick to tell if it is `place`.
-fn place_near(rows: &Rows<'_>, uid: u32, place: usize) -> Option<usize>
+/// The index of the message with the UID. Looks at `index` first.
+fn index_near(rows: &Rows<'_>, uid: u32, index: usize) -> Option<usize>
     requires { AreRising (row_uids rows.now) }
     ensures { result ≡ place_in uid (row_uids rows.now) }
 {
-    if place < rows.len() && uid == rows.uid(place) {
-        return Some(place);
+    if index < rows.len() && uid == rows.uid(index) {
+        return Some(index);
     }
     rows.place_of(uid)
 }

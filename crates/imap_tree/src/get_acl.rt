@@ -6,7 +6,7 @@ ghost use Rattle.imap_rights.specs.Entries.{pairs_of};
 ghost use Rattle.imap_rights.specs.Rights.{bits};
 ghost use Rattle.imap_tree.specs.GetAcl as specs;
 
-use imap_answer::{Answer, Call, missing_right_refusal};
+use imap_answer::{Answer, CommandContext, missing_right_refusal};
 use imap_lex::Octets;
 use imap_names::Name;
 use imap_print::{AclEntry, Refusal, Response};
@@ -15,32 +15,33 @@ use imap_syntax::Items;
 use std::alloc::{AllocError, Global};
 
 /// Answers GETACL of a mailbox, as it is named in the command.
-pub fn get_acl_answer(call: &Call<'_>, mailbox: &Octets) -> Result<Answer, AllocError>
-    ensures { let meant = specs.get_acl_answer call.now.view call.now.tag mailbox.now in
+pub fn get_acl_answer(context: &CommandContext<'_>, mailbox: &Octets) -> Result<Answer, AllocError>
+    ensures { let meant = specs.get_acl_answer context.now.view context.now.tag mailbox.now in
         IfOk result (λ answer. answer ≡ meant) }
 {
-    match call.name(mailbox)? {
-        Some(name) => get_acl_of_name(call, &name),
-        None => call.refuse(Refusal::NonExistent),
+    match context.name(mailbox)? {
+        Some(name) => get_acl_of_name(context, &name),
+        None => context.refuse(Refusal::NonExistent),
     }
 }
 
-fn get_acl_of_name(call: &Call<'_>, name: &Name) -> Result<Answer, AllocError>
-    ensures { IfOk result (λ answer. answer ≡ specs.get_acl_of_name call.now.view call.now.tag name.now) }
+fn get_acl_of_name(context: &CommandContext<'_>, name: &Name) -> Result<Answer, AllocError>
+    ensures { IfOk result (λ answer.
+        answer ≡ specs.get_acl_of_name context.now.view context.now.tag name.now) }
 {
-    match call.view().acl(&name.as_ref()) {
-        Some(acl) => call.done_after(vec![in call.alloc(); acl_line(call, name, acl)?]?),
-        None => call.refuse(missing_right_refusal(call.view().rights(&name.as_ref()))),
+    match context.view().acl(&name.as_ref()) {
+        Some(acl) => context.done_after(vec![in context.alloc(); acl_line(context, name, acl)?]?),
+        None => context.refuse(missing_right_refusal(context.view().rights(&name.as_ref()))),
     }
 }
 
-fn acl_line(call: &Call<'_>, name: &Name, acl: &Acl) -> Result<Response, AllocError>
-    ensures line { IfOk result (λ line. line ≡ specs.acl_line call.now.view.user name.now acl.now) }
+fn acl_line(context: &CommandContext<'_>, name: &Name, acl: &Acl) -> Result<Response, AllocError>
+    ensures line { IfOk result (λ line. line ≡ specs.acl_line context.now.view.user name.now acl.now) }
     ensures printable { IfOk result IsPrintable }
 {
-    let entries = printed_entries(call.alloc(), acl.entries())?;
+    let entries = printed_entries(context.alloc(), acl.entries())?;
     Ok(Response::Acl {
-        mailbox: call.shown(name)?,
+        mailbox: context.shown(name)?,
         entries: Items::from_vec(entries),
     })
 }

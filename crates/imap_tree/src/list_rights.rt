@@ -6,7 +6,7 @@ ghost use Rattle.imap_rights.specs.Identifier.{identifier_read};
 ghost use Rattle.imap_tree.specs.ListRights as specs;
 
 use crate::identifier::identifier;
-use imap_answer::{Answer, Call, missing_right_refusal};
+use imap_answer::{Answer, CommandContext, missing_right_refusal};
 use imap_lex::Octets;
 use imap_names::Name;
 use imap_print::{Refusal, Response};
@@ -15,49 +15,53 @@ use std::alloc::AllocError;
 
 /// Answers LISTRIGHTS of an identifier on a mailbox, both as they stand in the command.
 pub fn list_rights_answer(
-    call: &Call<'_>,
+    context: &CommandContext<'_>,
     mailbox: &Octets,
     identifier: &Octets,
 ) -> Result<Answer, AllocError>
-    ensures { let meant = specs.list_rights_answer call.now.view call.now.tag mailbox.now identifier.now in
-        IfOk result (λ answer. answer ≡ meant) }
+    ensures { let answer = specs.list_rights_answer context.now.view context.now.tag in
+        IfOk result (λ given. given ≡ answer mailbox.now identifier.now) }
 {
-    match call.name(mailbox)? {
-        Some(name) => list_rights_of_name(call, &name, identifier),
-        None => call.refuse(Refusal::NonExistent),
+    match context.name(mailbox)? {
+        Some(name) => list_rights_of_name(context, &name, identifier),
+        None => context.refuse(Refusal::NonExistent),
     }
 }
 
-fn list_rights_of_name(call: &Call<'_>, name: &Name, text: &Octets) -> Result<Answer, AllocError>
-    ensures { let meant = specs.list_rights_of_name call.now.view call.now.tag text.now name.now in
+fn list_rights_of_name(
+    context: &CommandContext<'_>,
+    name: &Name,
+    text: &Octets,
+) -> Result<Answer, AllocError>
+    ensures { let meant = specs.list_rights_of_name context.now.view context.now.tag text.now name.now in
         IfOk result (λ answer. answer ≡ meant) }
 {
-    let rights = call.view().rights(&name.as_ref());
+    let rights = context.view().rights(&name.as_ref());
     if !rights.has_any(Rights::ADMINISTER) {
-        return call.refuse(missing_right_refusal(rights));
+        return context.refuse(missing_right_refusal(rights));
     }
-    match identifier(call.alloc(), text)? {
+    match identifier(context.alloc(), text)? {
         Some(identifier) => {
-            let line = list_rights_line(call, name, &identifier)?;
-            call.done_after(vec![in call.alloc(); line]?)
+            let line = list_rights_line(context, name, &identifier)?;
+            context.done_after(vec![in context.alloc(); line]?)
         }
-        None => call.refuse(Refusal::Cannot),
+        None => context.refuse(Refusal::Cannot),
     }
 }
 
 fn list_rights_line(
-    call: &Call<'_>,
+    context: &CommandContext<'_>,
     name: &Name,
     identifier: &Identifier,
 ) -> Result<Response, AllocError>
-    ensures line { let meant = specs.list_rights_line call.now.view name.now identifier.now in
+    ensures line { let meant = specs.list_rights_line context.now.view name.now identifier.now in
         IfOk result (λ line. line ≡ meant) }
     ensures printable { IfOk result IsPrintable }
 {
-    let owner = call.view().owner(name);
+    let owner = context.view().owner(name);
     Ok(Response::ListRights {
-        mailbox: call.shown(name)?,
-        identifier: Octets::from_slice(call.alloc(), identifier.as_bytes())?,
+        mailbox: context.shown(name)?,
+        identifier: Octets::from_slice(context.alloc(), identifier.as_bytes())?,
         owner: identifier.as_bytes() == owner.as_str().as_bytes(),
     })
 }

@@ -9,14 +9,16 @@ ghost use Rattle.imap_view.specs.Listing.{names_below};
 ghost use Rattle.imap_view.specs.RenameAfter.{can_all_arrive, missing_above, names_after};
 ghost use Rattle.imap_view.specs.TreeAfter.{validities_left};
 ghost use Rattle.imap_world.specs.Moving.{can_arrive};
+ghost use Rattle.imap_world.specs.declared.effect.Effect.TheVariants.{Rename};
 
 use crate::new_name::read_new_name;
 use crate::selected::is_selected;
-use imap_answer::{Answer, Call, missing_right_refusal};
+use imap_answer::{Answer, CommandContext, missing_right_refusal};
 use imap_lex::Octets;
-use imap_names::Name;
+use imap_names::{Name, UserName};
 use imap_print::Refusal;
 use imap_rights::Rights;
+use imap_values::beside;
 use imap_view::View;
 use imap_world::{Effect, can_move};
 use std::alloc::{AllocError, Global};
@@ -24,66 +26,78 @@ use std::alloc::{AllocError, Global};
 /// Answers RENAME of a mailbox to a new name, both as they stand in the command, in a session that has
 /// selected `selected`.
 pub fn rename_answer(
-    call: &Call<'_>,
+    context: &CommandContext<'_>,
     selected: Option<&Name>,
     old: &Octets,
     new: &Octets,
 ) -> Result<Answer, AllocError>
-    ensures { let answer = specs.rename_answer call.now.view (option_copied selected.entry) call.now.tag in
+    ensures { let selected = option_copied selected.entry in
+        let answer = specs.rename_answer context.now.view selected context.now.tag in
         IfOk result (λ given. given ≡ answer old.now new.now) }
 {
-    match call.name(old)? {
-        Some(old) => rename_of_name(call, selected, old, new),
-        None => call.refuse(Refusal::NonExistent),
+    match context.name(old)? {
+        Some(old) => rename_of_name(context, selected, &old, new),
+        None => context.refuse(Refusal::NonExistent),
     }
 }
 
 fn rename_of_name(
-    call: &Call<'_>,
+    context: &CommandContext<'_>,
     selected: Option<&Name>,
-    old: Name,
+    old: &Name,
     new: &Octets,
 ) -> Result<Answer, AllocError>
-    ensures { let answer = specs.rename_of_name call.now.view (option_copied selected.entry) call.now.tag in
-        IfOk result (λ given. given ≡ answer new.now old) }
+    ensures { let selected = option_copied selected.entry in
+        let answer = specs.rename_of_name context.now.view selected context.now.tag in
+        IfOk result (λ given. given ≡ answer new.now old.now) }
 {
-    match read_new_name(call, new.as_slice())? {
-        Ok(new) => rename_of_names(call, selected, old, new),
-        Err(refusal) => call.refuse(refusal),
+    match read_new_name(context, new.as_slice())? {
+        Ok(new) => rename_of_names(context, selected, old, &new),
+        Err(refusal) => context.refuse(refusal),
     }
 }
 
 fn rename_of_names(
-    call: &Call<'_>,
+    context: &CommandContext<'_>,
     selected: Option<&Name>,
-    old: Name,
-    new: Name,
+    old: &Name,
+    new: &Name,
 ) -> Result<Answer, AllocError>
-    ensures { let answer = specs.rename_of_names call.now.view (option_copied selected.entry) call.now.tag in
-        IfOk result (λ given. given ≡ answer old new) }
+    ensures { let selected = option_copied selected.entry in
+        let answer = specs.rename_of_names context.now.view selected context.now.tag in
+        IfOk result (λ given. given ≡ answer old.now new.now) }
 {
-    let view = call.view();
+    let view = context.view();
     let rights = view.rights(&old.as_ref());
     if !rights.has_any(Rights::DELETE_MAILBOX) {
-        return call.refuse(missing_right_refusal(rights));
+        return context.refuse(missing_right_refusal(rights));
     }
-    if !can_move(&old, &new) {
-        return call.refuse(Refusal::Cannot);
+    if !can_move(old, new) {
+        return context.refuse(Refusal::Cannot);
     }
-    if is_selected(selected, &old) {
-        return call.refuse(Refusal::InUse);
+    if is_selected(selected, old) {
+        return context.refuse(Refusal::InUse);
     }
     if !view.may_create(&new.as_ref()) {
-        return call.refuse(Refusal::NoPerm);
+        return context.refuse(Refusal::NoPerm);
     }
-    if is_in_use(view, &new) {
-        return call.refuse(Refusal::AlreadyExists);
+    if is_in_use(view, new) {
+        return context.refuse(Refusal::AlreadyExists);
     }
-    if !can_all_arrive(call.alloc(), view, &old, &new)? {
-        return call.refuse(Refusal::Limit);
+    if !can_all_arrive(context.alloc(), view, old, new)? {
+        return context.refuse(Refusal::Limit);
     }
-    let owner = view.owner(&new).try_copy()?;
-    call.done_with(Effect::Rename(owner, old, new))
+    context.done_with(renaming(view.owner(new), old, new)?)
+}
+
+/// The effect of RENAME.
+fn renaming(owner: &UserName, old: &Name, new: &Name) -> Result<Effect, AllocError>
+    ensures { IfOk result (λ effect. effect ≡ Rename owner.now old.now new.now) }
+{
+    let owner = owner.try_copy()?;
+    let (old, owner) = beside(old.try_copy(), owner)?;
+    let (new, (owner, old)) = beside(new.try_copy(), (owner, old))?;
+    Ok(Effect::Rename(owner, old, new))
 }
 
 /// Whether the name or one below it is in use, as far as the user may know.

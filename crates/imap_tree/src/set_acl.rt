@@ -7,94 +7,96 @@ ghost use Rattle.imap_view.specs.View.{acl_in};
 
 use crate::identifier::identifier;
 use bitflags::Flags;
-use imap_answer::{Answer, Call, missing_right_refusal};
+use imap_answer::{Answer, CommandContext, missing_right_refusal};
 use imap_lex::Octets;
 use imap_names::Name;
 use imap_print::Refusal;
 use imap_rights::{Identifier, Rights, RightsChange, read_rights};
+use imap_values::beside;
 use imap_view::View;
 use imap_world::Effect;
 use std::alloc::AllocError;
 
 /// Answers SETACL of an identifier's rights on a mailbox, all as they stand in the command.
 pub fn set_acl_answer(
-    call: &Call<'_>,
+    context: &CommandContext<'_>,
     mailbox: &Octets,
     identifier: &Octets,
     rights: &Octets,
 ) -> Result<Answer, AllocError>
-    ensures { let answer = specs.set_acl_answer call.now.view call.now.tag in
+    ensures { let answer = specs.set_acl_answer context.now.view context.now.tag in
         IfOk result (λ given. given ≡ answer mailbox.now identifier.now rights.now) }
 {
     match read_rights(rights.as_slice()) {
-        Some(change) => set_rights(call, mailbox, identifier, change),
-        None => call.refuse(Refusal::Malformed),
+        Some(change) => set_rights(context, mailbox, identifier, change),
+        None => context.refuse(Refusal::Malformed),
     }
 }
 
 /// Answers DELETEACL of an identifier on a mailbox, both as they stand in the command.
 pub fn delete_acl_answer(
-    call: &Call<'_>,
+    context: &CommandContext<'_>,
     mailbox: &Octets,
     identifier: &Octets,
 ) -> Result<Answer, AllocError>
-    ensures { let meant = specs.delete_acl_answer call.now.view call.now.tag mailbox.now identifier.now in
-        IfOk result (λ answer. answer ≡ meant) }
+    ensures { let answer = specs.delete_acl_answer context.now.view context.now.tag in
+        IfOk result (λ given. given ≡ answer mailbox.now identifier.now) }
 {
     let none = RightsChange::Replace(Rights::empty());
-    set_rights(call, mailbox, identifier, none)
+    set_rights(context, mailbox, identifier, none)
 }
 
 fn set_rights(
-    call: &Call<'_>,
+    context: &CommandContext<'_>,
     mailbox: &Octets,
     identifier: &Octets,
     change: RightsChange,
 ) -> Result<Answer, AllocError>
-    ensures { let answer = specs.set_rights_answer call.now.view call.now.tag in
+    ensures { let answer = specs.set_rights_answer context.now.view context.now.tag in
         IfOk result (λ given. given ≡ answer mailbox.now identifier.now change) }
 {
-    match call.name(mailbox)? {
-        Some(name) => set_rights_of_name(call, name, identifier, change),
-        None => call.refuse(Refusal::NonExistent),
+    match context.name(mailbox)? {
+        Some(name) => set_rights_of_name(context, &name, identifier, change),
+        None => context.refuse(Refusal::NonExistent),
     }
 }
 
 fn set_rights_of_name(
-    call: &Call<'_>,
-    name: Name,
+    context: &CommandContext<'_>,
+    name: &Name,
     text: &Octets,
     change: RightsChange,
 ) -> Result<Answer, AllocError>
-    ensures { let meant = specs.set_rights_of_name call.now.view call.now.tag text.now change name in
+    ensures { let meant = specs.set_rights_of_name context.now.view context.now.tag text.now change name.now in
         IfOk result (λ answer. answer ≡ meant) }
 {
-    let rights = call.view().rights(&name.as_ref());
+    let rights = context.view().rights(&name.as_ref());
     if !rights.has_any(Rights::ADMINISTER) {
-        return call.refuse(missing_right_refusal(rights));
+        return context.refuse(missing_right_refusal(rights));
     }
-    match identifier(call.alloc(), text)? {
-        Some(identifier) => set_rights_of_identifier(call, name, identifier, change),
-        None => call.refuse(Refusal::Cannot),
+    match identifier(context.alloc(), text)? {
+        Some(identifier) => set_rights_of_identifier(context, name, identifier, change),
+        None => context.refuse(Refusal::Cannot),
     }
 }
 
 fn set_rights_of_identifier(
-    call: &Call<'_>,
-    name: Name,
+    context: &CommandContext<'_>,
+    name: &Name,
     identifier: Identifier,
     change: RightsChange,
 ) -> Result<Answer, AllocError>
-    ensures { let meant = specs.set_rights_by call.now.view call.now.tag name change (Some identifier) in
-        IfOk result (λ answer. answer ≡ meant) }
+    ensures { let answer = specs.set_rights_by context.now.view context.now.tag name.now change in
+        IfOk result (λ given. given ≡ answer (Some identifier)) }
 {
-    if !may_set_rights(call.view(), &name, &identifier, change) {
-        return call.refuse(Refusal::Limit);
+    if !may_set_rights(context.view(), name, &identifier, change) {
+        return context.refuse(Refusal::Limit);
     }
-    if keeps_entry(call.view(), &name, &identifier, change) {
-        return call.done();
+    if keeps_entry(context.view(), name, &identifier, change) {
+        return context.done();
     }
-    call.done_with(Effect::SetRights(name, identifier, change))
+    let (name, identifier) = beside(name.try_copy(), identifier)?;
+    context.done_with(Effect::SetRights(name, identifier, change))
 }
 
 /// Whether the identifier's rights in the list, if the user sees it, stay as they are.

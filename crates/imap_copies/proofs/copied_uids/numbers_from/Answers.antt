@@ -2,8 +2,8 @@ use Rattle.std.proofs.Common.{◌∙◌, ◌+◌, ◌++◌, ◌∷◌, [], ap, s
 use Rattle.imap_copies.proofs.Told.{one_more}
 use Rattle.imap_copies.proofs.copied_uids.numbers_from.Goals as goal
 
-pub loop-place-preserved : goal.loop-place-preserved
-loop-place-preserved c =
+pub loop-index-preserved : goal.loop-index-preserved
+loop-index-preserved c =
     c.in_ok-push.ensures.items
-    ∙ ap (λ ns. ns ++ (c.args.first + c.loop-place.place) ∷ []) c.loop-place.invariant
-    ∙ sym (one_more c.args.first c.loop-place.place)
+    ∙ ap (λ ns. ns ++ (c.args.first + c.loop-index.index) ∷ []) c.loop-index.invariant
+    ∙ sym (one_more c.args.first c.loop-index.index)

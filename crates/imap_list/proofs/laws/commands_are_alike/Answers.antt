@@ -6,7 +6,7 @@ use Rattle.imap_list.proofs.Fitting.{list_fits, status_fits, subscribe_fits, uns
 use Rattle.imap_list.proofs.laws.commands_are_alike.Goals as goal
 
 pub returns-clause-list : goal.returns-clause-list
-returns-clause-list c = λ tag query. answers_alike (λ view. list_answer view tag query) (λ view. list_fits view tag query)
+returns-clause-list c = λ tag arguments. answers_alike (λ view. list_answer view tag arguments) (λ view. list_fits view tag arguments)
 
 pub returns-clause-status : goal.returns-clause-status
 returns-clause-status c =

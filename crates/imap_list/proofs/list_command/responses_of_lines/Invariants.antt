@@ -7,6 +7,6 @@ use Rattle.imap_list.proofs.list_command.responses_of_lines.Given as goal
 
 abbrev pub invariant-loop-line : goal.invariant-loop-line
 invariant-loop-line l = record {
-  lines : l.responses.items ++ flat_map (responses_of l.call.view l.query) l.line-iterator.rest.items ≡ flat_map (responses_of l.call.view l.query) l.fn.lines.items;
+  lines : l.responses.items ++ flat_map (responses_of l.context.view l.arguments) l.line-iterator.rest.items ≡ flat_map (responses_of l.context.view l.arguments) l.fn.lines.items;
   printable : AllByRecursion IsPrintable l.responses.items;
 }

@@ -1,5 +1,5 @@
 use Rattle.imap_targets.proofs.Listed.{IsListed}
 use Rattle.imap_targets.proofs.message_numbers.numbers_named.Given as goal
 
-abbrev pub invariant-loop-place : goal.invariant-loop-place
-invariant-loop-place l = IsListed l.messages l.known.list l.place l.named.items
+abbrev pub invariant-loop-index : goal.invariant-loop-index
+invariant-loop-index l = IsListed l.messages l.known.list l.index l.named.items

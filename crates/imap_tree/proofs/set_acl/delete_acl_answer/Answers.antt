@@ -6,5 +6,5 @@ use Rattle.imap_tree.proofs.set_acl.delete_acl_answer.Goals as goal
 pub returns : goal.returns
 returns c =
     let given : ℕ → Type 0 = λ rights. IfOk c.set_rights.result (λ answer. answer
-    ≡ set_rights_answer c.args.call.now.view c.args.call.now.tag c.args.mailbox.now c.args.identifier.now (replacing rights)) in
+    ≡ set_rights_answer c.args.context.now.view c.args.context.now.tag c.args.mailbox.now c.args.identifier.now (replacing rights)) in
     subst given (c.empty.ensures tt) c.set_rights.ensures

@@ -1,6 +1,0 @@
-use Rattle.imap_changes.specs.declared.stored.Stored.{Stored}
-use Rattle.imap_changes.proofs.Told.{AreCounted}
-use Rattle.imap_changes.proofs.stored.seen_changes.Given as goal
-
-abbrev pub invariant-loop-message : goal.invariant-loop-message
-invariant-loop-message l = AreCounted (λ (m : Stored). m.seen_changes) l.messages l.message-index l.count

@@ -1,6 +1,0 @@
-use Rattle.imap_rights.specs.Rights.{bits}
-use Rattle.imap_changes.proofs.Gathered.{IsGathered}
-use Rattle.imap_changes.proofs.stored.stored_named.Given as goal
-
-abbrev pub invariant-loop-message : goal.invariant-loop-message
-invariant-loop-message l = IsGathered (bits l.rights) l.spec l.known.list l.rows l.messages l.message-index l.stored.items
