@@ -1,0 +1,5 @@
+use Rattle.imap_search.proofs.Within.{same_test}
+use Rattle.imap_search.proofs.needles.is_part.Goals as goal
+
+pub returns : goal.returns
+returns c = same_test c.contains.result c.args.part.now c.args.text.now c.contains.ensures
