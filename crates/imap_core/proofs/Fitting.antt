@@ -11,10 +11,10 @@ use Rattle.imap_answer.specs.Fit.{IsFit, IsViewed, MayBeAsked, is_refusal, is_un
 use Rattle.imap_answer.proofs.Fits.{fits_alone, fits_enabling, fits_followed, fits_preceded}
 use Rattle.imap_answer.specs.Name.{name_of_text}
 use Rattle.imap_answer.specs.Access.{missing_right_refusal}
-use Rattle.imap_grammar.specs.declared.request.Request.{Request}
-use Rattle.imap_grammar.specs.declared.request.Request.TheVariants as request
-use Rattle.imap_grammar.specs.declared.command.Command.{Command}
-use Rattle.imap_grammar.specs.declared.command.Command.TheVariants as command
+use Rattle.imap_commands.specs.declared.request.Request.{Request}
+use Rattle.imap_commands.specs.declared.request.Request.TheVariants as request
+use Rattle.imap_commands.specs.declared.command.Command.{Command}
+use Rattle.imap_commands.specs.declared.command.Command.TheVariants as command
 use Rattle.imap_changes.specs.Expunge.{close_answer, close_if_selected}
 use Rattle.imap_changes.proofs.Fitting as changes
 use Rattle.imap_changes.proofs.StoreFitting as storing
@@ -22,6 +22,7 @@ use Rattle.imap_copies.proofs.Fitting as copies
 use Rattle.imap_copies.specs.declared.kind.TransferKind.TheVariants as transfer
 use Rattle.imap_list.proofs.Fitting as list
 use Rattle.imap_messages.proofs.Fitting as messages
+use Rattle.imap_search.proofs.Fitting.{search_fits}
 use Rattle.imap_syntax.specs.Moments.{Moment}
 use Rattle.imap_print.specs.declared.enabled.EnabledCapabilities.{EnabledCapabilities}
 use Rattle.imap_print.specs.declared.fetch.FetchedItems.{FetchedItems}
@@ -36,7 +37,7 @@ use Rattle.imap_names.specs.Name.{Name}
 use Rattle.imap_print.specs.declared.response.Refusal.{Refusal}
 use Rattle.imap_print.specs.declared.response.Refusal.TheVariants.{Cannot, NonExistent, NoPerm, WrongState}
 use Rattle.imap_rights.specs.Rights.{has_any, lookup}
-use Rattle.imap_grammar.specs.declared.commands.select.SelectParameters.{SelectParameters}
+use Rattle.imap_commands.specs.declared.commands.select.SelectParameters.{SelectParameters}
 use Rattle.imap_view.specs.declared.readable.Readable.{Readable}
 use Rattle.imap_view.specs.Readable.{readable_in}
 use Rattle.imap_view.specs.View.{View, rights_in}
@@ -53,7 +54,7 @@ use Rattle.imap_core.specs.Planned.{MayOpen}
 use Rattle.imap_core.specs.Commands.Session.{enabled_by_names, named_by}
 use Rattle.imap_core.specs.Laws.{is_idling, is_line, selects}
 use Rattle.imap_core.specs.Notices.{idle_lines, idle_telling, mailbox_after, mailbox_left, may_tell_expunges, notice_lines, notice_options, notice_telling, options_after, selected_mailbox}
-use Rattle.imap_core.specs.Answers.{command_answer, unbuilt_answer, unbuilt_refusal}
+use Rattle.imap_core.specs.Answers.{command_answer}
 use Rattle.imap_core.specs.Reply.{command_outcome, enables_nothing, has_parameters, highest_line, idle_outcome, if_selected, kept, newly_enables_condstore, noting, opened, outcome_of_answer, outcome_of_selecting, reply_by_idle, reply_by_session, reply_when_closed, reply_when_open, request_outcome}
 use Rattle.imap_core.specs.Reply.{select_outcome, unless_lost, unselect_outcome, close_outcome, with_notices}
 use Rattle.imap_core.proofs.Noticed.{no_line_refuses}
@@ -286,13 +287,6 @@ module _ (view : View) (own : Option Own) (number : ℕ) (what : Act) where
 -- ---- commands
 
 module _ (view : View) where
-  unbuilt_fits : (active : SessionState) (tag : List ℕ) → IsFit view (unbuilt_answer active tag)
-  unbuilt_fits active tag = by active.selected
-    where
-      by : (selected : Option Selection) → IsFit view (refusal tag (unbuilt_refusal selected))
-      by None = fits_alone view [] _ refl
-      by (Some s) = fits_alone view [] _ refl
-
   pub command_fits : (active : SessionState) (tag : List ℕ) (at : Moment) (what : Command) → IsFit view (command_answer view active tag at what)
   command_fits active tag at command.Capability = fits_alone view _ _ refl
   command_fits active tag at command.Noop = fits_alone view _ _ refl
@@ -318,7 +312,8 @@ module _ (view : View) where
   command_fits active tag at (command.MyRights mailbox) = tree.my_rights_fits view tag mailbox
   command_fits active tag at command.Expunge = changes.expunge_fits view active tag None
   command_fits active tag at (command.UidExpunge named) = changes.expunge_fits view active tag (Some named)
-  command_fits active tag at (command.Search numbering returns charset keys) = unbuilt_fits active tag
+  command_fits active tag at (command.Search numbering returns charset keys) =
+      search_fits view active tag (record { numbering = numbering; returns = returns; charset = charset; keys = keys })
   command_fits active tag at (command.Store numbering named store) =
       storing.store_fits view active tag (record { numbering = numbering; messages = named; spec = store })
   command_fits active tag at (command.Copy numbering named mailbox) =

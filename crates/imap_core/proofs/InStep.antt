@@ -56,11 +56,11 @@ use Rattle.imap_world.proofs.Growing.{messages_grow}
 use Rattle.imap_world.proofs.Histories.{all_stay_kept, steps_stay_sound}
 use Rattle.imap_world.specs.declared.effect.Effect.{Effect}
 use Rattle.imap_world.specs.Effects.{after_all}
-use Rattle.imap_grammar.specs.declared.command.Command.{Command}
-use Rattle.imap_grammar.specs.declared.command.Command.TheVariants as command
-use Rattle.imap_grammar.specs.declared.commands.select.SelectParameters.{SelectParameters}
-use Rattle.imap_grammar.specs.declared.request.Request.{Request}
-use Rattle.imap_grammar.specs.declared.request.Request.TheVariants as request
+use Rattle.imap_commands.specs.declared.command.Command.{Command}
+use Rattle.imap_commands.specs.declared.command.Command.TheVariants as command
+use Rattle.imap_commands.specs.declared.commands.select.SelectParameters.{SelectParameters}
+use Rattle.imap_commands.specs.declared.request.Request.{Request}
+use Rattle.imap_commands.specs.declared.request.Request.TheVariants as request
 use Rattle.imap_syntax.specs.Moments.{Moment}
 use Rattle.imap_answer.specs.Fit.{IsFit}
 use Rattle.imap_answer.specs.Name.{name_of_text}

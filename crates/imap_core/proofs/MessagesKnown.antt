@@ -8,10 +8,10 @@ use Rattle.imap_answer.specs.Alike.{view_after_asking}
 use Rattle.imap_answer.specs.Answer.{Answer, done, nothing_enabled}
 use Rattle.imap_answer.specs.Name.{name_of_text}
 use Rattle.imap_changes.specs.Expunge.{close_answer}
-use Rattle.imap_grammar.specs.declared.command.Command.{Command}
-use Rattle.imap_grammar.specs.declared.command.Command.TheVariants as command
-use Rattle.imap_grammar.specs.declared.commands.select.SelectParameters.{SelectParameters}
-use Rattle.imap_grammar.specs.declared.request.Request.TheVariants as request
+use Rattle.imap_commands.specs.declared.command.Command.{Command}
+use Rattle.imap_commands.specs.declared.command.Command.TheVariants as command
+use Rattle.imap_commands.specs.declared.commands.select.SelectParameters.{SelectParameters}
+use Rattle.imap_commands.specs.declared.request.Request.TheVariants as request
 use Rattle.imap_mailbox.specs.Brought.{told_of}
 use Rattle.imap_names.specs.Name.{Name}
 use Rattle.imap_print.specs.declared.enabled.EnabledCapabilities.{EnabledCapabilities}

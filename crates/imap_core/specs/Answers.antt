@@ -1,22 +1,24 @@
 -- What each command is answered, by what the user sees and the session.
-use Rattle.std.specs.Prelude.{ℕ, List}
-use Rattle.std.specs.Prelude.{Option, Some, None}
+use Rattle.std.specs.Prelude.{ℕ, List, Some, None}
 use Rattle.imap_answer.specs.Answer.{Answer, refusal}
-use Rattle.imap_grammar.specs.declared.command.Command.{Command}
-use Rattle.imap_grammar.specs.declared.command.Command.TheVariants as command
+use Rattle.imap_commands.specs.declared.command.Command.{Command}
+use Rattle.imap_commands.specs.declared.command.Command.TheVariants as command
 use Rattle.imap_list.specs.ListCommand.{list_answer, namespace_answer}
 use Rattle.imap_list.specs.Status.{status_answer}
 use Rattle.imap_list.specs.Subscriptions.{subscribe_answer, unsubscribe_answer}
+use Rattle.imap_syntax.specs.declared.set.MessageSet.{MessageSet}
+use Rattle.imap_syntax.specs.declared.set.Numbering.{Numbering}
 use Rattle.imap_syntax.specs.Moments.{Moment}
 use Rattle.imap_changes.specs.Expunge.{expunge_answer}
 use Rattle.imap_changes.specs.Store.{store_answer}
-use Rattle.imap_copies.specs.declared.kind.TransferKind.TheVariants as transfer
+use Rattle.imap_copies.specs.declared.kind.TransferKind.{TransferKind}
+use Rattle.imap_copies.specs.declared.kind.TransferKind.TheVariants as kind
 use Rattle.imap_copies.specs.Transfer.{transfer_answer}
 use Rattle.imap_messages.specs.Append.{append_answer}
 use Rattle.imap_messages.specs.Fetch.{fetch_answer}
-use Rattle.imap_print.specs.declared.response.Refusal.{Refusal}
-use Rattle.imap_print.specs.declared.response.Refusal.TheVariants.{Cannot, WrongState}
-use Rattle.imap_session.specs.State.{Selection, SessionState, selected_name}
+use Rattle.imap_print.specs.declared.response.Refusal.TheVariants.{Cannot}
+use Rattle.imap_search.specs.Search.{search_answer}
+use Rattle.imap_session.specs.State.{SessionState, selected_name}
 use Rattle.imap_tree.specs.Create.{create_answer}
 use Rattle.imap_tree.specs.Delete.{delete_answer}
 use Rattle.imap_tree.specs.GetAcl.{get_acl_answer}
@@ -28,35 +30,60 @@ use Rattle.imap_view.specs.View.{View}
 use Rattle.imap_core.specs.Commands.Session.{capability_answer, noop_answer}
 use Rattle.imap_core.specs.Commands.Session.{authenticate_answer, enable_answer}
 
--- what isn't built yet can't be done, if a mailbox is selected, which it needs (RFC 9051, section 3)
-abbrev pub unbuilt_refusal : Option Selection → Refusal
-unbuilt_refusal None = WrongState
-unbuilt_refusal (Some s) = Cannot
+-- COPY or MOVE
+abbrev pub transfer : View → SessionState → (tag : List ℕ) → TransferKind → Numbering → MessageSet →
+    (mailbox : List ℕ) → Answer
+transfer view own tag kind numbering messages mailbox = transfer_answer view own tag (record {
+  kind = kind;
+  numbering = numbering;
+  messages = messages;
+  mailbox = mailbox;
+})
 
-abbrev pub unbuilt_answer : SessionState → (tag : List ℕ) → Answer
-unbuilt_answer own tag = refusal tag (unbuilt_refusal own.selected)
+-- COPY and MOVE. The others are answered below, or have an outcome of their own (`command_outcome`). Each is
+-- named, so that a new one can't be forgotten
+abbrev pub transfer_command : View → SessionState → (tag : List ℕ) → Command → Answer
+transfer_command view own tag (command.Copy numbering messages mailbox) =
+    transfer view own tag kind.Copy numbering messages mailbox
+transfer_command view own tag (command.Move numbering messages mailbox) =
+    transfer view own tag kind.Move numbering messages mailbox
+transfer_command view own tag command.Capability = refusal tag Cannot
+transfer_command view own tag command.Noop = refusal tag Cannot
+transfer_command view own tag command.Logout = refusal tag Cannot
+transfer_command view own tag command.Namespace = refusal tag Cannot
+transfer_command view own tag command.Idle = refusal tag Cannot
+transfer_command view own tag command.Close = refusal tag Cannot
+transfer_command view own tag command.Unselect = refusal tag Cannot
+transfer_command view own tag command.Authenticate = refusal tag Cannot
+transfer_command view own tag command.Expunge = refusal tag Cannot
+transfer_command view own tag (command.Enable words) = refusal tag Cannot
+transfer_command view own tag (command.Select mailbox parameters) = refusal tag Cannot
+transfer_command view own tag (command.Examine mailbox parameters) = refusal tag Cannot
+transfer_command view own tag (command.Create mailbox) = refusal tag Cannot
+transfer_command view own tag (command.Delete mailbox) = refusal tag Cannot
+transfer_command view own tag (command.Rename from to) = refusal tag Cannot
+transfer_command view own tag (command.Subscribe mailbox) = refusal tag Cannot
+transfer_command view own tag (command.Unsubscribe mailbox) = refusal tag Cannot
+transfer_command view own tag (command.List selection reference patterns returns) = refusal tag Cannot
+transfer_command view own tag (command.Status mailbox items) = refusal tag Cannot
+transfer_command view own tag (command.Append mailbox flags date message) = refusal tag Cannot
+transfer_command view own tag (command.SetAcl mailbox identifier rights) = refusal tag Cannot
+transfer_command view own tag (command.DeleteAcl mailbox identifier) = refusal tag Cannot
+transfer_command view own tag (command.GetAcl mailbox) = refusal tag Cannot
+transfer_command view own tag (command.ListRights mailbox identifier) = refusal tag Cannot
+transfer_command view own tag (command.MyRights mailbox) = refusal tag Cannot
+transfer_command view own tag (command.UidExpunge messages) = refusal tag Cannot
+transfer_command view own tag (command.Search numbering returns charset keys) = refusal tag Cannot
+transfer_command view own tag (command.Fetch numbering messages items since vanished) = refusal tag Cannot
+transfer_command view own tag (command.Store numbering messages store) = refusal tag Cannot
 
--- EXPUNGE, STORE, COPY and MOVE. A command that isn't built yet can't be done
+-- EXPUNGE and STORE. The others are COPY and MOVE
 abbrev pub change_answer : View → SessionState → (tag : List ℕ) → Command → Answer
 change_answer view own tag command.Expunge = expunge_answer view own tag None
 change_answer view own tag (command.UidExpunge messages) = expunge_answer view own tag (Some messages)
 change_answer view own tag (command.Store numbering messages store) =
     store_answer view own tag (record { numbering = numbering; messages = messages; spec = store })
-change_answer view own tag (command.Copy numbering messages mailbox) =
-    transfer_answer view own tag (record {
-      kind = transfer.Copy;
-      numbering = numbering;
-      messages = messages;
-      mailbox = mailbox;
-    })
-change_answer view own tag (command.Move numbering messages mailbox) =
-    transfer_answer view own tag (record {
-      kind = transfer.Move;
-      numbering = numbering;
-      messages = messages;
-      mailbox = mailbox;
-    })
-change_answer view own tag _ = refusal tag Cannot
+change_answer view own tag other = transfer_command view own tag other
 
 -- APPEND, FETCH and SEARCH. The others are those that change messages
 abbrev pub message_answer : View → SessionState → (tag : List ℕ) → (at : Moment) → Command → Answer
@@ -75,7 +102,13 @@ message_answer view own tag at (command.Fetch numbering messages items since van
       changed_since = since;
       vanished = vanished;
     })
-message_answer view own tag at (command.Search numbering returns charset keys) = unbuilt_answer own tag
+message_answer view own tag at (command.Search numbering returns charset keys) =
+    search_answer view own tag (record {
+      numbering = numbering;
+      returns = returns;
+      charset = charset;
+      keys = keys;
+    })
 message_answer view own tag at other = change_answer view own tag other
 
 -- the commands on access control lists (RFC 4314). The others are those on messages

@@ -8,10 +8,10 @@ use Rattle.imap_mailbox.specs.Brought.{told_of}
 use Rattle.imap_session.specs.State.{Selection, SessionState}
 use Rattle.imap_session.specs.Telling.{Telling}
 use Rattle.imap_core.specs.InStep.{session_at}
-use Rattle.imap_grammar.specs.declared.command.Command.{Command}
-use Rattle.imap_grammar.specs.declared.command.Command.TheVariants as command
-use Rattle.imap_grammar.specs.declared.request.Request.{Request}
-use Rattle.imap_grammar.specs.declared.request.Request.TheVariants as request
+use Rattle.imap_commands.specs.declared.command.Command.{Command}
+use Rattle.imap_commands.specs.declared.command.Command.TheVariants as command
+use Rattle.imap_commands.specs.declared.request.Request.{Request}
+use Rattle.imap_commands.specs.declared.request.Request.TheVariants as request
 use Rattle.imap_core.specs.declared.session_id.SessionId.{SessionId}
 use Rattle.imap_core.specs.declared.sessions.SessionEffect.TheVariants as session
 use Rattle.imap_core.specs.declared.step.Act.{Act}
@@ -150,7 +150,8 @@ MessagesAreKnown = (state : State) (step : Step) (before after : SessionState)
 abbrev pub NeverUnavailable : Type 0
 NeverUnavailable = (state : State) (step : Step) → list_any is_unavailable (answer state step) ≡ false
 
--- To a user, states are alike that differ in hidden mailboxes alone, and in their used validities.
+-- To a user, states are alike that differ in hidden mailboxes alone, and in used validities of names of which the
+-- user may not know. A name in use of which the user may know stays in use.
 abbrev pub HiddenIsAlike : Type 0
 HiddenIsAlike = (user : List ℕ) (s t : State) → s.site ≡ t.site → own_in s user ≡ own_in t user
     → AreKept s.world.mailboxes → AreKept t.world.mailboxes

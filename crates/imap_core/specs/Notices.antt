@@ -3,8 +3,8 @@
 use Rattle.std.specs.Prelude.{ℕ, Bool, true, false, List, [], Option, Some, None, if◌then◌else◌}
 use Rattle.imap_answer.specs.Alike.{view_after_asking}
 use Rattle.imap_answer.specs.Answer.{Answer}
-use Rattle.imap_grammar.specs.declared.command.Command.{Command}
-use Rattle.imap_grammar.specs.declared.command.Command.TheVariants as command
+use Rattle.imap_commands.specs.declared.command.Command.{Command}
+use Rattle.imap_commands.specs.declared.command.Command.TheVariants as command
 use Rattle.imap_targets.specs.MessageNumbers.{is_by_uid}
 use Rattle.imap_print.specs.declared.enabled.EnabledCapabilities.{EnabledCapabilities}
 use Rattle.imap_print.specs.declared.response.Refusal.TheVariants.{Malformed, WrongState}

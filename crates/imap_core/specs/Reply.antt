@@ -5,11 +5,11 @@ use Rattle.std.specs.Prelude.{Option, Some, None, if◌then◌else◌}
 use Rattle.std.specs.FinMap as map
 use Rattle.imap_answer.specs.Answer.{Answer, done, done_line, followed_by, nothing_enabled, preceded_by}
 use Rattle.imap_answer.specs.Answer.{refusal, refused_line}
-use Rattle.imap_grammar.specs.declared.request.Request.{Request}
-use Rattle.imap_grammar.specs.declared.request.Request.TheVariants as request
-use Rattle.imap_grammar.specs.declared.command.Command.{Command}
-use Rattle.imap_grammar.specs.declared.commands.select.SelectParameters.{SelectParameters}
-use Rattle.imap_grammar.specs.declared.command.Command.TheVariants as command
+use Rattle.imap_commands.specs.declared.request.Request.{Request}
+use Rattle.imap_commands.specs.declared.request.Request.TheVariants as request
+use Rattle.imap_commands.specs.declared.command.Command.{Command}
+use Rattle.imap_commands.specs.declared.commands.select.SelectParameters.{SelectParameters}
+use Rattle.imap_commands.specs.declared.command.Command.TheVariants as command
 use Rattle.imap_syntax.specs.Moments.{Moment}
 use Rattle.imap_print.specs.declared.response.Response.{Response}
 use Rattle.imap_print.specs.declared.response.Response.TheVariants as response

@@ -2,7 +2,7 @@
 
 ghost use Rattle.std.specs.Prelude.{◌≡◌, ◌≢◌, false, Some, IfOk};
 ghost use Rattle.std.specs.List.{AllByRecursion};
-ghost use Rattle.imap_grammar.specs.declared.command.Command.TheVariants.{Idle};
+ghost use Rattle.imap_commands.specs.declared.command.Command.TheVariants.{Idle};
 ghost use Rattle.imap_core.specs.declared.pending.Pending.TheVariants as pending;
 ghost use Rattle.imap_core.specs.Notices.{may_tell_expunges, selected_mailbox};
 ghost use Rattle.imap_core.specs.Outcome.{answered};
@@ -21,64 +21,64 @@ use crate::notices::may_tell_expunges;
 use crate::outcome::Outcome;
 use crate::pending::Pending;
 use crate::sessions::SessionEffect;
-use crate::tried::with_found;
 use answers::command_answer;
-use imap_answer::{Answer, Call};
+use imap_answer::{Answer, CommandContext};
 use imap_changes::close_answer;
 use imap_grammar::{Command, SelectParameters};
 use imap_lex::Octets;
 use imap_print::{Refusal, Response};
 use imap_session::{NewSelection, Selecting, Session, refuse_selecting, select_answer};
+use imap_values::beside;
 use imap_view::{Readable, View};
 use session::logout_answer;
 use std::alloc::AllocError;
 
 /// Finds what comes of a command other than IDLE, but for the notices of its session.
 pub(crate) fn command_pending(
-    call: &Call<'_>,
+    context: &CommandContext<'_>,
     session: &Session,
     command: &Command,
 ) -> Result<Pending, AllocError>
-    requires unlost { is_lost call.now.view (state_of session.now) ≡ false }
+    requires unlost { is_lost context.now.view (state_of session.now) ≡ false }
     requires not_idle { command.now ≢ Idle }
     ensures outcome { let own = state_of session.now in
-        let meant = command_outcome call.now.view own call.now.tag call.now.at command.now in
-        IfOk result (λ pending. completed call.now.view (Some own) pending ≡ meant) }
+        let meant = command_outcome context.now.view own context.now.tag context.now.at command.now in
+        IfOk result (λ pending. completed context.now.view (Some own) pending ≡ meant) }
     ensures completable { let own = state_of session.now in
-        IfOk result (λ pending. IsCompletable call.now.view (Some own) pending) }
+        IfOk result (λ pending. IsCompletable context.now.view (Some own) pending) }
 {
     match command {
-        Command::Logout => whole(logout_answer(call)?, SessionEffect::End),
+        Command::Logout => whole(logout_answer(context)?, SessionEffect::End),
         Command::Select {
             mailbox,
             parameters,
-        } => select_pending(call, session, false, mailbox, parameters),
+        } => select_pending(context, session, false, mailbox, parameters),
         Command::Examine {
             mailbox,
             parameters,
-        } => select_pending(call, session, true, mailbox, parameters),
-        Command::Close => close_pending(call, session),
-        Command::Unselect => unselect_pending(call, session),
-        _ => answer_pending(call, session, command),
+        } => select_pending(context, session, true, mailbox, parameters),
+        Command::Close => close_pending(context, session),
+        Command::Unselect => unselect_pending(context, session),
+        _ => answer_pending(context, session, command),
     }
 }
 
 /// An answer with notices, if there are any.
 fn answer_pending(
-    call: &Call<'_>,
+    context: &CommandContext<'_>,
     session: &Session,
     command: &Command,
 ) -> Result<Pending, AllocError>
-    requires { is_lost call.now.view (state_of session.now) ≡ false }
+    requires { is_lost context.now.view (state_of session.now) ≡ false }
     ensures outcome { let own = state_of session.now in
-        let answer = command_answer call.now.view own call.now.tag call.now.at command.now in
-        let meant = specs.outcome_of_answer call.now.view own (may_tell_expunges command.now) answer in
-        IfOk result (λ pending. completed call.now.view (Some own) pending ≡ meant) }
+        let answer = command_answer context.now.view own context.now.tag context.now.at command.now in
+        let meant = specs.outcome_of_answer context.now.view own (may_tell_expunges command.now) answer in
+        IfOk result (λ pending. completed context.now.view (Some own) pending ≡ meant) }
     ensures completable { let own = state_of session.now in
-        IfOk result (λ pending. IsCompletable call.now.view (Some own) pending) }
+        IfOk result (λ pending. IsCompletable context.now.view (Some own) pending) }
 {
-    let answer = command_answer(call, session, command)?;
-    let answer = with_highest(call, session, answer)?;
+    let answer = command_answer(context, session, command)?;
+    let answer = with_highest(context, session, answer)?;
     Ok(Pending::Command(answer, may_tell_expunges(command)))
 }
 
@@ -90,29 +90,36 @@ fn whole(answer: Answer, session: SessionEffect) -> Result<Pending, AllocError>
 }
 
 /// Who newly enables CONDSTORE is told HIGHESTMODSEQ of the selected mailbox (RFC 7162, section 3.1).
-fn with_highest(call: &Call<'_>, session: &Session, answer: Answer) -> Result<Answer, AllocError>
-    ensures { let meant = specs.with_highest call.now.view (state_of session.now) answer in
+fn with_highest(
+    context: &CommandContext<'_>,
+    session: &Session,
+    answer: Answer,
+) -> Result<Answer, AllocError>
+    ensures { let meant = specs.with_highest context.now.view (state_of session.now) answer in
         IfOk result (λ given. given ≡ meant) }
 {
     if !answer.enables().condstore || session.enabled.condstore {
         return Ok(answer);
     }
-    let (answer, front) = with_found(answer, highest_line(call, session))?;
+    let (front, answer) = beside(highest_line(context, session), answer)?;
     answer.preceded_by(front)
 }
 
 /// The line that tells HIGHESTMODSEQ of the selected mailbox, if one is selected that the user may read.
-fn highest_line(call: &Call<'_>, session: &Session) -> Result<Vec<Response>, AllocError>
-    ensures lines { let mailbox = selected_mailbox call.now.view (state_of session.now).selected in
+fn highest_line(
+    context: &CommandContext<'_>,
+    session: &Session,
+) -> Result<Vec<Response>, AllocError>
+    ensures lines { let mailbox = selected_mailbox context.now.view (state_of session.now).selected in
         IfOk result (λ lines. lines.items ≡ specs.highest_line mailbox) }
     ensures printable { IfOk result (λ lines. AllByRecursion IsPrintable lines.items) }
 {
-    match selected_mailbox(call.view(), session) {
+    match selected_mailbox(context.view(), session) {
         Some(mailbox) => {
             let line = Response::HighestModSeq(mailbox.highest);
-            Ok(vec![in call.alloc(); line]?)
+            Ok(vec![in context.alloc(); line]?)
         }
-        None => Ok(Vec::new(call.alloc())),
+        None => Ok(Vec::new(context.alloc())),
     }
 }
 
@@ -127,48 +134,49 @@ fn selected_mailbox<'a>(view: &View<'a>, session: &Session) -> Option<Readable<'
 }
 
 fn select_pending(
-    call: &Call<'_>,
+    context: &CommandContext<'_>,
     session: &Session,
     read_only: bool,
     mailbox: &Octets,
     parameters: &SelectParameters,
 ) -> Result<Pending, AllocError>
     ensures { let own = state_of session.now in
-        let outcome = specs.select_outcome call.now.view own call.now.tag read_only in
+        let outcome = specs.select_outcome context.now.view own context.now.tag read_only in
         IfOk result (λ given. given ≡ pending.Whole (outcome mailbox.now parameters.now)) }
 {
     let Selecting { answer, selection } = if parameters.condstore || parameters.qresync.is_some() {
-        refuse_selecting(call, session, Refusal::Cannot)?
+        refuse_selecting(context, session, Refusal::Cannot)?
     } else {
-        select_answer(call, session, read_only, mailbox)?
+        select_answer(context, session, read_only, mailbox)?
     };
     whole(answer, SessionEffect::Select(selection))
 }
 
-fn unselect_pending(call: &Call<'_>, session: &Session) -> Result<Pending, AllocError>
-    ensures outcome { let outcome = specs.unselect_outcome (state_of session.now) call.now.tag in
+fn unselect_pending(context: &CommandContext<'_>, session: &Session) -> Result<Pending, AllocError>
+    ensures outcome { let outcome = specs.unselect_outcome (state_of session.now) context.now.tag in
         IfOk result (λ given. given ≡ pending.Whole outcome) }
     ensures completable { let own = state_of session.now in
-        IfOk result (λ given. IsCompletable call.now.view (Some own) given) }
+        IfOk result (λ given. IsCompletable context.now.view (Some own) given) }
 {
     match &session.selected {
-        Some(_) => whole(call.done()?, SessionEffect::Select(NewSelection::none())),
-        None => whole(call.refuse(Refusal::WrongState)?, SessionEffect::Keep),
+        Some(_) => whole(context.done()?, SessionEffect::Select(NewSelection::none())),
+        None => whole(context.refuse(Refusal::WrongState)?, SessionEffect::Keep),
     }
 }
 
 /// A mailbox is closed without notices.
-fn close_pending(call: &Call<'_>, session: &Session) -> Result<Pending, AllocError>
-    ensures outcome { let outcome = specs.close_outcome call.now.view (state_of session.now) call.now.tag in
+fn close_pending(context: &CommandContext<'_>, session: &Session) -> Result<Pending, AllocError>
+    ensures outcome { let own = state_of session.now in
+        let outcome = specs.close_outcome context.now.view own context.now.tag in
         IfOk result (λ given. given ≡ pending.Whole outcome) }
     ensures completable { let own = state_of session.now in
-        IfOk result (λ given. IsCompletable call.now.view (Some own) given) }
+        IfOk result (λ given. IsCompletable context.now.view (Some own) given) }
 {
     match &session.selected {
         Some(_) => whole(
-            close_answer(call, session)?,
+            close_answer(context, session)?,
             SessionEffect::Select(NewSelection::none()),
         ),
-        None => whole(call.refuse(Refusal::WrongState)?, SessionEffect::Keep),
+        None => whole(context.refuse(Refusal::WrongState)?, SessionEffect::Keep),
     }
 }

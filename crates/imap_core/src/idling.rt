@@ -18,13 +18,13 @@ ghost use Rattle.imap_core.specs.Planned.{MayTell};
 ghost use Rattle.imap_core.specs.Reply as reply;
 ghost use Rattle.imap_core.specs.declared.sessions.SessionEffect.TheVariants as session;
 
-use crate::notices::{Asked, mailbox_left, notices_of_mailbox, noting};
+use crate::notices::{PlannedChange, mailbox_left, notices_of_mailbox, noting};
 use crate::outcome::Outcome;
 use crate::sessions::SessionEffect;
 use imap_answer::refused_line;
 use imap_lex::Tag;
 use imap_print::{EnabledCapabilities, Refusal, Response};
-use imap_session::{NoticeOptions, Session, SessionNotices, Told};
+use imap_session::{KnownUpdate, NoticeOptions, Session, SessionNotices};
 use imap_upcoming::Upcoming;
 use std::alloc::{AllocError, Global};
 
@@ -42,21 +42,21 @@ pub(crate) enum Idling {
 /// What comes of a step of a session that idles, or begins to.
 pub(crate) fn idle_outcome(
     alloc: Global,
-    asked: &Asked<'_>,
+    planned: &PlannedChange<'_>,
     session: &Session,
     idling: Idling,
 ) -> Result<Outcome, AllocError>
-    requires { let world = world_of asked.now.world.now in
+    requires { let world = world_of planned.now.world.now in
         let own = state_of session.now in
-        IsFoundForEffect asked.now.site.now asked.now.user.now world asked.now.change.now own None }
-    ensures outcome { let world = world_of asked.now.world.now in
-        let view = view_of asked.now.site.now asked.now.user.now world in
+        IsFoundForEffect planned.now.site.now planned.now.user.now world planned.now.change.now own None }
+    ensures outcome { let world = world_of planned.now.world.now in
+        let view = view_of planned.now.site.now planned.now.user.now world in
         let meant = reply.idle_outcome view (state_of session.now) idling in
         IfOk result (λ outcome. outcome ≡ meant) }
     ensures told { let own = state_of session.now in
         IfOk result (λ outcome. MayTell (Some own) outcome.session) }
 {
-    let SessionNotices { lines, told } = idle_notices(alloc, asked, session)?;
+    let SessionNotices { lines, told } = idle_notices(alloc, planned, session)?;
     match idling {
         Idling::Begins(tag) => begun(alloc, tag, lines, told),
         Idling::Polls => Ok(polled(lines, told)),
@@ -76,18 +76,18 @@ pub(crate) fn idle_broken(alloc: Global, tag: &Tag) -> Result<Outcome, AllocErro
 /// What the session is told of its mailbox: expunges, too.
 fn idle_notices(
     alloc: Global,
-    asked: &Asked<'_>,
+    planned: &PlannedChange<'_>,
     session: &Session,
 ) -> Result<SessionNotices, AllocError>
-    requires { let world = world_of asked.now.world.now in
+    requires { let world = world_of planned.now.world.now in
         let own = state_of session.now in
-        IsFoundForEffect asked.now.site.now asked.now.user.now world asked.now.change.now own None }
-    ensures lines { let world = world_of asked.now.world.now in
-        let view = view_of asked.now.site.now asked.now.user.now world in
+        IsFoundForEffect planned.now.site.now planned.now.user.now world planned.now.change.now own None }
+    ensures lines { let world = world_of planned.now.world.now in
+        let view = view_of planned.now.site.now planned.now.user.now world in
         let meant = specs.idle_lines view (state_of session.now) in
         IfOk result (λ n. n.lines.items ≡ meant) }
-    ensures told { let world = world_of asked.now.world.now in
-        let view = view_of asked.now.site.now asked.now.user.now world in
+    ensures told { let world = world_of planned.now.world.now in
+        let view = view_of planned.now.site.now planned.now.user.now world in
         let meant = specs.idle_telling view (state_of session.now) in
         IfOk result (λ n. n.told ≡ meant) }
     ensures change { let selected = (state_of session.now).selected in
@@ -99,21 +99,22 @@ fn idle_notices(
         qresync: session.enabled.qresync,
         condstore: session.enabled.condstore,
     };
-    notices_of_mailbox(alloc, session, idle_mailbox(asked, session), &options, &[])
+    let mailbox = idle_mailbox(planned, session);
+    notices_of_mailbox(alloc, session, mailbox, &options, &[])
 }
 
 /// The mailbox of which the session is told, which its step leaves as it is.
-fn idle_mailbox<'a>(asked: &Asked<'a>, session: &Session) -> Option<Upcoming<'a>>
-    requires { let world = world_of asked.now.world.now in
+fn idle_mailbox<'a>(planned: &PlannedChange<'a>, session: &Session) -> Option<Upcoming<'a>>
+    requires { let world = world_of planned.now.world.now in
         let own = state_of session.now in
-        IsFoundForEffect asked.now.site.now asked.now.user.now world asked.now.change.now own None }
-    ensures mailbox { let world = world_of asked.now.world.now in
-        let view = view_of asked.now.site.now asked.now.user.now world in
+        IsFoundForEffect planned.now.site.now planned.now.user.now world planned.now.change.now own None }
+    ensures mailbox { let world = world_of planned.now.world.now in
+        let view = view_of planned.now.site.now planned.now.user.now world in
         option_map readable result ≡ specs.mailbox_left view (state_of session.now) }
     ensures step { let selected = (state_of session.now).selected in
         IfSome result (λ m. IsInStepIfSelected m.highest m.messages selected) }
 {
-    mailbox_left(asked, session)
+    mailbox_left(planned, session)
 }
 
 /// An IDLE begins: the client may send DONE once it has read the first line.
@@ -121,7 +122,7 @@ fn begun(
     alloc: Global,
     tag: Tag,
     lines: Vec<Response>,
-    told: Option<Told>,
+    told: Option<KnownUpdate>,
 ) -> Result<Outcome, AllocError>
     requires { AllByRecursion IsPrintable lines.items }
     ensures { let meant = said (response.Idling ∷ lines.items) (session.Idle (Some tag) told) in
@@ -134,7 +135,7 @@ fn begun(
 }
 
 /// An IDLE goes on.
-fn polled(lines: Vec<Response>, told: Option<Told>) -> Outcome
+fn polled(lines: Vec<Response>, told: Option<KnownUpdate>) -> Outcome
     requires { AllByRecursion IsPrintable lines.items }
     ensures { result ≡ said lines.items (reply.noting nothing_enabled told) }
 {
@@ -147,7 +148,7 @@ fn polled(lines: Vec<Response>, told: Option<Told>) -> Outcome
 }
 
 /// An IDLE ends.
-fn ended(tag: Tag, lines: Vec<Response>, told: Option<Told>) -> Result<Outcome, AllocError>
+fn ended(tag: Tag, lines: Vec<Response>, told: Option<KnownUpdate>) -> Result<Outcome, AllocError>
     requires { AllByRecursion IsPrintable lines.items }
     ensures { let meant = said (lines.items ++ done_line tag ∷ []) (session.Idle None told) in
         IfOk result (λ outcome. outcome ≡ meant) }

@@ -28,9 +28,10 @@ pub fn steps_are_alike()
     ensures { StepsAreAlike }
 {}
 
-/// Mailboxes that are hidden from a user can change, come and go, and leave their used UIDVALIDITYs, and the
-/// states are alike to the user: so what the user is answered from then on is the same, by
-/// [`isolation`].
+/// States are alike to a user that differ in mailboxes alone which are hidden from the user. Under a name of
+/// which the user may not know they may come and go, and leave used UIDVALIDITYs. Under another name a
+/// hidden mailbox is there in both states or in neither, since the name is taken. What the user is answered
+/// from then on is the same, by [`isolation`].
 pub fn hidden_is_alike()
     ensures { HiddenIsAlike }
 {}
@@ -56,7 +57,7 @@ pub fn messages_are_kept(core: &Core)
     ensures messages { AreKept core.now.state.world.mailboxes }
     ensures sessions { AreInStep core.now.state.world core.now.state.accounts }
 {
-    core.keep();
+    core.invariant_holds();
 }
 
 /// No UIDVALIDITY is used twice under a name, whatever steps are made (RFC 9051, section 2.3.1.1).

@@ -24,7 +24,6 @@ mod reply;
 mod session_id;
 mod sessions;
 mod step;
-mod tried;
 
 pub use imap_answer::Moment;
 pub use machine::{Core, Prepared};

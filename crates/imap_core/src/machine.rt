@@ -5,6 +5,7 @@ ghost use Rattle.std.specs.FinMap as map;
 ghost use Rattle.std.specs.List.{AllByRecursion};
 ghost use Rattle.imap_session.specs.State.{state_of};
 ghost use Rattle.imap_world.specs.Effects.{after_writes, writes_of};
+ghost use Rattle.imap_world.specs.Mailbox.{AreShared};
 ghost use Rattle.imap_world.specs.Ready as world;
 ghost use Rattle.imap_world.specs.Ready.{AreApart};
 ghost use Rattle.imap_world.specs.Stored.{world_of};
@@ -23,7 +24,7 @@ ghost use Rattle.imap_core.specs.Trace.{sent_to, transcript};
 
 use crate::accounts::{change_session, open_session, own_sessions, reserve_known};
 use crate::effects::{resolve_effects, with_effects};
-use crate::notices::{Asked, with_notices};
+use crate::notices::{PlannedChange, with_notices};
 use crate::opening::Opening;
 use crate::outcome::Outcome;
 use crate::pending::Pending;
@@ -31,11 +32,11 @@ use crate::reply::step_pending;
 use crate::session_id::SessionId;
 use crate::sessions::{OwnSessions, SessionEffect, room_needed};
 use crate::step::Step;
-use crate::tried::with_found;
 use imap_names::{UserName, inbox_ref};
 use imap_print::Response;
 use imap_session::Session;
 use imap_user_map::UserMap;
+use imap_values::beside;
 use imap_view::View;
 use imap_world::{Change, Effect, Limits, Site, World};
 use std::alloc::{AllocError, Global};
@@ -130,9 +131,10 @@ impl Core {
         Ok((core, change))
     }
 
-    /// Lets copies share the messages of all mailboxes until they change. They then copy none of these.
+    /// Lets copies share the messages of all mailboxes until they change. If memory runs out, some are shared.
     pub fn share(&mut self, alloc: Global) -> Result<(), AllocError>
-        ensures { self.new.state ≡ self.old.state }
+        ensures state { self.new.state ≡ self.old.state }
+        ensures shared { OnOk result (AreShared self.new.stored.mailboxes.map) }
     {
         self.world.share(alloc)
     }
@@ -167,8 +169,8 @@ impl Core {
         open_session(&self.accounts, who)
     }
 
-    /// Does nothing: its contract hands on what the type keeps.
-    pub(crate) fn keep(&self)
+    /// Does nothing: its contract says the invariant of the type.
+    pub(crate) fn invariant_holds(&self)
         ensures { IsMachineKept self.now.state.world self.now.state.accounts }
     {
         let _ = &self.world;
@@ -191,9 +193,9 @@ impl Core {
         let who = step.who.try_copy()?;
         let pending = self.pending(alloc, step)?;
         let found = self.resolve(alloc, pending.effects());
-        let (pending, change) = with_found(pending, found)?;
+        let (change, pending) = beside(found, pending)?;
         let found = self.complete(alloc, step, pending, &change);
-        let (change, outcome) = with_found(change, found)?;
+        let (outcome, change) = beside(found, change)?;
         let (replies, session) = outcome.into_parts();
         let prepared = Prepared {
             who,
@@ -202,7 +204,7 @@ impl Core {
             change,
         };
         let room = self.make_room(&prepared.who, room_needed(&prepared.session));
-        let (prepared, ()) = with_found(prepared, room)?;
+        let ((), prepared) = beside(room, prepared)?;
         Ok(prepared)
     }
 
@@ -283,14 +285,14 @@ impl Core {
             let accounts = accounts_after state.accounts step.now.who session in
             IsMachineKept (after_writes change.now state.world) accounts }
     {
-        let asked = Asked {
+        let planned = PlannedChange {
             world: &self.world,
             site: &self.site,
             user: &step.who.user,
             change,
         };
         let session = open_session(&self.accounts, &step.who);
-        with_notices(alloc, &asked, session, pending)
+        with_notices(alloc, &planned, session, pending)
     }
 
     /// Makes room for `more` messages in the known list of a session, if it is open.

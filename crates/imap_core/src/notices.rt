@@ -20,20 +20,20 @@ use crate::idling::idle_outcome;
 use crate::outcome::Outcome;
 use crate::pending::Pending;
 use crate::sessions::SessionEffect;
-use crate::tried::with_found;
 use imap_answer::Answer;
 use imap_grammar::Command;
 use imap_names::UserName;
 use imap_print::{EnabledCapabilities, Refusal, Response};
-use imap_session::{NoticeOptions, Session, SessionNotices, Told};
+use imap_session::{KnownUpdate, NoticeOptions, Session, SessionNotices};
 use imap_syntax::Numbering;
 use imap_upcoming::Upcoming;
+use imap_values::beside;
 use imap_world::{Change, Site, World};
 use std::alloc::{AllocError, Global};
 
 /// A change that a user asked for, before it is written.
 #[derive(Drop)]
-pub(crate) struct Asked<'a> {
+pub(crate) struct PlannedChange<'a> {
     pub(crate) world: &'a World,
     pub(crate) site: &'a Site,
     pub(crate) user: &'a UserName,
@@ -43,15 +43,15 @@ pub(crate) struct Asked<'a> {
 /// What comes of a step, with the notices of its session, if it is open.
 pub(crate) fn with_notices(
     alloc: Global,
-    asked: &Asked<'_>,
+    planned: &PlannedChange<'_>,
     session: Option<&Session>,
     pending: Pending,
 ) -> Result<Outcome, AllocError>
     requires { let own = option_map state_of (option_copied session) in
-        let world = world_of asked.now.world.now in
-        AreFound asked.now.site.now asked.now.user.now world asked.now.change.now own pending }
-    ensures outcome { let world = world_of asked.now.world.now in
-        let view = view_of asked.now.site.now asked.now.user.now world in
+        let world = world_of planned.now.world.now in
+        AreFound planned.now.site.now planned.now.user.now world planned.now.change.now own pending }
+    ensures outcome { let world = world_of planned.now.world.now in
+        let view = view_of planned.now.site.now planned.now.user.now world in
         let own = option_map state_of (option_copied session.entry) in
         IfOk result (λ outcome. outcome ≡ completed view own pending) }
     ensures told { let own = option_map state_of (option_copied session.entry) in
@@ -60,11 +60,11 @@ pub(crate) fn with_notices(
     match pending {
         Pending::Whole(outcome) => Ok(outcome),
         Pending::Command(answer, expunges) => match session {
-            Some(session) => outcome_of_answer(alloc, asked, session, expunges, answer),
+            Some(session) => outcome_of_answer(alloc, planned, session, expunges, answer),
             None => Outcome::answered(answer, SessionEffect::Keep),
         },
         Pending::Idle(idling) => match session {
-            Some(session) => idle_outcome(alloc, asked, session, idling),
+            Some(session) => idle_outcome(alloc, planned, session, idling),
             None => Ok(Outcome::silence(alloc)),
         },
     }
@@ -72,51 +72,51 @@ pub(crate) fn with_notices(
 
 fn outcome_of_answer(
     alloc: Global,
-    asked: &Asked<'_>,
+    planned: &PlannedChange<'_>,
     session: &Session,
     expunges: bool,
     answer: Answer,
 ) -> Result<Outcome, AllocError>
-    requires { let world = world_of asked.now.world.now in
+    requires { let world = world_of planned.now.world.now in
         let own = state_of session.now in
         let effect = answer.effect in
-        IsFoundForEffect asked.now.site.now asked.now.user.now world asked.now.change.now own effect }
-    ensures outcome { let world = world_of asked.now.world.now in
-        let view = view_of asked.now.site.now asked.now.user.now world in
+        IsFoundForEffect planned.now.site.now planned.now.user.now world planned.now.change.now own effect }
+    ensures outcome { let world = world_of planned.now.world.now in
+        let view = view_of planned.now.site.now planned.now.user.now world in
         let meant = reply.with_notices view (state_of session.now) expunges answer in
         IfOk result (λ outcome. outcome ≡ meant) }
     ensures told { let own = state_of session.now in
         IfOk result (λ outcome. MayTell (Some own) outcome.session) }
 {
-    let found = notices_of(alloc, asked, session, expunges, &answer);
-    let (answer, found) = with_found(answer, found)?;
+    let found = notices_of(alloc, planned, session, expunges, &answer);
+    let (found, answer) = beside(found, answer)?;
     let SessionNotices { lines, told } = found;
     let effect = noting(answer.enables(), told);
-    let (effect, answer) = with_found(effect, answer.followed_by(lines))?;
+    let (answer, effect) = beside(answer.followed_by(lines), effect)?;
     Outcome::answered(answer, effect)
 }
 
 /// The lines before the last one, and what the session then knows.
 fn notices_of(
     alloc: Global,
-    asked: &Asked<'_>,
+    planned: &PlannedChange<'_>,
     session: &Session,
     expunges: bool,
     answer: &Answer,
 ) -> Result<SessionNotices, AllocError>
-    requires { let world = world_of asked.now.world.now in
+    requires { let world = world_of planned.now.world.now in
         let own = state_of session.now in
         let effect = answer.now.effect in
-        IsFoundForEffect asked.now.site.now asked.now.user.now world asked.now.change.now own effect }
-    ensures lines { let world = world_of asked.now.world.now in
-        let view = view_of asked.now.site.now asked.now.user.now world in
+        IsFoundForEffect planned.now.site.now planned.now.user.now world planned.now.change.now own effect }
+    ensures lines { let world = world_of planned.now.world.now in
+        let view = view_of planned.now.site.now planned.now.user.now world in
         let own = state_of session.now in
         let o = specs.options_after expunges own answer.now in
         let mailbox = specs.mailbox_after view own answer.now in
         let meant = specs.notice_lines o answer.now.told own.selected mailbox in
         IfOk result (λ n. n.lines.items ≡ meant) }
-    ensures told { let world = world_of asked.now.world.now in
-        let view = view_of asked.now.site.now asked.now.user.now world in
+    ensures told { let world = world_of planned.now.world.now in
+        let view = view_of planned.now.site.now planned.now.user.now world in
         let own = state_of session.now in
         let o = specs.options_after expunges own answer.now in
         let mailbox = specs.mailbox_after view own answer.now in
@@ -127,7 +127,7 @@ fn notices_of(
     ensures printable { IfOk result (λ n. AllByRecursion IsPrintable n.lines.items) }
 {
     let options = options_after(expunges, session.enabled, answer.enables());
-    let mailbox = mailbox_after(asked, session, answer);
+    let mailbox = mailbox_after(planned, session, answer);
     notices_of_mailbox(alloc, session, mailbox, &options, answer.told())
 }
 
@@ -166,13 +166,17 @@ pub(crate) fn notices_of_mailbox(
 }
 
 /// The mailbox of which the session is told, as the command leaves it.
-fn mailbox_after<'a>(asked: &Asked<'a>, session: &Session, answer: &Answer) -> Option<Upcoming<'a>>
-    requires { let world = world_of asked.now.world.now in
+fn mailbox_after<'a>(
+    planned: &PlannedChange<'a>,
+    session: &Session,
+    answer: &Answer,
+) -> Option<Upcoming<'a>>
+    requires { let world = world_of planned.now.world.now in
         let own = state_of session.now in
         let effect = answer.now.effect in
-        IsFoundForEffect asked.now.site.now asked.now.user.now world asked.now.change.now own effect }
-    ensures mailbox { let world = world_of asked.now.world.now in
-        let view = view_of asked.now.site.now asked.now.user.now world in
+        IsFoundForEffect planned.now.site.now planned.now.user.now world planned.now.change.now own effect }
+    ensures mailbox { let world = world_of planned.now.world.now in
+        let view = view_of planned.now.site.now planned.now.user.now world in
         option_map readable result ≡ specs.mailbox_after view (state_of session.now) answer.now }
     ensures step { let selected = (state_of session.now).selected in
         IfSome result (λ m. IsInStepIfSelected m.highest m.messages selected) }
@@ -180,28 +184,31 @@ fn mailbox_after<'a>(asked: &Asked<'a>, session: &Session, answer: &Answer) -> O
     if is_bad(answer.last()) {
         return None;
     }
-    mailbox_left(asked, session)
+    mailbox_left(planned, session)
 }
 
 /// The selected mailbox after the change, unless the session has lost it then.
-pub(crate) fn mailbox_left<'a>(asked: &Asked<'a>, session: &Session) -> Option<Upcoming<'a>>
-    requires { let world = world_of asked.now.world.now in
+pub(crate) fn mailbox_left<'a>(
+    planned: &PlannedChange<'a>,
+    session: &Session,
+) -> Option<Upcoming<'a>>
+    requires { let world = world_of planned.now.world.now in
         let own = state_of session.now in
-        IsFoundFor asked.now.site.now asked.now.user.now world asked.now.change.now own }
-    ensures mailbox { let after = after_writes asked.now.change.now (world_of asked.now.world.now) in
-        let view = view_of asked.now.site.now asked.now.user.now after in
+        IsFoundFor planned.now.site.now planned.now.user.now world planned.now.change.now own }
+    ensures mailbox { let after = after_writes planned.now.change.now (world_of planned.now.world.now) in
+        let view = view_of planned.now.site.now planned.now.user.now after in
         option_map readable result ≡ specs.mailbox_left view (state_of session.now) }
     ensures step { let selected = (state_of session.now).selected in
         IfSome result (λ m. IsInStepIfSelected m.highest m.messages selected) }
 {
     match &session.selected {
         Some(selected) => {
-            let Asked {
+            let PlannedChange {
                 world,
                 site,
                 user,
                 change,
-            } = asked;
+            } = planned;
             let mailbox = Upcoming::after(world, site, user, change, &selected.name);
             unless_other(mailbox, selected.validity)
         }
@@ -242,7 +249,7 @@ fn options_after(
 }
 
 /// What a session notes of an answer.
-pub(crate) fn noting(enables: EnabledCapabilities, told: Option<Told>) -> SessionEffect
+pub(crate) fn noting(enables: EnabledCapabilities, told: Option<KnownUpdate>) -> SessionEffect
     ensures { result ≡ reply.noting enables told }
 {
     match told {

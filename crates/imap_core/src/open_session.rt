@@ -9,7 +9,7 @@ ghost use Rattle.imap_session.specs.Told.{session_after};
 
 use imap_lex::Tag;
 use imap_print::EnabledCapabilities;
-use imap_session::{NewSelection, Session, Told};
+use imap_session::{KnownUpdate, NewSelection, Session};
 use imap_values::TryCopy;
 use std::alloc::{AllocError, Global};
 use std::marker::Model;
@@ -54,7 +54,7 @@ impl OpenSession {
 
     /// Notes what the session is told of its mailbox, in room that is there, and enables further capabilities.
     /// The room is counted anew.
-    pub(crate) fn note(&mut self, more: EnabledCapabilities, told: Option<Told>)
+    pub(crate) fn note(&mut self, more: EnabledCapabilities, told: Option<KnownUpdate>)
         requires told { IfSome told (λ t. IsTellingFor t self.old.state.selected) }
         requires room { added_by told ≤ self.old.room }
         ensures { self.new.state ≡ specs.with_enabled more (session_after told self.old.state) }
@@ -65,7 +65,7 @@ impl OpenSession {
 
     /// Begins an IDLE with this tag, or ends one, and notes what the session is told of its mailbox, in room that
     /// is there. The room is counted anew.
-    pub(crate) fn idle(&mut self, tag: Option<Tag>, told: Option<Told>)
+    pub(crate) fn idle(&mut self, tag: Option<Tag>, told: Option<KnownUpdate>)
         requires told { IfSome told (λ t. IsTellingFor t self.old.state.selected) }
         requires room { added_by told ≤ self.old.room }
         ensures { self.new.state ≡ with_idle tag (session_after told self.old.state) }
@@ -75,7 +75,7 @@ impl OpenSession {
     }
 
     /// Notes what the session is told of its mailbox.
-    fn tell(&mut self, told: Option<Told>)
+    fn tell(&mut self, told: Option<KnownUpdate>)
         requires told { IfSome told (λ t. IsTellingFor t self.old.state.selected) }
         requires room { added_by told ≤ self.old.room }
         ensures state { self.new.state ≡ session_after told self.old.state }

@@ -6,9 +6,9 @@ ghost use Rattle.imap_print.specs.Lines.{IsPrintable};
 ghost use Rattle.imap_core.specs.Outcome as specs;
 
 use crate::sessions::SessionEffect;
-use crate::tried::{pushed, with_found};
 use imap_answer::Answer;
 use imap_print::Response;
+use imap_values::{beside, pushed};
 use imap_world::Effect;
 use std::alloc::{AllocError, Global};
 use std::marker::Model;
@@ -57,8 +57,8 @@ impl Outcome {
         ensures { IfOk result (λ outcome. outcome ≡ specs.answered answer session) }
     {
         let (untagged, last, effect) = answer.into_parts();
-        let replies = with_found(session, pushed(untagged, last));
-        let (effect, (session, replies)) = with_found(effect, replies)?;
+        let rest = (effect, session);
+        let (replies, (effect, session)) = beside(pushed(untagged, last), rest)?;
         Ok(Outcome {
             replies,
             effect,

@@ -17,7 +17,7 @@ use crate::outcome::Outcome;
 use crate::pending::Pending;
 use crate::sessions::{OwnSessions, SessionEffect};
 use crate::step::{Act, Step};
-use imap_answer::{Call, Moment, refused_line};
+use imap_answer::{CommandContext, Moment, refused_line};
 use imap_grammar::{Command, Request};
 use imap_lex::Tag;
 use imap_print::{Farewell, Refusal, Response};
@@ -63,7 +63,7 @@ fn pending_when_open(
             if session.is_lost(view) {
                 Ok(Pending::Whole(lost_outcome(alloc)?))
             } else {
-                pending_by_idle(alloc, view, session, step.at, act)
+                dispatch_idle(alloc, view, session, step.at, act)
             }
         }
     }
@@ -78,7 +78,7 @@ fn lost_outcome(alloc: Global) -> Result<Outcome, AllocError>
 }
 
 /// The session has not lost its mailbox.
-fn pending_by_idle(
+fn dispatch_idle(
     alloc: Global,
     view: &View<'_>,
     session: &Session,
@@ -94,7 +94,7 @@ fn pending_by_idle(
 {
     match &session.idle {
         Some(tag) => pending_of_idle(alloc, tag, act),
-        None => pending_of_act(alloc, view, session, at, act),
+        None => dispatch_act(alloc, view, session, at, act),
     }
 }
 
@@ -113,7 +113,7 @@ fn pending_of_idle(alloc: Global, tag: &Tag, act: &Act) -> Result<Pending, Alloc
 }
 
 /// The session has not lost its mailbox, and doesn't idle.
-fn pending_of_act(
+fn dispatch_act(
     alloc: Global,
     view: &View<'_>,
     session: &Session,
@@ -206,7 +206,7 @@ fn pending_of_command(
 {
     match command {
         Command::Idle => Ok(Pending::Idle(Idling::Begins(tag.try_copy(alloc)?))),
-        _ => command_pending(&Call::new(alloc, view, tag, at), session, command),
+        _ => command_pending(&CommandContext::new(alloc, view, tag, at), session, command),
     }
 }
 

@@ -15,7 +15,7 @@ use crate::open_session::OpenSession;
 use crate::session_id::SessionNumber;
 use imap_lex::Tag;
 use imap_print::EnabledCapabilities;
-use imap_session::{NewSelection, Session, Told};
+use imap_session::{KnownUpdate, NewSelection, Session};
 use imap_values::TryCopy;
 use std::alloc::{AllocError, Global};
 use std::marker::Model;
@@ -30,11 +30,11 @@ pub enum SessionEffect {
     /// It is opened, or begins anew.
     Open,
     /// Its client enables these, and it is told this of its mailbox.
-    Note(EnabledCapabilities, Option<Told>),
+    Note(EnabledCapabilities, Option<KnownUpdate>),
     /// Its client selects another mailbox, or none.
     Select(NewSelection),
     /// Its client begins an IDLE with this tag, or ends one, and it is told this of its mailbox (RFC 2177).
-    Idle(Option<Tag>, Option<Told>),
+    Idle(Option<Tag>, Option<KnownUpdate>),
     End,
 }
 
@@ -88,8 +88,8 @@ impl OwnSessions {
     pub fn get(&self, number: SessionNumber) -> Option<&Session>
         ensures { option_map state_of (option_copied result) ≡ map.get (own_of self.now) number }
     {
-        match place_of(&self.entries, number) {
-            Some(place) => Some(self.entries[place].1.session()),
+        match index_of(&self.entries, number) {
+            Some(index) => Some(self.entries[index].1.session()),
             None => None,
         }
     }
@@ -126,8 +126,8 @@ impl OwnSessions {
         ensures ok { OnOk result (HasKnownRoom more (map.get self.new number)) }
         ensures room { (other : ℕ) → room_in (map.get self.old other) ≤ room_in (map.get self.new other) }
     {
-        match place_of(&self.entries, number) {
-            Some(place) => reserve_in(&mut self.entries[place], more),
+        match index_of(&self.entries, number) {
+            Some(index) => reserve_in(&mut self.entries[index], more),
             None => Ok(()),
         }
     }
@@ -148,8 +148,8 @@ impl OwnSessions {
         requires room { HasKnownRoom (room_needed effect) (map.get self.old number) }
         ensures { own_of self.new ≡ specs.with_edit number effect (own_of self.old) }
     {
-        match place_of(&self.entries, number) {
-            Some(place) => edit_in(&mut self.entries[place], effect),
+        match index_of(&self.entries, number) {
+            Some(index) => edit_in(&mut self.entries[index], effect),
             None => {}
         }
     }
@@ -207,7 +207,7 @@ fn reserve_in(entry: &mut (SessionNumber, OpenSession), more: usize) -> Result<(
     entry.1.reserve(more)
 }
 
-fn place_of(entries: &[(SessionNumber, OpenSession)], number: SessionNumber) -> Option<usize>
+fn index_of(entries: &[(SessionNumber, OpenSession)], number: SessionNumber) -> Option<usize>
     ensures { result ≡ position (λ e. e.0 == number) entries.now }
 {
     entries.iter().position(|entry| entry.0 == number)

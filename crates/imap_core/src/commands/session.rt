@@ -4,34 +4,34 @@ ghost use Rattle.std.specs.Prelude.{◌≡◌, IfOk};
 ghost use Rattle.std.specs.Str.{str_eq_ignore_ascii_case};
 ghost use Rattle.imap_core.specs.Commands.Session as specs;
 
-use imap_answer::{Answer, Call};
+use imap_answer::{Answer, CommandContext};
 use imap_print::{EnabledCapabilities, Farewell, Response};
 use imap_syntax::Atom;
 use std::alloc::AllocError;
 
-pub(super) fn capability_answer(call: &Call<'_>) -> Result<Answer, AllocError>
-    ensures { IfOk result (λ answer. answer ≡ specs.capability_answer call.now.tag) }
+pub(super) fn capability_answer(context: &CommandContext<'_>) -> Result<Answer, AllocError>
+    ensures { IfOk result (λ answer. answer ≡ specs.capability_answer context.now.tag) }
 {
-    call.done_after(vec![in call.alloc(); Response::Capability]?)
+    context.done_after(vec![in context.alloc(); Response::Capability]?)
 }
 
-pub(super) fn logout_answer(call: &Call<'_>) -> Result<Answer, AllocError>
-    ensures { IfOk result (λ answer. answer ≡ specs.logout_answer call.now.tag) }
+pub(super) fn logout_answer(context: &CommandContext<'_>) -> Result<Answer, AllocError>
+    ensures { IfOk result (λ answer. answer ≡ specs.logout_answer context.now.tag) }
 {
-    call.done_after(vec![in call.alloc(); Response::Bye(Farewell::LoggingOut)]?)
+    context.done_after(vec![in context.alloc(); Response::Bye(Farewell::LoggingOut)]?)
 }
 
 /// Answers ENABLE of words (RFC 9051, section 6.3.1) in a session with these capabilities enabled.
 pub(super) fn enable_answer(
-    call: &Call<'_>,
+    context: &CommandContext<'_>,
     enabled: EnabledCapabilities,
     words: &[Atom],
 ) -> Result<Answer, AllocError>
-    ensures { IfOk result (λ answer. answer ≡ specs.enable_answer enabled call.now.tag words.now) }
+    ensures { IfOk result (λ answer. answer ≡ specs.enable_answer enabled context.now.tag words.now) }
 {
     let named = named_by(words);
     let line = Response::Enabled(newly_enabled(named, enabled));
-    let answer = call.done_after(vec![in call.alloc(); line]?)?;
+    let answer = context.done_after(vec![in context.alloc(); line]?)?;
     Ok(answer.enabling(EnabledCapabilities {
         condstore: named.condstore || named.qresync,
         imap4rev2: named.imap4rev2,

@@ -1,8 +1,8 @@
 use Rattle.std.proofs.Common.{◌≡◌, List, ℕ, Some, IfOk, refl, subst}
 use Rattle.std.specs.Prelude.{◌≢◌}
-use Rattle.imap_grammar.specs.declared.command.Command.{Command}
-use Rattle.imap_grammar.specs.declared.command.Command.TheVariants as command
-use Rattle.imap_grammar.specs.declared.commands.select.SelectParameters.{SelectParameters}
+use Rattle.imap_commands.specs.declared.command.Command.{Command}
+use Rattle.imap_commands.specs.declared.command.Command.TheVariants as command
+use Rattle.imap_commands.specs.declared.commands.select.SelectParameters.{SelectParameters}
 use Rattle.imap_session.specs.State.{SessionState, state_of}
 use Rattle.imap_syntax.specs.Moments.{Moment}
 use Rattle.imap_view.specs.View.{View}
@@ -27,10 +27,10 @@ others view own tag at asked idle logout close unselect select examine = refl
 
 pub returns-in_default : goal.returns-in_default
 returns-in_default c =
-    let view = c.args.call.now.view in
+    let view = c.args.context.now.view in
     let own = state_of c.args.session.now in
     record {
       outcome = subst (λ (meant : Outcome). IfOk c.answer_pending.result (λ p. completed view (Some own) p ≡ meant))
-          (others view own c.args.call.now.tag c.args.call.now.at c.args.command.now c.requires.not_idle c.in_default.not-Logout c.in_default.not-Close c.in_default.not-Unselect (λ m p. c.in_default.not-Select m p) (λ m p. c.in_default.not-Examine m p)) c.answer_pending.ensures.outcome;
+          (others view own c.args.context.now.tag c.args.context.now.at c.args.command.now c.requires.not_idle c.in_default.not-Logout c.in_default.not-Close c.in_default.not-Unselect (λ m p. c.in_default.not-Select m p) (λ m p. c.in_default.not-Examine m p)) c.answer_pending.ensures.outcome;
       completable = c.answer_pending.ensures.completable;
     }

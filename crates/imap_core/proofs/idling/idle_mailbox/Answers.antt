@@ -9,8 +9,8 @@ use Rattle.imap_core.proofs.idling.idle_mailbox.Goals as goal
 
 pub returns-clause-mailbox : goal.returns-clause-mailbox
 returns-clause-mailbox c =
-    let asked = c.args.asked.now in
+    let planned = c.args.planned.now in
     let own = state_of c.args.session.now in
-    let view = view_of asked.site.now asked.user.now (world_of asked.world.now) in
+    let view = view_of planned.site.now planned.user.now (world_of planned.world.now) in
     c.mailbox_left.ensures.mailbox
-    ∙ ap (λ view. mailbox_left view own) (viewed_after asked.site.now asked.user.now (world_of asked.world.now) asked.change.now own c.requires.found ∙ ap (λ e. view_after_asking e view) c.requires.asked)
+    ∙ ap (λ view. mailbox_left view own) (viewed_after planned.site.now planned.user.now (world_of planned.world.now) planned.change.now own c.requires.found ∙ ap (λ e. view_after_asking e view) c.requires.asked)

@@ -9,10 +9,10 @@ use Rattle.imap_core.specs.Notices.{is_bad, mailbox_left}
 
 pub returns-clause-mailbox : goal.returns-clause-mailbox
 returns-clause-mailbox c =
-    let asked = c.args.asked.now in
+    let planned = c.args.planned.now in
     let own = state_of c.args.session.now in
     let answer = c.args.answer.now in
-    let view = view_of asked.site.now asked.user.now (world_of asked.world.now) in
+    let view = view_of planned.site.now planned.user.now (world_of planned.world.now) in
     c.mailbox_left.ensures.mailbox
-    ∙ ap (λ view. mailbox_left view own) (viewed_after asked.site.now asked.user.now (world_of asked.world.now) asked.change.now own c.requires.found ∙ ap (λ e. view_after_asking e view) c.requires.asked)
+    ∙ ap (λ view. mailbox_left view own) (viewed_after planned.site.now planned.user.now (world_of planned.world.now) planned.change.now own c.requires.found ∙ ap (λ e. view_after_asking e view) c.requires.asked)
     ∙ sym (ap (λ b. cond b None (mailbox_left (view_after_asking answer.effect view) own)) (ap is_bad (sym c.last.ensures) ∙ sym c.is_bad.ensures ∙ c.if-is_bad.false))

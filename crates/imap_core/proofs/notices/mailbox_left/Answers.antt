@@ -12,25 +12,25 @@ use Rattle.imap_core.proofs.notices.mailbox_left.Goals as goal
 
 pub after-mailbox-requires-clause-there : goal.after-mailbox-requires-clause-there
 after-mailbox-requires-clause-there c =
-    let asked = c.args.asked.now in
-    there asked.site.now asked.user.now (world_of asked.world.now) asked.change.now (state_of c.args.session.now) c.requires (selection_of c.in-Some.selected) (ap (option_map selection_of) c.in-Some.is)
+    let planned = c.args.planned.now in
+    there planned.site.now planned.user.now (world_of planned.world.now) planned.change.now (state_of c.args.session.now) c.requires (selection_of c.in-Some.selected) (ap (option_map selection_of) c.in-Some.is)
 
 pub returns-in-Some-clause-mailbox : goal.returns-in-Some-clause-mailbox
 returns-in-Some-clause-mailbox c =
-    let asked = c.args.asked.now in
-    let view = view_of asked.site.now asked.user.now (after_writes asked.change.now (world_of asked.world.now)) in
+    let planned = c.args.planned.now in
+    let view = view_of planned.site.now planned.user.now (after_writes planned.change.now (world_of planned.world.now)) in
     ap (option_map readable) c.unless_other.ensures
     ∙ left_is view (state_of c.args.session.now) (selection_of c.in-Some.selected) c.after-mailbox.result (ap (option_map selection_of) c.in-Some.is) c.after-mailbox.ensures.readable
 
 pub returns-in-Some-clause-step : goal.returns-in-Some-clause-step
 returns-in-Some-clause-step c =
-    let asked = c.args.asked.now in
+    let planned = c.args.planned.now in
     let own = state_of c.args.session.now in
     subst (λ (m : Option Upcoming). IfSome m (λ u. IsInStepIfSelected u.highest u.messages own.selected)) (sym c.unless_other.ensures)
-    (left_in_step asked.site.now asked.user.now (world_of asked.world.now) asked.change.now own c.requires (selection_of c.in-Some.selected) c.after-mailbox.result (ap (option_map selection_of) c.in-Some.is)
+    (left_in_step planned.site.now planned.user.now (world_of planned.world.now) planned.change.now own c.requires (selection_of c.in-Some.selected) c.after-mailbox.result (ap (option_map selection_of) c.in-Some.is)
     c.after-mailbox.ensures.readable c.after-mailbox.ensures.uids)
 
 pub returns-in-None-clause-mailbox : goal.returns-in-None-clause-mailbox
 returns-in-None-clause-mailbox c =
-    let asked = c.args.asked.now in
-    none_left (view_of asked.site.now asked.user.now (after_writes asked.change.now (world_of asked.world.now))) (state_of c.args.session.now) (ap (option_map selection_of) c.in-None.is)
+    let planned = c.args.planned.now in
+    none_left (view_of planned.site.now planned.user.now (after_writes planned.change.now (world_of planned.world.now))) (state_of c.args.session.now) (ap (option_map selection_of) c.in-None.is)

@@ -8,7 +8,7 @@ use Rattle.imap_core.proofs.notices.with_notices.Goals as goal
 
 pub returns-in-Whole-clause-told : goal.returns-in-Whole-clause-told
 returns-in-Whole-clause-told c =
-    let asked = c.args.asked.now in
+    let planned = c.args.planned.now in
     let own = option_map state_of (option_copied c.args.session) in
     silent_may own c.in-Whole.outcome.session
-    (subst (AreFound asked.site.now asked.user.now (world_of asked.world.now) asked.change.now own) c.in-Whole.is c.requires)
+    (subst (AreFound planned.site.now planned.user.now (world_of planned.world.now) planned.change.now own) c.in-Whole.is c.requires)

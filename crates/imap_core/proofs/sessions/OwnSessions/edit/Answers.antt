@@ -13,29 +13,29 @@ pub edit_in-requires-clause-told : goal.edit_in-requires-clause-told
 edit_in-requires-clause-told c =
     let k = c.args.number in
     let es = c.self.inside.entries.items in
-    let at : position (has_number k) es ≡ Some c.in-Some.place = ap (position (has_number k)) (sym c.deref.ensures.value) ∙ sym c.place_of.ensures ∙ c.in-Some.is in
+    let at : position (has_number k) es ≡ Some c.in-Some.index = ap (position (has_number k)) (sym c.deref.ensures.value) ∙ sym c.index_of.ensures ∙ c.in-Some.is in
     subst (λ o. MayTell o c.args.effect)
     (ap (λ (own : Own). map.get own k) (sym (view_own es c.args.self.now c.self.view_is))
-    ∙ get_at (λ (h : HeldSession). h.state) k es c.in-Some.place c.index_mut.result.now at c.index_mut.ensures.value)
+    ∙ get_at (λ (h : HeldSession). h.state) k es c.in-Some.index c.index_mut.result.now at c.index_mut.ensures.value)
     c.requires.told
 
 pub edit_in-requires-clause-room : goal.edit_in-requires-clause-room
 edit_in-requires-clause-room c =
     let k = c.args.number in
     let es = c.self.inside.entries.items in
-    let at : position (has_number k) es ≡ Some c.in-Some.place = ap (position (has_number k)) (sym c.deref.ensures.value) ∙ sym c.place_of.ensures ∙ c.in-Some.is in
+    let at : position (has_number k) es ≡ Some c.in-Some.index = ap (position (has_number k)) (sym c.deref.ensures.value) ∙ sym c.index_of.ensures ∙ c.in-Some.is in
     subst (HasKnownRoom (room_needed c.args.effect))
-    (ap (λ (own : HeldOwn). map.get own k) (sym c.self.view_is) ∙ held_at k es c.in-Some.place c.index_mut.result.now at c.index_mut.ensures.value)
+    (ap (λ (own : HeldOwn). map.get own k) (sym c.self.view_is) ∙ held_at k es c.in-Some.index c.index_mut.result.now at c.index_mut.ensures.value)
     c.requires.room
 
 pub invariant_of-self : goal.invariant_of-self
 invariant_of-self c =
     let k = c.args.number in
     let es = c.self.inside.entries.items in
-    let i = c.in-Some.place in
+    let i = c.in-Some.index in
     let e = c.index_mut.result.now in
     let f = c.edit_in.new.entry in
-    let at : position (has_number k) es ≡ Some i = ap (position (has_number k)) (sym c.deref.ensures.value) ∙ sym c.place_of.ensures ∙ c.in-Some.is in
+    let at : position (has_number k) es ≡ Some i = ap (position (has_number k)) (sym c.deref.ensures.value) ∙ sym c.index_of.ensures ∙ c.in-Some.is in
     let first = position-Some (has_number k) es i e at in
     record {
       apart = apart_set es i e f first.0 c.index_mut.ensures.value c.edit_in.ensures.number ∙ c.self.invariant.apart;
@@ -47,12 +47,12 @@ pub returns-in-Some : goal.returns-in-Some
 returns-in-Some c =
     let k = c.args.number in
     let es = c.self.inside.entries.items in
-    let i = c.in-Some.place in
+    let i = c.in-Some.index in
     let e = c.index_mut.result.now in
     let f = c.edit_in.new.entry in
     let own : Own = stated es in
     let state = λ (h : HeldSession). h.state in
-    let at : position (has_number k) es ≡ Some i = ap (position (has_number k)) (sym c.deref.ensures.value) ∙ sym c.place_of.ensures ∙ c.in-Some.is in
+    let at : position (has_number k) es ≡ Some i = ap (position (has_number k)) (sym c.deref.ensures.value) ∙ sym c.index_of.ensures ∙ c.in-Some.is in
     own_entries (set es i f) ∙ own_set state k es i e f at c.index_mut.ensures.value c.edit_in.ensures.number
     ∙ ap (map.insert own k) c.edit_in.ensures.state
     ∙ ap (edited_if_open k c.args.effect own) (sym (get_at state k es i e at c.index_mut.ensures.value))
@@ -64,5 +64,5 @@ returns-in-None c =
     let es = c.self.inside.entries.items in
     let own : Own = stated es in
     let state = λ (h : HeldSession). h.state in
-    let at : position (has_number k) es ≡ None = ap (position (has_number k)) (sym c.deref.ensures.value) ∙ sym c.place_of.ensures ∙ c.in-None.is in
+    let at : position (has_number k) es ≡ None = ap (position (has_number k)) (sym c.deref.ensures.value) ∙ sym c.index_of.ensures ∙ c.in-None.is in
     sym (view_own es c.args.self.now c.self.view_is) ∙ ap (edited_if_open k c.args.effect own) (sym (get_nowhere state k es at)) ∙ ap (with_edit k c.args.effect) (view_own es c.args.self.now c.self.view_is)
