@@ -16,7 +16,7 @@ use Rattle.imap_hall.specs.Counts.{Counts, AreSameCounts, IsCounted, count_in, c
 use Rattle.imap_hall.specs.declared.error.HallError.{HallError}
 use Rattle.imap_hall.specs.declared.journal.Entry.{Entry}
 use Rattle.imap_hall.specs.declared.journal.Receipt.{Receipt}
-use Rattle.imap_hall.specs.Hall.{HallState, IsFresh, IsKept, IsUntouched, IsStepped, entry_of, hall_state, noted}
+use Rattle.imap_hall.specs.Hall.{HallState, IsFresh, IsKept, IsUntouched, IsStepped, entry_of, hall_state, journal_entry}
 use Rattle.imap_hall.specs.Journal.{Follows, IsMade, IsRefused, IsRun, IsSamePoint, JournalEntry, Point, max_entries, point}
 
 same_twice : (p q r : Point) → IsSamePoint p q → IsSamePoint q r → IsSamePoint p r
@@ -102,25 +102,25 @@ follows_of p q step r failed fails own counts made = record { own = own; counts 
     by (inr h) = inr h.0
 
 module _ {K : Type 0} (Content : K → World → Type 0) (core after base : Machine) (counts raised base_counts : Counts) (before : ℕ) (journal grown : List Entry) (keeper saved : K) (kept : IsKept Content (hall_state core counts base base_counts before journal keeper)) where
-  pub kept_advanced : (step : Step) (r : Receipt) (failed fails : ℕ) → map noted grown ≡ map noted journal ++ entry_of step r ∷ [] → r.own ≡ count_of counts step.who.user step.who.number + 1 → IsCounted step.who counts raised
+  pub kept_advanced : (step : Step) (r : Receipt) (failed fails : ℕ) → map journal_entry grown ≡ map journal_entry journal ++ entry_of step r ∷ [] → r.own ≡ count_of counts step.who.user step.who.number + 1 → IsCounted step.who counts raised
       → IsStepped (point core.state counts) failed (entry_of step r) (point after.state raised) fails → Content saved after.state.world → before + length journal < max_entries
       → IsKept Content (hall_state after raised base base_counts before grown saved)
   kept_advanced step r failed fails is own counted made stored less =
       let h : HallState K = hall_state core counts base base_counts before journal keeper in
       let q : Point = point after.state raised in
       subst (λ es. IsKept Content (record { now = q; base = h.base; before = before; entries = es; keeper = saved })) (sym is)
-      (kept_more Content h (entry_of step r) q saved kept (follows_of h.now q step r failed fails own counted made) stored (omega (arith, length-map journal noted, less)))
+      (kept_more Content h (entry_of step r) q saved kept (follows_of h.now q step r failed fails own counted made) stored (omega (arith, length-map journal journal_entry, less)))
 
   pub kept_refused : after.state ≡ core.state → AreSameCounts counts raised → grown ≡ journal → Content saved after.state.world
       → IsKept Content (hall_state after raised base base_counts before grown saved)
   kept_refused state same is stored =
       let h : HallState K = hall_state core counts base base_counts before journal keeper in
       let q : Point = point after.state raised in
-      subst (λ js. IsKept Content (record { now = q; base = h.base; before = before; entries = map noted js; keeper = saved })) (sym is)
+      subst (λ js. IsKept Content (record { now = q; base = h.base; before = before; entries = map journal_entry js; keeper = saved })) (sym is)
       (kept_same Content h q saved kept (record { state = state; counts = same }) stored)
 
   pub kept_result : (step : Step) (failed fails : ℕ) (result : Result (Receipt × Receipt) HallError)
-      → IfOk result (λ r. map noted grown ≡ map noted journal ++ entry_of step r.0 ∷ [])
+      → IfOk result (λ r. map journal_entry grown ≡ map journal_entry journal ++ entry_of step r.0 ∷ [])
       → IfOk result (λ r. r.0.own ≡ count_of counts step.who.user step.who.number + 1)
       → OnOk result (IsCounted step.who counts raised)
       → IfOk result (λ r. IsStepped (point core.state counts) failed (entry_of step r.0) (point after.state raised) fails)
@@ -138,7 +138,7 @@ untouched_result failures core after base counts raised base_counts before journ
   now = record { state = err.0; counts = err.1 };
   base = refl;
   before = refl;
-  entries = ap (map noted) err.2;
+  entries = ap (map journal_entry) err.2;
   failures = err.3;
 }
 
@@ -151,8 +151,8 @@ module _ {K : Type 0} (Content : K → World → Type 0) where
       (record {
         run = record { state = unchanged ∙ sym state; counts = λ user number. ap (λ m. count_of m user number) (sym same) };
         stored = subst (λ s. Content keeper s.world) (sym unchanged) kept.stored;
-        bound = λ user number. let few : count_of counts user number ≤ before + length (map noted journal) = kept.bound user number in omega (arith, few, length-map journal noted, many);
-        room = let few = kept.room in omega (arith, few, length-map journal noted, many);
+        bound = λ user number. let few : count_of counts user number ≤ before + length (map journal_entry journal) = kept.bound user number in omega (arith, few, length-map journal journal_entry, many);
+        room = let few = kept.room in omega (arith, few, length-map journal journal_entry, many);
       })
 
   -- another machine in the same state
@@ -163,7 +163,7 @@ module _ {K : Type 0} (Content : K → World → Type 0) where
         now = point s counts;
         base = point base.state base_counts;
         before = before;
-        entries = map noted journal;
+        entries = map journal_entry journal;
         keeper = keeper;
       })) (sym unchanged) kept
 
@@ -189,5 +189,5 @@ module _ {K : Type 0} (Content : K → World → Type 0) where
       base = same_start;
       counts = zero counts counted;
       before = refl;
-      entries = ap (map noted) none;
+      entries = ap (map journal_entry) none;
     }

@@ -35,8 +35,9 @@ hall_code {K} step_code response_code keeper_code =
 
 -- ---- of the code's fields
 
-abbrev pub noted : Entry → JournalEntry
-noted e = record { step = e.step; own = e.own; replies = e.replies.items }
+-- the entry as contracts see it
+abbrev pub journal_entry : Entry → JournalEntry
+journal_entry e = record { step = e.step; own = e.own; replies = e.replies.items }
 
 abbrev pub hall_state :
     {K : Type 0} → Machine → Counts → Machine → Counts → ℕ → List Entry → K → HallState K
@@ -44,7 +45,7 @@ hall_state core counts base base_counts before journal keeper = record {
   now = record { state = core.state; counts = counts };
   base = record { state = base.state; counts = base_counts };
   before = before;
-  entries = map noted journal;
+  entries = map journal_entry journal;
   keeper = keeper;
 }
 

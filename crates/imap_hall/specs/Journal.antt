@@ -5,8 +5,8 @@ use Rattle.imap_core.specs.declared.step.Act.{Act}
 use Rattle.imap_core.specs.declared.step.Act.TheVariants as act
 use Rattle.imap_core.specs.declared.step.Step.{Step}
 use Rattle.imap_core.specs.Machine.{State, answer, next, state_code}
-use Rattle.imap_grammar.specs.declared.request.Request.{Request}
-use Rattle.imap_grammar.specs.declared.request.Request.TheVariants as request
+use Rattle.imap_commands.specs.declared.request.Request.{Request}
+use Rattle.imap_commands.specs.declared.request.Request.TheVariants as request
 use Rattle.imap_print.specs.declared.response.Refusal.TheVariants.{Unavailable}
 use Rattle.imap_print.specs.declared.response.Response.{Response}
 use Rattle.imap_print.specs.declared.response.Response.TheVariants as response

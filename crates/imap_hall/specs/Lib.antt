@@ -5,3 +5,4 @@ pub mod Journal
 pub mod Performing
 pub mod Opening
 pub mod Receipts
+pub mod Saving

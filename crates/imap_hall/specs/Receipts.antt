@@ -1,4 +1,4 @@
--- What a room has of the steps that were made in it.
+-- What receipts say, and what a room has of the steps that were made in it.
 use Rattle.std.specs.Prelude.{◌≡◌, Bool, true, List, [], ◌∷◌, ◌++◌}
 use Rattle.imap_core.specs.declared.step.Step.{Step}
 use Rattle.imap_hall.specs.declared.journal.Receipt.{Receipt}
@@ -20,3 +20,9 @@ IsAdded keeps_all old step receipt new = AreLast keeps_all (old ++ entry_of step
 pub record IsNewest (step : Step) (receipt : Receipt) (entries : List JournalEntry) : Type 0 where
   pub before : List JournalEntry
   pub parts : entries ≡ before ++ entry_of step receipt ∷ []
+
+-- both are receipts of one entry
+pub record IsSameReceipt (r s : Receipt) : Type 0 where
+  pub place : s.place ≡ r.place
+  pub own : s.own ≡ r.own
+  pub replies : s.replies.items ≡ r.replies.items

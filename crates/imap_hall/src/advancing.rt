@@ -1,14 +1,14 @@
-//! One entry more.
+//! Steps, and their entries in the journal.
 
-ghost use Rattle.std.specs.Prelude.{◌≡◌, ◌⊎◌, ◌+◌, ◌<◌, ◌≤◌, ◌++◌, ◌∷◌, [], map, vec_len};
+ghost use Rattle.std.specs.Prelude.{◌≡◌, ◌+◌, ◌<◌, ◌≤◌, ◌++◌, ◌∷◌, [], map, vec_len};
 ghost use Rattle.std.specs.Prelude.{IfErr, IfOk, OnErr, OnOk};
 ghost use Rattle.std.specs.Vec.{vec_capacity};
-ghost use Rattle.imap_core.specs.Machine.{next};
-ghost use Rattle.imap_keeper.specs.Keeping.{LeavesOnly, LeavesOr};
 ghost use Rattle.imap_hall.specs.declared.error.HallError.TheVariants as error;
 ghost use Rattle.imap_hall.specs.Counts.{AreSameCounts, IsCounted, count_of};
-ghost use Rattle.imap_hall.specs.Hall.{HasRisen, IsStepped, IsUnwritten, entry_of, noted};
+ghost use Rattle.imap_hall.specs.Hall.{IsStepped, entry_of, journal_entry};
 ghost use Rattle.imap_hall.specs.Journal.{max_entries, point};
+ghost use Rattle.imap_hall.specs.Receipts.{IsSameReceipt};
+ghost use Rattle.imap_hall.specs.Saving.{IsAlone, IsSaved};
 
 use crate::counts::{count_of, raise_count};
 use crate::error::HallError;
@@ -22,8 +22,8 @@ use imap_keeper::Keeper;
 use imap_user_map::UserMap;
 use std::alloc::Global;
 
-/// Makes a step, saves its change, and appends its entry to the journal, which is the entry after `count` others.
-/// Returns its receipt twice.
+/// Makes a step, saves its change, and appends its entry to the journal. `count` is how many entries were made
+/// before. Returns the receipt of the entry, twice.
 #[tactic(auto, using(crate::proofs::Stepped::stepped, crate::proofs::Stepped::entry_is, crate::proofs::Stepped::second_is))]
 pub(crate) fn advance<K: Keeper>(
     core: &mut Core,
@@ -37,29 +37,24 @@ pub(crate) fn advance<K: Keeper>(
     requires stored { K.content keeper.old core.old.state.world }
     requires bound { count_of counts.old.map step.now.who.user step.now.who.number ≤ count }
     requires room { count < max_entries }
-    ensures entries { IfOk result (λ r.
-        map noted journal.new.items ≡ map noted journal.old.items ++ entry_of step.now r.0 ∷ []) }
+    ensures entries { IfOk result (λ r. map journal_entry journal.new.items
+        ≡ map journal_entry journal.old.items ++ entry_of step.now r.0 ∷ []) }
     ensures place { IfOk result (λ r. r.0.place ≡ count + 1) }
     ensures own { IfOk result (λ r.
         r.0.own ≡ count_of counts.old.map step.now.who.user step.now.who.number + 1) }
     ensures counts { OnOk result (IsCounted step.now.who counts.old.map counts.new.map) }
     ensures made { IfOk result (λ r. IsStepped (point core.old.state counts.old.map) (K.failed keeper.old)
         (entry_of step.now r.0) (point core.new.state counts.new.map) (K.failed keeper.new)) }
-    ensures same { IfOk result (λ r. (r.1.place ≡ r.0.place) × (r.1.own ≡ r.0.own)
-        × (r.1.replies.items ≡ r.0.replies.items)) }
+    ensures same { IfOk result (λ r. IsSameReceipt r.0 r.1) }
     ensures err { OnErr result ((core.new.state ≡ core.old.state)
         × AreSameCounts counts.old.map counts.new.map
         × (journal.new.items ≡ journal.old.items)
         × (K.failed keeper.new ≡ K.failed keeper.old)) }
     ensures memory { IfErr result (λ e. e ≡ error.Memory) }
-    ensures stored { K.content keeper.new core.new.state.world }
-    ensures unwritten { IsUnwritten core.old.state step.now → keeper.new ≡ keeper.old }
-    ensures honest { K.is_honest keeper.new → K.is_honest keeper.old }
-    ensures crash { K.is_honest keeper.new → LeavesOr (K.leaves keeper.old) (K.leaves keeper.new)
-        (λ image. K.stands image (next core.old.state step.now).world) }
-    ensures alone { K.is_honest keeper.new → (IsUnwritten core.old.state step.now → ⊥)
-        → OnOk result (LeavesOnly (K.leaves keeper.new) (λ image. K.stands image core.new.state.world)
-        ⊎ HasRisen (K.failed keeper.old) (K.failed keeper.new)) }
+    ensures saved { IsSaved K.content K.is_honest K.leaves K.stands
+        core.old.state keeper.old step.now core.new.state keeper.new }
+    ensures alone { OnOk result (IsAlone K.failed K.is_honest K.leaves K.stands
+        core.old.state keeper.old step.now core.new.state keeper.new) }
 {
     make_room(counts, journal, alloc, step)?;
     let own = count_of(counts, &step.who) + 1;
@@ -82,7 +77,7 @@ pub(crate) fn advance<K: Keeper>(
     }
 }
 
-/// Appends an entry. Returns its receipt twice.
+/// Appends the entry of `step` to the journal. Returns its receipt, twice.
 fn append_entry(
     journal: &mut Vec<Entry>,
     step: Step,
@@ -91,8 +86,8 @@ fn append_entry(
     replies: Replies,
 ) -> (Receipt, Receipt)
     requires { vec_len journal.old < vec_capacity journal.old }
-    ensures items { map noted journal.new.items
-        ≡ map noted journal.old.items
+    ensures items { map journal_entry journal.new.items
+        ≡ map journal_entry journal.old.items
         ++ record { step = step; own = own; replies = replies.entry.items } ∷ [] }
     ensures first { (result.0.place ≡ place) × (result.0.own ≡ own)
         × (result.0.replies.items ≡ replies.receipt.items) }

@@ -9,7 +9,7 @@ use imap_core::SessionId;
 use imap_user_map::UserMap;
 use std::alloc::{AllocError, Global};
 
-/// The count of a session.
+/// Returns how many entries the session has.
 pub(crate) fn count_of(counts: &UserMap<OwnCounts>, who: &SessionId) -> u64
     ensures { result ≡ count_of counts.now.map who.now.user who.now.number }
 {
@@ -19,7 +19,7 @@ pub(crate) fn count_of(counts: &UserMap<OwnCounts>, who: &SessionId) -> u64
     }
 }
 
-/// Makes what the count of the session needs to be raised.
+/// Takes the memory that [`raise_count`] needs for the session.
 pub(crate) fn reserve_count(
     counts: &mut UserMap<OwnCounts>,
     alloc: Global,
@@ -32,7 +32,7 @@ pub(crate) fn reserve_count(
     reserve_number(counts, who)
 }
 
-/// Makes the user known, without counts.
+/// Adds the user, who has no counts then, unless the user is there.
 #[tactic(auto, using(crate::proofs::Users::same_added, crate::proofs::Users::user_added))]
 fn add_user(
     counts: &mut UserMap<OwnCounts>,
@@ -52,6 +52,7 @@ fn add_user(
     Ok(())
 }
 
+/// Takes the memory for a count of the session, whose user is there.
 fn reserve_number(counts: &mut UserMap<OwnCounts>, who: &SessionId) -> Result<(), AllocError>
     requires { map.contains_key counts.old.map who.now.user ≡ true }
     ensures same { AreSameCounts counts.old.map counts.new.map }
@@ -63,7 +64,7 @@ fn reserve_number(counts: &mut UserMap<OwnCounts>, who: &SessionId) -> Result<()
     }
 }
 
-/// Counts one more of the session.
+/// Raises the count of the session by one.
 pub(crate) fn raise_count(counts: &mut UserMap<OwnCounts>, who: &SessionId)
     requires there { HasSession counts.old.map who.now }
     requires bound { count_of counts.old.map who.now.user who.now.number < 2 ^ 63 }

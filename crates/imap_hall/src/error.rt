@@ -1,4 +1,4 @@
-//! Refusals.
+//! Why a hall refuses.
 
 ghost use Rattle.std.specs.Prelude.{◌≡◌};
 
@@ -33,7 +33,7 @@ pub enum OpenError {
     /// The store refused to read the mailboxes, or to save the INBOXes that were made.
     #[error("the store refused")]
     Store,
-    /// What the store holds is that of no world.
+    /// What the store holds are the mailboxes of no world.
     #[error("what the store holds is damaged")]
     Damaged,
 }

@@ -1,16 +1,16 @@
-//! The hall.
+//! The machine with its keeper and its journal.
 
-ghost use Rattle.std.specs.Prelude.{◌≡◌, ◌⊎◌, ◌+◌, ◌↔◌, is_some, length, map};
+ghost use Rattle.std.specs.Prelude.{◌≡◌, ◌+◌, ◌↔◌, is_some, length, map};
 ghost use Rattle.std.specs.Prelude.{IfErr, IfOk, IsErrOf, OnErr, OnOk};
 ghost use Rattle.imap_core.specs.InStep.{session_at};
-ghost use Rattle.imap_core.specs.Machine.{next};
 ghost use Rattle.imap_core.specs.Opening.{state_at_start};
-ghost use Rattle.imap_keeper.specs.Keeping.{LeavesOnly, LeavesOr};
 ghost use Rattle.imap_world.specs.World.{World as Mailboxes};
 ghost use Rattle.imap_hall.specs.declared.error.OpenError.TheVariants as error;
 ghost use Rattle.imap_hall.specs.Hall.{HasRisen, HasStepped, IsFresh, IsKept, IsTurnedOver, IsUntouched};
-ghost use Rattle.imap_hall.specs.Hall.{IsBaseOf, IsUnwritten, noted};
+ghost use Rattle.imap_hall.specs.Hall.{IsBaseOf, journal_entry};
 ghost use Rattle.imap_hall.specs.Journal.{max_entries};
+ghost use Rattle.imap_hall.specs.Receipts.{IsSameReceipt};
+ghost use Rattle.imap_hall.specs.Saving.{IsAlone, IsSaved};
 
 use crate::advancing::advance;
 use crate::error::{HallError, OpenError};
@@ -62,8 +62,8 @@ impl<K: Keeper> Model for Hall<K> {
 }
 
 impl<K: Keeper> Hall<K> {
-    /// Loads the mailboxes that are kept, and makes and saves the INBOX of each of the users who has none. The
-    /// administrator is one of them. Each refusal hands the keeper back, which keeps what it kept.
+    /// Loads the mailboxes, and makes and saves an INBOX for each user who has none, the administrator among them. A
+    /// refusal returns the keeper, which keeps what it kept.
     pub fn open(
         alloc: Global,
         keeper: K,
@@ -107,15 +107,10 @@ impl<K: Keeper> Hall<K> {
         ensures err { OnErr result (IsUntouched K.failed self.old self.new) }
         ensures exhausted { IsErrOf result HallError.Exhausted
             ↔ (self.old.before + length self.old.entries ≡ max_entries) }
-        ensures stored { K.content self.new.keeper self.new.now.state.world }
-        ensures unwritten { IsUnwritten self.old.now.state step.now → self.new.keeper ≡ self.old.keeper }
-        ensures honest { K.is_honest self.new.keeper → K.is_honest self.old.keeper }
-        ensures crash { K.is_honest self.new.keeper → LeavesOr (K.leaves self.old.keeper)
-            (K.leaves self.new.keeper) (λ image. K.stands image (next self.old.now.state step.now).world) }
-        ensures alone { K.is_honest self.new.keeper → (IsUnwritten self.old.now.state step.now → ⊥)
-            → OnOk result (LeavesOnly (K.leaves self.new.keeper)
-            (λ image. K.stands image self.new.now.state.world)
-            ⊎ HasRisen (K.failed self.old.keeper) (K.failed self.new.keeper)) }
+        ensures saved { IsSaved K.content K.is_honest K.leaves K.stands
+            self.old.now.state self.old.keeper step.now self.new.now.state self.new.keeper }
+        ensures alone { OnOk result (IsAlone K.failed K.is_honest K.leaves K.stands
+            self.old.now.state self.old.keeper step.now self.new.now.state self.new.keeper) }
     {
         let (first, _second) = self.step_pair(alloc, step)?;
         Ok(first)
@@ -124,20 +119,14 @@ impl<K: Keeper> Hall<K> {
     /// As [`Hall::step`]. Returns the receipt twice.
     pub fn step_pair(&mut self, alloc: Global, step: &Step) -> Result<(Receipt, Receipt), HallError>
         ensures ok { IfOk result (λ r. HasStepped K.failed self.old step.now r.0 self.new) }
-        ensures same { IfOk result (λ r. (r.1.place ≡ r.0.place) × (r.1.own ≡ r.0.own)
-            × (r.1.replies.items ≡ r.0.replies.items)) }
+        ensures same { IfOk result (λ r. IsSameReceipt r.0 r.1) }
         ensures err { OnErr result (IsUntouched K.failed self.old self.new) }
         ensures exhausted { IsErrOf result HallError.Exhausted
             ↔ (self.old.before + length self.old.entries ≡ max_entries) }
-        ensures stored { K.content self.new.keeper self.new.now.state.world }
-        ensures unwritten { IsUnwritten self.old.now.state step.now → self.new.keeper ≡ self.old.keeper }
-        ensures honest { K.is_honest self.new.keeper → K.is_honest self.old.keeper }
-        ensures crash { K.is_honest self.new.keeper → LeavesOr (K.leaves self.old.keeper)
-            (K.leaves self.new.keeper) (λ image. K.stands image (next self.old.now.state step.now).world) }
-        ensures alone { K.is_honest self.new.keeper → (IsUnwritten self.old.now.state step.now → ⊥)
-            → OnOk result (LeavesOnly (K.leaves self.new.keeper)
-            (λ image. K.stands image self.new.now.state.world)
-            ⊎ HasRisen (K.failed self.old.keeper) (K.failed self.new.keeper)) }
+        ensures saved { IsSaved K.content K.is_honest K.leaves K.stands
+            self.old.now.state self.old.keeper step.now self.new.now.state self.new.keeper }
+        ensures alone { OnOk result (IsAlone K.failed K.is_honest K.leaves K.stands
+            self.old.now.state self.old.keeper step.now self.new.now.state self.new.keeper) }
     {
         let count = self.before + self.journal.len() as u64;
         if count >= MAX_ENTRIES {
@@ -154,8 +143,8 @@ impl<K: Keeper> Hall<K> {
         )
     }
 
-    /// Makes the state of the machine the base, and empties the journal. Hands back the old base: to drop it
-    /// takes as long as the mailboxes are that have changed since.
+    /// Makes the state of the machine the journal's base, and empties the journal. Returns the old base. To drop it
+    /// takes as long as to drop the mailboxes that have changed since.
     pub fn turn_over(&mut self, alloc: Global) -> Result<OldBase, AllocError>
         ensures ok { OnOk result (IsTurnedOver self.old self.new) }
         ensures old { IfOk result (IsBaseOf self.old) }
@@ -171,7 +160,7 @@ impl<K: Keeper> Hall<K> {
         })
     }
 
-    /// How many entries were made, those before the base too.
+    /// Returns how many entries were made, those before the base among them.
     pub fn count(&self) -> u64
         ensures count { result ≡ self.now.before + length self.now.entries }
         ensures kept { IsKept K.content self.now }
@@ -179,7 +168,7 @@ impl<K: Keeper> Hall<K> {
         self.before + self.journal.len() as u64
     }
 
-    /// How many entries were made before the base.
+    /// Returns how many entries were made before the base.
     pub fn before(&self) -> u64
         ensures { result ≡ self.now.before }
     {
@@ -195,7 +184,7 @@ impl<K: Keeper> Hall<K> {
 
     /// The entries since the base.
     pub fn entries(&self) -> &[Entry]
-        ensures { map noted result.now ≡ self.now.entries }
+        ensures { map journal_entry result.now ≡ self.now.entries }
     {
         self.journal.as_slice()
     }
@@ -210,7 +199,7 @@ impl<K: Keeper> Hall<K> {
         }
     }
 
-    /// Ends the hall, and hands its keeper back.
+    /// Ends the hall, and returns its keeper.
     pub fn into_keeper(self) -> K
         ensures keeper { result ≡ self.keeper }
         ensures stored { K.content result self.now.state.world }
@@ -240,7 +229,7 @@ impl<K: Keeper> Room for Hall<K> {
         self.step(alloc, step)
     }
 
-    fn rung(&self) -> u64 {
+    fn change_count(&self) -> u64 {
         self.count()
     }
 }

@@ -1,4 +1,7 @@
-//! What the journal holds.
+//! Entries of the journal, and their receipts.
+//!
+//! Points are compared session by session: room that was made for a session's count without an entry makes
+//! no difference.
 
 use crate::own_counts::OwnCounts;
 use imap_core::{Core, Step};
@@ -14,7 +17,7 @@ pub struct Entry {
     pub replies: Vec<Response>,
 }
 
-/// What a session gets of an entry.
+/// What the session of a step is given of its entry.
 #[derive(Debug, Drop)]
 pub struct Receipt {
     /// The place of the entry in the journal, from 1. Entries before the base count.

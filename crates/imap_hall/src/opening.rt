@@ -1,4 +1,4 @@
-//! What a hall opens with.
+//! The machine with which a hall opens.
 
 ghost use Rattle.std.specs.Prelude.{◌≡◌, IfErr, IfOk, OnErr};
 ghost use Rattle.imap_core.specs.Opening.{state_at_start};
@@ -58,6 +58,7 @@ pub(crate) fn begin<K: Keeper>(
     }
 }
 
+/// Starts a machine with the mailboxes of `world`, which needs the change to be saved.
 fn start_machine(
     alloc: Global,
     world: World,
@@ -76,8 +77,8 @@ fn start_machine(
     Ok((Start { core, base }, change))
 }
 
-/// A machine in the same state, as a base of the journal. Both share the messages of mailboxes until they
-/// change.
+/// Returns a machine in the same state, as a base of the journal. Both share the messages of a mailbox until the
+/// mailbox changes.
 pub(crate) fn base_of(alloc: Global, core: &mut Core) -> Result<Core, AllocError>
     ensures kept { core.new.state ≡ core.old.state }
     ensures ok { IfOk result (λ base. base.state ≡ core.old.state) }

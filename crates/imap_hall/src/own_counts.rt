@@ -36,7 +36,7 @@ impl OwnCounts {
         }
     }
 
-    /// The count of a number, 0 if it has none.
+    /// Returns the count of a number, 0 if it has none.
     pub(crate) fn count(&self, number: SessionNumber) -> u64
         ensures { result ≡ count_at self.now number }
     {
@@ -49,20 +49,20 @@ impl OwnCounts {
         ensures same { (other : ℕ) → count_at self.new other ≡ count_at self.old other }
         ensures ok { OnOk result (HasNumber self.new number) }
     {
-        if place_of(self.entries.as_slice(), number).is_none() {
+        if index_of(self.entries.as_slice(), number).is_none() {
             self.entries.push((number, 0))?;
         }
         Ok(())
     }
 
-    /// Counts one more of a number that has a count.
+    /// Raises the count of a number that has one.
     pub(crate) fn raise(&mut self, number: SessionNumber)
         requires there { HasNumber self.old number }
         requires bound { count_at self.old number < 2 ^ 63 }
         ensures { IsCountedAt number self.old self.new }
     {
-        match place_of(self.entries.as_slice(), number) {
-            Some(place) => raise_at(&mut self.entries, place),
+        match index_of(self.entries.as_slice(), number) {
+            Some(index) => raise_at(&mut self.entries, index),
             None => {}
         }
     }
@@ -86,18 +86,18 @@ fn count_in(entries: &[(SessionNumber, u64)], number: SessionNumber) -> u64
     0
 }
 
-fn place_of(entries: &[(SessionNumber, u64)], number: SessionNumber) -> Option<usize>
+fn index_of(entries: &[(SessionNumber, u64)], number: SessionNumber) -> Option<usize>
     ensures { result ≡ position (λ e. e.0 == number) entries.now }
 {
     entries.iter().position(|entry| entry.0 == number)
 }
 
-/// Counts one more at a place.
-fn raise_at(entries: &mut Vec<(SessionNumber, u64)>, place: usize)
-    requires place { place < length entries.old.items }
-    requires bound { (get_or entries.old.items place (0, 0)).1 < 2 ^ 63 }
+/// Raises the count at an index.
+fn raise_at(entries: &mut Vec<(SessionNumber, u64)>, index: usize)
+    requires index { index < length entries.old.items }
+    requires bound { (get_or entries.old.items index (0, 0)).1 < 2 ^ 63 }
     ensures { entries.new.items
-        ≡ set entries.old.items place (raised (get_or entries.old.items place (0, 0))) }
+        ≡ set entries.old.items index (raised (get_or entries.old.items index (0, 0))) }
 {
-    entries[place].1 += 1;
+    entries[index].1 += 1;
 }

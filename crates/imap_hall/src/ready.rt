@@ -17,6 +17,7 @@ use crate::replies::{Replies, copy_replies, refusal};
 use imap_core::{Core, Prepared, Step};
 use imap_print::Response;
 use imap_user_map::UserMap;
+use imap_values::beside;
 use std::alloc::{AllocError, Global};
 
 /// A step that needs no more memory, but for what its keeper needs.
@@ -30,7 +31,7 @@ pub(crate) struct Ready {
     pub(crate) refusal: Replies,
 }
 
-/// Prepares the step, and copies its replies.
+/// Prepares a step: what it is answered and what it changes, and the copies of the replies.
 #[tactic(auto, using(crate::proofs::Stepped::unwritten))]
 pub(crate) fn make_ready(core: &mut Core, alloc: Global, step: &Step) -> Result<Ready, AllocError>
     ensures state { core.new.state ≡ core.old.state }
@@ -44,12 +45,34 @@ pub(crate) fn make_ready(core: &mut Core, alloc: Global, step: &Step) -> Result<
     ensures second { IfOk result (λ r. r.second.items ≡ answer core.old.state step.now) }
     ensures refusal { IfOk result (λ r. AreReplies r.refusal (unavailable step.now)) }
 {
-    let refusal = refusal(alloc, step)?;
     let prepared = core.prepare(alloc, step)?;
-    let entry = copy_replies(alloc, prepared.replies())?;
-    let second = copy_replies(alloc, prepared.replies())?;
+    let copies = make_copies(alloc, step, prepared.replies());
+    let (copies, prepared) = beside(copies, prepared)?;
     Ok(Ready {
         prepared,
+        entry: copies.entry,
+        second: copies.second,
+        refusal: copies.refusal,
+    })
+}
+
+/// The replies of a step twice, and those to its refusal by the store.
+#[derive(Drop)]
+struct Copies {
+    entry: Vec<Response>,
+    second: Vec<Response>,
+    refusal: Replies,
+}
+
+fn make_copies(alloc: Global, step: &Step, replies: &[Response]) -> Result<Copies, AllocError>
+    ensures entry { IfOk result (λ copies. copies.entry.items ≡ replies.now) }
+    ensures second { IfOk result (λ copies. copies.second.items ≡ replies.now) }
+    ensures refusal { IfOk result (λ copies. AreReplies copies.refusal (unavailable step.now)) }
+{
+    let entry = copy_replies(alloc, replies)?;
+    let (second, entry) = beside(copy_replies(alloc, replies), entry)?;
+    let (refusal, (entry, second)) = beside(refusal(alloc, step), (entry, second))?;
+    Ok(Copies {
         entry,
         second,
         refusal,

@@ -8,7 +8,7 @@ use imap_core::{Act, Step};
 use imap_grammar::Request;
 use imap_lex::Tag;
 use imap_print::{Refusal, Response};
-use imap_values::TryCopy;
+use imap_values::{TryCopy, beside};
 use std::alloc::{AllocError, Global};
 
 /// The replies to one step, for the entry of the journal and for two receipts.
@@ -30,22 +30,25 @@ pub(crate) fn copy_replies(alloc: Global, replies: &[Response]) -> Result<Vec<Re
     Ok(copy)
 }
 
-/// What is replied to a step whose change the store refused (RFC 5530, UNAVAILABLE).
+/// Returns the replies to a step whose change the store refused (RFC 5530, UNAVAILABLE).
 pub(crate) fn refusal(alloc: Global, step: &Step) -> Result<Replies, AllocError>
     ensures { IfOk result (λ replies. AreReplies replies (unavailable step.now)) }
 {
+    let entry = unavailable(alloc, step)?;
+    let (receipt, entry) = beside(unavailable(alloc, step), entry)?;
+    let (second, (entry, receipt)) = beside(unavailable(alloc, step), (entry, receipt))?;
     Ok(Replies {
-        entry: unavailable(alloc, step)?,
-        receipt: unavailable(alloc, step)?,
-        second: unavailable(alloc, step)?,
+        entry,
+        receipt,
+        second,
     })
 }
 
 fn unavailable(alloc: Global, step: &Step) -> Result<Vec<Response>, AllocError>
     ensures { IfOk result (λ replies. replies.items ≡ unavailable step.now) }
 {
-    let mut replies = Vec::with_capacity(alloc, 1)?;
     let tag = tag_of(alloc, &step.act)?;
+    let mut replies = Vec::with_capacity(alloc, 1)?;
     replies.push_reserved(Response::Refused {
         tag,
         refusal: Refusal::Unavailable,
@@ -53,7 +56,7 @@ fn unavailable(alloc: Global, step: &Step) -> Result<Vec<Response>, AllocError>
     Ok(replies)
 }
 
-/// The tag of the command that is sent, if there is one.
+/// Returns the tag of the command that the act sends, if it sends one.
 fn tag_of(alloc: Global, act: &Act) -> Result<Option<Tag>, AllocError>
     ensures { IfOk result (λ tag. tag ≡ tag_of act.now) }
 {

@@ -1,4 +1,4 @@
-//! Where a session makes its steps.
+//! The trait of what makes the steps of a session.
 
 ghost use Rattle.std.specs.Prelude.{◌≡◌, Bool, IfOk, List, OnErr};
 ghost use Rattle.imap_hall.specs.Journal.{JournalEntry};
@@ -9,12 +9,12 @@ use crate::journal::Receipt;
 use imap_core::Step;
 use std::alloc::Global;
 
-/// Where a session makes its steps: a hall, or a place that shares one.
+/// Makes the steps of a session: a hall, or one of several seats at a hall.
 pub trait Room {
-    /// The entries that were made in it.
+    /// The entries that were made in it, as far as it keeps them.
     ghost entries: { Self → List JournalEntry };
 
-    /// It lets go of none.
+    /// Whether it keeps all entries.
     ghost keeps_all: { Bool };
 
     /// Makes a step, whose entry is the newest. It may let go of old ones.
@@ -23,6 +23,7 @@ pub trait Room {
         ensures newest { IfOk result (λ r. IsNewest step.now r (entries self.new)) }
         ensures err { OnErr result (entries self.new ≡ entries self.old) };
 
-    /// A number that changes when something may have changed that a session is to be told of. It is a hint.
-    fn rung(&self) -> u64;
+    /// Counts what may have changed something that sessions are told of: a session that finds the count as it was has
+    /// nothing to ask for. It is a hint, on which no contract relies.
+    fn change_count(&self) -> u64;
 }

@@ -1,4 +1,4 @@
-//! Saving what is written.
+//! Saving changes.
 
 ghost use Rattle.std.specs.Prelude.{◌≡◌, [], Err, Ok, OnErr, OnOk};
 ghost use Rattle.imap_keeper.specs.declared.error.KeepError.TheVariants.{Damaged};

@@ -34,13 +34,13 @@ use Rattle.imap_syntax.proofs.set.Numbering.TheSendSync.{the_send as numbering_s
 use Rattle.imap_query.proofs.fetch.FetchItem.TheSendSync.{the_send as fetch_item_send}
 use Rattle.imap_query.proofs.search.SearchReturn.TheSendSync.{the_send as search_return_send}
 use Rattle.imap_query.proofs.status.StatusItem.TheSendSync.{the_send as status_item_send}
-use Rattle.imap_grammar.proofs.commands.list.ListReturn.TheSendSync.{the_send as list_return_send}
-use Rattle.imap_grammar.proofs.commands.list.Patterns.TheSendSync.{the_send as patterns_send}
-use Rattle.imap_grammar.proofs.commands.list.Selection.TheSendSync.{the_send as selection_send}
-use Rattle.imap_grammar.proofs.commands.select.SelectParameters.TheSendSync.{the_send as select_parameters_send}
-use Rattle.imap_grammar.proofs.commands.store.StoreSpec.TheSendSync.{the_send as store_spec_send}
-use Rattle.imap_grammar.specs.contracts.command.Command.{the_type as command_type, the_field as command_field}
-use Rattle.imap_grammar.specs.contracts.request.Request.{the_field as request_field, the_type as request_type}
+use Rattle.imap_commands.proofs.commands.list.ListReturn.TheSendSync.{the_send as list_return_send}
+use Rattle.imap_commands.proofs.commands.list.Patterns.TheSendSync.{the_send as patterns_send}
+use Rattle.imap_commands.proofs.commands.list.Selection.TheSendSync.{the_send as selection_send}
+use Rattle.imap_commands.proofs.commands.select.SelectParameters.TheSendSync.{the_send as select_parameters_send}
+use Rattle.imap_commands.proofs.commands.store.StoreSpec.TheSendSync.{the_send as store_spec_send}
+use Rattle.imap_commands.specs.contracts.command.Command.{the_type as command_type, the_field as command_field}
+use Rattle.imap_commands.specs.contracts.request.Request.{the_field as request_field, the_type as request_type}
 use Rattle.imap_answer.proofs.moment.Moment.TheSendSync.{the_send as moment_send}
 use Rattle.imap_core.proofs.machine.Core.TheSendSync.{the_send as core_send}
 use Rattle.imap_core.proofs.session_id.SessionId.TheSendSync.{the_send as session_send}
@@ -51,7 +51,7 @@ use Rattle.imap_keeper.specs.declared.keeper.Keeper as keeper
 use Rattle.imap_hall.specs.contracts.hall.Hall.{the_row as hall_row}
 use Rattle.imap_hall.specs.contracts.journal.Entry.{the_row as entry_row, the_type as entry_type}
 use Rattle.imap_hall.proofs.journal.Receipt.TheSendSync.{the_send as receipt_send}
-use Rattle.imap_host.specs.contracts.floor.Floor.{the_row as floor_row, the_type as floor_type}
+use Rattle.imap_host.specs.contracts.host_state.HostState.{the_row as host_state_row, the_type as host_state_type}
 use Rattle.imap_host.specs.contracts.host.Host.{the_row as host_row}
 use Rattle.imap_host.specs.contracts.seat.Kept.{the_row as kept_row, the_type as kept_type}
 use Rattle.imap_host.specs.contracts.seat.Seat.{the_row as seat_row, the_type as seat_type}
@@ -105,11 +105,11 @@ kept_send = declared_send kept_type (step_send, (receipt_send, tt))
 pub seat_send : (L : RattleType) (g : ledger.Ghosts L.Denot) → IsSend L → IsSend (seat_row L g)
 seat_send L g send = declared_send (seat_type L g) (session_send, (search sendable, (Deque-send kept_row kept_send, (share_send L g, tt))))
 
-pub floor_send : (K L : RattleType) (g : keeper.Ghosts K.Denot) (h : ledger.Ghosts L.Denot) → IsSend K → IsSend L → IsSend (floor_row K L g h)
-floor_send K L g h k l = declared_send (floor_type K L g h) (hall_send K g k, (search (user_map_send, sendable), (search sendable, (book_send L h, (share_send L h, tt)))))
+pub host_state_send : (K L : RattleType) (g : keeper.Ghosts K.Denot) (h : ledger.Ghosts L.Denot) → IsSend K → IsSend L → IsSend (host_state_row K L g h)
+host_state_send K L g h k l = declared_send (host_state_type K L g h) (hall_send K g k, (search (user_map_send, sendable), (search sendable, (book_send L h, (share_send L h, tt)))))
 
 pub host_sync : (K L : RattleType) (g : keeper.Ghosts K.Denot) (h : ledger.Ghosts L.Denot) → IsSend K → IsSend L → IsSync (host_row K L g h)
-host_sync K L g h k l = search (sendable, crosses, floor_send) depth 60 fits 20000
+host_sync K L g h k l = search (sendable, crosses, host_state_send) depth 60 fits 20000
 
 pub pair_send : (A B : RattleType) → IsSend A → IsSend B → IsSend (TupleAt (40 ∷ 44 ∷ 41 ∷ []) (A ∷ B ∷ []))
 pair_send A B a b = search sendable depth 60

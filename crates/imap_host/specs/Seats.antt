@@ -5,18 +5,13 @@ use Rattle.imap_core.specs.declared.step.Step.{Step}
 use Rattle.imap_hall.specs.declared.journal.Receipt.{Receipt}
 use Rattle.imap_hall.specs.Hall.{entry_of}
 use Rattle.imap_hall.specs.Journal.{JournalEntry}
+use Rattle.imap_hall.specs.Receipts.{IsSameReceipt}
 use Rattle.imap_host.specs.declared.seat.Kept.{Kept}
 use Rattle.imap_user_map.specs.Rows.{Users}
 
 -- the entry of a receipt that is kept
 abbrev pub kept_entry : Kept → JournalEntry
 kept_entry k = entry_of k.step k.receipt
-
--- both are receipts of one entry
-pub record IsSameReceipt (r s : Receipt) : Type 0 where
-  pub place : s.place ≡ r.place
-  pub own : s.own ≡ r.own
-  pub replies : s.replies.items ≡ r.replies.items
 
 -- what is kept is the receipt of the step
 pub record IsReceipt (k : Kept) (made : Step) (r : Receipt) : Type 0 where

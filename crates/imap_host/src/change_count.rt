@@ -1,4 +1,7 @@
-//! How many changes were made.
+//! The count of changes.
+//!
+//! The count is a hint on which no contract relies. Steps that tell nobody anything don't count, or two
+//! idling sessions would have each other polled for ever.
 
 use crate::telling::may_tell;
 use imap_core::Act;
@@ -24,7 +27,7 @@ impl ChangeCount {
         }
     }
 
-    /// A number that differs from an earlier one if sessions may be told something since.
+    /// Returns the count. Sessions have nothing to be told while it stays.
     pub fn get(&self) -> u64 {
         self.count.load(Ordering::SeqCst)
     }

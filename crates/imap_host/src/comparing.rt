@@ -1,7 +1,7 @@
-//! Journals that are compared with what seats keep.
+//! Journals are compared with the receipts that seats keep.
 
 ghost use Rattle.std.specs.Prelude.{◌≡◌, ◌↔◌, ◌<◌, IfSome, IsNone, IsTrue, length, map};
-ghost use Rattle.imap_hall.specs.Hall.{noted};
+ghost use Rattle.imap_hall.specs.Hall.{journal_entry};
 ghost use Rattle.imap_host.specs.Seats.{kept_entry};
 ghost use Rattle.imap_host.specs.Settling.{AreSettled, IsOfEntry, IsSettled, notes_of, since};
 
@@ -12,11 +12,11 @@ use imap_syntax::are_same;
 use std::collections::VecDeque;
 use std::sync::ledger::Ledger;
 
-/// Whether the journal and what the seats keep say the same: each entry since the base is that of one receipt,
-/// which stands at its place with its session, its number, its step and its replies, and the base is where the
-/// seats were told. `before` is how many entries were made before the base.
+/// Whether the journal and the seats agree. Each entry since the base has one receipt, which has the entry's place,
+/// session, number, step and replies, and the greatest base that a seat knows is the journal's. `before` is how many
+/// entries were made before the base.
 pub(crate) fn are_settled<L: Ledger>(before: u64, entries: &[Entry], seats: &[Seat<L>]) -> bool
-    ensures { IsTrue result ↔ AreSettled before (map noted entries.now) (map notes_of seats.now) }
+    ensures { IsTrue result ↔ AreSettled before (map journal_entry entries.now) (map notes_of seats.now) }
 {
     let mut left = entries.len() as u64;
     let mut base = 0;
@@ -30,8 +30,8 @@ pub(crate) fn are_settled<L: Ledger>(before: u64, entries: &[Entry], seats: &[Se
     left == 0 && base == before
 }
 
-/// How many receipts of entries since the base there are. `None` if one of them isn't of the session's entry at
-/// its place, or if their places don't rise.
+/// Returns how many of the receipts are of entries since the base. Returns `None` if one of these isn't of the
+/// session's entry at its place, or if their places don't rise.
 fn count_since(
     before: u64,
     entries: &[Entry],
@@ -39,10 +39,10 @@ fn count_since(
     receipts: &VecDeque<Kept>,
 ) -> Option<u64>
     ensures settled { IfSome result (λ n.
-        IsSettled before (map noted entries.now) session.now receipts.now.items) }
+        IsSettled before (map journal_entry entries.now) session.now receipts.now.items) }
     ensures count { IfSome result (λ n. n ≡ length (since before receipts.now.items)) }
     ensures unsettled { IsNone result
-        → IsSettled before (map noted entries.now) session.now receipts.now.items → ⊥ }
+        → IsSettled before (map journal_entry entries.now) session.now receipts.now.items → ⊥ }
 {
     let mut last = before;
     let mut count: u64 = 0;
@@ -66,7 +66,7 @@ fn count_since(
 /// Whether the receipt is of the session, and of the entry at its place.
 fn is_of_entry(before: u64, entries: &[Entry], session: &SessionId, kept: &Kept) -> bool
     requires { before < kept.now.receipt.place }
-    ensures { IsTrue result ↔ IsOfEntry before (map noted entries.now) session.now kept.now }
+    ensures { IsTrue result ↔ IsOfEntry before (map journal_entry entries.now) session.now kept.now }
 {
     match entries.get((kept.receipt.place - before - 1) as usize) {
         Some(entry) => kept.step.who.is_same(session) && is_noted(entry, kept),
@@ -76,7 +76,7 @@ fn is_of_entry(before: u64, entries: &[Entry], session: &SessionId, kept: &Kept)
 
 /// Whether the receipt is of this entry.
 fn is_noted(entry: &Entry, kept: &Kept) -> bool
-    ensures { IsTrue result ↔ (noted entry.now ≡ kept_entry kept.now) }
+    ensures { IsTrue result ↔ (journal_entry entry.now ≡ kept_entry kept.now) }
 {
     entry.own == kept.receipt.own
         && entry.step.is_same(&kept.step)

@@ -1,4 +1,4 @@
-//! Desks.
+//! Seats at a host, where their sessions make steps.
 
 use crate::host::Host;
 use crate::seat::Seat;
@@ -10,9 +10,9 @@ use std::sync::Wait;
 use std::sync::ledger::Ledger;
 
 /// After how many entries the journal begins anew.
-const TURN: u64 = 10_000;
+const ENTRIES_PER_BASE: u64 = 10_000;
 
-/// A host with a seat, as the room of the seat's session.
+/// The room of a seat's session: the host, and the seat.
 #[derive(Drop)]
 pub struct Desk<'a, K: Keeper, L: Ledger, R: Wait> {
     pub rt: &'a R,
@@ -30,20 +30,20 @@ impl<'a, K: Keeper, L: Ledger, R: Wait> Room for Desk<'a, K, L, R> {
 
     #[tactic(auto, using(crate::proofs::LetGo::remembered, crate::proofs::LetGo::newest_kept))]
     fn step(&mut self, alloc: Global, step: &Step) -> Result<Receipt, HallError> {
-        // A desk makes the steps of its own session alone.
+        // A desk refuses the steps of other sessions.
         let seat = &mut *self.seat;
         if !step.who.is_same(&seat.who) {
             return Err(HallError::Exhausted);
         }
         let receipt = self.host.call(self.rt, alloc, seat, step)?;
-        if receipt.place % TURN == 0 {
+        if receipt.place % ENTRIES_PER_BASE == 0 {
             // The journal goes on growing if there is no memory for a new base.
             let _turned = self.host.turn_over(self.rt, alloc, seat);
         }
         Ok(receipt)
     }
 
-    fn rung(&self) -> u64 {
+    fn change_count(&self) -> u64 {
         self.host.changes().get()
     }
 }

@@ -8,6 +8,6 @@ pub trait Door {
 
     type Out: Write + Drop + Send;
 
-    /// The reader and the writer of the next connection, or `None` if none comes any more.
+    /// Returns the reader and the writer of the next connection, or `None` if no connection comes any more.
     fn next(&mut self) -> Option<(Self::In, Self::Out)>;
 }

@@ -1,11 +1,14 @@
 //! Hosts.
+//!
+//! The old base is dropped when the lock is free again. The entries are dropped under the lock, so that the
+//! journal keeps its room: with a new list for each turn every worker came to hold a list's two MB.
 
 ghost use Rattle.std.specs.Prelude.{◌≡◌, ◌+◌, ◌<◌, ◌++◌, ◌∷◌, [], IfOk, OnErr, OnOk};
 ghost use Rattle.std.specs.VecDeque.{deque_capacity, deque_len};
 ghost use Rattle.imap_host.specs.Seats.{Remembers, from_base};
 
 use crate::change_count::ChangeCount;
-use crate::floor::{Called, Floor};
+use crate::host_state::{HostState, ReceiptPair};
 use crate::seat::{Kept, Seat, SeatError, let_go};
 use imap_core::Step;
 use imap_hall::{Hall, HallError, Receipt};
@@ -22,7 +25,7 @@ pub const PARTS: u64 = 1_048_576;
 /// A hall under a lock.
 #[derive(Drop)]
 pub struct Host<K: Keeper, L: Ledger> {
-    floor: Mutex<Floor<K, L>>,
+    state: Mutex<HostState<K, L>>,
     changes: ChangeCount,
 }
 
@@ -33,13 +36,13 @@ impl<K: Keeper, L: Ledger> Host<K, L> {
         requires parts { (blank.parts ≡ L.parts) × (blank.parts ≡ 1048576) }
         requires fresh { (hall.before ≡ 0) × (hall.entries ≡ []) }
     {
-        Host::of_floor(Floor::new(alloc, hall, blank))
+        Host::of_state(HostState::new(alloc, hall, blank))
     }
 
-    /// A host over this floor.
-    pub(crate) fn of_floor(floor: Floor<K, L>) -> Host<K, L> {
+    /// A host with this state.
+    pub(crate) fn of_state(state: HostState<K, L>) -> Host<K, L> {
         Host {
-            floor: Mutex::new(floor),
+            state: Mutex::new(state),
             changes: ChangeCount::new(),
         }
     }
@@ -50,11 +53,11 @@ impl<K: Keeper, L: Ledger> Host<K, L> {
         ensures user { IfOk result (λ s. s.who.user ≡ user) }
         ensures fresh { IfOk result (λ s. (s.base ≡ 0) × (s.receipts.items ≡ []) × (s.share.amount ≡ 0)) }
     {
-        self.floor.get_mut().seat(alloc, user)
+        self.state.get_mut().seat(alloc, user)
     }
 
-    /// Makes a step of the seat's own session, and returns its receipt. The seat keeps it too, and lets go of
-    /// those of entries from before the journal's base.
+    /// Makes a step of the seat's own session, and returns its receipt. The seat keeps a second one, and drops those
+    /// of entries before the journal's base.
     pub fn call<R: Wait>(
         &self,
         rt: &R,
@@ -79,12 +82,12 @@ impl<K: Keeper, L: Ledger> Host<K, L> {
         } = seat;
         receipts.reserve(1)?;
         let copy = step.try_copy(alloc)?;
-        let called = self.floor.lock(rt).call(alloc, share, step);
+        let called = self.state.lock(rt).call(alloc, share, step);
         match called {
-            Ok(called) => {
+            Ok(pair) => {
                 self.changes.note(&step.act);
-                *base = called.base;
-                Ok(keep(receipts, copy, called))
+                *base = pair.base;
+                Ok(keep(receipts, copy, pair))
             }
             Err(error) => {
                 drop(copy);
@@ -106,41 +109,41 @@ impl<K: Keeper, L: Ledger> Host<K, L> {
         ensures amount { seat.new.share.amount ≡ seat.old.share.amount }
         ensures err { OnErr result (seat.new.base ≡ seat.old.base) }
     {
-        let (old, base) = self.floor.lock(rt).turn_over(alloc)?;
+        let (old, base) = self.state.lock(rt).turn_over(alloc)?;
         seat.base = base;
         drop(old);
         Ok(())
     }
 
-    /// How many steps were made after which sessions may be told something.
+    /// Returns the count of steps after which sessions may be told something.
     pub fn changes(&self) -> &ChangeCount {
         &self.changes
     }
 
-    /// Ends the host, and hands its hall back.
+    /// Ends the host, and returns its hall.
     pub fn into_hall(self) -> Hall<K> {
-        self.into_floor().into_hall()
+        self.into_state().into_hall()
     }
 
-    /// Ends the host, and hands back what lay under its lock.
-    pub(crate) fn into_floor(self) -> Floor<K, L> {
-        let Host { floor, changes: _ } = self;
-        floor.into_inner()
+    /// Ends the host, and returns its state.
+    pub(crate) fn into_state(self) -> HostState<K, L> {
+        let Host { state, changes: _ } = self;
+        state.into_inner()
     }
 }
 
-/// Keeps the second receipt with its step, and returns the first.
-fn keep(receipts: &mut VecDeque<Kept>, step: Step, called: Called) -> Receipt
+/// Drops the receipts of entries before the base, appends the second receipt with its step, and returns the first.
+fn keep(receipts: &mut VecDeque<Kept>, step: Step, pair: ReceiptPair) -> Receipt
     requires { deque_len receipts.old < deque_capacity receipts.old }
-    ensures first { result ≡ called.first }
-    ensures kept { receipts.new.items ≡ from_base called.base receipts.old.items
-        ++ record { step = step; receipt = called.second } ∷ [] }
+    ensures first { result ≡ pair.first }
+    ensures kept { receipts.new.items ≡ from_base pair.base receipts.old.items
+        ++ record { step = step; receipt = pair.second } ∷ [] }
 {
-    let Called {
+    let ReceiptPair {
         first,
         second,
         base,
-    } = called;
+    } = pair;
     let_go(receipts, base);
     receipts.push_back_reserved(Kept {
         step,

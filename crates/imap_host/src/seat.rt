@@ -1,4 +1,7 @@
 //! Seats.
+//!
+//! A seat lets go of receipts from before the journal's base at each call, since a session may last for
+//! weeks.
 
 ghost use Rattle.std.specs.Prelude.{◌≡◌, ◌≤◌};
 ghost use Rattle.std.specs.VecDeque.{deque_capacity, deque_len};
@@ -18,11 +21,11 @@ pub struct Kept {
     pub receipt: Receipt,
 }
 
-/// The place of a session at a host, with the receipts that it was given since the journal's base.
+/// A session at a host, with the receipts of its steps since the journal's base.
 #[derive(Drop)]
 pub struct Seat<L: Ledger> {
     pub who: SessionId,
-    /// The place of the journal's base, as far as the seat was told.
+    /// How many entries were made before the journal's base, as of the seat's last call.
     pub base: u64,
     pub receipts: VecDeque<Kept>,
     pub(crate) share: Share<L>,
@@ -30,7 +33,7 @@ pub struct Seat<L: Ledger> {
 }
 
 impl<L: Ledger> Seat<L> {
-    /// Ends the seat, and hands its share of the ledger back.
+    /// Ends the seat, and returns its share of the ledger.
     pub(crate) fn into_share(self) -> Share<L>
         ensures parts { result.parts ≡ 1 }
         ensures amount { result.amount ≡ self.share.amount }
@@ -65,7 +68,7 @@ impl From<AllocError> for SeatError {
     }
 }
 
-/// Lets go of the receipts at the front whose entries stand before the base.
+/// Drops the receipts at the front that are of entries before the base.
 #[tactic(auto, using(crate::proofs::LetGo::none_left, crate::proofs::LetGo::one_less))]
 pub(crate) fn let_go(receipts: &mut VecDeque<Kept>, base: u64)
     ensures items { receipts.new.items ≡ from_base base receipts.old.items }

@@ -5,26 +5,26 @@ ghost use Rattle.imap_host.specs.Settling.{AreSettled, notes_of};
 ghost use Rattle.imap_host.specs.declared.settling.SettleError.TheVariants as error;
 
 use crate::comparing::are_settled;
-use crate::floor::Floor;
 use crate::host::{Host, PARTS};
+use crate::host_state::HostState;
 use crate::seat::Seat;
 use imap_hall::Hall;
 use imap_keeper::Keeper;
 use std::sync::ledger::{Ledger, Share};
 use thiserror::Error;
 
-/// Why a host and its seats aren't at an end.
+/// Why a host can't be ended with these seats.
 #[derive(Clone, Copy, Debug, Error, PartialEq, Eq)]
 pub enum SettleError {
-    /// A seat of the host isn't there.
+    /// A seat of the host is missing.
     #[error("a seat is missing")]
     Missing,
-    /// The journal and what the seats keep don't say the same.
+    /// The journal and the receipts of the seats differ.
     #[error("receipts differ from the journal")]
     Mismatch,
 }
 
-/// The share of all as one.
+/// Joins the shares of the seats with `rest`.
 fn join<L: Ledger>(rest: Share<L>, seats: Vec<Seat<L>>) -> Share<L>
     requires { rest.parts ≤ L.parts }
     ensures parts { result.parts ≡ rest.parts + vec_len seats }
@@ -38,14 +38,14 @@ fn join<L: Ledger>(rest: Share<L>, seats: Vec<Seat<L>>) -> Share<L>
     all
 }
 
-impl<K: Keeper, L: Ledger> Floor<K, L> {
-    /// Ends a floor with all its seats, and hands the hall back: there are as many entries as the seats were given
-    /// receipts, and those since the base are the receipts that the seats keep. Fails with `Missing` if a seat is
-    /// left out, and with `Mismatch` if the journal and the receipts differ.
+impl<K: Keeper, L: Ledger> HostState<K, L> {
+    /// Ends the host, whose seats are all of `seats`, and returns its hall: the seats were given one receipt for each
+    /// entry, and keep those since the base. Fails with `Missing` if a seat is left out, and with `Mismatch` if the
+    /// journal and the receipts differ. A refusal returns the state and the seats.
     pub fn settle(
         self,
         seats: Vec<Seat<L>>,
-    ) -> Result<Hall<K>, (SettleError, Floor<K, L>, Vec<Seat<L>>)>
+    ) -> Result<Hall<K>, (SettleError, HostState<K, L>, Vec<Seat<L>>)>
         requires { L.parts ≡ 1048576 }
         ensures hall { IfOk result (λ h. h ≡ self.hall) }
         ensures whole { OnOk result (self.left + vec_len seats ≡ 1048576) }
@@ -64,7 +64,7 @@ impl<K: Keeper, L: Ledger> Floor<K, L> {
         if !are_settled(self.hall.before(), self.hall.entries(), seats.as_slice()) {
             return Err((SettleError::Mismatch, self, seats));
         }
-        let Floor {
+        let HostState {
             hall,
             numbers: _,
             left: _,
@@ -78,7 +78,7 @@ impl<K: Keeper, L: Ledger> Floor<K, L> {
 }
 
 impl<K: Keeper, L: Ledger> Host<K, L> {
-    /// As [`Floor::settle`].
+    /// As [`HostState::settle`].
     pub fn settle(
         self,
         seats: Vec<Seat<L>>,
@@ -89,9 +89,9 @@ impl<K: Keeper, L: Ledger> Host<K, L> {
         ensures settled { IfOk result (λ h. AreSettled h.before h.entries (map notes_of seats.items)) }
         ensures kept { IfErr result (λ e. e.2 ≡ seats) }
     {
-        match self.into_floor().settle(seats) {
+        match self.into_state().settle(seats) {
             Ok(hall) => Ok(hall),
-            Err((error, floor, seats)) => Err((error, Host::of_floor(floor), seats)),
+            Err((error, state, seats)) => Err((error, Host::of_state(state), seats)),
         }
     }
 }

@@ -1,4 +1,7 @@
 //! Workers.
+//!
+//! Workers are started in a scope, so that one that can't be started is told. `thread::for_each_mut` would
+//! run the calls one after another.
 
 use crate::desk::Desk;
 use crate::door::Door;
@@ -22,7 +25,7 @@ pub enum CrewError {
     Start,
 }
 
-/// Serves a connection by a seat.
+/// Serves a connection as a session of the seat.
 fn serve_one<K: Keeper, L: Ledger, I: Read + Drop, O: Write + Drop, C: Moments, G: Gate, R: Wait>(
     rt: &R,
     alloc: Global,
@@ -146,11 +149,11 @@ fn start_all<
     true
 }
 
-/// Runs a worker for each post, and returns when the doors of all have ended. A worker serves the connections
-/// of its door one after the other, however each ends. The literals of a command may have `max_octets` octets
+/// Runs a worker for each post, and returns when all doors have ended. A worker serves the connections of its door
+/// one after the other, however each ends. The literals of a command may have `max_octets` octets
 /// together. A session ends after `idle_turns` reads in a row that brought nothing.
 ///
-/// Fails with `Start` if a worker can't be started. Those before it then ran to their end.
+/// Fails with `Start` if a worker can't be started. The workers that were started have then ended.
 pub fn crew<
     K: Keeper + Send,
     L: Ledger + Send + Sync,

@@ -14,7 +14,7 @@ use Rattle.imap_print.specs.Printed.{printed}
 use Rattle.imap_core.specs.declared.step.Act.{Act}
 use Rattle.imap_core.specs.declared.step.Act.TheVariants as act
 use Rattle.imap_core.specs.Frames.{act_of_command, is_done}
-use Rattle.imap_grammar.specs.Spells.{request_read}
+use Rattle.imap_commands.specs.Spells.{request_read}
 use Rattle.imap_core.specs.declared.step.Step.{Step}
 use Rattle.imap_hall.specs.declared.journal.Receipt.{Receipt}
 use Rattle.imap_hall.specs.Hall.{entry_of}

@@ -5,7 +5,7 @@ ghost use Rattle.std.specs.Prelude.{◌≡◌};
 use std::alloc::AllocError;
 use thiserror::Error;
 
-/// How it ended.
+/// How a session ended.
 #[derive(Clone, Copy, Debug, PartialEq, Eq)]
 pub enum End {
     /// The session was closed by a BYE.
@@ -16,7 +16,7 @@ pub enum End {
     Idle,
 }
 
-/// Why it broke off.
+/// Why a session broke off.
 #[derive(Clone, Copy, Debug, Error, PartialEq, Eq)]
 pub enum ServeError {
     #[error("out of memory")]

@@ -1,4 +1,6 @@
-//! What a session makes of frames.
+//! Steps for the frames of a session, and their replies.
+//!
+//! A reply is printed whole and handed to one write, whatever its length.
 
 ghost use Rattle.std.specs.Prelude.{◌≡◌, [], ◌∷◌, false, map, IfErr, IfOk, OnErr, OnOk};
 ghost use Rattle.imap_lex.specs.Framing.{run};
@@ -18,14 +20,14 @@ use imap_core::{Act, Moment, SessionId, Step};
 use imap_hall::{HallError, Room};
 use imap_lex::{Frame, Framer, LexError, Octets, Tag};
 use imap_print::{Farewell, Response};
-use imap_values::TryCopy;
+use imap_values::{TryCopy, beside};
 use std::alloc::{AllocError, Global};
 use std::io::Write;
 
-/// How many times a gate is asked before a request goes on in any case.
+/// How many times a gate is asked at most. After that the request goes on.
 const MAX_ASKS: u32 = 1000;
 
-/// Makes a step, and writes what it is answered.
+/// Makes a step, and writes its replies.
 #[tactic(auto, using(crate::proofs::Scenes::made_all, crate::proofs::Scenes::made_part, crate::proofs::Scenes::not_made))]
 fn answer<R: Room, O: Write>(
     alloc: Global,
@@ -52,7 +54,7 @@ fn answer<R: Room, O: Write>(
     }
 }
 
-/// Makes an act of the session, and writes what it is answered.
+/// Makes an act of the session, and writes the replies.
 #[tactic(auto, using(crate::proofs::Scenes::breaks_off))]
 pub(crate) fn make<R: Room, O: Write>(
     alloc: Global,
@@ -86,18 +88,11 @@ pub(crate) fn step_of(who: &SessionId, at: Moment, act: Act) -> Result<Step, All
     ensures who { IfOk result (λ step. step.who ≡ who.now) }
     ensures act { IfOk result (λ step. step.act ≡ act) }
 {
-    let (who, act) = beside(who, act)?;
+    let (who, act) = beside(who.try_copy(), act)?;
     Ok(Step { who, at, act })
 }
 
-/// A copy of `who` beside `act`. It is generic, since the proof that an act is dropped is long.
-fn beside<A: Drop>(who: &SessionId, act: A) -> Result<(SessionId, A), AllocError>
-    ensures { IfOk result (λ pair. (pair.0 ≡ who.now) × (pair.1 ≡ act)) }
-{
-    Ok((who.try_copy()?, act))
-}
-
-/// Waits until the gate lets the request through, or was asked often enough.
+/// Asks the gate until it lets the request through, at most [`MAX_ASKS`] times.
 fn wait_for<G: Gate>(gate: &G, who: &SessionId, call: u64) {
     for _ in 0..MAX_ASKS {
         if gate.open(who, call) {
@@ -106,7 +101,7 @@ fn wait_for<G: Gate>(gate: &G, who: &SessionId, call: u64) {
     }
 }
 
-/// Hands a request to the room once the gate lets it through, and writes the reply.
+/// Makes a request in the room once the gate lets it through, and writes the replies.
 fn request<R: Room, O: Write, C: Moments, G: Gate>(
     alloc: Global,
     room: &mut R,
@@ -142,7 +137,7 @@ fn request<R: Room, O: Write, C: Moments, G: Gate>(
     }
 }
 
-/// The act of a command that came whole.
+/// Returns the act of a command that came whole.
 #[tactic(auto, using(crate::proofs::Scenes::command_asked))]
 fn act_of_command(alloc: Global, octets: &Octets) -> Result<Act, AllocError>
     ensures act { IfOk result (λ act. act ≡ act_of_command octets.now) }
@@ -151,7 +146,7 @@ fn act_of_command(alloc: Global, octets: &Octets) -> Result<Act, AllocError>
     Ok(Act::of_command(alloc, octets)?)
 }
 
-/// The act of a command of which a literal was refused before it came.
+/// Returns the act of a command of which a literal was refused before it came.
 fn act_of_rejected(alloc: Global, tag: &Option<Tag>) -> Result<Act, AllocError>
     ensures { IfOk result (λ act. act ≡ Do (rejected tag.now)) }
 {
@@ -252,7 +247,7 @@ fn take_frames<R: Room, O: Write, C: Moments, G: Gate>(
     })
 }
 
-/// Does what octets ask for that were read.
+/// Does what `piece` asks for, which follows the octets that the framer holds.
 #[tactic(auto, using(crate::proofs::Scenes::breaks_off, crate::proofs::Scenes::nothing_framed, crate::proofs::Scenes::stays_hung_up))]
 pub(crate) fn take_piece<R: Room, O: Write, C: Moments, G: Gate>(
     alloc: Global,

@@ -1,4 +1,4 @@
-//! What may hold a request back.
+//! Gates, which may hold requests back.
 
 use imap_core::SessionId;
 

@@ -1,4 +1,7 @@
 //! A session from its Open to its Leave.
+//!
+//! The room is asked for an end after a failure too. If it refuses the step Leave, the next Open of the
+//! session begins it anew.
 
 ghost use Rattle.std.specs.Prelude.{◌≡◌, ◌≤◌, false, IfErr, IfOk, OnErr};
 ghost use Rattle.imap_core.specs.declared.step.Act.TheVariants as specs;
@@ -43,7 +46,7 @@ fn open_session<R: Room, O: Write, C: Moments>(
     make(alloc, room, who, clock.now(), Act::Open, flow, output)
 }
 
-/// Opens the session and talks.
+/// Opens the session, and does what its octets ask for until it ends.
 #[tactic(auto, using(crate::proofs::Scenes::opened_closes, crate::proofs::Scenes::opened_breaks, crate::proofs::Scenes::opened_ended, crate::proofs::Scenes::opened_broke))]
 fn converse<R: Room, I: Read, O: Write, C: Moments, G: Gate, W: Wait>(
     rt: &W,
@@ -112,11 +115,11 @@ fn leave_by<R: Room>(alloc: Global, room: &mut R, step: &Step)
 
 /// Serves a session over a connection: opens it, writes the greeting, does what the input asks for, and leaves.
 ///
-/// If a read fails with `WouldBlock` or `TimedOut`, an idling session is told what changed (RFC 2177). After
-/// `idle_turns` of these in a row the session is closed. The literals of a command may have `max_octets` octets
+/// A read that fails with `WouldBlock` or `TimedOut` brought nothing: an idling session is then told what changed
+/// (RFC 2177). After `idle_turns` of these in a row the session is closed. The literals of a command may have `max_octets` octets
 /// together.
 ///
-/// What was written after a failure is a beginning of the replies; all of them if the reader failed.
+/// After a failure a beginning of the replies was written; all of them if the reader failed.
 #[tactic(auto, using(crate::proofs::Scenes::serves, crate::proofs::Scenes::gives_up))]
 pub fn serve<R: Room, I: Read, O: Write, C: Moments, G: Gate, W: Wait>(
     rt: &W,

@@ -42,7 +42,8 @@ fn poll<R: Room, O: Write, C: Moments>(
     make(alloc, room, who, clock.now(), Act::Poll, flow, output)
 }
 
-/// Reads, and does what is asked for, until the input ends, the session is closed, or it idled too long.
+/// Reads, and does what the octets ask for, until the input ends, the session is closed, or nothing came for too
+/// long.
 #[tactic(auto, using(crate::proofs::Scenes::heard_nothing, crate::proofs::Scenes::heard_more, crate::proofs::Scenes::heard_all, crate::proofs::Scenes::heard_unread, crate::proofs::Scenes::heard_still, crate::proofs::Scenes::heard_poll))]
 pub(crate) fn talk<R: Room, I: Read, O: Write, C: Moments, G: Gate, W: Wait>(
     rt: &W,
@@ -71,7 +72,7 @@ pub(crate) fn talk<R: Room, I: Read, O: Write, C: Moments, G: Gate, W: Wait>(
 {
     let mut framer = Framer::new(alloc, max_octets);
     let mut piece = [0u8; PIECE_OCTETS];
-    let mut rung = room.rung();
+    let mut polled = room.change_count();
     let mut idles = false;
     let mut calls = 0;
     for _ in rt.forever() {
@@ -111,9 +112,9 @@ pub(crate) fn talk<R: Room, I: Read, O: Write, C: Moments, G: Gate, W: Wait>(
                         Err(error) => return Err(error),
                     }
                 }
-                let now = room.rung();
-                if idles && now != rung {
-                    rung = now;
+                let now = room.change_count();
+                if idles && now != polled {
+                    polled = now;
                     match poll(alloc, room, who, clock, flow, output) {
                         Ok(flow) => {
                             if flow.closed {

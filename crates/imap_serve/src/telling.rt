@@ -1,4 +1,4 @@
-//! Printing and writing.
+//! Replies are printed and written.
 
 ghost use Rattle.std.specs.Prelude.{◌≡◌, false, IfErr, IfOk, OnErr, OnOk};
 ghost use Rattle.std.specs.Io.KnownBytes.{Appends};
@@ -14,11 +14,12 @@ use imap_print::{Response, print};
 use std::alloc::Global;
 use std::io::Write;
 
-/// Where a session is.
+/// The state of a session.
 #[derive(Clone, Copy, Debug, PartialEq, Eq)]
 pub(crate) struct Flow {
+    /// Whether a BYE closed it.
     pub(crate) closed: bool,
-    /// It idles (RFC 2177).
+    /// Whether it idles (RFC 2177).
     pub(crate) idles: bool,
     /// How many requests were handed to the room.
     pub(crate) calls: u64,
@@ -78,6 +79,7 @@ fn close(replies: &[Response]) -> bool
     replies.iter().any(|reply| is_bye(reply))
 }
 
+/// Whether the reply is a BYE.
 fn is_bye(reply: &Response) -> bool
     ensures { result ≡ is_bye reply.now }
 {
@@ -91,6 +93,7 @@ fn begin_idle(replies: &[Response]) -> bool
     replies.iter().any(|reply| is_idling(reply))
 }
 
+/// Whether the reply is the continuation request of IDLE.
 fn is_idling(reply: &Response) -> bool
     ensures { result ≡ is_idling reply.now }
 {

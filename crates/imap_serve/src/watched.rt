@@ -1,4 +1,7 @@
 //! Readers and writers, and whether they failed.
+//!
+//! What the reader answered last is noted, so that the end of the input isn't taken for a read that brought
+//! nothing, nor the other way round.
 
 ghost use Rattle.std.specs.Prelude.{◌≡◌, ◌<◌, ◌≤◌, [], false, length, take, true, IfOk, None, OnErr, OnOk, Some};
 ghost use Rattle.std.specs.Io.KnownBytes.{Appends, Consumes};
@@ -48,7 +51,7 @@ pub(crate) enum Taken {
 pub(crate) struct Failed;
 
 impl<T> Watched<T> {
-    /// It did not fail yet.
+    /// A reader or a writer that has not failed yet.
     pub fn new(inner: T) -> Watched<T>
         ensures inner { result.inner ≡ inner }
         ensures fresh { (result.failed ≡ false) × (result.last ≡ None) × (result.quiet ≡ 0) }
@@ -61,14 +64,14 @@ impl<T> Watched<T> {
         }
     }
 
-    /// Hands the reader or the writer back.
+    /// Returns the reader or the writer.
     pub fn into_inner(self) -> T
         ensures { result ≡ self.inner }
     {
         self.inner
     }
 
-    /// How many reads in a row brought nothing.
+    /// Returns how many reads in a row brought nothing.
     pub(crate) fn quiet(&self) -> u64
         ensures { result ≡ self.now.quiet }
     {
@@ -126,7 +129,7 @@ impl<I: Read> Watched<I> {
     }
 }
 
-/// What the result of a read says.
+/// Returns what the result of a read says.
 fn answer_of(read: &io::Result<usize>) -> Answer
     ensures { IsAnswer read.now result }
 {

@@ -1,10 +1,11 @@
-//! What lies under the lock.
+//! The state of a host, which lies under its lock.
 
 ghost use Rattle.std.specs.Prelude.{◌≡◌, ◌+◌, ◌<◌, ◌≤◌, ◌^◌, ℕ, [], length, List, IfErr, IfOk, OnErr, OnOk};
 ghost use Rattle.std.specs.FinMap as map;
 ghost use Rattle.imap_hall.specs.Hall.{HasStepped, IsBaseOf, IsTurnedOver, IsUntouched};
 ghost use Rattle.imap_host.specs.declared.seat.SeatError.TheVariants as error;
-ghost use Rattle.imap_host.specs.Seats.{IsSameReceipt, last_of};
+ghost use Rattle.imap_hall.specs.Receipts.{IsSameReceipt};
+ghost use Rattle.imap_host.specs.Seats.{last_of};
 
 use crate::host::PARTS;
 use crate::seat::{Seat, SeatError};
@@ -17,13 +18,13 @@ use std::alloc::{AllocError, Global};
 use std::collections::VecDeque;
 use std::sync::ledger::{Blank, Book, Ledger, Share};
 
-/// A hall, a book that counts its entries, and the parts of the ledger that no seat has.
+/// A hall, the book of the ledger that counts its entries, and the parts of the ledger that no seat has.
 #[derive(Drop)]
-pub struct Floor<K: Keeper, L: Ledger> {
+pub struct HostState<K: Keeper, L: Ledger> {
     pub hall: Hall<K>,
     /// The number of each user's last seat.
     pub numbers: UserMap<u64>,
-    /// How many parts are left.
+    /// How many parts no seat has.
     pub left: u64,
     pub(crate) book: Book<L>,
     pub(crate) rest: Share<L>,
@@ -34,18 +35,18 @@ pub struct Floor<K: Keeper, L: Ledger> {
     ghost counted: { book.total ≡ hall.before + length hall.entries },
 }
 
-/// What a step was answered, in two equal receipts, and where the journal's base is.
+/// The receipt of a step, twice, and where the journal's base is.
 #[derive(Debug, Drop)]
-pub struct Called {
+pub struct ReceiptPair {
     pub first: Receipt,
     pub second: Receipt,
     /// How many entries were made before the base.
     pub base: u64,
 }
 
-impl<K: Keeper, L: Ledger> Floor<K, L> {
-    /// A floor without seats.
-    pub fn new(alloc: Global, hall: Hall<K>, blank: Blank) -> Floor<K, L>
+impl<K: Keeper, L: Ledger> HostState<K, L> {
+    /// The state of a host without seats, over a hall without entries.
+    pub fn new(alloc: Global, hall: Hall<K>, blank: Blank) -> HostState<K, L>
         requires name { blank.name ≡ L.name }
         requires parts { (blank.parts ≡ L.parts) × (blank.parts ≡ 1048576) }
         requires fresh { (hall.before ≡ 0) × (hall.entries ≡ []) }
@@ -53,7 +54,7 @@ impl<K: Keeper, L: Ledger> Floor<K, L> {
         ensures hall { result.hall ≡ hall }
     {
         let (book, rest) = blank.open::<L>();
-        Floor {
+        HostState {
             hall,
             numbers: UserMap::new(alloc),
             left: PARTS,
@@ -78,7 +79,7 @@ impl<K: Keeper, L: Ledger> Floor<K, L> {
         if self.left <= 1 {
             return Err(SeatError::Full);
         }
-        let Floor {
+        let HostState {
             hall: _,
             numbers,
             left,
@@ -96,13 +97,13 @@ impl<K: Keeper, L: Ledger> Floor<K, L> {
         })
     }
 
-    /// Makes a step, and counts it in the share.
+    /// Makes a step, and adds one to the amount of the seat's share.
     pub fn call(
         &mut self,
         alloc: Global,
         share: &mut Share<L>,
         step: &Step,
-    ) -> Result<Called, HallError>
+    ) -> Result<ReceiptPair, HallError>
         requires { 0 < share.old.parts }
         ensures stepped { IfOk result (λ c.
             HasStepped K.failed self.old.hall step.now c.first self.new.hall) }
@@ -113,7 +114,7 @@ impl<K: Keeper, L: Ledger> Floor<K, L> {
         ensures err { OnErr result (IsUntouched K.failed self.old.hall self.new.hall) }
         ensures uncounted { OnErr result (share.new.amount ≡ share.old.amount) }
     {
-        let Floor {
+        let HostState {
             hall,
             numbers: _,
             left: _,
@@ -122,7 +123,7 @@ impl<K: Keeper, L: Ledger> Floor<K, L> {
         } = self;
         let (first, second) = hall.step_pair(alloc, step)?;
         book.add(share, 1);
-        Ok(Called {
+        Ok(ReceiptPair {
             first,
             second,
             base: hall.before(),
@@ -137,7 +138,7 @@ impl<K: Keeper, L: Ledger> Floor<K, L> {
         ensures base { IfOk result (λ r. r.1 ≡ self.new.hall.before) }
         ensures err { OnErr result (self.new.hall ≡ self.old.hall) }
     {
-        let Floor {
+        let HostState {
             hall,
             numbers: _,
             left: _,
@@ -148,11 +149,11 @@ impl<K: Keeper, L: Ledger> Floor<K, L> {
         Ok((old, hall.before()))
     }
 
-    /// Hands the hall back.
+    /// Returns the hall.
     pub fn into_hall(self) -> Hall<K>
         ensures { result ≡ self.hall }
     {
-        let Floor {
+        let HostState {
             hall,
             numbers: _,
             left: _,
@@ -163,7 +164,7 @@ impl<K: Keeper, L: Ledger> Floor<K, L> {
     }
 }
 
-/// The next session of a user, whose number is noted.
+/// Returns the next session of a user, and notes its number.
 fn next_session(
     numbers: &mut UserMap<u64>,
     alloc: Global,
@@ -185,7 +186,7 @@ fn next_session(
     })
 }
 
-/// The number of the user's last seat, 0 if there is none.
+/// Returns the number of the user's last seat, 0 if the user has none.
 fn last_of(numbers: &UserMap<u64>, user: &UserName) -> u64
     ensures { result ≡ last_of numbers.now.map user.now }
 {
@@ -195,6 +196,7 @@ fn last_of(numbers: &UserMap<u64>, user: &UserName) -> u64
     }
 }
 
+/// Returns the session number, which is from 1 to 2^32 - 1.
 fn session_number(number: u64) -> SessionNumber
     requires { (1 ≤ number) × (number < 2 ^ 32) }
     ensures { result ≡ number }

@@ -1,6 +1,6 @@
 use Rattle.std.proofs.Common.{rules, ◌-◌}
 use Rattle.imap_host.proofs.Numbers.{seated_more}
-use Rattle.imap_host.proofs.floor.Floor.seat.Goals as goal
+use Rattle.imap_host.proofs.host_state.HostState.seat.Goals as goal
 
 pub invariant_of-self-2-clause-seated : goal.invariant_of-self-2-clause-seated
 invariant_of-self-2-clause-seated g c =

@@ -1,0 +1,27 @@
+-- What a step leaves in the store.
+use Rattle.std.specs.Prelude.{◌≡◌, ◌⊎◌, ℕ}
+use Rattle.imap_core.specs.declared.step.Step.{Step}
+use Rattle.imap_core.specs.Machine.{State, next}
+use Rattle.imap_keeper.specs.Keeping.{LeavesOnly, LeavesOr}
+use Rattle.imap_world.specs.World.{World}
+use Rattle.imap_hall.specs.Hall.{HasRisen, IsUnwritten}
+
+-- The keeper has the mailboxes of the machine after the step, and is as before if the step asks for nothing to be
+-- written. What a crash leaves it could leave before, or it is that of the mailboxes as the step makes them.
+pub record IsSaved {K Image : Type 0} (Content : K → World → Type 0) (IsHonest : K → Type 0)
+    (Leaves : K → Image → Type 0) (Stands : Image → World → Type 0)
+    (old : State) (before : K) (step : Step) (new : State) (after : K) : Type 0 where
+  pub stored : Content after new.world
+  pub unwritten : IsUnwritten old step → after ≡ before
+  pub honest : IsHonest after → IsHonest before
+  pub crash : IsHonest after
+      → LeavesOr (Leaves before) (Leaves after) (λ image. Stands image (next old step).world)
+
+-- If the step asks for something to be written, a crash leaves the mailboxes as the step made them and no others,
+-- unless the store refused the change.
+abbrev pub IsAlone : {K Image : Type 0} → (failed : K → ℕ) → (IsHonest : K → Type 0)
+    → (Leaves : K → Image → Type 0) → (Stands : Image → World → Type 0)
+    → (old : State) (before : K) → Step → (new : State) (after : K) → Type 0
+IsAlone failed IsHonest Leaves Stands old before step new after =
+    IsHonest after → (IsUnwritten old step → ⊥)
+    → LeavesOnly (Leaves after) (λ image. Stands image new.world) ⊎ HasRisen (failed before) (failed after)
