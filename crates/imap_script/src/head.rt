@@ -35,7 +35,7 @@ impl HeadWord {
     }
 }
 
-/// What a host starts with.
+/// The users and limits with which a hall is opened.
 #[derive(Drop)]
 pub(crate) struct Start {
     administrator: UserName,
@@ -49,7 +49,7 @@ impl Start {
         self.limits.max_octets
     }
 
-    /// Starts the host over what the keeper keeps. A refusal hands the keeper back.
+    /// Opens the hall over what the keeper keeps. A refusal returns the keeper.
     pub(crate) fn open<K: Keeper>(
         &self,
         alloc: Global,
@@ -98,8 +98,7 @@ impl Head {
         })
     }
 
-    /// Takes a further line: its first word and what stands after one space. After an error the head is
-    /// of no use.
+    /// Takes a further line: its first word, and the rest after one space. After an error the head is of no use.
     pub(crate) fn take_line(
         &mut self,
         alloc: Global,
@@ -115,7 +114,7 @@ impl Head {
         }
     }
 
-    /// What the host starts with after all lines of the head, and the mailboxes that are there then.
+    /// Returns what the lines say: the users and limits, and the mailboxes at the start.
     pub(crate) fn finish(self, alloc: Global) -> Result<(Start, World), LineError> {
         let Head {
             administrator,

@@ -1,4 +1,7 @@
 //! Reading a whole input.
+//!
+//! The input is read by a loop of our own, and not by `read_to_end`, since its reads are limited.
+//! `read_all` is public for tests, which give it smaller limits.
 
 ghost use Rattle.std.specs.Prelude.{◌≡◌, IfOk, IfSome};
 
@@ -9,9 +12,9 @@ use std::io::{ErrorKind, Read};
 /// The most octets of one read.
 const MAX_PIECE: usize = 4096;
 
-/// Reads the whole input. Fails with `Io` if a read fails, or if `max_reads` reads don't reach the end;
-/// interrupted reads are made again and count. No clause speaks of the errors: tests show them.
-pub fn read_all<I: Read + Drop>(
+/// Reads the whole input. Fails with `Io` if a read fails, or if `max_reads` reads don't reach the end. A read that
+/// was interrupted is made again, and counts. No clause speaks of the errors: tests show them.
+pub fn read_input<I: Read + Drop>(
     alloc: Global,
     mut input: I,
     max_reads: u32,

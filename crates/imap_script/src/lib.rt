@@ -14,7 +14,7 @@ mod transcript;
 
 pub use error::ScriptError;
 use imap_keeper::ListKeeper;
-pub use input::read_all;
+pub use input::read_input;
 pub use limits::{DEFAULT_LIMITS, read_max_messages, read_max_octets, read_number};
 pub use scenario::Scenario;
 use std::io::{Read, Write};
@@ -33,7 +33,7 @@ pub fn script<R: AllocGlobal, I: Read + Drop, O: Write + Drop>(
     output: O,
 ) -> Result<(), ScriptError> {
     let alloc = rt.alloc();
-    let text = read_all(alloc, input, MAX_READS)?;
+    let text = read_input(alloc, input, MAX_READS)?;
     let (scenario, world) = Scenario::read(alloc, text.as_slice())?;
     let (_keeper, ended) = scenario.run(alloc, ListKeeper::new(world), output);
     ended

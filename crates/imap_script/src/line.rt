@@ -16,7 +16,7 @@ pub(crate) enum LineError {
 }
 
 impl LineError {
-    /// The error of a script that ends with this error of the line that is counted so.
+    /// Returns the script's error after this error in the line of the number `line`.
     pub(crate) fn at(self, line: u64) -> ScriptError {
         match self {
             LineError::Bad => ScriptError::Bad { line },

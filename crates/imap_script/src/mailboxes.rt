@@ -1,4 +1,7 @@
 //! The mailboxes of a script's head.
+//!
+//! Mailboxes are kept in the order of their lines and found by a hash map; at the head's end they are
+//! placed in the order of their names, which moves nothing.
 
 use crate::line::LineError;
 use imap_names::{Name, UserName, show_name};
@@ -12,9 +15,9 @@ use std::collections::HashMap;
 pub(crate) struct Mailboxes {
     /// In the order of their lines.
     made: Vec<(Name, Acl)>,
-    /// The place of each in `made`, by the text that shows its name to the administrator.
-    places: HashMap<String, usize>,
-    /// The place of the mailbox that the last `mailbox` line named.
+    /// The index of each in `made`, by the text that shows its name to the administrator.
+    indexes: HashMap<String, usize>,
+    /// The index of the mailbox that the last `mailbox` line named.
     chosen: Option<usize>,
 }
 
@@ -22,12 +25,12 @@ impl Mailboxes {
     pub(crate) fn new(alloc: Global) -> Mailboxes {
         Mailboxes {
             made: Vec::new(alloc),
-            places: HashMap::new(alloc),
+            indexes: HashMap::new(alloc),
             chosen: None,
         }
     }
 
-    /// Chooses a mailbox. Makes it first if it isn't there, which is bad if its superior isn't there either.
+    /// Chooses a mailbox. Makes it first if it isn't there. Fails with `Bad` if its superior isn't there either.
     pub(crate) fn choose(
         &mut self,
         alloc: Global,
@@ -35,17 +38,17 @@ impl Mailboxes {
         name: Name,
     ) -> Result<(), LineError> {
         let label = show_name(alloc, administrator, &name)?;
-        if let Some(place) = self.places.get(label.as_str()) {
-            self.chosen = Some(*place);
+        if let Some(index) = self.indexes.get(label.as_str()) {
+            self.chosen = Some(*index);
             return Ok(());
         }
         if !self.has_superior(&name, label.as_str()) {
             return Err(LineError::Bad);
         }
-        let place = self.made.len();
+        let index = self.made.len();
         self.made.push((name, Acl::new(alloc)))?;
-        self.places.insert(label, place)?;
-        self.chosen = Some(place);
+        self.indexes.insert(label, index)?;
+        self.chosen = Some(index);
         Ok(())
     }
 
@@ -55,7 +58,7 @@ impl Mailboxes {
             return true;
         }
         match label.rsplit_once('/') {
-            Some((superior, _)) => self.places.contains_key(superior),
+            Some((superior, _)) => self.indexes.contains_key(superior),
             None => false,
         }
     }
@@ -66,18 +69,19 @@ impl Mailboxes {
         identifier: Identifier,
         change: RightsChange,
     ) -> Result<(), LineError> {
-        let place = self.chosen.ok_or(LineError::Bad)?;
-        let (_, acl) = self.made.get_mut(place).ok_or(LineError::Bad)?;
+        let index = self.chosen.ok_or(LineError::Bad)?;
+        let (_, acl) = self.made.get_mut(index).ok_or(LineError::Bad)?;
         let rights = change.applied(acl.rights_of(&identifier));
         acl.set(identifier, rights)?;
         Ok(())
     }
 
-    /// The world with these mailboxes. They go in by the order of their names, so that none moves the others.
+    /// Returns the world with these mailboxes. They are placed in the order of their names, so that none moves the
+    /// others.
     pub(crate) fn into_world(self, alloc: Global) -> Result<World, LineError> {
         let Mailboxes {
             mut made,
-            places: _,
+            indexes: _,
             chosen: _,
         } = self;
         made.sort_by(|one, other| one.0.as_ref().compare(&other.0.as_ref()))?;

@@ -1,18 +1,22 @@
 //! The run of a script.
+//!
+//! The mailboxes of the head are saved as CREATE and SETACL would save them, since a keeper takes changes
+//! and no whole world.
 
 use crate::error::ScriptError;
 use crate::step::{Event, ScriptStep};
 use crate::transcript::Transcript;
-use imap_core::{Act, SessionId, Step};
+use imap_core::{Act, Step};
 use imap_hall::{Hall, HallError, Receipt};
 use imap_keeper::Keeper;
 use imap_lex::{Frame, Framer, LexError};
 use imap_print::{Farewell, Response};
+use imap_values::beside;
 use std::alloc::Global;
 use std::collections::HashMap;
 use std::io::Write;
 
-/// Makes the steps of a script, and writes the transcript. Hands the keeper back.
+/// Makes the steps of a script, and writes the transcript. Returns the keeper.
 pub(crate) fn run_steps<K: Keeper, O: Write + Drop>(
     alloc: Global,
     hall: Hall<K>,
@@ -56,6 +60,7 @@ impl<K: Keeper, O: Write + Drop> Run<K, O> {
         hall.into_keeper()
     }
 
+    /// Makes all steps, and flushes the transcript.
     fn make_all(&mut self, alloc: Global, steps: &[ScriptStep]) -> Result<(), ScriptError> {
         for step in steps {
             self.make(alloc, step)?;
@@ -74,7 +79,7 @@ impl<K: Keeper, O: Write + Drop> Run<K, O> {
 
     /// Begins a stream, unless the session is refused.
     fn open(&mut self, alloc: Global, step: &ScriptStep) -> Result<(), ScriptError> {
-        let replies = self.made(alloc, step, Act::Open)?;
+        let replies = self.make_act(alloc, step, Act::Open)?;
         if self.hall.is_open(&step.who) {
             let label = String::from_str(alloc, step.label.as_str())?;
             self.framers
@@ -84,12 +89,13 @@ impl<K: Keeper, O: Write + Drop> Run<K, O> {
             .tell(alloc, step.label.as_str(), replies.as_slice())
     }
 
+    /// Ends the session's stream, and makes the act Leave.
     fn leave(&mut self, alloc: Global, step: &ScriptStep) -> Result<(), ScriptError> {
         self.framers.remove(step.label.as_str());
         self.act(alloc, step, Act::Leave)
     }
 
-    /// Takes octets of the session's client. What follows the end of the session is dropped.
+    /// Takes octets of the session's client. Octets that follow the end of the session are dropped.
     fn receive(
         &mut self,
         alloc: Global,
@@ -103,7 +109,7 @@ impl<K: Keeper, O: Write + Drop> Run<K, O> {
             match frame {
                 Frame::Continue => self.tell(alloc, step, Response::Ready)?,
                 Frame::Hangup => self.hang_up(alloc, step)?,
-                frame => self.act_by(alloc, step, frame)?,
+                frame => self.act_on_frame(alloc, step, frame)?,
             }
         }
         Ok(())
@@ -144,8 +150,8 @@ impl<K: Keeper, O: Write + Drop> Run<K, O> {
             .tell(alloc, step.label.as_str(), responses.as_slice())
     }
 
-    /// Makes the act of a frame.
-    fn act_by(
+    /// Makes the act of a frame, if it has one.
+    fn act_on_frame(
         &mut self,
         alloc: Global,
         step: &ScriptStep,
@@ -159,7 +165,7 @@ impl<K: Keeper, O: Write + Drop> Run<K, O> {
 
     /// Makes an act of an open session.
     fn act(&mut self, alloc: Global, step: &ScriptStep, act: Act) -> Result<(), ScriptError> {
-        let replies = self.made(alloc, step, act)?;
+        let replies = self.make_act(alloc, step, act)?;
         if !self.hall.is_open(&step.who) {
             self.framers.remove(step.label.as_str());
         }
@@ -168,13 +174,13 @@ impl<K: Keeper, O: Write + Drop> Run<K, O> {
     }
 
     /// Makes the act, and returns the replies.
-    fn made(
+    fn make_act(
         &mut self,
         alloc: Global,
         step: &ScriptStep,
         act: Act,
     ) -> Result<Vec<Response>, ScriptError> {
-        let (who, act) = beside(&step.who, act)?;
+        let (who, act) = beside(step.who.try_copy(), act)?;
         let step = Step {
             who,
             at: step.at,
@@ -185,6 +191,7 @@ impl<K: Keeper, O: Write + Drop> Run<K, O> {
         replies
     }
 
+    /// Makes the step in the hall, and returns its replies.
     fn replies_to(&mut self, alloc: Global, step: &Step) -> Result<Vec<Response>, ScriptError> {
         match self.hall.step(alloc, step) {
             Ok(
@@ -198,9 +205,4 @@ impl<K: Keeper, O: Write + Drop> Run<K, O> {
             Err(HallError::Memory | HallError::Exhausted) => Err(ScriptError::Memory),
         }
     }
-}
-
-/// A copy of `who` beside `act`. It is generic, since the proof that a request is dropped is long.
-fn beside<A: Drop>(who: &SessionId, act: A) -> Result<(SessionId, A), ScriptError> {
-    Ok((who.try_copy()?, act))
 }

@@ -13,7 +13,7 @@ use std::alloc::Global;
 use std::io::Write;
 use std::str;
 
-/// A whole script: what the host starts with apart from its mailboxes, and the steps.
+/// A whole script but for the mailboxes at its start: users, limits, and the steps.
 #[derive(Drop)]
 pub struct Scenario {
     start: Start,
@@ -36,7 +36,7 @@ impl Scenario {
     }
 
     /// Runs the script over a keeper of the mailboxes at its start, and writes its transcript to `output`.
-    /// Hands the keeper back. Fails with `Io` if the keeper refuses at the start. If it refuses later, the
+    /// Returns the keeper. Fails with `Io` if the keeper refuses at the start. If it refuses later, the
     /// transcript says UNAVAILABLE (RFC 5530).
     pub fn run<K: Keeper, O: Write + Drop>(
         &self,
@@ -75,7 +75,7 @@ impl Draft {
         }
     }
 
-    /// The whole script. It is bad without an administrator.
+    /// Returns the whole script. Fails with `Bad` without an administrator.
     fn finish(self, alloc: Global) -> Result<(Scenario, World), LineError> {
         let Draft {
             head,

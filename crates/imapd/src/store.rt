@@ -1,6 +1,6 @@
 //! The store in a file.
 
-use crate::service::ServiceError;
+use imap_service::ServiceError;
 use imap_sql_keeper::SqlKeeper;
 use sqlite::{Connection, Error, ErrorCode, File, FileStore};
 

@@ -15,7 +15,7 @@ const SEED: u64 = 1;
 /// A keeper over a database whose files a test makes.
 pub(crate) trait TestKeeper: Keeper + Drop {
     /// Opens the database that has these octets, and takes it over. Makes the tables if it has none. Its
-    /// files fail after so many calls.
+    /// files fail after `calls`.
     fn open(alloc: Global, image: &Image, calls: Calls) -> Result<Opened<Self>, KeepError>;
 
     /// Closes the database, which copies its log into its file unless the files refuse this.
@@ -26,7 +26,7 @@ pub(crate) trait TestKeeper: Keeper + Drop {
     fn execute(alloc: Global, image: &Image, sql: &str) -> Result<Image, KeepError>;
 }
 
-/// A database that was to be opened.
+/// A database after the try to open it.
 #[derive(Drop)]
 pub(crate) enum Opened<K: Drop> {
     Keeper(K),
@@ -115,7 +115,7 @@ impl<F: TestFile> TestKeeper for SqlKeeper<FileStore<F>> {
     }
 }
 
-/// Opens the database that the files have. A refusal hands the files back.
+/// Opens the database that the files have. A refusal returns the files.
 fn connect<F: TestFile>(
     alloc: Global,
     files: Files<F>,
@@ -129,7 +129,7 @@ fn connect<F: TestFile>(
     }
 }
 
-/// Why the database did not do what it was asked.
+/// Returns why a statement failed.
 fn refusal(error: Error) -> KeepError {
     match error {
         Error::SqliteFailure(ErrorCode::OutOfMemory) => KeepError::Memory,
@@ -137,7 +137,7 @@ fn refusal(error: Error) -> KeepError {
     }
 }
 
-/// Takes a database over. A refusal hands the files back.
+/// Takes a database over. A refusal returns the files.
 fn adopt<F: TestFile>(conn: Database<F>) -> Result<DatabaseKeeper<F>, (KeepError, Files<F>)> {
     match SqlKeeper::adopt(conn) {
         Ok(keeper) => Ok(keeper),

@@ -11,8 +11,8 @@ use imap_keeper::{KeepError, Keeper, count_after};
 use imap_world::{Change, World};
 use std::alloc::{AllocError, Global};
 
-/// Has a keeper save and load, and compares.
-pub(crate) struct Compared<K: Keeper> {
+/// A keeper that has another save, loads after each save, and compares the mailboxes.
+pub(crate) struct ComparingKeeper<K: Keeper> {
     keeper: K,
     world: World,
     refused: Option<World>,
@@ -21,7 +21,7 @@ pub(crate) struct Compared<K: Keeper> {
     failures: u64,
 }
 
-/// What was found of a keeper.
+/// What the comparisons with a keeper found.
 #[derive(Drop)]
 pub(crate) struct Comparison {
     /// The mailboxes that it is to keep.
@@ -79,10 +79,10 @@ fn after_change(alloc: Global, world: &World, change: &Change) -> Result<World, 
     Ok(after)
 }
 
-impl<K: Keeper> Compared<K> {
-    /// The keeper is to keep `world`.
-    pub(crate) fn new(keeper: K, world: World) -> Compared<K> {
-        Compared {
+impl<K: Keeper> ComparingKeeper<K> {
+    /// A keeper that is to keep `world`.
+    pub(crate) fn new(keeper: K, world: World) -> ComparingKeeper<K> {
+        ComparingKeeper {
             keeper,
             world,
             refused: None,
@@ -92,9 +92,9 @@ impl<K: Keeper> Compared<K> {
         }
     }
 
-    /// The keeper, and what was found of it.
+    /// Returns the keeper, and what the comparisons found.
     pub(crate) fn into_parts(self) -> (K, Comparison) {
-        let Compared {
+        let ComparingKeeper {
             keeper,
             world,
             refused,
@@ -126,7 +126,7 @@ impl<K: Keeper> Compared<K> {
     }
 }
 
-impl<K: Keeper> Keeper for Compared<K> {
+impl<K: Keeper> Keeper for ComparingKeeper<K> {
     ghost use Rattle.std.specs.Prelude.{◌≡◌};
     ghost use Rattle.imap_world.specs.Stored.{world_of};
 

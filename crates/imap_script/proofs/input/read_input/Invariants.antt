@@ -1,5 +1,5 @@
 use Rattle.std.specs.Io.KnownBytes.{Consumes}
-use Rattle.imap_script.proofs.input.read_all.Given as goal
+use Rattle.imap_script.proofs.input.read_input.Given as goal
 
 -- What was read so far is what the reader gave away of the octets that it has.
 abbrev pub invariant-loop : goal.invariant-loop

@@ -1,4 +1,4 @@
-//! The program `imap_rows`: runs scripts whose transcripts are known, over a keeper in memory and over a
+//! The program `imap_transcripts`: runs scripts whose transcripts are known, over a keeper in memory and over a
 //! database.
 //!
 //! Standard input has scripts, each after a line `== NAME`. Standard output gets the same lines, and
@@ -11,26 +11,26 @@
 //! other TEXT is SQL that runs in a copy of the database at the end. A line says what can be loaded then.
 #![tactic(auto)]
 
-mod compared;
+mod comparing_keeper;
 mod database;
 mod faults;
 mod file;
 mod filling;
-mod rows;
 mod running;
 mod script_row;
 mod stops;
+mod transcripts;
 
-use crate::rows::run_rows;
+use crate::transcripts::write_transcripts;
 use std::process::ExitCode;
 
 const FAILED: u8 = 1;
 
 fn main(rt: HostRuntime) -> ExitCode {
-    match run_rows(&rt, rt.stdin(), rt.stdout()) {
+    match write_transcripts(&rt, rt.stdin(), rt.stdout()) {
         Ok(()) => ExitCode::SUCCESS,
         Err(error) => {
-            let _ = eprintln!(rt; "imap_rows: {error}");
+            let _ = eprintln!(rt; "imap_transcripts: {error}");
             ExitCode::from(FAILED)
         }
     }

@@ -84,7 +84,7 @@ impl Image {
         })
     }
 
-    /// What the files have, which are let go.
+    /// Reads the files, and drops them.
     pub(crate) fn of<F: TestFile>(alloc: Global, files: Files<F>) -> Result<Image, KeepError> {
         let image = Image::read(alloc, &files);
         drop(files);
@@ -92,7 +92,7 @@ impl Image {
     }
 }
 
-/// What the files of a database are left with.
+/// The files of a database after it was closed.
 #[derive(Drop)]
 pub(crate) struct Left {
     /// Whether a call of theirs may have failed.
@@ -104,7 +104,7 @@ pub(crate) struct Left {
 }
 
 impl Left {
-    /// The files are let go.
+    /// Reads the files, then those that a crash leaves, and drops them.
     pub(crate) fn of<F: TestFile>(alloc: Global, mut files: Files<F>) -> Result<Left, KeepError> {
         let is_stopped = files.log.is_stopped() || files.db.is_stopped();
         let written = Image::read(alloc, &files);

@@ -3,11 +3,11 @@
 ghost use Rattle.std.specs.Prelude.{◌≡◌, IfOk};
 ghost use Rattle.imap_hall.specs.Hall.{IsFresh};
 
-use crate::bell::Bells;
-use crate::clock::SystemClock;
-use crate::listening::Listening;
-use crate::ringing::Ringing;
-use crate::turns::TURNS_A_SECOND;
+use crate::idle_ticks::TICKS_PER_SECOND;
+use crate::idle_waker::IdleWakers;
+use crate::listener_door::ListenerDoor;
+use crate::notify_on_change::NotifyOnChange;
+use crate::system_clock::SystemClock;
 use imap_hall::{Hall, OpenError};
 use imap_host::{Host, Seat, SeatError, crew};
 use imap_keeper::{KeepError, Keeper};
@@ -24,30 +24,28 @@ use std::thread::Threads;
 /// How many sessions each user may have at once.
 const SEATS: usize = 16;
 
-/// After how many reads without an octet a session ends: 30 minutes.
-pub(crate) const IDLE_TURNS: u64 = 1800 * TURNS_A_SECOND;
+/// After how many reads in a row that bring nothing a session ends: those of 30 minutes.
+pub const IDLE_TICKS: u64 = 1800 * TICKS_PER_SECOND;
 
 /// A user, and the port at which the user is served.
 #[derive(Debug, Drop)]
-pub(crate) struct Port {
-    pub(crate) user: UserName,
-    pub(crate) number: u16,
+pub struct Port {
+    pub user: UserName,
+    pub number: u16,
 }
 
 /// What is served.
 #[derive(Debug, Drop)]
-pub(crate) struct Service {
-    /// The path of the database.
-    pub(crate) database: String,
-    pub(crate) administrator: UserName,
+pub struct Service {
+    pub administrator: UserName,
     /// The users who are served, each once.
-    pub(crate) ports: Vec<Port>,
-    pub(crate) limits: Limits,
+    pub ports: Vec<Port>,
+    pub limits: Limits,
 }
 
 /// Why serving ended, or didn't begin.
 #[derive(Clone, Copy, Debug, PartialEq, Eq)]
-pub(crate) enum ServiceError {
+pub enum ServiceError {
     /// A port can't be had, standard output isn't taken, or no connection comes any more.
     Io,
     Memory,
@@ -101,8 +99,10 @@ impl From<SeatError> for ServiceError {
     }
 }
 
-/// Serves the users from what the keeper keeps. Returns the keeper, and why that ended.
-pub(crate) fn run<
+/// Serves the users of `service` at their ports of 127.0.0.1 from what `keeper` keeps, until no connection comes any
+/// more. Prints a line `listening USER PORT` for each port once all are open. Returns the keeper, and why serving
+/// ended or didn't begin.
+pub fn run<
     K: Keeper + Send,
     L: Ledger + Send + Sync,
     R: Net<Listener = TcpListener, Stream = TcpStream>
@@ -117,7 +117,6 @@ pub(crate) fn run<
     requires parts { (blank.parts ≡ L.parts) × (blank.parts ≡ 1048576) }
 {
     let Service {
-        database: _,
         administrator,
         ports,
         limits,
@@ -141,7 +140,9 @@ fn open<K: Keeper>(
     let Ok(users) = users(alloc, ports) else {
         return Err((ServiceError::Memory, keeper));
     };
-    match Hall::open(alloc, keeper, administrator, users.as_slice(), limits) {
+    let opened = Hall::open(alloc, keeper, administrator, users.as_slice(), limits);
+    drop(users);
+    match opened {
         Ok(hall) => Ok(hall),
         Err((error, keeper)) => Err((ServiceError::from(error), keeper)),
     }
@@ -180,7 +181,7 @@ fn serve_hall<
     }
 }
 
-/// Listens at all ports of this machine alone, and then tells so.
+/// Listens at all ports of this machine alone, and then prints a line for each.
 fn listen<R: Net<Listener = TcpListener, Stream = TcpStream> + Print + AllocGlobal>(
     rt: &R,
     ports: &[Port],
@@ -195,7 +196,7 @@ fn listen<R: Net<Listener = TcpListener, Stream = TcpStream> + Print + AllocGlob
     Ok(listeners)
 }
 
-/// Serves the users at these listeners, of which each is of the port at its place.
+/// Serves the users at their listeners: each listener is that of the port at the same index.
 fn serve_host<
     K: Keeper + Send,
     L: Ledger + Send + Sync,
@@ -212,12 +213,12 @@ fn serve_host<
     listeners: Vec<TcpListener>,
     max_octets: u64,
 ) -> (K, ServiceError) {
-    let ended = serve_belled(rt, &mut host, ports, listeners.as_slice(), max_octets);
+    let ended = serve_wakeable(rt, &mut host, ports, listeners.as_slice(), max_octets);
     (host.into_hall().into_keeper(), ended)
 }
 
-/// The same, with a bell for each worker.
-fn serve_belled<
+/// The same, with a waker for each worker.
+fn serve_wakeable<
     K: Keeper + Send,
     L: Ledger + Send + Sync,
     R: Net<Listener = TcpListener, Stream = TcpStream>
@@ -234,9 +235,9 @@ fn serve_belled<
     max_octets: u64,
 ) -> ServiceError {
     let count = ports.len().saturating_mul(SEATS);
-    match Bells::new(rt, rt.alloc(), count) {
-        Ok(bells) => match posts(rt, rt.alloc(), host, ports, listeners, &bells) {
-            Ok(posts) => serve_posts(rt, host, &bells, posts, max_octets),
+    match IdleWakers::new(rt, rt.alloc(), count) {
+        Ok(wakers) => match posts(rt, rt.alloc(), host, ports, listeners, &wakers) {
+            Ok(posts) => serve_posts(rt, host, &wakers, posts, max_octets),
             Err(error) => error,
         },
         Err(error) => ServiceError::from(error),
@@ -252,8 +253,8 @@ fn serve_posts<
 >(
     rt: &'a R,
     host: &Host<K, L>,
-    bells: &'a Bells,
-    mut posts: Vec<(Seat<L>, Listening<'a, R>)>,
+    wakers: &'a IdleWakers,
+    mut posts: Vec<(Seat<L>, ListenerDoor<'a, R>)>,
     max_octets: u64,
 ) -> ServiceError {
     // Whether all workers ran or not, no connection comes any more.
@@ -263,36 +264,46 @@ fn serve_posts<
         host,
         posts.as_mut_slice(),
         &SystemClock { rt },
-        &Ringing::new(host.changes(), bells),
+        &NotifyOnChange::new(host.changes(), wakers),
         max_octets,
-        IDLE_TURNS,
+        IDLE_TICKS,
     );
     ServiceError::Io
 }
 
-/// The seats of all users, each with a door to the user's port.
+/// Returns the seats of all users, each with a door to the user's port.
 fn posts<'a, K: Keeper, L: Ledger, R: Wait + Clock>(
     rt: &'a R,
     alloc: Global,
     host: &mut Host<K, L>,
     ports: &[Port],
     listeners: &'a [TcpListener],
-    bells: &'a Bells,
-) -> Result<Vec<(Seat<L>, Listening<'a, R>)>, ServiceError> {
+    wakers: &'a IdleWakers,
+) -> Result<Vec<(Seat<L>, ListenerDoor<'a, R>)>, ServiceError> {
     let mut posts = Vec::new(alloc);
-    for (place, bell) in bells.as_slice().iter().enumerate() {
-        let place = place / SEATS;
-        if let (Some(port), Some(listener)) = (ports.get(place), listeners.get(place)) {
-            let seat = seat(alloc, host, &port.user)?;
-            let listening = Listening {
+    for (index, waker) in wakers.as_slice().iter().enumerate() {
+        let index = index / SEATS;
+        if let (Some(port), Some(listener)) = (ports.get(index), listeners.get(index)) {
+            let door = ListenerDoor {
                 rt,
                 listener,
-                bells,
-                bell,
+                wakers,
+                waker,
             };
-            posts.push((seat, listening))?;
+            posts = with_post(posts, seat(alloc, host, &port.user), door)?;
         }
     }
+    Ok(posts)
+}
+
+/// Appends a seat with its door. It is generic, since the proof that a seat is dropped is long.
+fn with_post<S: Drop, D: Drop>(
+    mut posts: Vec<(S, D)>,
+    seat: Result<S, ServiceError>,
+    door: D,
+) -> Result<Vec<(S, D)>, ServiceError> {
+    let seat = seat?;
+    posts.push((seat, door))?;
     Ok(posts)
 }
 

@@ -1,4 +1,4 @@
-//! A script, and what came of it.
+//! A script with what else is done with it, and its report.
 
 use crate::database::{DatabaseKeeper, TestKeeper};
 use crate::faults::fault_report;
@@ -12,7 +12,7 @@ use sqlite_disk::{Fuse, Memory};
 use std::alloc::Global;
 use std::str;
 
-/// A script, and what else is done with it.
+/// A script, and what its lines `-- TEXT` ask for.
 #[derive(Drop)]
 pub(crate) struct ScriptRow {
     script: Vec<u8>,
@@ -45,7 +45,7 @@ impl ScriptRow {
         Ok(())
     }
 
-    /// What is written of it.
+    /// Returns what is written for the script.
     pub(crate) fn report(&self, alloc: Global) -> Result<Vec<u8>, ScriptError> {
         let mut report = Vec::new(alloc);
         match Scenario::read(alloc, self.script.as_slice()) {
@@ -60,7 +60,7 @@ impl ScriptRow {
         Ok(report)
     }
 
-    /// Appends what came of the runs of the script.
+    /// Appends the transcript, and the reports of all runs.
     fn push_runs(
         &self,
         alloc: Global,
@@ -74,7 +74,7 @@ impl ScriptRow {
         self.push_reports_by_file::<Fuse<Memory>>(alloc, report, scenario, world)
     }
 
-    /// Appends what came of changes by SQL, and of calls that failed.
+    /// Appends the reports of changes by SQL and of calls that failed.
     fn push_reports<K: TestKeeper>(
         &self,
         alloc: Global,

@@ -1,10 +1,14 @@
-//! Connections on which a worker waits beside its bell.
+//! Connections whose reads end when their worker is woken.
+//!
+//! A worker reads its connection by one call as long as its client sends. Once nothing has come for a
+//! millisecond it waits at once for its connection and its waker (`mio`), so that a client that sends one
+//! command after another costs no call more than by a plain reader.
 
 ghost use Rattle.std.specs.Counts.{IsPrefixLen};
 ghost use Rattle.std.specs.Prelude.{IfOk};
 
-use crate::bell::{Bell, Bells, CONNECTION};
-use crate::turns::Turns;
+use crate::idle_ticks::IdleTicks;
+use crate::idle_waker::{CONNECTION, IdleWaker, IdleWakers};
 use mio::unix::SourceFd;
 use mio::{Events, Interest};
 use std::io::{self, ErrorKind, Read};
@@ -14,7 +18,7 @@ use std::rt::Clock;
 use std::sync::Wait;
 use std::time::{Duration, Instant};
 
-/// After how many milliseconds without an octet a client pauses. Its bell isn't heard before.
+/// After how many milliseconds without an octet a client pauses. Its worker isn't woken before.
 const PAUSE_MILLIS: u64 = 1;
 
 /// Why a wait has ended.
@@ -22,58 +26,61 @@ const PAUSE_MILLIS: u64 = 1;
 enum Woken {
     /// The client has sent something, or closed the connection.
     Connection,
-    Bell,
+    /// All workers were woken.
+    Waker,
     /// A second has passed.
     Second,
 }
 
-/// A connection. It is read by one call until the client pauses, and then waited for beside the bell. A read that
-/// brings nothing ends when the bell rings, or when a second has passed. A second has at most
-/// [`TURNS_A_SECOND`](crate::turns::TURNS_A_SECOND) reads that bring nothing, and at most all but one of them are
-/// answered by the bell.
+/// A connection. It is read by one call until the client pauses. Then a worker waits for it and for its waker at
+/// once: a read that brings nothing ends when the worker is woken, or when a second has passed. A second has at most
+/// [`TICKS_PER_SECOND`](crate::TICKS_PER_SECOND) reads that bring nothing, and at most all but one of them end by a
+/// wake.
 #[derive(Drop)]
-pub(crate) struct Belled<'a, R: Wait + Clock> {
+pub struct WakeableStream<'a, R: Wait + Clock> {
     rt: &'a R,
-    bells: &'a Bells,
-    bell: &'a Bell,
+    wakers: &'a IdleWakers,
+    waker: &'a IdleWaker,
     stream: TcpStream,
     /// Whether the client has not paused since octets came.
     is_sending: bool,
-    turns: Turns,
+    ticks: IdleTicks,
     /// When the second ends that has begun.
     until: Option<Instant>,
-    /// How many times the bells had rung when a read brought nothing last.
-    heard: u64,
+    /// The count of the wakers when a read brought nothing last.
+    seen: u64,
 }
 
-impl<'a, R: Wait + Clock> Belled<'a, R> {
-    /// Waits on the connection by the poll of the bell's worker.
-    pub(crate) fn new(
+impl<'a, R: Wait + Clock> WakeableStream<'a, R> {
+    /// The connection `stream` of the worker of `waker`, which is one of `wakers`. Fails if the worker can't wait
+    /// for it.
+    pub fn new(
         rt: &'a R,
-        bells: &'a Bells,
-        bell: &'a Bell,
+        wakers: &'a IdleWakers,
+        waker: &'a IdleWaker,
         stream: TcpStream,
-    ) -> io::Result<Belled<'a, R>> {
+    ) -> io::Result<WakeableStream<'a, R>> {
         stream.set_read_timeout(Some(Duration::from_millis(PAUSE_MILLIS)))?;
         let descriptor = stream.as_raw_fd();
-        bell.waiting
+        waker
+            .waiting
             .lock(rt)
             .poll
             .registry()
             .register(&mut SourceFd(&descriptor), CONNECTION, Interest::READABLE)?;
-        Ok(Belled {
+        Ok(WakeableStream {
             rt,
-            bells,
-            bell,
+            wakers,
+            waker,
             stream,
             is_sending: false,
-            turns: Turns::new(),
+            ticks: IdleTicks::new(),
             until: None,
-            heard: bells.count(),
+            seen: wakers.count(),
         })
     }
 
-    /// How long the second lasts that has begun, or begins now.
+    /// How long the second still lasts. A second begins if none has.
     fn left(&mut self) -> io::Result<Duration> {
         let now = Instant::now(self.rt)?;
         match self.until {
@@ -87,20 +94,20 @@ impl<'a, R: Wait + Clock> Belled<'a, R> {
     }
 
     fn wait(&mut self) -> io::Result<Woken> {
-        let bell = self.bell;
-        let mut guard = bell.waiting.lock(self.rt);
+        let waker = self.waker;
+        let mut guard = waker.waiting.lock(self.rt);
         let waiting = &mut *guard;
         for _ in self.rt.forever() {
             let left = self.left()?;
             if left.is_zero() {
                 return Ok(Woken::Second);
             }
-            if self.turns.may_ring() && self.bells.await_ring(bell, self.heard) {
-                self.bells.stop_waiting(bell);
-                return Ok(Woken::Bell);
+            if self.ticks.may_wake() && self.wakers.arm(waker, self.seen) {
+                self.wakers.disarm(waker);
+                return Ok(Woken::Waker);
             }
             let polled = waiting.poll.poll(&mut waiting.events, Some(left));
-            self.bells.stop_waiting(bell);
+            self.wakers.disarm(waker);
             polled?;
             if is_ready(&waiting.events) {
                 return Ok(Woken::Connection);
@@ -109,13 +116,13 @@ impl<'a, R: Wait + Clock> Belled<'a, R> {
         unreachable!()
     }
 
-    /// Reads what comes before the client pauses, and begins to count anew.
+    /// Reads what comes before the client pauses, and begins to count ticks anew.
     fn take(&mut self, buf: &mut [u8]) -> io::Result<usize>
         ensures { IfOk result (λ n. IsPrefixLen n buf.new) }
     {
         let count = self.stream.read(buf)?;
         self.is_sending = true;
-        self.turns = Turns::new();
+        self.ticks = IdleTicks::new();
         self.until = None;
         Ok(count)
     }
@@ -126,12 +133,12 @@ fn is_ready(events: &Events) -> bool {
     events.iter().any(|event| event.token() == CONNECTION)
 }
 
-/// A read has brought nothing.
+/// The answer of a read that brings nothing.
 fn nothing() -> io::Error {
     io::Error::from(ErrorKind::WouldBlock)
 }
 
-impl<'a, R: Wait + Clock> Read for Belled<'a, R> {
+impl<'a, R: Wait + Clock> Read for WakeableStream<'a, R> {
     fn read(&mut self, buf: &mut [u8]) -> io::Result<usize> {
         if self.is_sending {
             match self.take(buf) {
@@ -139,18 +146,18 @@ impl<'a, R: Wait + Clock> Read for Belled<'a, R> {
                 taken => return taken,
             }
         }
-        if self.turns.take_owed() {
+        if self.ticks.take_owed() {
             return Err(nothing());
         }
         match self.wait()? {
             Woken::Connection => return self.take(buf),
-            Woken::Bell => self.turns.ring(),
+            Woken::Waker => self.ticks.count_wake(),
             Woken::Second => {
-                self.turns.pass();
+                self.ticks.end_second();
                 self.until = None;
             }
         }
-        self.heard = self.bells.count();
+        self.seen = self.wakers.count();
         Err(nothing())
     }
 }

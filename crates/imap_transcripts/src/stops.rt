@@ -11,22 +11,22 @@ use std::alloc::{AllocError, Global};
 /// The most calls of a file.
 const MAX_CALLS: u64 = 100_000;
 
-/// One of the two files.
+/// One of the two files of a database.
 #[derive(Clone, Copy)]
-enum Which {
+enum FileKind {
     Log,
     Database,
 }
 
-impl Which {
-    /// It fails after so many calls, and the other one never.
+impl FileKind {
+    /// Has this file fail after `calls` calls, and the other never.
     fn calls(self, calls: u64) -> Calls {
         match self {
-            Which::Log => Calls {
+            FileKind::Log => Calls {
                 log: calls,
                 database: u64::MAX,
             },
-            Which::Database => Calls {
+            FileKind::Database => Calls {
                 log: u64::MAX,
                 database: calls,
             },
@@ -34,7 +34,7 @@ impl Which {
     }
 }
 
-/// What came of a run.
+/// How a run ended.
 #[derive(Clone, Copy, PartialEq, Eq)]
 enum Outcome {
     /// No call failed.
@@ -53,8 +53,8 @@ pub(crate) fn stop_report<K: TestKeeper>(
 ) -> Result<&'static str, KeepError> {
     let keeper = new_keeper::<K>(alloc, world)?;
     let image = image_of(keeper.close(alloc))?;
-    let log = stop_each::<K>(alloc, &image, Which::Log, scenario, world)?;
-    let database = stop_each::<K>(alloc, &image, Which::Database, scenario, world)?;
+    let log = stop_each::<K>(alloc, &image, FileKind::Log, scenario, world)?;
+    let database = stop_each::<K>(alloc, &image, FileKind::Database, scenario, world)?;
     if log == Outcome::Kept && database == Outcome::Kept {
         Ok("after each stop the mailboxes are those before a change or after it\n")
     } else {
@@ -66,13 +66,13 @@ pub(crate) fn stop_report<K: TestKeeper>(
 fn stop_each<K: TestKeeper>(
     alloc: Global,
     image: &Image,
-    which: Which,
+    kind: FileKind,
     scenario: &Scenario,
     world: &World,
 ) -> Result<Outcome, KeepError> {
     let mut worst = Outcome::Whole;
     for calls in 0..MAX_CALLS {
-        match run_once::<K>(alloc, image, which.calls(calls), scenario, world)? {
+        match run_once::<K>(alloc, image, kind.calls(calls), scenario, world)? {
             Outcome::Whole => return Ok(worst),
             Outcome::Kept => worst = Outcome::Kept,
             Outcome::Lost => return Ok(Outcome::Lost),
@@ -81,7 +81,7 @@ fn stop_each<K: TestKeeper>(
     Ok(Outcome::Lost)
 }
 
-/// Runs the script over a database whose files fail after so many calls.
+/// Runs the script over a database whose files fail after `calls`.
 fn run_once<K: TestKeeper>(
     alloc: Global,
     image: &Image,
@@ -110,7 +110,7 @@ fn run_stopped<K: TestKeeper>(
     outcome_of_run::<K>(alloc, keeper.close(alloc), &found)
 }
 
-/// What came of a run, by what was found while it went on and by its files.
+/// Returns how a run ended, by what was loaded while it went on and by its files.
 fn outcome_of_run<K: TestKeeper>(
     alloc: Global,
     left: Result<Left, KeepError>,
@@ -128,7 +128,8 @@ fn outcome_of_run<K: TestKeeper>(
     }
 }
 
-/// What is loaded of the files, if the system goes on and if it crashes.
+/// Returns whether the mailboxes before the change or after it are loaded, both from the files as they are and from
+/// those that a crash leaves.
 fn outcome_of_files<K: TestKeeper>(
     alloc: Global,
     left: &Left,
@@ -144,7 +145,7 @@ fn outcome_of_files<K: TestKeeper>(
     }
 }
 
-/// Whether one of these is loaded.
+/// Whether the mailboxes `before` or `after` are loaded from the image.
 fn loads_either<K: TestKeeper>(
     alloc: Global,
     image: &Image,

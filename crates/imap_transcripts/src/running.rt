@@ -1,6 +1,6 @@
 //! Scripts over databases.
 
-use crate::compared::{Compared, Comparison};
+use crate::comparing_keeper::{ComparingKeeper, Comparison};
 use crate::database::{TestKeeper, new_keeper, open_in_memory};
 use crate::file::{Image, Left};
 use crate::filling::filled;
@@ -9,7 +9,7 @@ use imap_script::{Scenario, ScriptError};
 use imap_world::World;
 use std::alloc::Global;
 
-/// What came of a script over a keeper.
+/// The transcript of a script over a keeper, how it ended, and what the comparisons found.
 #[derive(Drop)]
 pub(crate) struct Found {
     pub(crate) transcript: Vec<u8>,
@@ -25,7 +25,7 @@ pub(crate) fn run_compared<K: Keeper>(
     world: World,
 ) -> (K, Found) {
     let mut transcript = Vec::new(alloc);
-    let (keeper, ended) = scenario.run(alloc, Compared::new(keeper, world), &mut transcript);
+    let (keeper, ended) = scenario.run(alloc, ComparingKeeper::new(keeper, world), &mut transcript);
     let (keeper, comparison) = keeper.into_parts();
     let found = Found {
         transcript,
@@ -65,7 +65,7 @@ pub(crate) fn run_in_database(
     }
 }
 
-/// The database that the script leaves.
+/// Returns the database that the script leaves.
 pub(crate) fn image_after<K: TestKeeper>(
     alloc: Global,
     scenario: &Scenario,
@@ -77,7 +77,7 @@ pub(crate) fn image_after<K: TestKeeper>(
     image_of(keeper.close(alloc))
 }
 
-/// What the files have, without a crash.
+/// Returns what the files have, without a crash.
 pub(crate) fn image_of(left: Result<Left, KeepError>) -> Result<Image, KeepError> {
     let Left {
         is_stopped: _,

@@ -1,0 +1,54 @@
+//! How the program ends: its exit statuses, and what standard error is told.
+
+use crate::command_line::CommandLineError;
+use crate::service::ServiceError;
+use imap_script::ScriptError;
+use std::process::ExitCode;
+
+const MISUSED: u8 = 2;
+
+const BROKEN_STREAM: u8 = 3;
+
+const OUT_OF_MEMORY: u8 = 4;
+
+const NO_STORE: u8 = 5;
+
+/// Tells standard error, as far as it takes it, why the command line wasn't read. Returns the exit status: 4 for
+/// want of memory, else 2.
+pub fn report_misuse(rt: &impl Eprint, error: &CommandLineError) -> ExitCode {
+    let status = match error {
+        CommandLineError::Usage(_) | CommandLineError::Unclear => MISUSED,
+        CommandLineError::Memory => OUT_OF_MEMORY,
+    };
+    let _ = rt.eprint(error);
+    ExitCode::from(status)
+}
+
+/// Tells standard error, as far as it takes it, why the script didn't run to its end. Returns the exit status: 2 for
+/// a bad script, 3 for an input or output that failed, which standard error isn't told, and 4 for want of memory.
+pub fn report_script_error(rt: &impl Eprint, error: &ScriptError) -> ExitCode {
+    let status = match error {
+        ScriptError::Bad { .. } => MISUSED,
+        ScriptError::Io => return ExitCode::from(BROKEN_STREAM),
+        ScriptError::Memory => OUT_OF_MEMORY,
+    };
+    let _ = eprintln!(rt; "imapd: {error}");
+    ExitCode::from(status)
+}
+
+/// Tells standard error, as far as it takes it, why serving ended. Returns the exit status: 3 if no connection comes
+/// any more or standard output failed, which standard error isn't told, 4 for want of memory, and 5 if the store
+/// can't be used.
+pub fn report_service_error(rt: &impl Eprint, error: ServiceError) -> ExitCode {
+    match error {
+        ServiceError::Io => ExitCode::from(BROKEN_STREAM),
+        ServiceError::Memory => {
+            let _ = eprintln!(rt; "imapd: out of memory");
+            ExitCode::from(OUT_OF_MEMORY)
+        }
+        ServiceError::Store => {
+            let _ = eprintln!(rt; "imapd: store unusable");
+            ExitCode::from(NO_STORE)
+        }
+    }
+}

@@ -1,0 +1,40 @@
+//! Waking workers after changes.
+
+use crate::idle_waker::IdleWakers;
+use imap_core::SessionId;
+use imap_host::ChangeCount;
+use imap_serve::Gate;
+use std::sync::atomic::{AtomicU64, Ordering};
+
+/// A gate that holds no request back, and wakes the workers after a request that changed something.
+#[derive(Drop)]
+pub(crate) struct NotifyOnChange<'a> {
+    changes: &'a ChangeCount,
+    wakers: &'a IdleWakers,
+    /// How many changes there were when the workers were woken last.
+    notified: AtomicU64,
+}
+
+impl<'a> NotifyOnChange<'a> {
+    /// Wakes the workers of `wakers` when `changes` counts more than now.
+    pub(crate) fn new(changes: &'a ChangeCount, wakers: &'a IdleWakers) -> NotifyOnChange<'a> {
+        NotifyOnChange {
+            changes,
+            wakers,
+            notified: AtomicU64::new(changes.get()),
+        }
+    }
+}
+
+impl<'a> Gate for NotifyOnChange<'a> {
+    fn open(&self, _who: &SessionId, _call: u64) -> bool {
+        true
+    }
+
+    fn answered(&self, _who: &SessionId, _call: u64) {
+        let changes = self.changes.get();
+        if self.notified.swap(changes, Ordering::SeqCst) != changes {
+            self.wakers.wake_all();
+        }
+    }
+}
