@@ -1,4 +1,0 @@
-use Rattle.imap_host_tests.proofs.idling.an_idling_session_loses_its_mailbox.Given as goal
-
-abbrev pub ghosts-told : goal.ghosts-told
-ghosts-told g a = record { name = a.blank.name; parts = a.blank.parts }

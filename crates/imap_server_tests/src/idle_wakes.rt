@@ -1,0 +1,130 @@
+//! Reads that bring nothing, and wakes.
+
+use imap_service::{IDLE_TICKS, IdleTicks, IdleWakers, TICKS_PER_SECOND, WakeableStream};
+use std::io::{self, ErrorKind, Read, Write};
+use std::net::{Net, TcpListener, TcpStream};
+use std::rt::Clock;
+use std::sync::Wait;
+use std::time::Instant;
+
+/// After how many seconds a session ends whose worker is woken `wakes_per_second` times in each second.
+fn seconds_until_end(wakes_per_second: u64) -> u64 {
+    let mut ticks = IdleTicks::new();
+    let mut wakes: u64 = 0;
+    let mut seconds: u64 = 0;
+    for _ in 0..IDLE_TICKS {
+        if ticks.take_owed() {
+            continue;
+        }
+        if wakes < wakes_per_second && ticks.may_wake() {
+            ticks.count_wake();
+            wakes = wakes.saturating_add(1);
+        } else {
+            ticks.end_second();
+            wakes = 0;
+            seconds = seconds.saturating_add(1);
+        }
+    }
+    seconds
+}
+
+/// A session ends after 30 minutes of silence, however often its worker is woken.
+#[test]
+fn wakes_end_no_session_sooner(rt: HostRuntime) {
+    const ROWS: [u64; 6] = [0, 1, 5, 31, 32, 1000];
+    for &wakes in &ROWS {
+        let seconds = seconds_until_end(wakes);
+        assert!(rt; seconds == 1800, "{wakes}: {seconds}");
+    }
+}
+
+/// A connection to itself: what is read, and what writes to it.
+fn connection<R: Net<Listener = TcpListener, Stream = TcpStream>>(
+    rt: &R,
+) -> io::Result<(TcpStream, TcpStream)> {
+    let listener = TcpListener::bind(rt, "127.0.0.1:0")?;
+    let client = TcpStream::connect(rt, listener.local_addr()?)?;
+    let (input, _) = listener.accept()?;
+    Ok((input, client))
+}
+
+/// How many milliseconds `reads` reads take that bring nothing. The workers are woken before each.
+fn millis_of<R: Wait + Clock>(
+    rt: &R,
+    wakers: &IdleWakers,
+    input: &mut WakeableStream<'_, R>,
+    reads: u64,
+) -> io::Result<u128> {
+    let start = Instant::now(rt)?;
+    let mut buf = [0u8; 16];
+    for _ in 0..reads {
+        wakers.wake_all();
+        match input.read(&mut buf) {
+            Err(error) if error.kind() == ErrorKind::WouldBlock => {}
+            _ => return Err(io::Error::from(ErrorKind::InvalidData)),
+        }
+    }
+    Ok(start.elapsed(rt)?.as_millis())
+}
+
+/// What a connection did whose worker is woken.
+#[derive(Clone, Copy, Debug, PartialEq, Eq)]
+struct Times {
+    /// How many milliseconds the reads took that a wake ended.
+    woken: u128,
+    /// How many the last read of the second took.
+    last: u128,
+    /// How many octets two reads brought.
+    count: usize,
+    /// How many milliseconds a read took after that, which a wake ended.
+    after: u128,
+}
+
+fn waited<R: Net<Listener = TcpListener, Stream = TcpStream> + Wait + Clock + AllocGlobal>(
+    rt: &R,
+    wakers: &IdleWakers,
+) -> io::Result<Times> {
+    let (input, mut client) = connection(rt)?;
+    let [waker, ..] = wakers.as_slice() else {
+        return Err(io::Error::from(ErrorKind::InvalidData));
+    };
+    let mut input = WakeableStream::new(rt, wakers, waker, input)?;
+    let woken = millis_of(rt, wakers, &mut input, TICKS_PER_SECOND - 1)?;
+    let last = millis_of(rt, wakers, &mut input, 1)?;
+    client.write_all(b"a1 NOOP\r\na2 NOOP\r\n")?;
+    let mut buf = [0u8; 16];
+    let first = input.read(&mut buf)?;
+    let count = first.saturating_add(input.read(&mut buf)?);
+    let after = millis_of(rt, wakers, &mut input, 1)?;
+    Ok(Times {
+        woken,
+        last,
+        count,
+        after,
+    })
+}
+
+fn waited_anew<R: Net<Listener = TcpListener, Stream = TcpStream> + Wait + Clock + AllocGlobal>(
+    rt: &R,
+) -> io::Result<Times> {
+    let wakers = IdleWakers::new(rt, rt.alloc(), 1)?;
+    waited(rt, &wakers)
+}
+
+/// Wakes end 31 reads at once. The next one ends when the second has passed. Octets that don't fit into one read
+/// come by the next, and then a wake ends a read again.
+#[test]
+fn a_wake_ends_a_read(rt: HostRuntime) {
+    match waited_anew(&rt) {
+        Ok(waited) => {
+            assert!(rt;
+                waited.woken < 1000
+                    && waited.woken.saturating_add(waited.last) >= 998
+                    && waited.count == 18
+                    && waited.after < 1000,
+                "{waited:?}"
+            );
+        }
+        Err(error) => panic!(rt; "{error:?}"),
+    }
+}

@@ -1,0 +1,111 @@
+//! A session that loses its mailbox while it idles.
+
+ghost use Rattle.std.specs.Prelude.{◌≡◌};
+
+use crate::hosts::{ask, hall, host, make, seat};
+use crate::serving::{IDLE_TICKS, Standing};
+use imap_core::Act;
+use imap_host::{Desk, Host, PARTS, Seat};
+use imap_keeper::{Keeper, ListKeeper};
+use imap_script::DEFAULT_LIMITS;
+use imap_serve::{End, OpenGate, Watched, serve};
+use std::alloc::{AllocError, Global};
+use std::io::{self, ErrorKind, Read};
+use std::marker::Brand;
+use std::sync::Wait;
+use std::sync::ledger::{Blank, Ledger};
+
+const SENT: &[u8] = b"b1 SELECT Shared/News\r\nb2 IDLE\r\n";
+
+const TAKEN: &[u8] = b"r1 SETACL Shared/News bob l\r\n";
+
+const WRITTEN: &[u8] = b"+ idling\r\n* BYE selected mailbox is no longer available\r\n";
+
+/// Sends a text. After that root takes bob's right away, and no octet comes.
+#[derive(Drop)]
+struct Taking<'a, K: Keeper, L: Ledger, R: Wait + AllocGlobal> {
+    rt: &'a R,
+    host: &'a Host<K, L>,
+    root: Seat<L>,
+    text: &'a [u8],
+}
+
+impl<'a, K: Keeper, L: Ledger, R: Wait + AllocGlobal> Read for Taking<'a, K, L, R> {
+    fn read(&mut self, buf: &mut [u8]) -> io::Result<usize> {
+        if self.text.is_empty() {
+            let _opened = make(self.rt, self.host, &mut self.root, Act::Open);
+            let _taken = ask(self.rt, self.host, &mut self.root, TAKEN);
+            return Err(io::Error::from(ErrorKind::WouldBlock));
+        }
+        let count = self.text.len().min(buf.len());
+        buf[..count].copy_from_slice(&self.text[..count]);
+        self.text = &self.text[count..];
+        Ok(count)
+    }
+}
+
+/// The seats of root and of bob.
+fn seats<K: Keeper, L: Ledger>(
+    alloc: Global,
+    host: &mut Host<K, L>,
+) -> Result<(Seat<L>, Seat<L>), AllocError> {
+    let root = seat(alloc, host, "root")?;
+    let bob = seat(alloc, host, "bob")?;
+    Ok((root, bob))
+}
+
+/// Serves bob while root takes his right away. Whether he is told so, and his session is closed.
+fn tells_bob<K: Keeper, L: Ledger, R: Wait + AllocGlobal>(rt: &R, host: &mut Host<K, L>) -> bool {
+    let Ok((root, mut bob)) = seats(rt.alloc(), host) else {
+        return false;
+    };
+    let Ok(who) = bob.who.try_copy() else {
+        return false;
+    };
+    let mut input = Watched::new(Taking {
+        rt,
+        host,
+        root,
+        text: SENT,
+    });
+    let mut output = Watched::new(Vec::new(rt.alloc()));
+    let mut desk = Desk {
+        rt,
+        host,
+        seat: &mut bob,
+    };
+    let end = serve(
+        rt,
+        rt.alloc(),
+        &mut desk,
+        &who,
+        &Standing,
+        &OpenGate,
+        DEFAULT_LIMITS.max_octets,
+        IDLE_TICKS,
+        &mut input,
+        &mut output,
+    );
+    end == Ok(End::Closed) && output.into_inner().ends_with(WRITTEN)
+}
+
+/// The same in a new host.
+fn told<L: Ledger, R: Wait + AllocGlobal>(rt: &R, blank: Blank) -> bool
+    requires name { blank.name ≡ L.name }
+    requires parts { (blank.parts ≡ L.parts) × (blank.parts ≡ 1048576) }
+{
+    match hall(rt.alloc()) {
+        Ok(hall) => {
+            let mut host = host::<ListKeeper, L>(rt.alloc(), hall, blank);
+            let told = tells_bob(rt, &mut host);
+            drop(host);
+            told
+        }
+        Err(_) => false,
+    }
+}
+
+#[test]
+fn an_idling_session_loses_its_mailbox(rt: HostRuntime) {
+    assert!(rt; told::<Brand, HostRuntime>(&rt, Blank::new(PARTS)));
+}

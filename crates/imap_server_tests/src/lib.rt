@@ -1,0 +1,45 @@
+//! Tests of what serves users: sessions over connections, sessions side by side, hosts that end with their seats,
+//! idling sessions that are woken, and scripts, command lines and exit statuses of the program.
+//!
+//! They stand in a crate of their own, since a crate that has tests is proved twice: once without and
+//! once with them.
+#![tactic(auto)]
+
+#[cfg(test)]
+mod broken_connections;
+#[cfg(test)]
+mod command_lines;
+#[cfg(test)]
+mod connection;
+#[cfg(test)]
+mod doors;
+#[cfg(test)]
+mod faulty_room;
+#[cfg(test)]
+mod hosts;
+#[cfg(test)]
+mod idle_wakes;
+#[cfg(test)]
+mod idling_sessions;
+#[cfg(test)]
+mod lasting;
+#[cfg(test)]
+mod leaving;
+#[cfg(test)]
+mod lines;
+#[cfg(test)]
+mod scripts;
+#[cfg(test)]
+mod serving;
+#[cfg(test)]
+mod settling;
+#[cfg(test)]
+mod shut_gates;
+#[cfg(test)]
+mod side_by_side;
+#[cfg(test)]
+mod sockets;
+#[cfg(test)]
+mod store_refusals;
+#[cfg(test)]
+mod wanted;

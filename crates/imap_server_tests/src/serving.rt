@@ -1,0 +1,246 @@
+//! What a session writes, and how it ends.
+
+use crate::connection::{Behaviour, OCTETS, Sink, Source, WHOLE};
+use crate::wanted::expect;
+use imap_core::{Act, Moment, SessionId, SessionNumber, Step};
+use imap_hall::{Entry, Hall, Room};
+use imap_keeper::{Keeper, ListKeeper};
+use imap_names::UserName;
+use imap_script::DEFAULT_LIMITS;
+use imap_serve::{End, Gate, Moments, OpenGate, ServeError, Watched, serve};
+use imap_world::World;
+use std::alloc::{AllocError, Global};
+use std::process::Abort;
+use std::sync::Wait;
+
+/// After how many reads in a row that bring nothing a session ends.
+pub(crate) const IDLE_TICKS: u64 = 3;
+
+/// A clock that stands.
+#[derive(Drop)]
+pub(crate) struct Standing;
+
+impl Moments for Standing {
+    fn now(&self) -> Moment {
+        Moment::epoch()
+    }
+}
+
+pub(crate) fn ann(alloc: Global) -> Result<UserName, AllocError> {
+    UserName::read(alloc, "ann")?.ok_or(AllocError)
+}
+
+/// ann's session of this number.
+fn session(alloc: Global, number: u32) -> Result<SessionId, AllocError> {
+    let number = SessionNumber::new(number).ok_or(AllocError)?;
+    Ok(SessionId {
+        user: ann(alloc)?,
+        number,
+    })
+}
+
+/// What became of a session.
+#[derive(Debug, Drop)]
+pub(crate) struct Served {
+    pub(crate) written: Vec<u8>,
+    pub(crate) end: Result<End, ServeError>,
+}
+
+/// Serves ann's session of this number over this text.
+pub(crate) fn serve_as<W: Wait + AllocGlobal, R: Room, G: Gate>(
+    rt: &W,
+    room: &mut R,
+    gate: &G,
+    number: u32,
+    text: &[u8],
+    behaviour: Behaviour,
+) -> Result<Served, AllocError> {
+    let alloc = rt.alloc();
+    let who = session(alloc, number)?;
+    let mut input = Watched::new(Source::new(text, behaviour));
+    let mut output = Watched::new(Sink::new(alloc, behaviour));
+    let end = serve(
+        rt,
+        alloc,
+        room,
+        &who,
+        &Standing,
+        gate,
+        DEFAULT_LIMITS.max_octets,
+        IDLE_TICKS,
+        &mut input,
+        &mut output,
+    );
+    let Sink { taken, .. } = output.into_inner();
+    Ok(Served {
+        written: taken,
+        end,
+    })
+}
+
+/// Serves ann's first session over this text.
+pub(crate) fn serve_in<W: Wait + AllocGlobal, R: Room, G: Gate>(
+    rt: &W,
+    room: &mut R,
+    gate: &G,
+    text: &[u8],
+    behaviour: Behaviour,
+) -> Result<Served, AllocError> {
+    serve_as(rt, room, gate, 1, text, behaviour)
+}
+
+/// A new host whose administrator is ann, kept in memory.
+pub(crate) fn new_hall(alloc: Global) -> Result<Hall<ListKeeper>, AllocError> {
+    let administrator = ann(alloc)?;
+    let keeper = ListKeeper::new(World::new(alloc));
+    match Hall::open(alloc, keeper, administrator, &[], DEFAULT_LIMITS) {
+        Ok(hall) => Ok(hall),
+        Err(_) => Err(AllocError),
+    }
+}
+
+/// The same in a new host. The session must have left.
+pub(crate) fn serve_anew<W: Wait + AllocGlobal>(
+    rt: &W,
+    text: &[u8],
+    behaviour: Behaviour,
+) -> Result<Served, AllocError> {
+    let mut hall = new_hall(rt.alloc())?;
+    let served = serve_in(rt, &mut hall, &OpenGate, text, behaviour);
+    let has_left = ends_with_leave(&hall, 1);
+    drop(hall);
+    if has_left { served } else { Err(AllocError) }
+}
+
+/// Opens ann's first `count` sessions.
+pub(crate) fn open_first<R: Room>(
+    alloc: Global,
+    room: &mut R,
+    count: u32,
+) -> Result<(), AllocError> {
+    for number in 1..count.saturating_add(1) {
+        open_session(alloc, room, number)?;
+    }
+    Ok(())
+}
+
+fn open_session<R: Room>(alloc: Global, room: &mut R, number: u32) -> Result<(), AllocError> {
+    let step = Step {
+        who: session(alloc, number)?,
+        at: Moment::epoch(),
+        act: Act::Open,
+    };
+    match room.step(alloc, &step) {
+        Ok(_) => Ok(()),
+        Err(_) => Err(AllocError),
+    }
+}
+
+/// Whether the last entry is the Leave of ann's session of this number.
+pub(crate) fn ends_with_leave<K: Keeper>(hall: &Hall<K>, number: u32) -> bool {
+    match hall.entries().last() {
+        Some(Entry { step, .. }) => {
+            matches!(step.act, Act::Leave) && step.who.number.get() == number
+        }
+        None => false,
+    }
+}
+
+/// What was written, and how the session ended.
+pub(crate) fn shown(
+    alloc: Global,
+    served: Result<Served, AllocError>,
+) -> Result<Vec<u8>, AllocError> {
+    let Served { mut written, end } = served?;
+    let end = format!(in alloc; "{end:?}")?;
+    written.extend_from_slice(end.as_bytes())?;
+    Ok(written)
+}
+
+/// Appends how many entries the journal has, and whether the last is the Leave of the session.
+pub(crate) fn with_entries(
+    alloc: Global,
+    shown: Result<Vec<u8>, AllocError>,
+    count: u64,
+    has_left: bool,
+) -> Result<Vec<u8>, AllocError> {
+    let mut shown = shown?;
+    let text = format!(in alloc; " {count} {has_left}")?;
+    shown.extend_from_slice(text.as_bytes())?;
+    Ok(shown)
+}
+
+const GREETING: &[u8] =
+    b"* PREAUTH [CAPABILITY IMAP4rev2 ACL RIGHTS=texk CONDSTORE ENABLE IDLE QRESYNC] \
+    shared mailbox profile ready\r\n";
+
+/// Asserts that this stands after the greeting.
+pub(crate) fn expect_after_greeting(
+    rt: &(impl Abort + AllocGlobal),
+    made: Result<Vec<u8>, AllocError>,
+    wanted: &[u8],
+) {
+    match made {
+        Ok(octets) => match octets.strip_prefix(GREETING) {
+            Some(rest) => expect::<AllocError>(rt, Vec::from_slice(rt.alloc(), rest), wanted),
+            None => panic!(rt; "no greeting"),
+        },
+        Err(_) => panic!(rt; "out of memory"),
+    }
+}
+
+/// The behaviour of the connection, what is sent, and what is written and answered after the greeting.
+const ROWS: [(Behaviour, &[u8], &[u8]); 8] = [
+    (
+        WHOLE,
+        b"a1 NOOP\r\na2 LOGOUT\r\n",
+        b"a1 OK done\r\n* BYE logging out\r\na2 OK done\r\nOk(Closed)",
+    ),
+    (WHOLE, b"a1 NOOP\r\n", b"a1 OK done\r\nOk(InputEnded)"),
+    // What follows the end of a session is dropped.
+    (
+        WHOLE,
+        b"a1 LOGOUT\r\na2 NOOP\r\n",
+        b"* BYE logging out\r\na1 OK done\r\nOk(Closed)",
+    ),
+    (
+        OCTETS,
+        b"a1 MYRIGHTS {5}\r\nINBOX\r\n",
+        b"+ ready\r\n* MYRIGHTS INBOX lrswipkxtea\r\na1 OK done\r\nOk(InputEnded)",
+    ),
+    (
+        WHOLE,
+        b"a1 CREATE {4097+}\r\n",
+        b"* BYE limit reached\r\nOk(Closed)",
+    ),
+    (
+        Behaviour {
+            is_silent: true,
+            ..WHOLE
+        },
+        b"",
+        b"* BYE idle too long\r\nOk(Idle)",
+    ),
+    // A session that idles ends too.
+    (
+        Behaviour {
+            is_silent: true,
+            ..OCTETS
+        },
+        b"a1 IDLE\r\n",
+        b"+ idling\r\n* BYE idle too long\r\nOk(Idle)",
+    ),
+    (
+        OCTETS,
+        b"a1 IDLE\r\ndone\r\na2 NOOP\r\n",
+        b"+ idling\r\na1 OK done\r\na2 OK done\r\nOk(InputEnded)",
+    ),
+];
+
+#[test]
+fn sessions_are_served(rt: HostRuntime) {
+    for &(behaviour, text, wanted) in &ROWS {
+        let served = serve_anew(&rt, text, behaviour);
+        expect_after_greeting(&rt, shown(rt.alloc(), served), wanted);
+    }
+}

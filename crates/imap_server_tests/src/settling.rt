@@ -1,0 +1,288 @@
+//! Hosts that end with their seats.
+
+ghost use Rattle.std.specs.Prelude.{◌≡◌};
+
+use crate::doors::Clients;
+use crate::hosts::{ask, hall, host, make, seat, seats_of, settled};
+use crate::serving::{IDLE_TICKS, Standing};
+use imap_core::Act;
+use imap_hall::Hall;
+use imap_host::{Host, PARTS, Seat, SettleError, crew};
+use imap_keeper::{Keeper, ListKeeper};
+use imap_names::read_full;
+use imap_script::DEFAULT_LIMITS;
+use imap_serve::OpenGate;
+use imap_world::World;
+use std::alloc::{AllocError, Global};
+use std::marker::Brand;
+use std::sync::Wait;
+use std::sync::ledger::{Blank, Ledger};
+use std::thread::Threads;
+
+/// With the steps in which a session opens and leaves these are ten calls.
+const SENT: &[u8] =
+    b"c CREATE Mine\r\nn NOOP\r\nn NOOP\r\nn NOOP\r\nn NOOP\r\nn NOOP\r\nn NOOP\r\nn NOOP\r\n";
+
+/// What root and bob are each answered to LIST after that (RFC 9051, section 7.3.1): their own
+/// mailboxes, and the one that both may look up.
+const LISTED: &[u8] = b"* LIST (\\HasNoChildren) \"/\" INBOX\r\n\
+* LIST (\\HasNoChildren) \"/\" Mine\r\n\
+* LIST (\\HasNoChildren) \"/\" Shared/News\r\n\
+l OK done\r\n";
+
+/// What is done to the seats before the host ends.
+#[derive(Clone, Copy, Debug, PartialEq, Eq)]
+enum Fault {
+    None,
+    /// A seat is left out.
+    Seat,
+    /// A seat has lost its last receipt.
+    Receipt,
+    /// The last receipt of a seat has another number.
+    Number,
+    /// The seats were told another base.
+    Base,
+}
+
+/// How a host ended.
+#[derive(Clone, Copy, Debug, PartialEq, Eq)]
+struct Ending {
+    /// How many entries its journal has.
+    entries: usize,
+    /// How many were made before.
+    before: u64,
+    /// Whether the journal's base has the world with which the hall was opened.
+    is_opening: bool,
+    /// How many of root and bob have the mailbox `Mine` in the base.
+    mine: u32,
+}
+
+/// Four seats, through whose doors five clients come.
+fn posts<K: Keeper, L: Ledger>(
+    alloc: Global,
+    host: &mut Host<K, L>,
+) -> Result<Vec<(Seat<L>, Clients)>, AllocError> {
+    let mut posts = Vec::new(alloc);
+    for text in ["root", "bob", "root", "bob"] {
+        let seat = seat(alloc, host, text)?;
+        posts.push((
+            seat,
+            Clients {
+                left: 5,
+                text: SENT,
+            },
+        ))?;
+    }
+    Ok(posts)
+}
+
+/// The seats after their clients were served.
+fn served<K: Keeper + Send, L: Ledger + Send + Sync, R: Threads + Wait + AllocGlobal + Sync>(
+    rt: &R,
+    host: &mut Host<K, L>,
+) -> Result<Vec<Seat<L>>, AllocError> {
+    let mut posts = posts(rt.alloc(), host)?;
+    let slice = posts.as_mut_slice();
+    let _ran = crew(
+        rt,
+        rt.alloc(),
+        host,
+        slice,
+        &Standing,
+        &OpenGate,
+        DEFAULT_LIMITS.max_octets,
+        IDLE_TICKS,
+    );
+    seats_of(rt.alloc(), posts)
+}
+
+/// Has the first seat begin the journal anew, and each seat make two calls after that. Returns how
+/// many seats are answered `LISTED`.
+fn go_on<K: Keeper, L: Ledger, R: Wait + AllocGlobal>(
+    rt: &R,
+    host: &Host<K, L>,
+    seats: &mut [Seat<L>],
+) -> u32 {
+    if let [first, ..] = seats {
+        let _turned = host.turn_over(rt, rt.alloc(), first);
+    }
+    let mut count: u32 = 0;
+    for seat in seats {
+        if lists(rt, host, seat) {
+            count = count.saturating_add(1);
+        }
+    }
+    count
+}
+
+/// Opens the seat's session, and asks for all mailboxes. Whether the answer is `LISTED`.
+fn lists<K: Keeper, L: Ledger, R: Wait + AllocGlobal>(
+    rt: &R,
+    host: &Host<K, L>,
+    seat: &mut Seat<L>,
+) -> bool {
+    let _opened = make(rt, host, seat, Act::Open);
+    match ask(rt, host, seat, b"l LIST \"\" *\r\n") {
+        Some(text) => text.as_slice() == LISTED,
+        None => false,
+    }
+}
+
+/// Does this to the seats.
+fn spoil<L: Ledger>(seats: &mut Vec<Seat<L>>, fault: Fault) {
+    if fault == Fault::Seat {
+        drop(seats.pop());
+    }
+    if fault == Fault::Base {
+        for seat in seats.iter_mut() {
+            seat.base = 199;
+        }
+    }
+    if let Some(seat) = seats.last_mut() {
+        spoil_seat(seat, fault);
+    }
+}
+
+fn spoil_seat<L: Ledger>(seat: &mut Seat<L>, fault: Fault) {
+    if fault == Fault::Receipt {
+        drop(seat.receipts.pop_back());
+    }
+    if fault == Fault::Number {
+        if let Some(kept) = seat.receipts.back_mut() {
+            kept.receipt.own = 1;
+        }
+    }
+}
+
+/// How many of root and bob have the mailbox `Mine` in the world.
+fn mine_in(alloc: Global, world: &World) -> u32 {
+    let mut count: u32 = 0;
+    for text in ["Other Users/root/Mine", "Other Users/bob/Mine"] {
+        if let Ok(name) = read_full(alloc, text.as_bytes()) {
+            if world.mailbox(&name.as_ref()).is_some() {
+                count = count.saturating_add(1);
+            }
+        }
+    }
+    count
+}
+
+/// A copy of the world of the journal's base.
+fn base_of<K: Keeper>(alloc: Global, hall: &Hall<K>) -> Result<World, AllocError> {
+    hall.base().world().try_copy(alloc)
+}
+
+/// How the host ends with these seats. `opening` is the world with which its hall was opened.
+fn end<K: Keeper + Drop, L: Ledger>(
+    alloc: Global,
+    host: Host<K, L>,
+    seats: Vec<Seat<L>>,
+    opening: &World,
+) -> Result<Ending, SettleError>
+    requires { L.parts ≡ 1048576 }
+{
+    match settled(host, seats) {
+        Ok(hall) => Ok(ended_hall(alloc, &hall, opening)),
+        Err(error) => Err(error),
+    }
+}
+
+fn ended_hall<K: Keeper>(alloc: Global, hall: &Hall<K>, opening: &World) -> Ending {
+    let base = hall.base().world();
+    Ending {
+        entries: hall.entries().len(),
+        before: hall.before(),
+        is_opening: base.same(opening),
+        mine: mine_in(alloc, base),
+    }
+}
+
+/// How many seats of a new host are answered `LISTED`, and how it ends, after its clients were
+/// served and this was done to its seats.
+fn ended<L: Ledger + Send + Sync, R: Threads + Wait + AllocGlobal + Sync>(
+    rt: &R,
+    blank: Blank,
+    turns: bool,
+    fault: Fault,
+) -> Option<(u32, Result<Ending, SettleError>)>
+    requires name { blank.name ≡ L.name }
+    requires parts { (blank.parts ≡ L.parts) × (blank.parts ≡ 1048576) }
+{
+    match hall(rt.alloc()) {
+        Ok(hall) => match base_of(rt.alloc(), &hall) {
+            Ok(opening) => {
+                let mut host = host::<ListKeeper, L>(rt.alloc(), hall, blank);
+                let seats = served(rt, &mut host);
+                let ended = ended_of(rt, host, seats, turns, fault, &opening);
+                drop(opening);
+                ended
+            }
+            Err(_) => {
+                drop(hall);
+                None
+            }
+        },
+        Err(_) => None,
+    }
+}
+
+fn ended_of<K: Keeper + Drop, L: Ledger, R: Wait + AllocGlobal>(
+    rt: &R,
+    host: Host<K, L>,
+    seats: Result<Vec<Seat<L>>, AllocError>,
+    turns: bool,
+    fault: Fault,
+    opening: &World,
+) -> Option<(u32, Result<Ending, SettleError>)>
+    requires { L.parts ≡ 1048576 }
+{
+    match seats {
+        Ok(mut seats) => {
+            let mut listed: u32 = 0;
+            if turns {
+                listed = go_on(rt, &host, seats.as_mut_slice());
+            }
+            spoil(&mut seats, fault);
+            Some((listed, end(rt.alloc(), host, seats, opening)))
+        }
+        Err(_) => {
+            drop(host);
+            None
+        }
+    }
+}
+
+/// Four seats of fifty calls each: with all of them the host ends, else it tells why not. After the
+/// journal began anew each seat asks LIST once, and is answered with the mailbox that its user
+/// created. Until then the base has the world of the opening, and later these mailboxes too.
+#[test]
+fn a_host_ends_with_its_seats(rt: HostRuntime) {
+    const FIRST: Ending = Ending {
+        entries: 200,
+        before: 0,
+        is_opening: true,
+        mine: 0,
+    };
+    const LATER: Ending = Ending {
+        entries: 8,
+        before: 200,
+        is_opening: false,
+        mine: 2,
+    };
+    const ROWS: [(bool, Fault, u32, Result<Ending, SettleError>); 7] = [
+        (false, Fault::None, 0, Ok(FIRST)),
+        (true, Fault::None, 4, Ok(LATER)),
+        (false, Fault::Seat, 0, Err(SettleError::Missing)),
+        (true, Fault::Seat, 4, Err(SettleError::Missing)),
+        (true, Fault::Receipt, 4, Err(SettleError::Mismatch)),
+        (true, Fault::Number, 4, Err(SettleError::Mismatch)),
+        (true, Fault::Base, 4, Err(SettleError::Mismatch)),
+    ];
+    for &(turns, fault, listed, wanted) in &ROWS {
+        let ended = ended::<Brand, HostRuntime>(&rt, Blank::new(PARTS), turns, fault);
+        assert!(rt;
+            ended == Some((listed, wanted)),
+            "{turns} {fault:?}: {ended:?}"
+        );
+    }
+}

@@ -1,0 +1,250 @@
+//! Sessions that are served at once.
+
+ghost use Rattle.std.specs.Prelude.{◌≡◌};
+
+use crate::doors::Clients;
+use crate::hosts::{hall, host, seat, seats_of, settled};
+use crate::serving::{IDLE_TICKS, Standing};
+use imap_core::SessionId;
+use imap_hall::Entry;
+use imap_host::{Host, PARTS, Seat, SettleError, crew};
+use imap_keeper::{Keeper, ListKeeper};
+use imap_script::DEFAULT_LIMITS;
+use imap_serve::{Gate, OpenGate};
+use std::alloc::{AllocError, Global};
+use std::marker::Brand;
+use std::rt::Clock;
+use std::sync::Wait;
+use std::sync::atomic::{AtomicBool, AtomicU64, Ordering};
+use std::sync::ledger::{Blank, Ledger};
+use std::thread;
+use std::thread::Threads;
+use std::time::Duration;
+
+/// Holds root's first request back until bob's second is answered, and bob's second until root's
+/// first was held back once.
+#[derive(Drop)]
+struct Waiting<'a, R: Clock> {
+    rt: &'a R,
+    /// The number of bob's request that was answered last.
+    answered: AtomicU64,
+    /// Whether root's first request was held back.
+    is_held: AtomicBool,
+    /// Whether it was let through when the gate was asked last.
+    is_open: AtomicBool,
+}
+
+impl<'a, R: Clock> Waiting<'a, R> {
+    fn open_root(&self) -> bool {
+        thread::sleep(self.rt, Duration::from_millis(1));
+        let is_open = self.answered.load(Ordering::SeqCst) == 2;
+        if !is_open {
+            self.is_held.store(true, Ordering::SeqCst);
+        }
+        self.is_open.store(is_open, Ordering::SeqCst);
+        is_open
+    }
+}
+
+impl<'a, R: Clock> Gate for Waiting<'a, R> {
+    fn open(&self, who: &SessionId, call: u64) -> bool {
+        match (who.user.as_str(), call) {
+            ("root", 1) => self.open_root(),
+            ("bob", 2) => {
+                thread::sleep(self.rt, Duration::from_millis(1));
+                self.is_held.load(Ordering::SeqCst)
+            }
+            _ => true,
+        }
+    }
+
+    fn answered(&self, who: &SessionId, call: u64) {
+        if who.user.as_str() == "bob" {
+            self.answered.store(call, Ordering::SeqCst);
+        }
+    }
+}
+
+/// One client for root, who sends one request, and one for bob, who sends two.
+fn two_posts<K: Keeper, L: Ledger>(
+    alloc: Global,
+    host: &mut Host<K, L>,
+) -> Result<Vec<(Seat<L>, Clients)>, AllocError> {
+    let mut posts = Vec::new(alloc);
+    for (user, text) in [("root", ONE), ("bob", TWO)] {
+        let seat = seat(alloc, host, user)?;
+        posts.push((seat, Clients { left: 1, text }))?;
+    }
+    Ok(posts)
+}
+
+const ONE: &[u8] = b"a1 NOOP\r\n";
+
+const TWO: &[u8] = b"b1 NOOP\r\nb2 NOOP\r\n";
+
+/// Whether root's first request was held back, and then let through by the answer to bob's second.
+fn waits<K: Keeper + Send, L: Ledger + Send + Sync, R: Threads + Wait + Clock + AllocGlobal + Sync>(
+    rt: &R,
+    host: &mut Host<K, L>,
+) -> bool {
+    let gate = Waiting {
+        rt,
+        answered: AtomicU64::new(0),
+        is_held: AtomicBool::new(false),
+        is_open: AtomicBool::new(false),
+    };
+    let Ok(mut posts) = two_posts(rt.alloc(), host) else {
+        return false;
+    };
+    let posts = posts.as_mut_slice();
+    let ran = crew(
+        rt,
+        rt.alloc(),
+        host,
+        posts,
+        &Standing,
+        &gate,
+        DEFAULT_LIMITS.max_octets,
+        IDLE_TICKS,
+    );
+    ran.is_ok() && gate.is_held.load(Ordering::SeqCst) && gate.is_open.load(Ordering::SeqCst)
+}
+
+/// Whether the entry of root's first request follows that of bob's second. The first entry of a
+/// session is that of its Open.
+fn is_in_order(entries: &[Entry]) -> bool {
+    let mut is_answered = false;
+    for entry in entries {
+        let user = entry.step.who.user.as_str();
+        if user == "bob" && entry.own == 3 {
+            is_answered = true;
+        }
+        if user == "root" && entry.own == 2 {
+            return is_answered;
+        }
+    }
+    false
+}
+
+/// The same in a new host, then whether its journal has that order, and how many steps were made.
+fn waited<L: Ledger + Send + Sync, R: Threads + Wait + Clock + AllocGlobal + Sync>(
+    rt: &R,
+    blank: Blank,
+) -> (bool, bool, u64)
+    requires name { blank.name ≡ L.name }
+    requires parts { (blank.parts ≡ L.parts) × (blank.parts ≡ 1048576) }
+{
+    match hall(rt.alloc()) {
+        Ok(hall) => {
+            let mut host = host::<ListKeeper, L>(rt.alloc(), hall, blank);
+            let waits = waits(rt, &mut host);
+            let hall = host.into_hall();
+            (waits, is_in_order(hall.entries()), hall.count())
+        }
+        Err(_) => (false, false, 0),
+    }
+}
+
+/// Call 1 of root is held back until call 2 of bob is answered. The sessions open, ask and leave.
+#[test]
+fn sessions_run_side_by_side(rt: HostRuntime) {
+    let waited = waited::<Brand, HostRuntime>(&rt, Blank::new(PARTS));
+    assert!(rt; waited == (true, true, 7), "{waited:?}");
+}
+
+/// Twenty requests.
+const TWENTY: &[u8] = b"n NOOP\r\nn NOOP\r\nn NOOP\r\nn NOOP\r\nn NOOP\r\nn NOOP\r\nn NOOP\r\n\
+n NOOP\r\nn NOOP\r\nn NOOP\r\nn NOOP\r\nn NOOP\r\nn NOOP\r\nn NOOP\r\n\
+n NOOP\r\nn NOOP\r\nn NOOP\r\nn NOOP\r\nn NOOP\r\nn NOOP\r\n";
+
+/// Four users with 16 seats each, as many as may be open at once, through whose doors one client
+/// each comes.
+fn many_posts<K: Keeper, L: Ledger>(
+    alloc: Global,
+    host: &mut Host<K, L>,
+) -> Result<Vec<(Seat<L>, Clients)>, AllocError> {
+    let mut posts = Vec::new(alloc);
+    for text in ["ann", "bob", "cat", "root"] {
+        for _ in 0..16 {
+            let seat = seat(alloc, host, text)?;
+            posts.push((
+                seat,
+                Clients {
+                    left: 1,
+                    text: TWENTY,
+                },
+            ))?;
+        }
+    }
+    Ok(posts)
+}
+
+/// The seats after their clients were served, or `None` if not all workers ran.
+fn serves<K: Keeper + Send, L: Ledger + Send + Sync, R: Threads + Wait + AllocGlobal + Sync>(
+    rt: &R,
+    host: &mut Host<K, L>,
+) -> Option<Vec<Seat<L>>> {
+    let Ok(mut posts) = many_posts(rt.alloc(), host) else {
+        return None;
+    };
+    let slice = posts.as_mut_slice();
+    let ran = crew(
+        rt,
+        rt.alloc(),
+        host,
+        slice,
+        &Standing,
+        &OpenGate,
+        DEFAULT_LIMITS.max_octets,
+        IDLE_TICKS,
+    );
+    if ran.is_err() {
+        return None;
+    }
+    seats_of(rt.alloc(), posts).ok()
+}
+
+/// Ends the host with these seats, and returns how many steps were made.
+fn count_of<K: Keeper + Drop, L: Ledger>(
+    host: Host<K, L>,
+    seats: Vec<Seat<L>>,
+) -> Result<u64, SettleError>
+    requires { L.parts ≡ 1048576 }
+{
+    match settled(host, seats) {
+        Ok(hall) => Ok(hall.count()),
+        Err(error) => Err(error),
+    }
+}
+
+/// The same for a new host, after its clients were served.
+fn served<L: Ledger + Send + Sync, R: Threads + Wait + AllocGlobal + Sync>(
+    rt: &R,
+    blank: Blank,
+) -> Option<Result<u64, SettleError>>
+    requires name { blank.name ≡ L.name }
+    requires parts { (blank.parts ≡ L.parts) × (blank.parts ≡ 1048576) }
+{
+    match hall(rt.alloc()) {
+        Ok(hall) => {
+            let mut host = host::<ListKeeper, L>(rt.alloc(), hall, blank);
+            match serves(rt, &mut host) {
+                Some(seats) => Some(count_of(host, seats)),
+                None => {
+                    drop(host);
+                    None
+                }
+            }
+        }
+        Err(_) => None,
+    }
+}
+
+/// 64 sessions are served side by side, each over one connection, and the host ends with their
+/// seats. Each session opens, asks twenty times and leaves.
+#[test]
+fn all_clients_are_served(rt: HostRuntime) {
+    const WANTED: Option<Result<u64, SettleError>> = Some(Ok(1408));
+    let served = served::<Brand, HostRuntime>(&rt, Blank::new(PARTS));
+    assert!(rt; served == WANTED, "{served:?}");
+}
