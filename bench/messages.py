@@ -15,7 +15,7 @@ import sys
 import tempfile
 import time
 
-CRATES = "imap_lex imap_mailbox imap_modseq imap_syntax imap_text imap_user_map imap_values"
+CRATES = "imap_lex imap_mailbox imap_modseq imap_nfc imap_syntax imap_text imap_user_map imap_values"
 USES = "imap_lex imap_mailbox imap_syntax imap_text"
 RUNS = 5
 
