@@ -72,7 +72,7 @@ fn with_source(validity: u32, source: NumberSet, target: Vec<u32>) -> Option<Cop
     }
 }
 
-/// So many numbers, of which this is the first.
+/// Returns `count` numbers from `first` on.
 fn numbers_from(alloc: Global, first: u32, count: usize) -> Result<Vec<u32>, AllocError>
     requires { first + count < 2 ^ 32 }
     ensures { IfOk result (λ numbers. numbers.items ≡ range_with_len first count) }

@@ -1,6 +1,6 @@
 //! COPY or MOVE.
 
-/// What becomes of messages that are copied into a mailbox.
+/// Whether the messages that are copied stay in their mailbox.
 #[derive(Clone, Copy)]
 pub enum TransferKind {
     /// They stay where they are (RFC 9051, section 6.4.7).

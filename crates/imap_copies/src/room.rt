@@ -8,7 +8,7 @@ ghost use Rattle.imap_view.specs.Seen.{shown};
 use imap_targets::lacks_events;
 use imap_view::{Readable, Seen};
 
-/// Whether the target has no room for so many messages, as far as the user may know.
+/// Whether the target has no room for `count` messages, as far as the user may know.
 pub(crate) fn lacks_room(target: &Seen<'_>, count: usize) -> bool
     ensures { result ≡ specs.lacks_room (shown target.now) count }
 {

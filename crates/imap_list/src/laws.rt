@@ -13,8 +13,8 @@ ghost use Rattle.imap_query.specs.declared.status.StatusItem.{StatusItem};
 use imap_names::laws::{match_is_tested, percent_is_tested};
 
 /// A name is listed exactly if the user holds `l` on its mailbox and a pattern matches it, or if it is a
-/// level above a mailbox with `l` and a pattern that ends in `%` matches it. It has one line, which says
-/// what is so of the name.
+/// level above a mailbox with `l` and a pattern that ends in `%` matches it. It has one line, with the attributes of
+/// the name.
 pub fn listing_is_exact()
     ensures { ListingIsExact }
 {

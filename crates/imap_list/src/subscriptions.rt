@@ -32,7 +32,8 @@ pub fn subscribe_answer(
 }
 
 fn subscribe_to(context: &CommandContext<'_>, name: &Name) -> Result<Answer, AllocError>
-    ensures { IfOk result (λ answer. answer ≡ specs.subscribe_of_name context.now.view context.now.tag name.now) }
+    ensures { IfOk result (λ answer.
+        answer ≡ specs.subscribe_of_name context.now.view context.now.tag name.now) }
 {
     let view = context.view();
     if !is_listed(view, name) {

@@ -43,7 +43,7 @@ pub fn changes_are_steps()
 {}
 
 /// A client that held what the first events gave, and follows VANISHED and FETCH of what came later, holds
-/// what a fetch of all messages gives (RFC 7162, section 3.2.5).
+/// the UIDs and flags that a fetch of all messages gives (RFC 7162, section 3.2.5).
 pub fn client_is_brought_up()
     ensures { ClientIsBroughtUp }
 {}

@@ -35,7 +35,8 @@ fn without_delimiter(text: &[u8]) -> &[u8]
 }
 
 fn create_of_name(context: &CommandContext<'_>, name: &Name) -> Result<Answer, AllocError>
-    ensures { IfOk result (λ answer. answer ≡ specs.create_of_name context.now.view context.now.tag name.now) }
+    ensures { IfOk result (λ answer.
+        answer ≡ specs.create_of_name context.now.view context.now.tag name.now) }
 {
     let view = context.view();
     if !view.may_create(&name.as_ref()) {

@@ -67,8 +67,8 @@ fn set_rights_of_name(
     text: &Octets,
     change: RightsChange,
 ) -> Result<Answer, AllocError>
-    ensures { let meant = specs.set_rights_of_name context.now.view context.now.tag text.now change name.now in
-        IfOk result (λ answer. answer ≡ meant) }
+    ensures { let answer = specs.set_rights_of_name context.now.view context.now.tag text.now change in
+        IfOk result (λ given. given ≡ answer name.now) }
 {
     let rights = context.view().rights(&name.as_ref());
     if !rights.has_any(Rights::ADMINISTER) {
