@@ -1,0 +1,4 @@
+pub mod Vanishing
+pub mod Changing
+pub mod Following
+pub mod Fitting
