@@ -1,5 +1,5 @@
 -- Which messages EXPUNGE takes.
-use Rattle.std.proofs.Common.{◌≡◌, ℕ, zero, suc, ◌+◌, ◌≤◌, Bool, true, false, cond, ◌||◌, ◌&&◌, List, [], ◌∷◌, eqb, filter, length, take, Option, refl, sym, ap, ◌∙◌, arith}
+use Rattle.std.proofs.Common.{◌≡◌, ℕ, zero, suc, ◌≤◌, Bool, true, false, cond, ◌||◌, ◌&&◌, List, [], ◌∷◌, eqb, filter, length, take, Option, refl, sym, ap, ◌∙◌, arith}
 use Rattle.std.proofs.lemmas.Bool.{eqb-true}
 use Rattle.imap_mailbox.specs.declared.known.KnownMessage.{KnownMessage}
 use Rattle.imap_mailbox.specs.Lent.{row_uids}
@@ -8,7 +8,6 @@ use Rattle.imap_syntax.specs.declared.set.MessageSet.{MessageSet}
 use Rattle.imap_syntax.specs.declared.set.Numbering.TheVariants as numbering
 use Rattle.imap_targets.specs.Left.{events_left}
 use Rattle.imap_targets.specs.MessageNumbers.{last_of}
-use Rattle.imap_view.specs.declared.readable.Readable.{Readable}
 use Rattle.imap_changes.specs.Expunge.{is_taken, is_wanted}
 use Rattle.imap_changes.specs.Laws.{ExpungesAll, ExpungesDeleted, is_deleted}
 

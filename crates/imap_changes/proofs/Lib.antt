@@ -6,3 +6,4 @@ pub mod Gone
 pub mod Taken
 pub mod Told
 pub mod ToldLeft
+pub mod Skipped

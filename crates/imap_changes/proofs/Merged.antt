@@ -1,5 +1,5 @@
 -- Messages that are named, in the order of UIDs.
-use Rattle.std.proofs.Common.{◌≡◌, ℕ, ◌+◌, ◌<◌, ◌≤◌, Bool, true, false, cond, List, [], ◌∷◌, ◌++◌, map, eqb, Option, Some, None, refl, sym, ap, subst, ◌∙◌, arith}
+use Rattle.std.proofs.Common.{◌≡◌, ℕ, ◌+◌, ◌<◌, ◌≤◌, Bool, true, false, cond, not, filter, List, [], ◌∷◌, ◌++◌, map, eqb, Option, Some, None, refl, sym, ap, subst, ◌∙◌, arith}
 use Rattle.std.specs.Prelude.{Vec}
 use Rattle.std.specs.declared.alloc.Global.{Global}
 use Rattle.std.proofs.lemmas.Bool.{ne_eqb, eqb-true}
@@ -13,7 +13,7 @@ use Rattle.imap_targets.specs.declared.message_numbers.Numbered.{Numbered}
 use Rattle.imap_targets.specs.MessageNumbers.{row_with, uids_of}
 use Rattle.imap_targets.proofs.Named.{row_below}
 use Rattle.imap_changes.specs.declared.store_outcome.StoreOutcome.{StoreOutcome}
-use Rattle.imap_changes.specs.Store.{number_with, stored_all, stored_if_named, stored_of}
+use Rattle.imap_changes.specs.Store.{is_skipped, number_with, stored_all, stored_if_named, stored_of, unskipped}
 use Rattle.imap_changes.specs.Storing.{Stores, stored_if_there, stored_named}
 
 -- ---- numbers of messages whose UIDs rise
@@ -32,6 +32,18 @@ unnamed uid low high (m ∷ messages) lt h =
     let at : low ≤ m.uid = h.0 in
     ap (λ b. cond b (Some m.number) (number_with uid messages)) (ne_eqb uid m.uid (λ e. omega (arith, e, at, lt)))
     ∙ unnamed uid (m.uid + 1) high messages (omega (arith, at, lt)) h.1
+
+-- some of them rise, too
+chosen_rise : (test : Numbered → Bool) (low high : ℕ) (messages : List Numbered) → Rises low high (uids_of messages) → Rises low high (uids_of (filter test messages))
+chosen_rise test low high [] h = h
+chosen_rise test low high (m ∷ messages) h = by (test m) (chosen_rise test (m.uid + 1) high messages h.1)
+  where
+    by : (b : Bool) → Rises (m.uid + 1) high (uids_of (filter test messages)) → Rises low high (uids_of (cond b (m ∷ filter test messages) (filter test messages)))
+    by true rest = (h.0, rest)
+    by false rest = let at : low ≤ m.uid = h.0 in rises_lower (m.uid + 1) low high (uids_of (filter test messages)) (omega (arith, at)) rest
+
+pub unskipped_rise : (since : Option ℕ) (rows : List Row) (messages : List Numbered) → AreRising (uids_of messages) → AreRising (uids_of (unskipped since rows messages))
+unskipped_rise since rows messages rise = (rise.0, rise.1, chosen_rise (λ m. not (is_skipped since rows m)) rise.0 rise.1 messages rise.2)
 
 module _ (rights : ℕ) (spec : StoreSpec) (known : List KnownMessage) where
   -- rows of greater UIDs

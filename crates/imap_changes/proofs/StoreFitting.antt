@@ -4,10 +4,10 @@ use Rattle.std.specs.Prelude.{nat_le, nat_lt}
 use Rattle.std.specs.List.{list_all, list_any}
 use Rattle.std.proofs.lemmas.Bool.{and_from, eq-eqb, le-leb, ltb-false}
 use Rattle.imap_answer.specs.Alike.{AnswersAlike}
-use Rattle.imap_answer.specs.Answer.{carried_out, done_line, refusal, telling}
+use Rattle.imap_answer.specs.Answer.{Answer, carried_out, enabling, refusal, telling}
 use Rattle.imap_answer.specs.Fit.{IsFit, IsViewed, MayBeAsked, is_refusal, is_unavailable}
 use Rattle.imap_answer.proofs.Alike.{answers_alike}
-use Rattle.imap_answer.proofs.Fits.{fits_alone, fits_telling}
+use Rattle.imap_answer.proofs.Fits.{fits_alone, fits_enabling, fits_telling}
 use Rattle.imap_batch.specs.declared.batch.FlagUpdate.{FlagUpdate}
 use Rattle.imap_batch.specs.Batch.{are_few, are_known, flag_count, mark_uids}
 use Rattle.imap_commands.specs.declared.commands.store.StoreSpec.{StoreSpec}
@@ -28,11 +28,11 @@ use Rattle.imap_view.specs.View.{View}
 use Rattle.imap_world.specs.declared.effect.Effect.{Effect}
 use Rattle.imap_targets.specs.declared.message_numbers.Numbered.{Numbered}
 use Rattle.imap_targets.specs.Left.{events_left}
-use Rattle.imap_targets.specs.MessageNumbers.{has_known_numbers, is_by_uid, is_refused}
+use Rattle.imap_targets.specs.MessageNumbers.{has_known_numbers, is_by_uid, is_refused, is_saved}
 use Rattle.imap_targets.proofs.Possible.{known_more, may_change, rows_rise}
 use Rattle.imap_changes.specs.declared.store_outcome.StoreOutcome.{StoreOutcome}
 use Rattle.imap_targets.specs.Effects.{marking_effect}
-use Rattle.imap_changes.specs.Store.{StoreArguments, are_many, event_count, flag_changes, full_line, is_impossible, lacks_changes, lacks_right, line_of, lines_from, marks_of, message_after, messages_of, number_with, short_line, store_answer, store_events, store_if_readable, store_if_selected, store_messages, stored_all, stored_if_named, stored_of, storing_rights}
+use Rattle.imap_changes.specs.Store.{StoreArguments, are_many, enabled_by, event_count, flag_changes, full_line, lacks_changes, lacks_right, line_of, lines_from, marks_of, message_after, messages_of, modified_code, number_with, short_line, skipped_numbers, store_answer, store_events, store_if_readable, store_if_selected, store_unskipped, stored_all, stored_if_named, stored_of, storing_rights, tells_mod_seq, unskipped}
 
 -- ---- marks of messages
 
@@ -149,37 +149,53 @@ module _ (test : Response → Bool) (fetch : (number : ℕ) (items : FetchedItem
       ∙ lines_pass after messages rest
 
 module _ (view : View) (enabled : EnabledCapabilities) (tag : List ℕ) (arguments : StoreArguments) (rights : ℕ) (s : Selection) where
-  carried : (mailbox : Readable) (messages : List StoreOutcome) (effect : Option Effect) → (IsViewed view → MayBeAsked view effect)
-      → IsFit view (telling (map (λ (m : StoreOutcome). m.uid) messages) (carried_out (lines_from arguments.spec.silent enabled.condstore mailbox.highest messages) tag None effect))
-  carried mailbox messages effect may =
-      let lines = lines_from arguments.spec.silent enabled.condstore mailbox.highest messages in
-      let passes = lines_pass is_refusal (λ number items. refl) arguments.spec.silent enabled.condstore mailbox.highest messages (done_line tag ∷ []) in
-      fits_telling view (map (λ (m : StoreOutcome). m.uid) messages) (carried_out lines tag None effect) (record {
+  abbrev spec : StoreSpec
+  spec = arguments.spec
+
+  abbrev store_lines : Readable → List StoreOutcome → List Response
+  store_lines mailbox messages = lines_from spec.silent (tells_mod_seq enabled spec) mailbox.highest messages
+
+  -- the answer of a command that isn't refused
+  abbrev made : Readable → (skipped : List ℕ) → List StoreOutcome → Option Effect → Answer
+  made mailbox skipped messages effect =
+      enabling (enabled_by spec) (telling (map (λ (m : StoreOutcome). m.uid) messages) (carried_out (store_lines mailbox messages) tag (modified_code skipped) effect))
+
+  carried : (mailbox : Readable) (skipped : List ℕ) (messages : List StoreOutcome) (effect : Option Effect) → (IsViewed view → MayBeAsked view effect) → IsFit view (made mailbox skipped messages effect)
+  carried mailbox skipped messages effect may =
+      let uids = map (λ (m : StoreOutcome). m.uid) messages in
+      let answer = carried_out (store_lines mailbox messages) tag (modified_code skipped) effect in
+      let last = response.Done tag (modified_code skipped) ∷ [] in
+      let passes = lines_pass is_refusal (λ number items. refl) spec.silent (tells_mod_seq enabled spec) mailbox.highest messages last in
+      fits_enabling view (enabled_by spec) (telling uids answer) passes (fits_telling view uids answer (record {
         asks = may;
         refused = λ e. absurd (true≢false (sym e ∙ passes));
-        available = lines_pass is_unavailable (λ number items. refl) arguments.spec.silent enabled.condstore mailbox.highest messages (done_line tag ∷ []);
-      })
+        available = lines_pass is_unavailable (λ number items. refl) spec.silent (tells_mod_seq enabled spec) mailbox.highest messages last;
+      }))
 
-  events_fit : (mailbox : Readable) (messages : List StoreOutcome) → (lacks : Bool) → (lacks ≡ false → IsViewed view → MayBeAsked view (marking_effect view.user s.name (marks_of messages)))
-      → IsFit view (cond lacks (refusal tag Limit) (telling (map (λ (m : StoreOutcome). m.uid) messages) (carried_out (lines_from arguments.spec.silent enabled.condstore mailbox.highest messages) tag None (marking_effect view.user s.name (marks_of messages)))))
-  events_fit mailbox messages true may = fits_alone view _ _ refl
-  events_fit mailbox messages false may = carried mailbox messages (marking_effect view.user s.name (marks_of messages)) (may refl)
+  events_fit : (mailbox : Readable) (skipped : List ℕ) (messages : List StoreOutcome) → (lacks : Bool) → (lacks ≡ false → IsViewed view → MayBeAsked view (marking_effect view.user s.name (marks_of messages)))
+      → IsFit view (cond lacks (refusal tag Limit) (made mailbox skipped messages (marking_effect view.user s.name (marks_of messages))))
+  events_fit mailbox skipped messages true may = fits_alone view _ _ refl
+  events_fit mailbox skipped messages false may = carried mailbox skipped messages (marking_effect view.user s.name (marks_of messages)) (may refl)
 
-  messages_fit : (mailbox : Readable) → readable_in view s.name ≡ Some mailbox → (messages : List Numbered) → (many : Bool) → are_many (stored_all rights arguments.spec s.known messages mailbox.rows) ≡ many
-      → IsFit view (cond many (refusal tag Limit) (store_events view enabled tag arguments s mailbox (stored_all rights arguments.spec s.known messages mailbox.rows)))
-  messages_fit mailbox is messages true many = fits_alone view _ _ refl
-  messages_fit mailbox is messages false few =
-      let stored = stored_all rights arguments.spec s.known messages mailbox.rows in
-      by (lacks_changes mailbox stored) refl
+  abbrev stored : Readable → List Numbered → List StoreOutcome
+  stored mailbox messages = stored_all rights spec s.known messages mailbox.rows
+
+  messages_fit : (mailbox : Readable) → readable_in view s.name ≡ Some mailbox → (skipped : List ℕ) (messages : List Numbered) → (many : Bool) → are_many (stored mailbox messages) ≡ many
+      → IsFit view (cond many (refusal tag Limit) (store_events view enabled tag arguments s mailbox skipped (stored mailbox messages)))
+  messages_fit mailbox is skipped messages true many = fits_alone view _ _ refl
+  messages_fit mailbox is skipped messages false few = by (lacks_changes mailbox (stored mailbox messages)) refl
     where
-      by : (lacks : Bool) → lacks_changes mailbox (stored_all rights arguments.spec s.known messages mailbox.rows) ≡ lacks
-          → IsFit view (cond lacks (refusal tag Limit) (telling (map (λ (m : StoreOutcome). m.uid) (stored_all rights arguments.spec s.known messages mailbox.rows)) (carried_out (lines_from arguments.spec.silent enabled.condstore mailbox.highest (stored_all rights arguments.spec s.known messages mailbox.rows)) tag None (marking_effect view.user s.name (marks_of (stored_all rights arguments.spec s.known messages mailbox.rows))))))
-      by lacks e = events_fit mailbox (stored_all rights arguments.spec s.known messages mailbox.rows) lacks (λ no_lack viewed. may_ask view s mailbox is rights arguments.spec messages viewed few (e ∙ no_lack))
+      by : (lacks : Bool) → lacks_changes mailbox (stored mailbox messages) ≡ lacks
+          → IsFit view (cond lacks (refusal tag Limit) (made mailbox skipped (stored mailbox messages) (marking_effect view.user s.name (marks_of (stored mailbox messages)))))
+      by lacks e = events_fit mailbox skipped (stored mailbox messages) lacks (λ no_lack viewed. may_ask view s mailbox is rights spec messages viewed few (e ∙ no_lack))
 
   named_fit : (mailbox : Readable) → readable_in view s.name ≡ Some mailbox → (messages : List Numbered) → (refused : Bool)
-      → IsFit view (cond refused (refusal tag ExpungeIssued) (store_messages view enabled tag arguments s mailbox (stored_all rights arguments.spec s.known messages mailbox.rows)))
+      → IsFit view (cond refused (refusal tag ExpungeIssued) (store_unskipped view enabled tag arguments rights s mailbox messages))
   named_fit mailbox is messages true = fits_alone view _ _ refl
-  named_fit mailbox is messages false = messages_fit mailbox is messages (are_many (stored_all rights arguments.spec s.known messages mailbox.rows)) refl
+  named_fit mailbox is messages false =
+      let since = spec.unchanged_since in
+      let others = unskipped since mailbox.rows messages in
+      messages_fit mailbox is (skipped_numbers arguments.numbering since mailbox.rows messages) others (are_many (stored mailbox others)) refl
 
   readable_fits : (mailbox : Option Readable) → readable_in view s.name ≡ mailbox → IsFit view (store_if_readable view enabled tag arguments rights s mailbox)
   readable_fits None is = fits_alone view _ _ refl
@@ -187,9 +203,9 @@ module _ (view : View) (enabled : EnabledCapabilities) (tag : List ℕ) (argumen
       let messages = messages_of arguments mailbox.next_uid s.known in
       named_fit mailbox is messages (is_refused (is_by_uid arguments.numbering) mailbox.rows messages)
 
-  selected_by : (known impossible lacks : Bool)
-      → IsFit view (cond (not known) (refusal tag Malformed) (cond impossible (refusal tag Cannot) (cond lacks (refusal tag NoPerm) (store_if_readable view enabled tag arguments rights s (readable_in view s.name)))))
-  selected_by false impossible lacks = fits_alone view _ _ refl
+  selected_by : (known saved lacks : Bool)
+      → IsFit view (cond (not known) (refusal tag Malformed) (cond saved (refusal tag Cannot) (cond lacks (refusal tag NoPerm) (store_if_readable view enabled tag arguments rights s (readable_in view s.name)))))
+  selected_by false saved lacks = fits_alone view _ _ refl
   selected_by true true lacks = fits_alone view _ _ refl
   selected_by true false true = fits_alone view _ _ refl
   selected_by true false false = readable_fits (readable_in view s.name) refl
@@ -199,7 +215,7 @@ store_fits view own tag arguments = by own.selected
   where
     by : (s : Option Selection) → IsFit view (store_if_selected view own.enabled tag arguments s)
     by None = fits_alone view _ _ refl
-    by (Some s) = selected_by view own.enabled tag arguments (storing_rights view s) s (has_known_numbers arguments.numbering (length s.known) arguments.messages) (is_impossible arguments) (lacks_right (storing_rights view s) arguments.spec.flags)
+    by (Some s) = selected_by view own.enabled tag arguments (storing_rights view s) s (has_known_numbers arguments.numbering (length s.known) arguments.messages) (is_saved arguments.messages) (lacks_right (storing_rights view s) arguments.spec.flags)
 
 -- ---- alike
 

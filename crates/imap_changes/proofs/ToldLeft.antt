@@ -3,8 +3,9 @@ use Rattle.std.proofs.Common.{◌≡◌, ℕ, ◌+◌, ◌<◌, ◌≤◌, Bool,
 use Rattle.std.specs.Prelude.{is_some}
 use Rattle.std.proofs.lemmas.Bool.{eq-eqb, lt-ltb, ne_eqb}
 use Rattle.imap_batch.specs.declared.batch.FlagUpdate.{FlagUpdate}
-use Rattle.imap_batch.specs.Batch.{mark_uids, one_if}
+use Rattle.imap_batch.specs.Batch.{are_known, mark_uids, one_if}
 use Rattle.imap_batch.specs.Planned.{own_after, row_marked, row_with_flags, rows_left, rows_marked}
+use Rattle.imap_batch.specs.Seen.{content_batched}
 use Rattle.imap_batch.proofs.Known.{known_within}
 use Rattle.imap_batch.proofs.Planning.{is_planned}
 use Rattle.imap_commands.specs.declared.commands.store.StoreSpec.{StoreSpec}
@@ -14,6 +15,7 @@ use Rattle.imap_mailbox.specs.Brought.{highest_in, told_of}
 use Rattle.imap_mailbox.specs.Calls.{is_same, same_flags}
 use Rattle.imap_mailbox.specs.Lent.{row_uids}
 use Rattle.imap_mailbox.specs.Rows.{Row, first_uid}
+use Rattle.imap_mailbox.specs.Shown.{Content}
 use Rattle.imap_mailbox.specs.Summary.{Rises}
 use Rattle.imap_mailbox.proofs.Rising.{rises_end}
 use Rattle.imap_mailbox.proofs.Sameness.{flags_are_tested}
@@ -151,12 +153,17 @@ module _ (rights : ℕ) (spec : StoreSpec) (known : List KnownMessage) (condstor
   walk shared own before low high (r ∷ rows) is h few =
       by_name shared own before high r rows is h.1 (number_with r.uid messages) refl few (λ s o b same less. walk s o b (r.uid + 1) high rows same h.1 less)
 
+-- the rows after marks of messages that are there
+pub rows_after : (user : List ℕ) (marks : List FlagUpdate) (c : Content) → Rises first_uid c.next (row_uids c.rows) → are_known 0 (mark_uids marks) (row_uids c.rows) ≡ true
+    → (content_batched (marking user marks) c).rows ≡ rows_marked c.shared c.own marks c.rows
+rows_after user marks c rises known =
+    let shared : c.shared + 0 ≡ c.shared = omega arith in
+    is_planned (marking user marks) c rises known refl
+    ∙ append-nil (rows_left [] (rows_marked (c.shared + 0) c.own marks c.rows)) ∙ none_left (rows_marked (c.shared + 0) c.own marks c.rows) ∙ ap (λ n. rows_marked n c.own marks c.rows) shared
+
 pub told_as_left : StoreTellsWhatItLeaves
 told_as_left user rights spec known condstore messages c ordered few =
     let marks : List FlagUpdate = marks_of (stored_all rights spec known messages c.rows) in
     let rises : Rises first_uid c.next (row_uids c.rows) = ordered.uids in
-    let shared : c.shared + 0 ≡ c.shared = omega arith in
-    let planned = is_planned (marking user marks) c rises (marks_known rights spec known messages 0 first_uid c.next c.rows (omega arith) rises) refl in
     walk rights spec known condstore messages c.shared c.own (highest_in c) first_uid c.next c.rows refl rises few
-    ∙ ap (lines_of condstore messages)
-    (sym (planned ∙ append-nil (rows_left [] (rows_marked (c.shared + 0) c.own marks c.rows)) ∙ none_left (rows_marked (c.shared + 0) c.own marks c.rows) ∙ ap (λ n. rows_marked n c.own marks c.rows) shared))
+    ∙ ap (lines_of condstore messages) (sym (rows_after user marks c rises (marks_known rights spec known messages 0 first_uid c.next c.rows (omega arith) rises)))

@@ -1,4 +1,5 @@
--- What EXPUNGE takes, message by message, and what STORE tells (RFC 9051, sections 6.4.3, 6.4.6 and 6.4.9).
+-- What EXPUNGE takes, message by message, and what STORE tells and leaves (RFC 9051, sections 6.4.3, 6.4.6 and 6.4.9;
+-- RFC 7162, section 3.1.3).
 use Rattle.std.specs.Prelude.{◌≡◌, ℕ, ◌+◌, ◌==◌, ◌≤◌, Bool, true, false, ◌&&◌, List, [], ◌∷◌, ◌++◌, length}
 use Rattle.std.specs.Prelude.{Option, Some, None}
 use Rattle.std.specs.List.{list_any}
@@ -16,10 +17,11 @@ use Rattle.imap_syntax.specs.declared.set.MessageSet.{MessageSet}
 use Rattle.imap_syntax.specs.declared.set.Numbering.TheVariants as numbering
 use Rattle.imap_targets.specs.declared.message_numbers.Numbered.{Numbered}
 use Rattle.imap_targets.specs.Left.{events_left}
-use Rattle.imap_targets.specs.MessageNumbers.{last_of}
+use Rattle.imap_targets.specs.MessageNumbers.{last_of, row_with}
 use Rattle.imap_view.specs.declared.readable.Readable.{Readable}
 use Rattle.imap_changes.specs.Expunge.{expunged_uids, is_wanted}
-use Rattle.imap_changes.specs.Store.{full_line, lines_from, marks_of, number_with, seen_changes, stored_all}
+use Rattle.imap_changes.specs.Store.{full_line, is_skipped, lines_from, marks_of, number_with, seen_changes, stored_all}
+use Rattle.imap_changes.specs.Store.{unskipped}
 
 -- ---- EXPUNGE
 
@@ -69,3 +71,14 @@ StoreTellsWhatItLeaves =
     mailbox.own + seen_changes stored ≤ max_events
     → lines_from false condstore (highest_in mailbox) stored
     ≡ lines_of condstore messages (content_batched (marking user (marks_of stored)) mailbox).rows
+
+-- A message that UNCHANGEDSINCE skips is afterwards as it was, whatever the command names.
+abbrev pub SkippedMessagesStay : Type 0
+SkippedMessagesStay =
+    (user : List ℕ) (rights : ℕ) (spec : StoreSpec) (known : List KnownMessage) (messages : List Numbered)
+    (mailbox : Content) (m : Numbered) → IsOrdered mailbox →
+    let since = spec.unchanged_since in
+    let stored = stored_all rights spec known (unskipped since mailbox.rows messages) mailbox.rows in
+    is_skipped since mailbox.rows m ≡ true
+    → row_with m.uid (content_batched (marking user (marks_of stored)) mailbox).rows
+    ≡ row_with m.uid mailbox.rows

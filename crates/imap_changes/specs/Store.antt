@@ -1,8 +1,8 @@
--- STORE and UID STORE (RFC 9051, sections 6.4.6 and 6.4.9; RFC 4314, section 4).
+-- STORE and UID STORE (RFC 9051, sections 6.4.6 and 6.4.9; RFC 4314, section 4; RFC 7162, section 3.1.3).
 use Rattle.std.specs.Prelude.{ℕ, ◌+◌, ◌==◌, nat_lt, Bool, true, false, not, ◌&&◌, ◌||◌, List, [], ◌∷◌, ◌++◌}
-use Rattle.std.specs.Prelude.{length, map, Option, Some, None, is_some, if◌then◌else◌}
+use Rattle.std.specs.Prelude.{filter, length, map, Option, Some, None, is_some, option_map, if◌then◌else◌}
 use Rattle.std.specs.List.{list_any}
-use Rattle.imap_answer.specs.Answer.{Answer, carried_out, refusal, telling}
+use Rattle.imap_answer.specs.Answer.{Answer, carried_out, enabling, refusal, telling}
 use Rattle.imap_batch.specs.declared.batch.FlagUpdate.{FlagUpdate}
 use Rattle.imap_batch.specs.Batch.{one_if}
 use Rattle.imap_commands.specs.declared.commands.store.StoreChange.{StoreChange}
@@ -14,11 +14,13 @@ use Rattle.imap_mailbox.specs.Calls.{is_same, same_flags}
 use Rattle.imap_mailbox.specs.Flags.{has_too_many, without_flag}
 use Rattle.imap_mailbox.specs.Rows.{Row}
 use Rattle.imap_modseq.specs.Numbers.{max_events}
-use Rattle.imap_names.specs.Name.{Name}
 use Rattle.imap_print.specs.declared.enabled.EnabledCapabilities.{EnabledCapabilities}
+use Rattle.imap_print.specs.declared.response.Code.{Code}
+use Rattle.imap_print.specs.declared.response.Code.TheVariants as code
 use Rattle.imap_print.specs.declared.response.Refusal.TheVariants.{Cannot, ExpungeIssued, Limit, Malformed, NonExistent, NoPerm, WrongState}
 use Rattle.imap_print.specs.declared.response.Response.{Response}
 use Rattle.imap_print.specs.declared.response.Response.TheVariants as response
+use Rattle.imap_print.specs.Sets.{set_of}
 use Rattle.imap_rights.specs.Rights.{delete_messages, has_any, no_rights, seen, union, write}
 use Rattle.imap_session.specs.Notices.{notice_items}
 use Rattle.imap_session.specs.State.{Selection, SessionState}
@@ -33,7 +35,7 @@ use Rattle.imap_targets.specs.Effects.{marking_effect}
 use Rattle.imap_targets.specs.Left.{lacks_events}
 use Rattle.imap_changes.specs.declared.store_outcome.StoreOutcome.{StoreOutcome}
 use Rattle.imap_targets.specs.declared.message_numbers.Numbered.{Numbered}
-use Rattle.imap_targets.specs.MessageNumbers.{has_known_numbers, is_by_uid, is_refused, is_saved, known_with, messages_named, ranges_of}
+use Rattle.imap_targets.specs.MessageNumbers.{has_known_numbers, is_by_uid, is_refused, is_saved, known_with, messages_named, number_by, ranges_of, row_with}
 use Rattle.imap_targets.specs.NewFlags.{is_seen, right_for, with_permitted}
 
 -- the arguments of STORE
@@ -100,6 +102,37 @@ seen_changed Remove listed is = is && not listed
 abbrev pub seen_if_permitted : (rights : ℕ) → StoreChange → List Flag → (is : Bool) → Bool
 seen_if_permitted rights change flags is =
     if has_any rights seen then seen_changed change (list_any is_seen flags) is else is
+
+-- ---- UNCHANGEDSINCE (RFC 7162, section 3.1.3)
+
+-- the message is there, and its mod-sequence is greater than the number
+abbrev pub is_later : (since : ℕ) → Option Row → Bool
+is_later since None = false
+is_later since (Some row) = nat_lt since row.number
+
+abbrev pub was_changed : (since : Option ℕ) → Option Row → Bool
+was_changed None row = false
+was_changed (Some since) row = is_later since row
+
+-- the message is left as it is
+abbrev pub is_skipped : (since : Option ℕ) → List Row → Numbered → Bool
+is_skipped since rows m = was_changed since (row_with m.uid rows)
+
+-- the numbers of the messages that are left as they are, or their UIDs
+abbrev pub skipped_numbers : Numbering → (since : Option ℕ) → List Row → List Numbered → List ℕ
+skipped_numbers by since rows messages = map (number_by by) (filter (is_skipped since rows) messages)
+
+-- the other messages, which alone are stored
+abbrev pub unskipped : (since : Option ℕ) → List Row → List Numbered → List Numbered
+unskipped since rows messages = filter (λ m. not (is_skipped since rows m)) messages
+
+-- MODIFIED tells which messages are skipped, if any are
+abbrev pub modified_code : (skipped : List ℕ) → Option Code
+modified_code skipped = option_map code.Modified (set_of skipped)
+
+-- UNCHANGEDSINCE enables CONDSTORE (RFC 7162, section 3.1)
+abbrev pub enabled_by : StoreSpec → EnabledCapabilities
+enabled_by spec = record { condstore = is_some spec.unchanged_since; imap4rev2 = false; qresync = false }
 
 -- ---- a message with its flags afterwards
 
@@ -226,29 +259,42 @@ lines_from silent condstore highest (m ∷ messages) =
 
 -- ---- the answer
 
--- All messages are told: of one without a line the session knows the new flags, too.
+-- lines have MODSEQ if CONDSTORE is enabled, and with UNCHANGEDSINCE, by which it is
+abbrev pub tells_mod_seq : EnabledCapabilities → StoreSpec → Bool
+tells_mod_seq enabled spec = enabled.condstore || is_some spec.unchanged_since
+
+-- All messages that are stored are told: of one without a line the session knows the new flags, too. `skipped` are
+-- the numbers or UIDs of those that are left as they are.
 abbrev pub store_events : View → EnabledCapabilities → (tag : List ℕ) → StoreArguments → Selection →
-    Readable → List StoreOutcome → Answer
-store_events view enabled tag arguments s mailbox messages =
+    Readable → (skipped : List ℕ) → List StoreOutcome → Answer
+store_events view enabled tag arguments s mailbox skipped messages =
+    let spec = arguments.spec in
     if lacks_changes mailbox messages then refusal tag Limit
-    else telling (map (λ m. m.uid) messages)
-    (carried_out (lines_from arguments.spec.silent enabled.condstore mailbox.highest messages) tag None
-    (marking_effect view.user s.name (marks_of messages)))
+    else enabling (enabled_by spec) (telling (map (λ m. m.uid) messages)
+    (carried_out (lines_from spec.silent (tells_mod_seq enabled spec) mailbox.highest messages) tag
+    (modified_code skipped) (marking_effect view.user s.name (marks_of messages))))
 
 -- no message gets too many keywords
 abbrev pub store_messages : View → EnabledCapabilities → (tag : List ℕ) → StoreArguments → Selection →
-    Readable → List StoreOutcome → Answer
-store_messages view enabled tag arguments s mailbox messages =
+    Readable → (skipped : List ℕ) → List StoreOutcome → Answer
+store_messages view enabled tag arguments s mailbox skipped messages =
     if are_many messages then refusal tag Limit
-    else store_events view enabled tag arguments s mailbox messages
+    else store_events view enabled tag arguments s mailbox skipped messages
 
 -- `rights` are those by which flags are stored
+abbrev pub store_unskipped : View → EnabledCapabilities → (tag : List ℕ) → StoreArguments → (rights : ℕ) →
+    Selection → Readable → List Numbered → Answer
+store_unskipped view enabled tag arguments rights s mailbox messages =
+    let since = arguments.spec.unchanged_since in
+    let skipped = skipped_numbers arguments.numbering since mailbox.rows messages in
+    store_messages view enabled tag arguments s mailbox skipped
+    (stored_all rights arguments.spec s.known (unskipped since mailbox.rows messages) mailbox.rows)
+
 abbrev pub store_named : View → EnabledCapabilities → (tag : List ℕ) → StoreArguments → (rights : ℕ) →
     Selection → Readable → List Numbered → Answer
 store_named view enabled tag arguments rights s mailbox messages =
     if is_refused (is_by_uid arguments.numbering) mailbox.rows messages then refusal tag ExpungeIssued
-    else store_messages view enabled tag arguments s mailbox
-    (stored_all rights arguments.spec s.known messages mailbox.rows)
+    else store_unskipped view enabled tag arguments rights s mailbox messages
 
 abbrev pub messages_of : StoreArguments → (next_uid : ℕ) → List KnownMessage → List Numbered
 messages_of arguments next_uid known =
@@ -260,16 +306,12 @@ store_if_readable view enabled tag arguments rights s None = refusal tag NonExis
 store_if_readable view enabled tag arguments rights s (Some mailbox) =
     store_named view enabled tag arguments rights s mailbox (messages_of arguments mailbox.next_uid s.known)
 
--- `$` isn't served, and UNCHANGEDSINCE isn't built yet
-abbrev pub is_impossible : StoreArguments → Bool
-is_impossible arguments = is_saved arguments.messages || is_some arguments.spec.unchanged_since
-
 abbrev pub store_by_rights : View → EnabledCapabilities → (tag : List ℕ) → StoreArguments → (rights : ℕ) →
     Selection → Answer
 store_by_rights view enabled tag arguments rights s =
     if not (has_known_numbers arguments.numbering (length s.known) arguments.messages)
     then refusal tag Malformed
-    else if is_impossible arguments then refusal tag Cannot
+    else if is_saved arguments.messages then refusal tag Cannot
     else if lacks_right rights arguments.spec.flags then refusal tag NoPerm
     else store_if_readable view enabled tag arguments rights s (readable_in view s.name)
 

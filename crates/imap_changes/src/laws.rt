@@ -3,7 +3,7 @@
 ghost use Rattle.std.specs.Prelude.{ℕ, List, Option};
 ghost use Rattle.imap_answer.specs.Alike.{AnswersAlike};
 ghost use Rattle.imap_changes.specs.Expunge.{close_answer, expunge_answer};
-ghost use Rattle.imap_changes.specs.Laws.{ExpungesAll, ExpungesDeleted, StoreTellsWhatItLeaves};
+ghost use Rattle.imap_changes.specs.Laws.{ExpungesAll, ExpungesDeleted, SkippedMessagesStay, StoreTellsWhatItLeaves};
 ghost use Rattle.imap_changes.specs.Store.{StoreArguments, store_answer};
 ghost use Rattle.imap_session.specs.State.{SessionState};
 ghost use Rattle.imap_syntax.specs.declared.set.MessageSet.{MessageSet};
@@ -26,8 +26,13 @@ pub fn deleted_messages_are_expunged()
     ensures all { ExpungesAll }
 {}
 
-/// The lines of a STORE that isn't silent tell each message that it names with the flags and the mod-sequence that
+/// The lines of a STORE that isn't silent tell each message that it stores with the flags and the mod-sequence that
 /// its user sees afterwards, if the user's own changes suffice, without which STORE is refused.
 pub fn stored_messages_are_told()
     ensures { StoreTellsWhatItLeaves }
+{}
+
+/// A message with a mod-sequence greater than the number of UNCHANGEDSINCE is after STORE as it was before.
+pub fn skipped_messages_stay()
+    ensures { SkippedMessagesStay }
 {}

@@ -11,6 +11,7 @@ mod store;
 mod store_flags;
 mod store_lines;
 mod store_outcome;
+mod unchanged_since;
 
 pub use expunge::{close_answer, expunge_answer, uid_expunge_answer};
 pub use store::{StoreArguments, store_answer};

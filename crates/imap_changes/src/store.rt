@@ -1,29 +1,34 @@
-//! STORE and UID STORE (RFC 9051, sections 6.4.6 and 6.4.9).
+//! STORE and UID STORE (RFC 9051, sections 6.4.6 and 6.4.9; RFC 7162, section 3.1.3).
 
 ghost use Rattle.std.specs.Prelude.{◌≡◌, ◌≤◌, IfOk, Some, map};
+ghost use Rattle.std.specs.List.{AllByRecursion};
+ghost use Rattle.imap_answer.specs.Answer.{carried_out, enabling, telling};
 ghost use Rattle.imap_changes.specs.Store as specs;
 ghost use Rattle.imap_mailbox.specs.Order.{AreRowsInOrder};
 ghost use Rattle.imap_mailbox.specs.Summary.{AreRising};
 ghost use Rattle.imap_modseq.specs.Numbers.{max_events, max_number};
+ghost use Rattle.imap_print.specs.Lines.{IsPrintable};
 ghost use Rattle.imap_rights.specs.Rights.{bits};
 ghost use Rattle.imap_session.specs.State.{selection_of, state_of};
 ghost use Rattle.imap_targets.specs.Effects.{marking_effect};
+ghost use Rattle.imap_targets.specs.MessageNumbers.{uids_of};
 
 use crate::store_flags::lacks_right;
 use crate::store_lines::store_lines;
 use crate::store_outcome::{
     StoreOutcome, flag_changes, marks_of, seen_changes, stored_all, uids_of,
 };
+use crate::unchanged_since::{enabled_by, modified_code, remove_skipped, skipped_numbers};
 use bitflags::Flags;
 use imap_answer::{Answer, CommandContext};
 use imap_grammar::StoreSpec;
 use imap_modseq::MAX_EVENTS;
-use imap_print::{EnabledCapabilities, Refusal};
+use imap_print::{EnabledCapabilities, Refusal, Response};
 use imap_rights::Rights;
 use imap_session::{Selected, Session};
 use imap_syntax::{MessageSet, Numbering};
 use imap_targets::{
-    has_known_numbers, is_refused, is_saved, known_count, lacks_events, marking_effect,
+    Numbered, has_known_numbers, is_refused, is_saved, known_count, lacks_events, marking_effect,
     messages_named,
 };
 use imap_values::beside;
@@ -67,7 +72,8 @@ impl<'a> Model for StoreArguments<'a> {
 
 /// Answers STORE, or UID STORE, of messages of the selected mailbox: flags for which the user lacks the right
 /// stay as they are. One message that is named by its number and is gone refuses the command; UIDs of messages
-/// that are gone are passed over.
+/// that are gone are passed over. Messages with a mod-sequence greater than that of UNCHANGEDSINCE stay as they are,
+/// and the code MODIFIED of the last line has their numbers, or their UIDs. UNCHANGEDSINCE enables CONDSTORE.
 pub fn store_answer(
     context: &CommandContext<'_>,
     session: &Session,
@@ -95,7 +101,7 @@ fn store_selected(
     if !has_known_numbers(arguments.numbering, count, arguments.messages) {
         return context.refuse(Refusal::Malformed);
     }
-    if is_impossible(arguments) {
+    if is_saved(arguments.messages) {
         return context.refuse(Refusal::Cannot);
     }
     let rights = storing_rights(context.view(), selected);
@@ -106,13 +112,6 @@ fn store_selected(
         Some(mailbox) => store_readable(context, enabled, arguments, rights, selected, &mailbox),
         None => context.refuse(Refusal::NonExistent),
     }
-}
-
-/// Whether the set is `$`, or UNCHANGEDSINCE is asked for, which isn't built yet.
-fn is_impossible(arguments: &StoreArguments<'_>) -> bool
-    ensures { result ≡ specs.is_impossible arguments.now }
-{
-    is_saved(arguments.messages) || arguments.spec.unchanged_since.is_some()
 }
 
 /// The rights on the selected mailbox: none, if it is examined.
@@ -150,20 +149,44 @@ fn store_readable(
     if is_refused(arguments.numbering, named.as_slice(), &mailbox.rows) {
         return context.refuse(Refusal::ExpungeIssued);
     }
-    match stored_all(
-        context.alloc(),
-        rights,
-        arguments.spec,
-        &selected.known,
-        &mailbox.rows,
-        named.as_slice(),
-    )? {
+    store_named(
+        context, enabled, arguments, rights, selected, mailbox, named,
+    )
+}
+
+/// Answers STORE of these messages, of which each is there or is named by its UID.
+fn store_named(
+    context: &CommandContext<'_>,
+    enabled: EnabledCapabilities,
+    arguments: &StoreArguments<'_>,
+    rights: Rights,
+    selected: &Selected,
+    mailbox: &Readable<'_>,
+    mut named: Vec<Numbered>,
+) -> Result<Answer, AllocError>
+    requires rise { AreRising (uids_of named.items) }
+    requires order { AreRowsInOrder mailbox.now.next_uid mailbox.now.highest mailbox.now.rows }
+    requires few { mailbox.now.own ≤ max_events }
+    requires bounded { mailbox.now.highest ≤ max_number }
+    ensures { let store = specs.store_unskipped context.now.view enabled context.now.tag in
+        let answer = store arguments.now (bits rights) (selection_of selected.now) mailbox.now in
+        IfOk result (λ given. given ≡ answer named.items) }
+{
+    let alloc = context.alloc();
+    let spec = arguments.spec;
+    let since = spec.unchanged_since;
+    let rows = &mailbox.rows;
+    let skipped = skipped_numbers(alloc, arguments.numbering, since, rows, named.as_slice())?;
+    remove_skipped(&mut named, since, rows);
+    let known = &selected.known;
+    match stored_all(alloc, rights, spec, known, rows, named.as_slice())? {
         Some(stored) => store_messages(
             context,
             enabled,
             arguments,
             selected,
             mailbox,
+            skipped,
             stored.as_slice(),
         ),
         None => context.refuse(Refusal::Limit),
@@ -185,13 +208,15 @@ fn store_messages(
     arguments: &StoreArguments<'_>,
     selected: &Selected,
     mailbox: &Readable<'_>,
+    skipped: Vec<u32>,
     messages: &[StoreOutcome],
 ) -> Result<Answer, AllocError>
     requires rise { AreRising (map (λ m. m.uid) messages.now) }
     requires few { mailbox.now.own ≤ max_events }
     requires bounded { mailbox.now.highest ≤ max_number }
     ensures { let answer = specs.store_events context.now.view enabled context.now.tag arguments.now in
-        IfOk result (λ given. given ≡ answer (selection_of selected.now) mailbox.now messages.now) }
+        let stored = answer (selection_of selected.now) mailbox.now skipped.items messages.now in
+        IfOk result (λ given. given ≡ stored) }
 {
     if lacks_changes(mailbox, messages) {
         return context.refuse(Refusal::Limit);
@@ -200,14 +225,33 @@ fn store_messages(
     let lines = store_lines(
         context.alloc(),
         arguments.spec.silent,
-        enabled.condstore,
+        enabled.condstore || arguments.spec.unchanged_since.is_some(),
         mailbox.highest,
         messages,
     );
     let (lines, effect) = beside(lines, effect)?;
-    let answer = context.carried_out(lines, None, effect);
-    let (told, answer) = beside(uids_of(context.alloc(), messages), answer)?;
-    Ok(answer?.telling(told))
+    store_carried_out(context, arguments.spec, skipped, messages, lines, effect)
+}
+
+/// Answers STORE of these messages, which is carried out by the effect, with these lines.
+fn store_carried_out(
+    context: &CommandContext<'_>,
+    spec: &StoreSpec,
+    skipped: Vec<u32>,
+    messages: &[StoreOutcome],
+    lines: Vec<Response>,
+    effect: Option<Effect>,
+) -> Result<Answer, AllocError>
+    requires rise { AreRising (map (λ m. m.uid) messages.now) }
+    requires printable { AllByRecursion IsPrintable lines.items }
+    ensures { let code = specs.modified_code skipped.items in
+        let made = carried_out lines.items context.now.tag code effect in
+        let answer = telling (map (λ m. m.uid) messages.now) made in
+        IfOk result (λ given. given ≡ enabling (specs.enabled_by spec.now) answer) }
+{
+    let (told, (lines, effect)) = beside(uids_of(context.alloc(), messages), (lines, effect))?;
+    let answer = context.carried_out(lines, modified_code(skipped), effect)?;
+    Ok(answer.telling(told).enabling(enabled_by(spec)))
 }
 
 /// The effect that changes the flags, if one changes.
