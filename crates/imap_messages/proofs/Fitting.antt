@@ -1,14 +1,13 @@
 -- Each answer is fit.
-use Rattle.std.proofs.Common.{◌≡◌, ℕ, Bool, true, false, cond, not, ◌||◌, ◌&&◌, List, [], ◌∷◌, ◌++◌, append_assoc, length, Option, Some, None, refl, sym, ap, subst, ◌∙◌, true≢false}
+use Rattle.std.proofs.Common.{◌≡◌, ℕ, Bool, true, false, cond, not, ◌||◌, List, [], ◌∷◌, ◌++◌, append_assoc, length, Option, Some, None, refl, sym, ap, subst, ◌∙◌, true≢false}
 use Rattle.std.specs.List.{list_any}
 use Rattle.std.specs.FinMap as map
 use Rattle.imap_answer.specs.Alike.{AnswersAlike}
-use Rattle.imap_answer.specs.Answer.{carried_out, done_line, done_with_code, enabling, refusal, telling}
+use Rattle.imap_answer.specs.Answer.{carried_out, done_line, done_with_code, enabling, refusal}
 use Rattle.imap_answer.specs.Fit.{IsFit, is_refusal, is_unavailable}
 use Rattle.imap_answer.proofs.Alike.{answers_alike}
-use Rattle.imap_answer.proofs.Fits.{fits_alone, fits_asking_there, fits_enabling, fits_if_named, fits_telling}
+use Rattle.imap_answer.proofs.Fits.{fits_alone, fits_asking_there, fits_enabling, fits_if_named, fits_preceded, fits_telling}
 use Rattle.imap_batch.specs.declared.batch.NewMessage.{NewMessage}
-use Rattle.imap_mailbox.specs.declared.known.KnownMessage.{KnownMessage}
 use Rattle.imap_mailbox.specs.Flags.{has_too_many}
 use Rattle.imap_mailbox.specs.Rows.{Row}
 use Rattle.imap_names.specs.Name.{Name}
@@ -17,6 +16,8 @@ use Rattle.imap_print.specs.declared.enabled.EnabledCapabilities.{EnabledCapabil
 use Rattle.imap_print.specs.declared.fetch.FetchedItems.{FetchedItems}
 use Rattle.imap_print.specs.declared.response.Response.{Response}
 use Rattle.imap_print.specs.declared.response.Response.TheVariants as response
+use Rattle.imap_resync.specs.UidSet.{UidSet}
+use Rattle.imap_resync.specs.Vanished.{earlier_line, vanished_in}
 use Rattle.imap_rights.specs.Rights.{has_any, insert, lookup}
 use Rattle.imap_session.specs.State.{Selection, SessionState}
 use Rattle.imap_syntax.specs.Lexical.{has_nul}
@@ -28,10 +29,11 @@ use Rattle.imap_view.specs.Seen.{Seen}
 use Rattle.imap_view.specs.View.{View, rights_in}
 use Rattle.imap_batch.specs.Batch.{adding}
 use Rattle.imap_messages.specs.Append.{AppendArguments, append_answer, append_code, append_message, append_to_name, append_to_seen, appends, is_full, message_of}
-use Rattle.imap_messages.specs.Fetch.{FetchArguments, enabled_by, fetch_answer, fetch_if_readable, fetch_if_selected, fetched_lines, fetched_uids, is_impossible, is_malformed, messages_of, sets_seen}
-use Rattle.imap_messages.specs.Fetched.{Wanted, wanted_of}
+use Rattle.imap_messages.specs.Fetch.{FetchArguments, enabled_by, fetch_answer, fetch_changed, fetch_if_readable, fetch_if_selected, fetch_read, fetched_lines, fetched_uids, is_impossible, is_malformed, messages_of, sets_seen, wanted_by}
+use Rattle.imap_messages.specs.Changed.{changed_of, fetched_set, vanished_lines}
+use Rattle.imap_messages.specs.Fetched.{Wanted}
 use Rattle.imap_targets.specs.declared.message_numbers.Numbered.{Numbered}
-use Rattle.imap_targets.specs.MessageNumbers.{is_by_uid, is_refused, row_with}
+use Rattle.imap_targets.specs.MessageNumbers.{is_by_uid, is_refused, ranges_of, row_with}
 use Rattle.imap_messages.specs.Reading.{count_after, line_if_there, lines_from, read_effect}
 use Rattle.imap_targets.specs.Target.{holds_create_above, target_refusal}
 use Rattle.imap_messages.proofs.Possible.{possible}
@@ -88,22 +90,41 @@ module _ (test : Response → Bool) (fetch : (number : ℕ) (items : FetchedItem
       ∙ line_passes highest own m.number (lines_from wanted sets rows h o messages ++ rest) row
       ∙ lines_pass h o messages rest
 
+-- nor does the line of the messages that went
+vanished_pass : (test : Response → Bool) → ((uids : List ℕ) → test (response.Vanished true uids) ≡ false) → (view : View) (name : Name) (asked : Bool) (since : Option ℕ) (uids : UidSet)
+    → list_any test (vanished_lines view name asked since uids) ≡ false
+vanished_pass test line view name true (Some since) uids = by (vanished_in view name since (Some uids))
+  where
+    by : (us : List ℕ) → list_any test (earlier_line us) ≡ false
+    by [] = refl
+    by (u ∷ us) = ap (λ b. b || false) (line (u ∷ us))
+vanished_pass test line view name true None uids = refl
+vanished_pass test line view name false None uids = refl
+vanished_pass test line view name false (Some since) uids = refl
+
 module _ (view : View) (tag : List ℕ) (enabled : EnabledCapabilities) (arguments : FetchArguments) (s : Selection) where
-  messages_fit : (mailbox : Readable) (messages : List Numbered) → readable_in view s.name ≡ Some mailbox → (refused : Bool)
-      → IsFit view (cond refused (refusal tag ExpungeIssued) (telling (fetched_uids enabled arguments (sets_seen view s arguments) mailbox messages) (enabling (enabled_by arguments.items)
-      (carried_out (fetched_lines enabled arguments (sets_seen view s arguments) mailbox messages) tag None (read_effect (sets_seen view s arguments) view.user s.name messages mailbox.rows)))))
-  messages_fit mailbox messages is true = fits_alone view _ _ refl
-  messages_fit mailbox messages is false =
+  read_fits : (mailbox : Readable) (messages : List Numbered) → readable_in view s.name ≡ Some mailbox → IsFit view (fetch_read view enabled tag arguments s mailbox messages)
+  read_fits mailbox messages is =
       let sets = sets_seen view s arguments in
-      let wanted = wanted_of (is_by_uid arguments.numbering) enabled.condstore arguments.items in
+      let wanted = wanted_by enabled arguments in
       let answer = carried_out (fetched_lines enabled arguments sets mailbox messages) tag None (read_effect sets view.user s.name messages mailbox.rows) in
       let carried = lines_pass is_refusal (λ number items. refl) wanted sets mailbox.rows mailbox.highest mailbox.own messages (done_line tag ∷ []) in
-      fits_telling view (fetched_uids enabled arguments sets mailbox messages) (enabling (enabled_by arguments.items) answer)
-      (fits_enabling view (enabled_by arguments.items) answer carried (record {
+      fits_telling view (fetched_uids enabled arguments sets mailbox messages) (enabling (enabled_by arguments) answer)
+      (fits_enabling view (enabled_by arguments) answer carried (record {
         asks = λ viewed. may_read view s.name messages mailbox viewed sets is;
         refused = λ e. absurd (true≢false (sym e ∙ carried));
         available = lines_pass is_unavailable (λ number items. refl) wanted sets mailbox.rows mailbox.highest mailbox.own messages (done_line tag ∷ []);
       }))
+
+  messages_fit : (mailbox : Readable) (messages : List Numbered) → readable_in view s.name ≡ Some mailbox → (refused : Bool)
+      → IsFit view (cond refused (refusal tag ExpungeIssued) (fetch_changed view enabled tag arguments s mailbox messages))
+  messages_fit mailbox messages is true = fits_alone view _ _ refl
+  messages_fit mailbox messages is false =
+      let uids = fetched_set (ranges_of arguments.messages) mailbox.next_uid in
+      fits_preceded view (vanished_lines view s.name arguments.vanished arguments.changed_since uids) _
+      (vanished_pass is_refusal (λ us. refl) view s.name arguments.vanished arguments.changed_since uids)
+      (vanished_pass is_unavailable (λ us. refl) view s.name arguments.vanished arguments.changed_since uids)
+      (read_fits mailbox (changed_of arguments.changed_since mailbox.rows messages) is)
 
   readable_fits : (mailbox : Option Readable) → readable_in view s.name ≡ mailbox → IsFit view (fetch_if_readable view enabled tag arguments s mailbox)
   readable_fits None is = fits_alone view _ _ refl

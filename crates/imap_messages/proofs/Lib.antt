@@ -5,3 +5,4 @@ pub mod Named
 pub mod Possible
 pub mod ReadPossible
 pub mod SameSections
+pub mod UpToDate

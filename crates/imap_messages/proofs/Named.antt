@@ -1,22 +1,19 @@
 -- The messages that a command names.
-use Rattle.std.proofs.Common.{◌≡◌, ℕ, suc, ◌+◌, ◌-◌, ◌<◌, ◌≤◌, Bool, true, false, cond, ◌||◌, ◌&&◌, not, List, [], ◌∷◌, ◌++◌, append_assoc, length, get_or, drop, drop-cons, add-one, eqb, Option, Some, None, option_map, is_some, refl, sym, ap, subst, ◌∙◌, arith}
+use Rattle.std.proofs.Common.{◌≡◌, ℕ, ◌+◌, ◌<◌, ◌≤◌, Bool, true, false, cond, ◌||◌, ◌&&◌, not, List, [], ◌∷◌, ◌++◌, append_assoc, length, get_or, drop, drop-cons, add-one, Option, Some, None, is_some, refl, sym, ap, subst, ◌∙◌, arith}
 use Rattle.std.specs.Prelude.{nat_lt}
 use Rattle.std.specs.List.{AllByRecursion, list_any}
 use Rattle.std.proofs.lemmas.Bool.{ltb-true}
-use Rattle.std.proofs.lemmas.List.{append-nil, length-map}
+use Rattle.std.proofs.lemmas.List.{append-nil}
 use Rattle.imap_mailbox.specs.declared.known.KnownMessage.{KnownMessage}
-use Rattle.imap_mailbox.specs.Lent.{place_in, row_uids}
 use Rattle.imap_mailbox.specs.Rows.{Row}
-use Rattle.imap_mailbox.proofs.Finding.{inside}
-use Rattle.imap_session.specs.Held.{UidsRise, uid_limit}
-use Rattle.imap_session.proofs.Telling.{length_fits}
 use Rattle.imap_syntax.specs.declared.set.Numbering.{Numbering}
 use Rattle.imap_syntax.specs.declared.set.SeqRange.{SeqRange}
 use Rattle.imap_messages.specs.declared.reading.Reading.{Reading}
+use Rattle.imap_messages.specs.Changed.{changed_of, is_changed}
 use Rattle.imap_messages.specs.Fetched.{Wanted}
 use Rattle.imap_messages.specs.Found.{IsReading, marks_named}
 use Rattle.imap_targets.specs.declared.message_numbers.Numbered.{Numbered}
-use Rattle.imap_targets.specs.MessageNumbers.{in_set, is_gone, is_refused, last_uid, messages_from, number_by, row_with}
+use Rattle.imap_targets.specs.MessageNumbers.{in_set, is_gone, is_refused, messages_from, number_by, row_with}
 use Rattle.imap_messages.specs.Reading.{IsAdded, count_after, is_set, line_if_there, lines_from, marks_if_there, uid_told, uids_told}
 use Rattle.imap_modseq.specs.Numbers.{max_events}
 use Rattle.imap_print.specs.Lines.{IsPrintable}
@@ -51,17 +48,23 @@ counts_few sets own (Some row) few = by sets row.seen (nat_lt own max_events) re
     by true true left e = few
     by false seen left e = few
 
-module _ (by_uid : Bool) (wanted : Wanted) (sets : Bool) (mailbox : Readable) (by : Numbering) (last : ℕ) (ranges : List SeqRange) (known : List KnownMessage) where
+module _ (by_uid : Bool) (since : Option ℕ) (wanted : Wanted) (sets : Bool) (mailbox : Readable) (by : Numbering) (last : ℕ) (ranges : List SeqRange) (known : List KnownMessage) where
+  abbrev chosen : List Numbered → List Numbered
+  chosen messages = changed_of since mailbox.rows messages
+
+  abbrev named_from : ℕ → List Numbered
+  named_from i = messages_from by last ranges (i + 1) (drop i known)
+
   -- what is found of the messages before the place i, of which none refuses the command
   pub record IsSoFar (i : ℕ) (found : Reading) : Type 0 where
     pub setting : found.sets ≡ sets
     pub numbers : found.highest + mailbox.own ≡ mailbox.highest + found.own
     pub few : found.own ≤ max_events
-    pub lines : found.lines.items ++ lines_from wanted sets mailbox.rows found.highest found.own (messages_from by last ranges (i + 1) (drop i known))
-        ≡ lines_from wanted sets mailbox.rows mailbox.highest mailbox.own (messages_from by last ranges 1 known)
-    pub marks : found.marks.items ++ marks_named sets mailbox.rows (messages_from by last ranges (i + 1) (drop i known)) ≡ marks_named sets mailbox.rows (messages_from by last ranges 1 known)
-    pub told : found.told.items ++ uids_told wanted sets mailbox.rows found.own (messages_from by last ranges (i + 1) (drop i known)) ≡ uids_told wanted sets mailbox.rows mailbox.own (messages_from by last ranges 1 known)
-    pub refused : is_refused by_uid mailbox.rows (messages_from by last ranges (i + 1) (drop i known)) ≡ is_refused by_uid mailbox.rows (messages_from by last ranges 1 known)
+    pub lines : found.lines.items ++ lines_from wanted sets mailbox.rows found.highest found.own (chosen (named_from i))
+        ≡ lines_from wanted sets mailbox.rows mailbox.highest mailbox.own (chosen (messages_from by last ranges 1 known))
+    pub marks : found.marks.items ++ marks_named sets mailbox.rows (chosen (named_from i)) ≡ marks_named sets mailbox.rows (chosen (messages_from by last ranges 1 known))
+    pub told : found.told.items ++ uids_told wanted sets mailbox.rows found.own (chosen (named_from i)) ≡ uids_told wanted sets mailbox.rows mailbox.own (chosen (messages_from by last ranges 1 known))
+    pub refused : is_refused by_uid mailbox.rows (named_from i) ≡ is_refused by_uid mailbox.rows (messages_from by last ranges 1 known)
     pub printable : AllByRecursion IsPrintable found.lines.items
 
   -- before the first message that may be named nothing is found
@@ -71,19 +74,19 @@ module _ (by_uid : Bool) (wanted : Wanted) (sets : Bool) (mailbox : Readable) (b
     setting = sets_is;
     numbers = (λ j. highest j + mailbox.own) ∙ ap (λ o. mailbox.highest + o) (sym own);
     few = subst (λ o. o ≤ max_events) (sym own) few;
-    lines = (λ j. lines j ++ lines_from wanted sets mailbox.rows (highest j) (own j) (all j));
-    marks = (λ j. marks j ++ marks_named sets mailbox.rows (all j));
-    told = (λ j. told j ++ uids_told wanted sets mailbox.rows (own j) (all j));
+    lines = (λ j. lines j ++ lines_from wanted sets mailbox.rows (highest j) (own j) (chosen (all j)));
+    marks = (λ j. marks j ++ marks_named sets mailbox.rows (chosen (all j)));
+    told = (λ j. told j ++ uids_told wanted sets mailbox.rows (own j) (chosen (all j)));
     refused = ap (λ ms. is_refused by_uid mailbox.rows ms) all;
     printable = subst (AllByRecursion IsPrintable) (sym lines) tt;
   }
 
   -- after the last one all is found
-  pub at_last : (end : ℕ) (found : Reading) → messages_from by last ranges (end + 1) (drop end known) ≡ [] → IsSoFar end found → IsReading wanted sets mailbox (messages_from by last ranges 1 known) found
+  pub at_last : (end : ℕ) (found : Reading) → messages_from by last ranges (end + 1) (drop end known) ≡ [] → IsSoFar end found → IsReading wanted sets mailbox (changed_of since mailbox.rows (messages_from by last ranges 1 known)) found
   at_last end found none before = record {
-    lines = sym (append-nil found.lines.items) ∙ ap (λ ms. found.lines.items ++ lines_from wanted sets mailbox.rows found.highest found.own ms) (sym none) ∙ before.lines;
-    marks = sym (append-nil found.marks.items) ∙ ap (λ ms. found.marks.items ++ marks_named sets mailbox.rows ms) (sym none) ∙ before.marks;
-    told = sym (append-nil found.told.items) ∙ ap (λ ms. found.told.items ++ uids_told wanted sets mailbox.rows found.own ms) (sym none) ∙ before.told;
+    lines = sym (append-nil found.lines.items) ∙ ap (λ ms. found.lines.items ++ lines_from wanted sets mailbox.rows found.highest found.own (chosen ms)) (sym none) ∙ before.lines;
+    marks = sym (append-nil found.marks.items) ∙ ap (λ ms. found.marks.items ++ marks_named sets mailbox.rows (chosen ms)) (sym none) ∙ before.marks;
+    told = sym (append-nil found.told.items) ∙ ap (λ ms. found.told.items ++ uids_told wanted sets mailbox.rows found.own (chosen ms)) (sym none) ∙ before.told;
     printable = before.printable;
   }
 
@@ -116,9 +119,9 @@ module _ (by_uid : Bool) (wanted : Wanted) (sets : Bool) (mailbox : Readable) (b
           setting = before.setting;
           numbers = before.numbers;
           few = before.few;
-          lines = ap (λ ms. found.lines.items ++ lines_from wanted sets mailbox.rows found.highest found.own ms) (sym next) ∙ before.lines;
-          marks = ap (λ ms. found.marks.items ++ marks_named sets mailbox.rows ms) (sym next) ∙ before.marks;
-          told = ap (λ ms. found.told.items ++ uids_told wanted sets mailbox.rows found.own ms) (sym next) ∙ before.told;
+          lines = ap (λ ms. found.lines.items ++ lines_from wanted sets mailbox.rows found.highest found.own (chosen ms)) (sym next) ∙ before.lines;
+          marks = ap (λ ms. found.marks.items ++ marks_named sets mailbox.rows (chosen ms)) (sym next) ∙ before.marks;
+          told = ap (λ ms. found.told.items ++ uids_told wanted sets mailbox.rows found.own (chosen ms)) (sym next) ∙ before.told;
           refused = ap (λ ms. is_refused by_uid mailbox.rows ms) (sym next) ∙ before.refused;
           printable = before.printable;
         }
@@ -131,31 +134,53 @@ module _ (by_uid : Bool) (wanted : Wanted) (sets : Bool) (mailbox : Readable) (b
       gone : not (is_some row) ≡ is_gone mailbox.rows message
       gone = ap (λ o. not (is_some o)) there
 
-      pub added : (old new : Reading) → (not by_uid && not (is_some row)) ≡ false → IsAdded wanted n row old new → IsSoFar i old → IsSoFar (i + 1) new
-      added old new kept made before = record {
+      one_chosen : is_changed since row ≡ true → chosen (named_from i) ≡ message ∷ chosen later
+      one_chosen above = ap chosen next ∙ ap (λ b. cond b (message ∷ chosen later) (chosen later)) (ap (is_changed since) (sym there) ∙ above)
+
+      none_chosen : is_changed since row ≡ false → chosen (named_from i) ≡ chosen later
+      none_chosen low = ap chosen next ∙ ap (λ b. cond b (message ∷ chosen later) (chosen later)) (ap (is_changed since) (sym there) ∙ low)
+
+      refuses_later : (not by_uid && not (is_some row)) ≡ false → is_refused by_uid mailbox.rows later ≡ is_refused by_uid mailbox.rows (named_from i)
+      refuses_later kept =
+          distribute (not by_uid) (is_gone mailbox.rows message) (list_any (is_gone mailbox.rows) later) (ap (λ b. not by_uid && b) (sym gone) ∙ kept)
+          ∙ ap (λ ms. is_refused by_uid mailbox.rows ms) (sym next)
+
+      -- it hasn't changed
+      pub left : (found : Reading) → (not by_uid && not (is_some row)) ≡ false → is_changed since row ≡ false → IsSoFar i found → IsSoFar (i + 1) found
+      left found kept low before = record {
+        setting = before.setting;
+        numbers = before.numbers;
+        few = before.few;
+        lines = ap (λ ms. found.lines.items ++ lines_from wanted sets mailbox.rows found.highest found.own ms) (sym (none_chosen low)) ∙ before.lines;
+        marks = ap (λ ms. found.marks.items ++ marks_named sets mailbox.rows ms) (sym (none_chosen low)) ∙ before.marks;
+        told = ap (λ ms. found.told.items ++ uids_told wanted sets mailbox.rows found.own ms) (sym (none_chosen low)) ∙ before.told;
+        refused = refuses_later kept ∙ before.refused;
+        printable = before.printable;
+      }
+
+      pub added : (old new : Reading) → (not by_uid && not (is_some row)) ≡ false → is_changed since row ≡ true → IsAdded wanted n row old new → IsSoFar i old → IsSoFar (i + 1) new
+      added old new kept above made before = record {
         setting = made.sets ∙ before.setting;
         numbers = (λ j. made.highest j + mailbox.own) ∙ counts_both old.sets old.own mailbox.own mailbox.highest old.highest row before.numbers ∙ ap (λ o. mailbox.highest + o) (sym made.own);
         few = subst (λ o. o ≤ max_events) (sym made.own) (counts_few old.sets old.own row before.few);
         lines =
-            (λ j. made.lines j ++ lines_from wanted sets mailbox.rows (made.highest j) (made.own j) later)
+            (λ j. made.lines j ++ lines_from wanted sets mailbox.rows (made.highest j) (made.own j) (chosen later))
             ∙ (λ j. (old.lines.items ++ line_if_there wanted (before.setting j) old.highest old.own n (there j))
-            ++ lines_from wanted sets mailbox.rows (count_after (before.setting j) old.own (there j) old.highest) (count_after (before.setting j) old.own (there j) old.own) later)
+            ++ lines_from wanted sets mailbox.rows (count_after (before.setting j) old.own (there j) old.highest) (count_after (before.setting j) old.own (there j) old.own) (chosen later))
             ∙ append_assoc old.lines.items (line_if_there wanted sets old.highest old.own n (row_with uid mailbox.rows))
-            (lines_from wanted sets mailbox.rows (count_after sets old.own (row_with uid mailbox.rows) old.highest) (count_after sets old.own (row_with uid mailbox.rows) old.own) later)
-            ∙ ap (λ ms. old.lines.items ++ lines_from wanted sets mailbox.rows old.highest old.own ms) (sym next) ∙ before.lines;
+            (lines_from wanted sets mailbox.rows (count_after sets old.own (row_with uid mailbox.rows) old.highest) (count_after sets old.own (row_with uid mailbox.rows) old.own) (chosen later))
+            ∙ ap (λ ms. old.lines.items ++ lines_from wanted sets mailbox.rows old.highest old.own ms) (sym (one_chosen above)) ∙ before.lines;
         marks =
-            (λ j. made.marks j ++ marks_named sets mailbox.rows later)
-            ∙ (λ j. (old.marks.items ++ marks_if_there (before.setting j) (there j)) ++ marks_named sets mailbox.rows later)
-            ∙ append_assoc old.marks.items (marks_if_there sets (row_with uid mailbox.rows)) (marks_named sets mailbox.rows later)
-            ∙ ap (λ ms. old.marks.items ++ marks_named sets mailbox.rows ms) (sym next) ∙ before.marks;
+            (λ j. made.marks j ++ marks_named sets mailbox.rows (chosen later))
+            ∙ (λ j. (old.marks.items ++ marks_if_there (before.setting j) (there j)) ++ marks_named sets mailbox.rows (chosen later))
+            ∙ append_assoc old.marks.items (marks_if_there sets (row_with uid mailbox.rows)) (marks_named sets mailbox.rows (chosen later))
+            ∙ ap (λ ms. old.marks.items ++ marks_named sets mailbox.rows ms) (sym (one_chosen above)) ∙ before.marks;
         told =
-            (λ j. made.told j ++ uids_told wanted sets mailbox.rows (made.own j) later)
-            ∙ (λ j. (old.told.items ++ uid_told wanted (before.setting j) old.own (there j)) ++ uids_told wanted sets mailbox.rows (count_after (before.setting j) old.own (there j) old.own) later)
-            ∙ append_assoc old.told.items (uid_told wanted sets old.own (row_with uid mailbox.rows)) (uids_told wanted sets mailbox.rows (count_after sets old.own (row_with uid mailbox.rows) old.own) later)
-            ∙ ap (λ ms. old.told.items ++ uids_told wanted sets mailbox.rows old.own ms) (sym next) ∙ before.told;
-        refused =
-            distribute (not by_uid) (is_gone mailbox.rows message) (list_any (is_gone mailbox.rows) later) (ap (λ b. not by_uid && b) (sym gone) ∙ kept)
-            ∙ ap (λ ms. is_refused by_uid mailbox.rows ms) (sym next) ∙ before.refused;
+            (λ j. made.told j ++ uids_told wanted sets mailbox.rows (made.own j) (chosen later))
+            ∙ (λ j. (old.told.items ++ uid_told wanted (before.setting j) old.own (there j)) ++ uids_told wanted sets mailbox.rows (count_after (before.setting j) old.own (there j) old.own) (chosen later))
+            ∙ append_assoc old.told.items (uid_told wanted sets old.own (row_with uid mailbox.rows)) (uids_told wanted sets mailbox.rows (count_after sets old.own (row_with uid mailbox.rows) old.own) (chosen later))
+            ∙ ap (λ ms. old.told.items ++ uids_told wanted sets mailbox.rows old.own ms) (sym (one_chosen above)) ∙ before.told;
+        refused = refuses_later kept ∙ before.refused;
         printable = made.printable before.printable;
       }
 

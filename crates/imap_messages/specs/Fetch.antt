@@ -1,10 +1,9 @@
--- FETCH and UID FETCH (RFC 9051, sections 6.4.5 and 6.4.9; RFC 7162, section 3.1.4).
-use Rattle.std.specs.Prelude.{ℕ, Bool, true, false, not, ◌&&◌, ◌||◌, List, [], length}
+-- FETCH and UID FETCH (RFC 9051, sections 6.4.5 and 6.4.9; RFC 7162, sections 3.1.4 and 3.2.6).
+use Rattle.std.specs.Prelude.{ℕ, Bool, true, false, not, ◌&&◌, ◌||◌, List, length}
 use Rattle.std.specs.Prelude.{Option, Some, None, is_some, if◌then◌else◌}
 use Rattle.std.specs.List.{list_any}
-use Rattle.imap_answer.specs.Answer.{Answer, carried_out, enabling, refusal, telling}
+use Rattle.imap_answer.specs.Answer.{Answer, carried_out, enabling, preceded_by, refusal, telling}
 use Rattle.imap_mailbox.specs.declared.known.KnownMessage.{KnownMessage}
-use Rattle.imap_mailbox.specs.Rows.{Row}
 use Rattle.imap_print.specs.declared.enabled.EnabledCapabilities.{EnabledCapabilities}
 use Rattle.imap_print.specs.declared.response.Refusal.TheVariants.{Cannot, ExpungeIssued, Malformed, NonExistent, WrongState}
 use Rattle.imap_print.specs.declared.response.Response.{Response}
@@ -13,16 +12,14 @@ use Rattle.imap_query.specs.declared.fetch.FetchItem.TheVariants as item
 use Rattle.imap_rights.specs.Rights.{has_any, seen}
 use Rattle.imap_session.specs.State.{Selection, SessionState}
 use Rattle.imap_syntax.specs.declared.set.MessageSet.{MessageSet}
-use Rattle.imap_syntax.specs.declared.set.MessageSet.TheVariants.{Numbers, Saved}
 use Rattle.imap_syntax.specs.declared.set.Numbering.{Numbering}
-use Rattle.imap_syntax.specs.declared.set.Numbering.TheVariants as numbering
-use Rattle.imap_syntax.specs.declared.set.SeqRange.{SeqRange}
 use Rattle.imap_view.specs.declared.readable.Readable.{Readable}
 use Rattle.imap_view.specs.Readable.{readable_in}
 use Rattle.imap_view.specs.View.{View, rights_in}
-use Rattle.imap_messages.specs.Fetched.{wanted_of}
+use Rattle.imap_messages.specs.Changed.{changed_of, fetched_set, vanished_lines}
+use Rattle.imap_messages.specs.Fetched.{Wanted, wanted_of}
 use Rattle.imap_targets.specs.declared.message_numbers.Numbered.{Numbered}
-use Rattle.imap_targets.specs.MessageNumbers.{has_known_numbers, is_by_uid, is_refused, is_saved, messages_named, ranges_of, row_with}
+use Rattle.imap_targets.specs.MessageNumbers.{has_known_numbers, is_by_uid, is_refused, is_saved, messages_named, ranges_of}
 use Rattle.imap_messages.specs.Reading.{lines_from, read_effect, uids_told}
 
 -- the arguments of FETCH
@@ -51,10 +48,9 @@ abbrev pub is_unserved : FetchItem → Bool
 is_unserved item.Unserved = true
 is_unserved _ = false
 
--- items that aren't served; `$`; and CHANGEDSINCE, which isn't built yet
+-- items that aren't served, and `$`
 abbrev pub is_impossible : FetchArguments → Bool
-is_impossible arguments =
-    list_any is_unserved arguments.items || (is_saved arguments.messages || is_some arguments.changed_since)
+is_impossible arguments = list_any is_unserved arguments.items || is_saved arguments.messages
 
 -- ---- what sets \Seen
 
@@ -74,9 +70,19 @@ abbrev pub is_mod_seq : FetchItem → Bool
 is_mod_seq item.ModSeq = true
 is_mod_seq _ = false
 
--- who asks for MODSEQ knows CONDSTORE (RFC 7162, section 3.1)
-abbrev pub enabled_by : List FetchItem → EnabledCapabilities
-enabled_by items = record { condstore = list_any is_mod_seq items; imap4rev2 = false; qresync = false }
+-- who asks for MODSEQ, or by CHANGEDSINCE, knows CONDSTORE (RFC 7162, section 3.1)
+abbrev pub enabled_by : FetchArguments → EnabledCapabilities
+enabled_by arguments = record {
+  condstore = list_any is_mod_seq arguments.items || is_some arguments.changed_since;
+  imap4rev2 = false;
+  qresync = false;
+}
+
+-- what enables CONDSTORE is sent the mod-sequence by this command, too
+abbrev pub wanted_by : EnabledCapabilities → FetchArguments → Wanted
+wanted_by enabled arguments =
+    let condstore = enabled.condstore || is_some arguments.changed_since in
+    wanted_of (is_by_uid arguments.numbering) condstore arguments.items
 
 abbrev pub messages_of : FetchArguments → List KnownMessage → Readable → List Numbered
 messages_of arguments known mailbox =
@@ -85,24 +91,37 @@ messages_of arguments known mailbox =
 abbrev pub fetched_lines : EnabledCapabilities → FetchArguments → (sets : Bool) → Readable → List Numbered →
     List Response
 fetched_lines enabled arguments sets mailbox messages =
-    let wanted = wanted_of (is_by_uid arguments.numbering) enabled.condstore arguments.items in
-    lines_from wanted sets mailbox.rows mailbox.highest mailbox.own messages
+    lines_from (wanted_by enabled arguments) sets mailbox.rows mailbox.highest mailbox.own messages
 
 abbrev pub fetched_uids : EnabledCapabilities → FetchArguments → (sets : Bool) → Readable → List Numbered →
     List ℕ
 fetched_uids enabled arguments sets mailbox messages =
-    let wanted = wanted_of (is_by_uid arguments.numbering) enabled.condstore arguments.items in
-    uids_told wanted sets mailbox.rows mailbox.own messages
+    uids_told (wanted_by enabled arguments) sets mailbox.rows mailbox.own messages
+
+-- these messages are read
+abbrev pub fetch_read : View → EnabledCapabilities → (tag : List ℕ) → FetchArguments → Selection → Readable →
+    List Numbered → Answer
+fetch_read view enabled tag arguments s mailbox messages =
+    let sets = sets_seen view s arguments in
+    telling (fetched_uids enabled arguments sets mailbox messages)
+    (enabling (enabled_by arguments)
+    (carried_out (fetched_lines enabled arguments sets mailbox messages) tag None
+    (read_effect sets view.user s.name messages mailbox.rows)))
+
+-- of these messages those that changed are read, after the line of those that went
+abbrev pub fetch_changed : View → EnabledCapabilities → (tag : List ℕ) → FetchArguments → Selection →
+    Readable → List Numbered → Answer
+fetch_changed view enabled tag arguments s mailbox messages =
+    let uids = fetched_set (ranges_of arguments.messages) mailbox.next_uid in
+    preceded_by (vanished_lines view s.name arguments.vanished arguments.changed_since uids)
+    (fetch_read view enabled tag arguments s mailbox
+    (changed_of arguments.changed_since mailbox.rows messages))
 
 abbrev pub fetch_messages : View → EnabledCapabilities → (tag : List ℕ) → FetchArguments → Selection →
     Readable → List Numbered → Answer
 fetch_messages view enabled tag arguments s mailbox messages =
-    let sets = sets_seen view s arguments in
     if is_refused (is_by_uid arguments.numbering) mailbox.rows messages then refusal tag ExpungeIssued
-    else telling (fetched_uids enabled arguments sets mailbox messages)
-    (enabling (enabled_by arguments.items)
-    (carried_out (fetched_lines enabled arguments sets mailbox messages) tag None
-    (read_effect sets view.user s.name messages mailbox.rows)))
+    else fetch_changed view enabled tag arguments s mailbox messages
 
 abbrev pub fetch_if_readable : View → EnabledCapabilities → (tag : List ℕ) → FetchArguments → Selection →
     Option Readable → Answer

@@ -1,19 +1,14 @@
 -- What a FETCH finds along the messages that a session knows.
-use Rattle.std.specs.Prelude.{◌≡◌, ℕ, ◌+◌, ◌<◌, ◌≤◌, Bool, true, List, [], length, drop, flat_map, slice_index_or}
+use Rattle.std.specs.Prelude.{◌≡◌, Bool, List, flat_map}
 use Rattle.std.specs.List.{AllByRecursion}
 use Rattle.imap_batch.specs.declared.batch.FlagUpdate.{FlagUpdate}
-use Rattle.imap_mailbox.specs.declared.known.KnownMessage.{KnownMessage}
 use Rattle.imap_mailbox.specs.Rows.{Row}
 use Rattle.imap_print.specs.Lines.{IsPrintable}
-use Rattle.imap_session.specs.Held.{UidsRise}
 use Rattle.imap_view.specs.declared.readable.Readable.{Readable}
-use Rattle.imap_targets.specs.declared.message_numbers.MessageNumbers.{MessageNumbers}
 use Rattle.imap_messages.specs.declared.reading.Reading.{Reading}
 use Rattle.imap_messages.specs.Fetched.{Wanted}
 use Rattle.imap_targets.specs.declared.message_numbers.Numbered.{Numbered}
-use Rattle.imap_targets.specs.MessageNumbers.{in_set, messages_from, number_by, row_with}
-use Rattle.imap_syntax.specs.declared.set.Numbering.{Numbering}
-use Rattle.imap_syntax.specs.declared.set.SeqRange.{SeqRange}
+use Rattle.imap_targets.specs.MessageNumbers.{row_with}
 use Rattle.imap_messages.specs.Reading.{lines_from, marks_if_there, uids_told}
 
 -- ---- what is found

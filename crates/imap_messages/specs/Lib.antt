@@ -1,6 +1,7 @@
 -- Commands on messages: their answers.
 pub mod Append
 pub mod BodySections
+pub mod Changed
 pub mod Fetch
 pub mod Fetched
 pub mod Found

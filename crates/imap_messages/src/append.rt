@@ -152,7 +152,7 @@ fn appends(
     batch_effect(name, batch)
 }
 
-/// The response code APPENDUID, which only one who may read is told.
+/// The response code APPENDUID. `None` if the user may not read the mailbox.
 fn append_code(seen: &Seen<'_>) -> Option<Code>
     ensures { result ≡ specs.append_code (shown seen.now) }
 {

@@ -3,17 +3,19 @@
 //! The known messages between the first and the last of the set are tested, and each named one is looked up
 //! by halving: one message costs a few searches, `1,20000` a test of all between.
 
-ghost use Rattle.std.specs.Prelude.{◌≡◌, ◌≤◌, ◌&&◌, not, is_none, is_some, option_map, None, IfOk, IfSome};
+ghost use Rattle.std.specs.Prelude.{◌≡◌, ◌≤◌, ◌&&◌, not, is_none, is_some, option_map, Some, None, IfOk, IfSome};
 ghost use Rattle.std.specs.List.{AllByRecursion, list_any};
-ghost use Rattle.imap_answer.specs.Answer.{carried_out, enabling, telling};
+ghost use Rattle.imap_answer.specs.Answer.{carried_out, enabling, preceded_by, telling};
 ghost use Rattle.imap_mailbox.specs.Summary.{AreRising};
 ghost use Rattle.imap_mailbox.specs.Lent.{row_shown, row_uids};
-ghost use Rattle.imap_mailbox.specs.Order.{AreRowsInOrder};
+ghost use Rattle.imap_mailbox.specs.Order.{AreAtMost, AreRowsInOrder};
+ghost use Rattle.imap_messages.specs.Changed.{changed_of, fetched_set, vanished_lines};
+ghost use Rattle.imap_messages.specs.Changed as changed;
 ghost use Rattle.imap_messages.specs.Fetch as specs;
 ghost use Rattle.imap_messages.specs.Found.{IsReading};
 ghost use Rattle.imap_targets.specs.Effects.{marking_effect};
 ghost use Rattle.imap_modseq.specs.Numbers.{max_events, max_number};
-ghost use Rattle.imap_targets.specs.MessageNumbers.{is_by_uid as by_uid_in, is_refused};
+ghost use Rattle.imap_targets.specs.MessageNumbers.{is_by_uid as by_uid_in, is_refused, ranges_of};
 ghost use Rattle.imap_targets.specs.Spans.{named_in};
 ghost use Rattle.imap_print.specs.Lines.{IsPrintable};
 ghost use Rattle.imap_rights.specs.Rights.{has_any, seen};
@@ -26,8 +28,9 @@ use crate::wanted::Wanted;
 use imap_answer::{Answer, CommandContext};
 use imap_mailbox::Row;
 use imap_names::Name;
-use imap_print::{EnabledCapabilities, Refusal};
+use imap_print::{EnabledCapabilities, Refusal, Response};
 use imap_query::FetchItem;
+use imap_resync::{UidSet, vanished_lines};
 use imap_rights::Rights;
 use imap_session::{KnownList, Selected, Session};
 use imap_syntax::{Items, MessageSet, Numbering};
@@ -55,6 +58,8 @@ pub struct FetchArguments<'a> {
 impl<'a> Model for FetchArguments<'a> {
     ghost use Rattle.std.specs.Prelude.{ℕ, Bool, List, Option, refl};
     ghost use Rattle.std.specs.Coded.{code_by, codes};
+    ghost use Rattle.imap_messages.specs.Changed.{changed_of, fetched_set, vanished_lines};
+    ghost use Rattle.imap_messages.specs.Changed as changed;
     ghost use Rattle.imap_messages.specs.Fetch as specs;
     ghost use Rattle.imap_query.specs.contracts.fetch.FetchItem.{the_row as item_row};
     ghost use Rattle.imap_query.specs.declared.fetch.FetchItem.{FetchItem};
@@ -137,12 +142,11 @@ fn may_ask_vanished(enabled: EnabledCapabilities, arguments: &FetchArguments<'_>
     enabled.qresync && (is_by_uid(arguments.numbering) && arguments.changed_since.is_some())
 }
 
-/// Whether an item isn't served, or a modifier not built yet.
+/// Whether an item isn't served, or the set is `$`.
 fn is_impossible(arguments: &FetchArguments<'_>) -> bool
     ensures { result ≡ specs.is_impossible arguments.now }
 {
-    has_unserved(arguments.items.as_slice())
-        || (is_saved(arguments.messages) || arguments.changed_since.is_some())
+    has_unserved(arguments.items.as_slice()) || is_saved(arguments.messages)
 }
 
 fn has_unserved(items: &[FetchItem]) -> bool
@@ -188,13 +192,7 @@ fn fetch_readable(
         let messages = specs.messages_of arguments.now s.known mailbox.now in
         IfOk result (λ given. given ≡ answer mailbox.now messages) }
 {
-    let by_uid = is_by_uid(arguments.numbering);
-    let wanted = Wanted::of_items(
-        context.alloc(),
-        by_uid,
-        enabled.condstore,
-        arguments.items.as_slice(),
-    )?;
+    let wanted = wanted_by(context.alloc(), enabled, arguments)?;
     let messages = MessageNumbers {
         numbering: arguments.numbering,
         last: last_of(arguments.numbering, mailbox.next_uid, &selected.known),
@@ -204,14 +202,61 @@ fn fetch_readable(
     match read_messages(
         context.alloc(),
         &messages,
+        arguments.changed_since,
         &wanted,
         &selected.known,
         mailbox,
         sets,
     )? {
-        Some(reading) => answer_of_reading(context, arguments, &selected.name, reading),
+        Some(reading) => answer_of_changed(
+            context,
+            arguments,
+            &selected.name,
+            mailbox.next_uid,
+            reading,
+        ),
         None => context.refuse(Refusal::ExpungeIssued),
     }
+}
+
+/// What is wanted of each message. A session that enabled CONDSTORE, or that this command enables it for, is sent
+/// mod-sequences.
+fn wanted_by(
+    alloc: Global,
+    enabled: EnabledCapabilities,
+    arguments: &FetchArguments<'_>,
+) -> Result<Wanted, AllocError>
+    ensures { IfOk result (λ wanted. wanted ≡ specs.wanted_by enabled arguments.now) }
+{
+    Wanted::of_items(
+        alloc,
+        is_by_uid(arguments.numbering),
+        enabled.condstore || arguments.changed_since.is_some(),
+        arguments.items.as_slice(),
+    )
+}
+
+/// The answer of a FETCH that has read its messages, after the line of those that went.
+fn answer_of_changed(
+    context: &CommandContext<'_>,
+    arguments: &FetchArguments<'_>,
+    name: &Name,
+    next_uid: u32,
+    reading: Reading,
+) -> Result<Answer, AllocError>
+    requires lines { AllByRecursion IsPrintable reading.lines.items }
+    requires told { AreRising reading.told.items }
+    ensures { let asks = marking_effect context.now.view.user name.now reading.marks.items in
+        let answer = carried_out reading.lines.items context.now.tag None asks in
+        let enabled = enabling (specs.enabled_by arguments.now) answer in
+        let uids = fetched_set (ranges_of arguments.now.messages) next_uid in
+        let front = vanished_lines context.now.view name.now arguments.now.vanished in
+        let front = front arguments.now.changed_since uids in
+        IfOk result (λ given. given ≡ preceded_by front (telling reading.told.items enabled)) }
+{
+    let front = vanished_of(context, arguments, name, next_uid)?;
+    let (answer, front) = beside(answer_of_reading(context, arguments, name, reading), front)?;
+    answer.preceded_by(front)
 }
 
 fn answer_of_reading(
@@ -224,7 +269,7 @@ fn answer_of_reading(
     requires told { AreRising reading.told.items }
     ensures { let asks = marking_effect context.now.view.user name.now reading.marks.items in
         let answer = carried_out reading.lines.items context.now.tag None asks in
-        let enabled = enabling (specs.enabled_by arguments.now.items) answer in
+        let enabled = enabling (specs.enabled_by arguments.now) answer in
         IfOk result (λ given. given ≡ telling reading.told.items enabled) }
 {
     let Reading {
@@ -236,16 +281,16 @@ fn answer_of_reading(
     let effect = marking_effect(context.alloc(), context.view().user(), name, marks);
     let (effect, (lines, told)) = beside(effect, (lines, told))?;
     let answer = context.carried_out(lines, None, effect)?;
-    let answer = answer.enabling(enabled_by(arguments.items.as_slice()));
+    let answer = answer.enabling(enabled_by(arguments));
     Ok(answer.telling(told))
 }
 
-/// The capabilities that are enabled by asking for these items: CONDSTORE by MODSEQ (RFC 7162, section 3.1).
-fn enabled_by(items: &[FetchItem]) -> EnabledCapabilities
-    ensures { result ≡ specs.enabled_by items.now }
+/// The capabilities that the command enables: CONDSTORE by MODSEQ and by CHANGEDSINCE (RFC 7162, section 3.1).
+fn enabled_by(arguments: &FetchArguments<'_>) -> EnabledCapabilities
+    ensures { result ≡ specs.enabled_by arguments.now }
 {
     EnabledCapabilities {
-        condstore: has_mod_seq(items),
+        condstore: has_mod_seq(arguments.items.as_slice()) || arguments.changed_since.is_some(),
         imap4rev2: false,
         qresync: false,
     }
@@ -257,11 +302,78 @@ fn has_mod_seq(items: &[FetchItem]) -> bool
     items.iter().any(|item| matches!(item, FetchItem::ModSeq))
 }
 
-/// Reads the messages, or returns `None` if one that is named by its number is gone. Tests each known message
-/// between the first and the last of the set.
+/// The line of the messages that went, if it is asked for (RFC 7162, section 3.2.6).
+fn vanished_of(
+    context: &CommandContext<'_>,
+    arguments: &FetchArguments<'_>,
+    name: &Name,
+    next_uid: u32,
+) -> Result<Vec<Response>, AllocError>
+    ensures lines { let uids = fetched_set (ranges_of arguments.now.messages) next_uid in
+        let meant = vanished_lines context.now.view name.now arguments.now.vanished in
+        IfOk result (λ lines. lines.items ≡ meant arguments.now.changed_since uids) }
+    ensures printable { IfOk result (λ lines. AllByRecursion IsPrintable lines.items) }
+{
+    match arguments.changed_since {
+        Some(since) => {
+            if arguments.vanished {
+                let uids = Some(fetched_set(arguments, next_uid));
+                vanished_lines(context, name, since, &uids)
+            } else {
+                Ok(Vec::new(context.alloc()))
+            }
+        }
+        None => Ok(Vec::new(context.alloc())),
+    }
+}
+
+/// The UIDs of the command, in which `*` stands for the greatest one that was ever given.
+fn fetched_set<'a>(arguments: &FetchArguments<'a>, next_uid: u32) -> UidSet<'a>
+    ensures { result ≡ fetched_set (ranges_of arguments.now.messages) next_uid }
+{
+    UidSet {
+        last: next_uid.saturating_sub(1),
+        ranges: ranges_of(arguments.messages),
+    }
+}
+
+/// Reads the messages that changed, or returns `None` if one that is named by its number is gone. Reads nothing for
+/// UIDs if HIGHESTMODSEQ isn't greater than `since`.
 fn read_messages(
     alloc: Global,
     messages: &MessageNumbers<'_>,
+    since: Option<u64>,
+    wanted: &Wanted,
+    known: &KnownList,
+    mailbox: &Readable<'_>,
+    sets: bool,
+) -> Result<Option<Reading>, AllocError>
+    requires order { AreRising (row_uids mailbox.now.rows) }
+    requires numbers { AreAtMost mailbox.now.highest mailbox.now.rows }
+    requires few { mailbox.now.own ≤ max_events }
+    requires bounded { mailbox.now.highest ≤ max_number }
+    ensures refused { let rows = mailbox.now.rows in
+        let refused = is_refused (by_uid_in messages.now.numbering) rows in
+        IfOk result (λ r. is_none r ≡ refused (named_in messages.now known.now.list)) }
+    ensures known { UidsRise known.now.list }
+    ensures read { let mailbox = mailbox.now in
+        let named = changed_of since mailbox.rows (named_in messages.now known.now.list) in
+        IfOk result (λ r. IfSome r (IsReading wanted.now sets mailbox named)) }
+{
+    let _count = known.len();
+    if is_by_uid(messages.numbering) && is_up_to_date(since, mailbox.highest) {
+        let reading = Reading::new(alloc, sets, mailbox.highest, mailbox.own);
+        return Ok(Some(reading));
+    }
+    read_named(alloc, messages, since, wanted, known, mailbox, sets)
+}
+
+/// Reads the messages that changed, or returns `None` if one that is named by its number is gone. Tests each known
+/// message between the first and the last of the set.
+fn read_named(
+    alloc: Global,
+    messages: &MessageNumbers<'_>,
+    since: Option<u64>,
     wanted: &Wanted,
     known: &KnownList,
     mailbox: &Readable<'_>,
@@ -273,9 +385,8 @@ fn read_messages(
     ensures refused { let rows = mailbox.now.rows in
         let refused = is_refused (by_uid_in messages.now.numbering) rows in
         IfOk result (λ r. is_none r ≡ refused (named_in messages.now known.now.list)) }
-    ensures known { UidsRise known.now.list }
     ensures read { let mailbox = mailbox.now in
-        let named = named_in messages.now known.now.list in
+        let named = changed_of since mailbox.rows (named_in messages.now known.now.list) in
         IfOk result (λ r. IfSome r (IsReading wanted.now sets mailbox named)) }
 {
     let by_uid = is_by_uid(messages.numbering);
@@ -292,9 +403,41 @@ fn read_messages(
         if refuses(by_uid, &row) {
             return Ok(None);
         }
+        if !is_changed(since, &row) {
+            continue;
+        }
         reading.add_if_there(alloc, wanted, number, &row)?;
     }
     Ok(Some(reading))
+}
+
+/// Whether the message has a mod-sequence greater than `since`, if that is given.
+fn is_changed(since: Option<u64>, row: &Option<Row<'_>>) -> bool
+    ensures { result ≡ changed.is_changed since (option_map row_shown row.now) }
+{
+    match since {
+        Some(since) => is_above(since, row),
+        None => true,
+    }
+}
+
+fn is_above(since: u64, row: &Option<Row<'_>>) -> bool
+    ensures { result ≡ changed.is_changed (Some since) (option_map row_shown row.now) }
+{
+    match row {
+        Some(row) => since < row.number,
+        None => false,
+    }
+}
+
+/// Whether no message can have a mod-sequence greater than `since`, as HIGHESTMODSEQ has none.
+fn is_up_to_date(since: Option<u64>, highest: u64) -> bool
+    ensures { result ≡ changed.is_up_to_date since highest }
+{
+    match since {
+        Some(since) => highest <= since,
+        None => false,
+    }
 }
 
 /// Whether the message is gone, and is named by its number.

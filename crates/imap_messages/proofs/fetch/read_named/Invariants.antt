@@ -1,0 +1,5 @@
+use Rattle.imap_messages.proofs.Named.{IsSoFar}
+use Rattle.imap_messages.proofs.fetch.read_named.Given as goal
+
+abbrev pub invariant-loop-index : goal.invariant-loop-index
+invariant-loop-index l = IsSoFar l.by_uid l.since l.wanted l.sets l.mailbox l.messages.numbering l.messages.last l.messages.ranges.now l.known.list l.index l.reading
