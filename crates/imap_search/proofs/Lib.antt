@@ -4,3 +4,4 @@ pub mod Noted
 pub mod Fitting
 pub mod KeptFolds
 pub mod Looked
+pub mod Spanned

@@ -7,3 +7,4 @@ pub mod KeyFacts
 pub mod Results
 pub mod Folded
 pub mod Shown
+pub mod Span

@@ -12,6 +12,7 @@ mod message_texts;
 mod needles;
 mod results;
 mod search;
+mod span;
 mod texts;
 
 pub use search::{SearchArguments, search_answer};

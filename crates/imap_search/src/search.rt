@@ -8,12 +8,14 @@ ghost use Rattle.imap_mailbox.specs.Order.{AreRowsInOrder};
 ghost use Rattle.imap_print.specs.declared.response.Response.TheVariants as response;
 ghost use Rattle.imap_print.specs.Lines.{IsPrintable};
 ghost use Rattle.imap_search.specs.Search as specs;
+ghost use Rattle.imap_search.specs.Span.{FindsAmong};
 ghost use Rattle.imap_session.specs.State.{selection_of, state_of};
 
 use crate::key::{Candidate, finds_all};
 use crate::key_facts::facts_of;
 use crate::needles::Needles;
 use crate::results::{FoundMessage, results_of};
+use crate::span::span_of_all;
 use imap_answer::{Answer, CommandContext};
 use imap_lex::Octets;
 use imap_mailbox::{Row, Rows};
@@ -44,6 +46,7 @@ impl<'a> Model for SearchArguments<'a> {
     ghost use Rattle.imap_query.specs.contracts.search.SearchKeys.{the_row as keys_row};
     ghost use Rattle.imap_query.specs.Keys.{Token};
     ghost use Rattle.imap_search.specs.Search as specs;
+    ghost use Rattle.imap_search.specs.Span.{FindsAmong};
     ghost use Rattle.imap_syntax.specs.contracts.set.Numbering.{the_row as numbering_row};
     ghost use Rattle.imap_syntax.specs.declared.set.Numbering.{Numbering};
 
@@ -189,7 +192,18 @@ struct Criteria<'a> {
     last_uid: u32,
 }
 
-/// Returns the messages that all keys find, of those that the session knows and that are there. Tests each.
+/// Returns the range of indexes of the known messages that are looked at.
+fn span(criteria: &Criteria<'_>, known: &KnownList) -> (usize, usize)
+    ensures { let c = criteria.now in
+        FindsAmong c.arguments.now c.last c.last_uid known.now.list result.0 result.1 }
+{
+    let arguments = criteria.arguments;
+    let keys = arguments.keys;
+    span_of_all(criteria.last, criteria.last_uid, keys.as_slice(), known)
+}
+
+/// Returns the messages that all keys find, of those that the session knows and that are there. Tests each of those
+/// among which the sets stand in which a message has to be.
 fn find(
     alloc: Global,
     arguments: &SearchArguments<'_>,
@@ -208,7 +222,8 @@ fn find(
     let mut found = Vec::new(alloc);
     let mut needles = Needles::new(alloc);
     let mut finder = RowFinder::start();
-    for place in 0..known.len() {
+    let (start, end) = span(&criteria, known);
+    for place in start..end {
         look_at(
             &mut found,
             &mut needles,
