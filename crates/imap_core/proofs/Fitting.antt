@@ -6,11 +6,9 @@ use Rattle.std.proofs.lemmas.List.Folds.{list_any-append}
 use Rattle.std.proofs.lemmas.Bool.{leb-false}
 use Rattle.std.specs.List.{list_any}
 use Rattle.std.specs.FinMap as map
-use Rattle.imap_answer.specs.Answer.{Answer, carried_out, done, done_line, followed_by, lines_of, nothing_enabled, preceded_by, refusal, refused_line}
+use Rattle.imap_answer.specs.Answer.{Answer, carried_out, done, done_line, followed_by, lines_of, nothing_enabled, preceded_by, refusal}
 use Rattle.imap_answer.specs.Fit.{IsFit, IsViewed, MayBeAsked, is_refusal, is_unavailable}
 use Rattle.imap_answer.proofs.Fits.{fits_alone, fits_enabling, fits_followed, fits_preceded}
-use Rattle.imap_answer.specs.Name.{name_of_text}
-use Rattle.imap_answer.specs.Access.{missing_right_refusal}
 use Rattle.imap_commands.specs.declared.request.Request.{Request}
 use Rattle.imap_commands.specs.declared.request.Request.TheVariants as request
 use Rattle.imap_commands.specs.declared.command.Command.{Command}
@@ -30,17 +28,15 @@ use Rattle.imap_print.specs.declared.response.Farewell.TheVariants.{LimitReached
 use Rattle.imap_print.specs.declared.response.Response.{Response}
 use Rattle.imap_print.specs.declared.response.Response.TheVariants as response
 use Rattle.imap_session.specs.Lost.{is_lost}
-use Rattle.imap_session.specs.Select.{closed_line, mailbox_lines, mode, refused_selecting, rights_to_change, select_answer, select_if_named, select_if_readable, selected_as}
+use Rattle.imap_session.specs.declared.select.Selecting.{Selecting}
+use Rattle.imap_resync.proofs.Fitting as resync
+use Rattle.imap_resync.specs.Select.{is_malformed, select_with_parameters}
 use Rattle.imap_session.specs.State.{Selection, SessionState, selected_name}
 use Rattle.imap_tree.proofs.Fitting as tree
-use Rattle.imap_names.specs.Name.{Name}
-use Rattle.imap_print.specs.declared.response.Refusal.{Refusal}
-use Rattle.imap_print.specs.declared.response.Refusal.TheVariants.{Cannot, NonExistent, NoPerm, WrongState}
-use Rattle.imap_rights.specs.Rights.{has_any, lookup}
+use Rattle.imap_print.specs.declared.response.Refusal.TheVariants.{Malformed, WrongState}
 use Rattle.imap_commands.specs.declared.commands.select.SelectParameters.{SelectParameters}
 use Rattle.imap_view.specs.declared.readable.Readable.{Readable}
-use Rattle.imap_view.specs.Readable.{readable_in}
-use Rattle.imap_view.specs.View.{View, rights_in}
+use Rattle.imap_view.specs.View.{View}
 use Rattle.imap_core.specs.declared.idling.Idling.{Idling}
 use Rattle.imap_core.specs.declared.idling.Idling.TheVariants as idling
 use Rattle.imap_core.specs.declared.sessions.SessionEffect.{SessionEffect}
@@ -55,7 +51,7 @@ use Rattle.imap_core.specs.Commands.Session.{enabled_by_names, named_by}
 use Rattle.imap_core.specs.Laws.{is_idling, is_line, selects}
 use Rattle.imap_core.specs.Notices.{idle_lines, idle_telling, mailbox_after, mailbox_left, may_tell_expunges, notice_lines, notice_options, notice_telling, options_after, selected_mailbox}
 use Rattle.imap_core.specs.Answers.{command_answer}
-use Rattle.imap_core.specs.Reply.{command_outcome, enables_nothing, has_parameters, highest_line, idle_outcome, if_selected, kept, newly_enables_condstore, noting, opened, outcome_of_answer, outcome_of_selecting, reply_by_idle, reply_by_session, reply_when_closed, reply_when_open, request_outcome}
+use Rattle.imap_core.specs.Reply.{command_outcome, enables_nothing, highest_line, idle_outcome, if_selected, kept, newly_enables_condstore, noting, opened, outcome_of_answer, outcome_of_selecting, reply_by_idle, reply_by_session, reply_when_closed, reply_when_open, request_outcome}
 use Rattle.imap_core.specs.Reply.{select_outcome, unless_lost, unselect_outcome, close_outcome, with_notices}
 use Rattle.imap_core.proofs.Noticed.{no_line_refuses}
 use Rattle.imap_session.specs.Telling.{Telling}
@@ -80,7 +76,7 @@ pub record BreaksIdle (own : Option Own) (number : ℕ) (what : Act) (effect : S
 -- nothing is asked for; and the session notes what it is told, has no mailbox selected after SELECT or EXAMINE, or
 -- idles no more
 pub record IsRefused (own : Option Own) (number : ℕ) (what : Act) (outcome : Outcome) : Type 0 where
-  pub session : OnlyNotes outcome.session ⊎ (((selects what ≡ true) × (outcome.session ≡ session.Select None)) ⊎ BreaksIdle own number what outcome.session)
+  pub session : OnlyNotes outcome.session ⊎ (((selects what ≡ true) × (outcome.session ≡ session.Select nothing_enabled None)) ⊎ BreaksIdle own number what outcome.session)
   pub effect : outcome.effect ≡ None
 
 pub record Fits (view : View) (own : Option Own) (number : ℕ) (what : Act) (outcome : Outcome) : Type 0 where
@@ -97,9 +93,9 @@ room_to_note : (own : Option Own) (number : ℕ) (more : EnabledCapabilities) (t
 room_to_note None number more told = tt
 room_to_note (Some own) number more told = tt
 
-room_to_select : (own : Option Own) (number : ℕ) (selection : Option Selection) → MayOpen own number (session.Select selection)
-room_to_select None number selection = tt
-room_to_select (Some own) number selection = tt
+room_to_select : (own : Option Own) (number : ℕ) (more : EnabledCapabilities) (selection : Option Selection) → MayOpen own number (session.Select more selection)
+room_to_select None number more selection = tt
+room_to_select (Some own) number more selection = tt
 
 room_to_idle : (own : Option Own) (number : ℕ) (tag : Option (List ℕ)) (told : Option Telling) → MayOpen own number (session.Idle tag told)
 room_to_idle None number tag told = tt
@@ -222,10 +218,10 @@ module _ (view : View) (own : Option Own) (number : ℕ) (what : Act) where
 
   -- ---- mailboxes that are selected
 
-  selects_nothing : (answer : Answer) → IsFit view answer → list_any is_refusal (lines_of answer) ≡ false → Fits view own number what (answered answer (session.Select None))
+  selects_nothing : (answer : Answer) → IsFit view answer → list_any is_refusal (lines_of answer) ≡ false → Fits view own number what (answered answer (session.Select nothing_enabled None))
   selects_nothing answer fit carried_out = record {
     asks = fit.asks;
-    room = room_to_select own number None;
+    room = room_to_select own number nothing_enabled None;
     refused = λ e. absurd (true≢false (sym e ∙ carried_out));
     available = fit.available;
   }
@@ -234,55 +230,29 @@ module _ (view : View) (own : Option Own) (number : ℕ) (what : Act) where
   selected_fits active tag outcome fit None = kept_fits (refusal tag WrongState) (fits_alone view _ _ refl)
   selected_fits active tag outcome fit (Some s) = fit
 
-  module _ (asked : selects what ≡ true) (active : SessionState) (tag : List ℕ) (read_only : Bool) where
-    selecting_fits : (name : Name) (mailbox : Readable) (old : Option Selection) → Fits view own number what
-        (answered (preceded_by (closed_line old) (carried_out (mailbox_lines view name (rights_to_change read_only (rights_in view name)) mailbox) tag (Some (mode read_only (rights_in view name))) None))
-        (session.Select (Some (selected_as name read_only mailbox))))
-    selecting_fits name mailbox None = record {
-      asks = λ _. tt;
-      room = room_to_select own number _;
-      refused = λ e. absurd (true≢false (sym e));
-      available = refl;
-    }
-    selecting_fits name mailbox (Some s) = record {
-      asks = λ _. tt;
-      room = room_to_select own number _;
-      refused = λ e. absurd (true≢false (sym e));
-      available = refl;
-    }
+  selecting_fits : selects what ≡ true → (selecting : Selecting) → IsFit view selecting.answer
+      → (list_any is_refusal (lines_of selecting.answer) ≡ true → selecting.selection ≡ None) → Fits view own number what (outcome_of_selecting selecting)
+  selecting_fits asked selecting fit none = record {
+    asks = fit.asks;
+    room = room_to_select own number selecting.answer.enables selecting.selection;
+    refused = λ e. record {
+      session = inr (inl (asked, λ i. session.Select ((fit.refused e).1 i) (none e i)));
+      effect = (fit.refused e).0;
+    };
+    available = fit.available;
+  }
 
-    refused_fits : (reason : Refusal) → is_unavailable (refused_line tag reason) ≡ false → (old : Option Selection) → Fits view own number what (answered (preceded_by (closed_line old) (refusal tag reason)) (session.Select None))
-    refused_fits reason available None = record {
-      asks = λ _. tt;
-      room = room_to_select own number None;
-      refused = λ e. record { session = inr (inl (asked, refl)); effect = refl };
-      available = ap (λ b. b || false) available;
-    }
-    refused_fits reason available (Some s) = record {
-      asks = λ _. tt;
-      room = room_to_select own number None;
-      refused = λ e. record { session = inr (inl (asked, refl)); effect = refl };
-      available = ap (λ b. b || false) available;
-    }
+  select_fits : selects what ≡ true → (active : SessionState) (tag : List ℕ) (read_only : Bool) (mailbox : List ℕ) (parameters : SelectParameters)
+      → Fits view own number what (select_outcome view active tag read_only mailbox parameters)
+  select_fits asked active tag read_only mailbox parameters = by (is_malformed active.enabled parameters)
+    where
+      selecting : Selecting
+      selecting = select_with_parameters view active tag read_only mailbox parameters
 
-    missing_is_available : (held : Bool) → is_unavailable (refused_line tag (cond held NoPerm NonExistent)) ≡ false
-    missing_is_available true = refl
-    missing_is_available false = refl
-
-    readable_fits : (name : Name) (mailbox : Option Readable) → Fits view own number what (outcome_of_selecting (select_if_readable view active tag read_only name mailbox))
-    readable_fits name None = refused_fits (missing_right_refusal (rights_in view name)) (missing_is_available (has_any (rights_in view name) lookup)) active.selected
-    readable_fits name (Some mailbox) = selecting_fits name mailbox active.selected
-
-    named_fits : (name : Option Name) → Fits view own number what (outcome_of_selecting (select_if_named view active tag read_only name))
-    named_fits None = refused_fits NonExistent refl active.selected
-    named_fits (Some name) = readable_fits name (readable_in view name)
-
-    select_by : (mailbox : List ℕ) (parameters : Bool) → Fits view own number what (outcome_of_selecting (cond parameters (refused_selecting active tag Cannot) (select_answer view active tag read_only mailbox)))
-    select_by mailbox true = refused_fits Cannot refl active.selected
-    select_by mailbox false = named_fits (name_of_text view mailbox)
-
-    select_fits : (mailbox : List ℕ) (parameters : SelectParameters) → Fits view own number what (select_outcome view active tag read_only mailbox parameters)
-    select_fits mailbox parameters = select_by mailbox (has_parameters parameters)
+      by : (b : Bool) → Fits view own number what (cond b (kept (refusal tag Malformed)) (outcome_of_selecting selecting))
+      by true = kept_fits (refusal tag Malformed) (fits_alone view _ _ refl)
+      by false = selecting_fits asked selecting (resync.select_fits view active tag read_only mailbox parameters)
+          (resync.refused_selects_none view active tag read_only mailbox parameters)
 
 -- ---- commands
 
@@ -329,7 +299,7 @@ module _ (view : View) (own : Option Own) (number : ℕ) where
   close_fits : (what : Act) (tag : List ℕ) (active : SessionState) → Fits view own number what (close_outcome view active tag)
   close_fits what tag active = by active.selected refl
     where
-      by : (selected : Option Selection) → active.selected ≡ selected → Fits view own number what (if_selected selected tag (answered (close_answer view active tag) (session.Select None)))
+      by : (selected : Option Selection) → active.selected ≡ selected → Fits view own number what (if_selected selected tag (answered (close_answer view active tag) (session.Select nothing_enabled None)))
       by None is = selected_fits view own number what active tag (said [] session.Keep) (says view own number what [] refl) None
       by (Some s) is = selects_nothing view own number what (close_answer view active tag) (changes.close_fits view active tag) (ap (λ (o : Option Selection). list_any is_refusal (lines_of (close_if_selected view tag o))) is)
 

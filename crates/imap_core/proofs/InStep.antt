@@ -18,7 +18,8 @@ use Rattle.imap_session.proofs.Applying.{changes_are_applied}
 use Rattle.imap_session.proofs.Kept.{told_is_brought}
 use Rattle.imap_session.specs.declared.options.NoticeOptions.{NoticeOptions}
 use Rattle.imap_session.specs.Lost.{has_other_validity, is_lost, is_lost_selection}
-use Rattle.imap_session.specs.Select.{refused_selecting, select_answer, select_if_named, select_if_readable, selected_as}
+use Rattle.imap_resync.specs.Select.{is_malformed, lines_if_asked, select_with_parameters, with_lines}
+use Rattle.imap_session.specs.Select.{select_if_named, select_if_readable, selected_as}
 use Rattle.imap_session.specs.Compared.{known_after}
 use Rattle.imap_session.specs.State.{Selection, SessionState, new_session, with_telling}
 use Rattle.imap_session.specs.Telling.{Telling, difference, is_empty, known_with}
@@ -49,7 +50,7 @@ use Rattle.imap_core.specs.Machine.{accounts_after, outcome, outcome_for, own_in
 use Rattle.imap_core.specs.Outcome.{Outcome, answered, said}
 use Rattle.imap_changes.specs.Expunge.{close_answer}
 use Rattle.imap_core.specs.Answers.{command_answer}
-use Rattle.imap_core.specs.Reply.{command_outcome, enables_nothing, has_parameters, highest_line, idle_outcome, if_selected, newly_enables_condstore, noting, opened, outcome_of_answer, outcome_of_selecting, reply_by_idle, reply_by_session}
+use Rattle.imap_core.specs.Reply.{command_outcome, enables_nothing, highest_line, idle_outcome, if_selected, newly_enables_condstore, noting, opened, outcome_of_answer, outcome_of_selecting, reply_by_idle, reply_by_session}
 use Rattle.imap_core.specs.Reply.{reply_when_closed, reply_when_open, request_outcome, select_outcome, unless_lost, unselect_outcome, close_outcome, with_notices}
 use Rattle.imap_core.proofs.Fitting.{command_fits, highest_fits}
 use Rattle.imap_world.proofs.Growing.{messages_grow}
@@ -66,7 +67,7 @@ use Rattle.imap_answer.specs.Fit.{IsFit}
 use Rattle.imap_answer.specs.Name.{name_of_text}
 use Rattle.imap_print.specs.declared.enabled.EnabledCapabilities.{EnabledCapabilities}
 use Rattle.imap_print.specs.declared.response.Farewell.TheVariants.{LimitReached}
-use Rattle.imap_print.specs.declared.response.Refusal.TheVariants.{Cannot, Limit, Malformed, WrongState}
+use Rattle.imap_print.specs.declared.response.Refusal.TheVariants.{Limit, Malformed, WrongState}
 use Rattle.imap_print.specs.declared.response.Response.{Response}
 use Rattle.imap_print.specs.declared.response.Response.TheVariants as response
 use Rattle.imap_core.specs.Sessions.{Own, edited, edited_if_open, max_sessions, own_with}
@@ -174,7 +175,7 @@ abbrev pub session_with : SessionEffect → Option SessionState → Option Sessi
 session_with session.Keep own = own
 session_with session.Open own = Some new_session
 session_with (session.Note more told) own = option_map (edited (session.Note more told)) own
-session_with (session.Select selection) own = option_map (edited (session.Select selection)) own
+session_with (session.Select more selection) own = option_map (edited (session.Select more selection)) own
 session_with (session.Idle tag told) own = option_map (edited (session.Idle tag told)) own
 session_with session.End own = None
 
@@ -192,7 +193,7 @@ own_there : (own : Own) (number : ℕ) (change : SessionEffect) → map.get (own
 own_there own number session.Keep = refl
 own_there own number session.Open = put_there own number new_session
 own_there own number (session.Note more told) = edited_there own number (session.Note more told) (map.get own number) refl
-own_there own number (session.Select selection) = edited_there own number (session.Select selection) (map.get own number) refl
+own_there own number (session.Select more selection) = edited_there own number (session.Select more selection) (map.get own number) refl
 own_there own number (session.Idle tag told) = edited_there own number (session.Idle tag told) (map.get own number) refl
 own_there own number session.End = get-remove nat_cmp_total own number number ∙ ap (λ b. cond b None (map.get own number)) (at_number number number ∙ same_number number)
 
@@ -248,10 +249,10 @@ module _ (world : World) (user : List ℕ) where
   closes : (own : Option SessionState) → StaysInStep world user session.End own
   closes own after is = absurd (cc is)
 
-  selects : (selection : Option Selection) → IsInStep world user selection → (own : Option SessionState) → StaysInStep world user (session.Select selection) own
-  selects selection h None after is = absurd (cc is)
-  selects selection h (Some own) after is =
-      subst (λ (state : SessionState). IsInStep world user state.selected) (some_same (edited (session.Select selection) own) after is) h
+  selects : (more : EnabledCapabilities) (selection : Option Selection) → IsInStep world user selection → (own : Option SessionState) → StaysInStep world user (session.Select more selection) own
+  selects more selection h None after is = absurd (cc is)
+  selects more selection h (Some own) after is =
+      subst (λ (state : SessionState). IsInStep world user state.selected) (some_same (edited (session.Select more selection) own) after is) h
 
   module _ (own : SessionState) where
     stays_there : IsInStep world user own.selected → StaysInStep world user session.Keep (Some own)
@@ -350,38 +351,45 @@ module _ (site : Site) (user : List ℕ) (world : World) (sound : IsSound world)
 
     -- ---- mailboxes that are selected
 
-    selects_none : (answer : Answer) → Keeps (Some own) (answered answer (session.Select None))
-    selects_none answer = selects (after_all (effects_of answer.effect) world) user None tt (Some own)
+    selects_none : (answer : Answer) (more : EnabledCapabilities) → Keeps (Some own) (answered answer (session.Select more None))
+    selects_none answer more = selects (after_all (effects_of answer.effect) world) user more None tt (Some own)
 
-    selecting_keeps : (tag : List ℕ) (read_only : Bool) (name : Name) (found : Option Readable) → readable_in seen name ≡ found → Keeps (Some own) (outcome_of_selecting (select_if_readable seen own tag read_only name found))
-    selecting_keeps tag read_only name None is = selects_none ((select_if_readable seen own tag read_only name None).answer)
-    selecting_keeps tag read_only name (Some mailbox) is =
-        selects world user (Some (selected_as name read_only mailbox)) (selects_in_step site user world kept sound name read_only mailbox is) (Some own)
+    module _ (parameters : SelectParameters) (lines : List Response) (tag : List ℕ) (read_only : Bool) where
+      selecting_keeps : (name : Name) (found : Option Readable) → readable_in seen name ≡ found
+          → Keeps (Some own) (outcome_of_selecting (with_lines parameters lines (select_if_readable seen own tag read_only name found)))
+      selecting_keeps name None is =
+          let answer = (with_lines parameters lines (select_if_readable seen own tag read_only name None)).answer in
+          selects_none answer answer.enables
+      selecting_keeps name (Some mailbox) is =
+          let answer = (with_lines parameters lines (select_if_readable seen own tag read_only name (Some mailbox))).answer in
+          selects world user answer.enables (Some (selected_as name read_only mailbox)) (selects_in_step site user world kept sound name read_only mailbox is) (Some own)
 
-    named_keeps : (tag : List ℕ) (read_only : Bool) (name : Option Name) → Keeps (Some own) (outcome_of_selecting (select_if_named seen own tag read_only name))
-    named_keeps tag read_only None = selects_none ((select_if_named seen own tag read_only None).answer)
-    named_keeps tag read_only (Some name) = selecting_keeps tag read_only name (readable_in seen name) refl
+      named_keeps : (name : Option Name) → Keeps (Some own) (outcome_of_selecting (with_lines parameters lines (select_if_named seen own tag read_only name)))
+      named_keeps None =
+          let answer = (with_lines parameters lines (select_if_named seen own tag read_only None)).answer in
+          selects_none answer answer.enables
+      named_keeps (Some name) = selecting_keeps name (readable_in seen name) refl
 
     select_keeps : (tag : List ℕ) (read_only : Bool) (mailbox : List ℕ) (parameters : SelectParameters) → Keeps (Some own) (select_outcome seen own tag read_only mailbox parameters)
-    select_keeps tag read_only mailbox parameters = by (has_parameters parameters)
+    select_keeps tag read_only mailbox parameters = by (is_malformed own.enabled parameters)
       where
-        by : (b : Bool) → Keeps (Some own) (outcome_of_selecting (cond b (refused_selecting own tag Cannot) (select_answer seen own tag read_only mailbox)))
-        by true = selects_none ((refused_selecting own tag Cannot).answer)
-        by false = named_keeps tag read_only (name_of_text seen mailbox)
+        by : (b : Bool) → Keeps (Some own) (cond b (answered (refusal tag Malformed) session.Keep) (outcome_of_selecting (select_with_parameters seen own tag read_only mailbox parameters)))
+        by true = keeps (refusal tag Malformed)
+        by false = named_keeps parameters (lines_if_asked seen mailbox parameters.qresync) tag read_only (name_of_text seen mailbox)
 
     unselect_keeps : (tag : List ℕ) → Keeps (Some own) (unselect_outcome own tag)
     unselect_keeps tag = by own.selected
       where
-        by : (selected : Option Selection) → Keeps (Some own) (if_selected selected tag (answered (done tag) (session.Select None)))
+        by : (selected : Option Selection) → Keeps (Some own) (if_selected selected tag (answered (done tag) (session.Select nothing_enabled None)))
         by None = keeps (refusal tag WrongState)
-        by (Some s) = selects_none (done tag)
+        by (Some s) = selects_none (done tag) nothing_enabled
 
     close_keeps : (tag : List ℕ) → Keeps (Some own) (close_outcome seen own tag)
     close_keeps tag = by own.selected
       where
-        by : (selected : Option Selection) → Keeps (Some own) (if_selected selected tag (answered (close_answer seen own tag) (session.Select None)))
+        by : (selected : Option Selection) → Keeps (Some own) (if_selected selected tag (answered (close_answer seen own tag) (session.Select nothing_enabled None)))
         by None = keeps (refusal tag WrongState)
-        by (Some s) = selects_none (close_answer seen own tag)
+        by (Some s) = selects_none (close_answer seen own tag) nothing_enabled
 
     -- ---- commands and acts
 

@@ -5,7 +5,7 @@ use Rattle.std.specs.Prelude.{option_and_then}
 use Rattle.std.proofs.lemmas.List.Folds.{list_any-append}
 use Rattle.std.specs.FinMap as map
 use Rattle.imap_answer.specs.Alike.{view_after_asking}
-use Rattle.imap_answer.specs.Answer.{Answer, done, nothing_enabled}
+use Rattle.imap_answer.specs.Answer.{Answer, done, nothing_enabled, refusal}
 use Rattle.imap_answer.specs.Name.{name_of_text}
 use Rattle.imap_changes.specs.Expunge.{close_answer}
 use Rattle.imap_commands.specs.declared.command.Command.{Command}
@@ -15,12 +15,13 @@ use Rattle.imap_commands.specs.declared.request.Request.TheVariants as request
 use Rattle.imap_mailbox.specs.Brought.{told_of}
 use Rattle.imap_names.specs.Name.{Name}
 use Rattle.imap_print.specs.declared.enabled.EnabledCapabilities.{EnabledCapabilities}
-use Rattle.imap_print.specs.declared.response.Refusal.TheVariants.{Cannot}
+use Rattle.imap_print.specs.declared.response.Refusal.TheVariants.{Malformed}
 use Rattle.imap_print.specs.declared.response.Response.{Response}
 use Rattle.imap_session.proofs.AfterNotices.{notices_tell_selection}
 use Rattle.imap_session.specs.declared.options.NoticeOptions.{NoticeOptions}
 use Rattle.imap_session.specs.Lost.{has_other_validity, is_lost, is_lost_selection}
-use Rattle.imap_session.specs.Select.{refused_selecting, select_answer, select_if_named, select_if_readable, selected_as}
+use Rattle.imap_resync.specs.Select.{is_malformed, lines_if_asked, select_with_parameters, with_lines}
+use Rattle.imap_session.specs.Select.{select_if_named, select_if_readable, selected_as}
 use Rattle.imap_session.specs.State.{Selection, SessionState}
 use Rattle.imap_session.specs.Telling.{Telling}
 use Rattle.imap_session.specs.Told.{selection_after, selection_telling}
@@ -38,7 +39,7 @@ use Rattle.imap_core.specs.Machine.{next, outcome, own_in, view_in}
 use Rattle.imap_core.specs.Notices.{idle_telling, is_bad, mailbox_after, mailbox_left, may_tell_expunges, notice_lines, notice_options, notice_telling, options_after, selected_mailbox}
 use Rattle.imap_core.specs.Outcome.{Outcome, answered}
 use Rattle.imap_core.specs.Answers.{command_answer}
-use Rattle.imap_core.specs.Reply.{command_outcome, enables_nothing, has_parameters, idle_outcome, if_selected, noting, outcome_of_answer, outcome_of_selecting, reply_by_idle, reply_by_session, reply_when_open, select_outcome, unless_lost, with_highest, with_notices}
+use Rattle.imap_core.specs.Reply.{command_outcome, enables_nothing, idle_outcome, if_selected, kept, noting, outcome_of_answer, outcome_of_selecting, reply_by_idle, reply_by_session, reply_when_open, select_outcome, unless_lost, with_highest, with_notices}
 use Rattle.imap_core.specs.Sessions.{Own, edited}
 use Rattle.imap_core.proofs.InStep.{session_there, session_with, some_same, told_selection}
 use Rattle.imap_core.proofs.Preparing.{outcome_known}
@@ -133,14 +134,14 @@ module _ (view : View) (own : SessionState) where
 
   -- ---- mailboxes that are selected
 
-  selects_none : (answer : Answer) → Knows view own (answered answer (session.Select None))
-  selects_none answer after is s mailbox selected left = absurd (cc (ap (λ (state : SessionState). state.selected) (some_same (edited (session.Select None) own) after is) ∙ selected))
+  selects_none : (answer : Answer) (more : EnabledCapabilities) → Knows view own (answered answer (session.Select more None))
+  selects_none answer more after is s mailbox selected left = absurd (cc (ap (λ (state : SessionState). state.selected) (some_same (edited (session.Select more None) own) after is) ∙ selected))
 
-  selected_knows : (name : Name) (read_only : Bool) (mailbox : Readable) → readable_in view name ≡ Some mailbox → (after : SessionState)
-      → session_with (session.Select (Some (selected_as name read_only mailbox))) (Some own) ≡ Some after → KnowsMessages view after
-  selected_knows name read_only mailbox readable after is s found selected left =
+  selected_knows : (more : EnabledCapabilities) (name : Name) (read_only : Bool) (mailbox : Readable) → readable_in view name ≡ Some mailbox → (after : SessionState)
+      → session_with (session.Select more (Some (selected_as name read_only mailbox))) (Some own) ≡ Some after → KnowsMessages view after
+  selected_knows more name read_only mailbox readable after is s found selected left =
       let new : Selection = selected_as name read_only mailbox in
-      let same : new ≡ s = some_same new s (ap (λ (state : SessionState). state.selected) (some_same (edited (session.Select (Some new)) own) after is) ∙ selected) in
+      let same : new ≡ s = some_same new s (ap (λ (state : SessionState). state.selected) (some_same (edited (session.Select more (Some new)) own) after is) ∙ selected) in
       let there : left_of view (Some new) ≡ Some found = ap (λ s. left_of view (Some s)) same ∙ ap (left_of view) (sym selected) ∙ left in
       let one : mailbox ≡ found = by (has_other_validity new.validity (Some mailbox)) (sym (ap (λ o. cond (has_other_validity new.validity o) None o) readable) ∙ there) in
       ap (λ (s : Selection). s.known) (sym same) ∙ ap (λ (r : Readable). map_list told_of r.rows) one
@@ -149,32 +150,45 @@ module _ (view : View) (own : SessionState) where
       by true e = absurd (cc e)
       by {r} false e = some_same mailbox r e
 
-  readable_knows : (tag : List ℕ) (read_only : Bool) (name : Name) (found : Option Readable) → readable_in view name ≡ found → Knows view own (outcome_of_selecting (select_if_readable view own tag read_only name found))
-  readable_knows tag read_only name None readable = selects_none ((select_if_readable view own tag read_only name None).answer)
-  readable_knows tag read_only name (Some mailbox) readable = selected_knows name read_only mailbox readable
+  module _ (parameters : SelectParameters) (lines : List Response) (tag : List ℕ) (read_only : Bool) where
+    readable_knows : (name : Name) (found : Option Readable) → readable_in view name ≡ found
+        → Knows view own (outcome_of_selecting (with_lines parameters lines (select_if_readable view own tag read_only name found)))
+    readable_knows name None readable =
+        let answer = (with_lines parameters lines (select_if_readable view own tag read_only name None)).answer in
+        selects_none answer answer.enables
+    readable_knows name (Some mailbox) readable =
+        let answer = (with_lines parameters lines (select_if_readable view own tag read_only name (Some mailbox))).answer in
+        selected_knows answer.enables name read_only mailbox readable
 
-  named_knows : (tag : List ℕ) (read_only : Bool) (name : Option Name) → Knows view own (outcome_of_selecting (select_if_named view own tag read_only name))
-  named_knows tag read_only None = selects_none ((select_if_named view own tag read_only None).answer)
-  named_knows tag read_only (Some name) = readable_knows tag read_only name (readable_in view name) refl
+    named_knows : (name : Option Name) → Knows view own (outcome_of_selecting (with_lines parameters lines (select_if_named view own tag read_only name)))
+    named_knows None =
+        let answer = (with_lines parameters lines (select_if_named view own tag read_only None)).answer in
+        selects_none answer answer.enables
+    named_knows (Some name) = readable_knows name (readable_in view name) refl
 
-  select_knows : (tag : List ℕ) (read_only : Bool) (mailbox : List ℕ) (parameters : SelectParameters) → Knows view own (select_outcome view own tag read_only mailbox parameters)
-  select_knows tag read_only mailbox parameters = by (has_parameters parameters)
+  -- where QRESYNC isn't enabled, it is BAD
+  select_knows : (tag : List ℕ) (read_only : Bool) (mailbox : List ℕ) (parameters : SelectParameters) → list_any is_bad (select_outcome view own tag read_only mailbox parameters).replies ≡ false
+      → Knows view own (select_outcome view own tag read_only mailbox parameters)
+  select_knows tag read_only mailbox parameters = by (is_malformed own.enabled parameters)
     where
-      by : (b : Bool) → Knows view own (outcome_of_selecting (cond b (refused_selecting own tag Cannot) (select_answer view own tag read_only mailbox)))
-      by true = selects_none ((refused_selecting own tag Cannot).answer)
-      by false = named_knows tag read_only (name_of_text view mailbox)
+      outcome : Bool → Outcome
+      outcome b = cond b (kept (refusal tag Malformed)) (outcome_of_selecting (select_with_parameters view own tag read_only mailbox parameters))
+
+      by : (b : Bool) → list_any is_bad (outcome b).replies ≡ false → Knows view own (outcome b)
+      by true good = absurd (cc good)
+      by false good = named_knows parameters (lines_if_asked view mailbox parameters.qresync) tag read_only (name_of_text view mailbox)
 
   -- where no mailbox is selected, it is BAD
-  closes : (tag : List ℕ) (answer : Answer) (selected : Option Selection) → list_any is_bad (if_selected selected tag (answered answer (session.Select None))).replies ≡ false → Knows view own (if_selected selected tag (answered answer (session.Select None)))
+  closes : (tag : List ℕ) (answer : Answer) (selected : Option Selection) → list_any is_bad (if_selected selected tag (answered answer (session.Select nothing_enabled None))).replies ≡ false → Knows view own (if_selected selected tag (answered answer (session.Select nothing_enabled None)))
   closes tag answer None good = absurd (cc good)
-  closes tag answer (Some s) good = selects_none answer
+  closes tag answer (Some s) good = selects_none answer nothing_enabled
 
   -- ---- commands and acts
 
   command_knows : (tag : List ℕ) (at : Moment) (asked : Command) → may_tell_expunges asked ≡ true → list_any is_bad (command_outcome view own tag at asked).replies ≡ false → Knows view own (command_outcome view own tag at asked)
   command_knows tag at command.Logout may good = λ after is. absurd (cc is)
-  command_knows tag at (command.Select mailbox parameters) may good = select_knows tag false mailbox parameters
-  command_knows tag at (command.Examine mailbox parameters) may good = select_knows tag true mailbox parameters
+  command_knows tag at (command.Select mailbox parameters) may good = select_knows tag false mailbox parameters good
+  command_knows tag at (command.Examine mailbox parameters) may good = select_knows tag true mailbox parameters good
   command_knows tag at command.Close may good = closes tag (close_answer view own tag) own.selected good
   command_knows tag at command.Unselect may good = closes tag (done tag) own.selected good
   command_knows tag at command.Idle may good = idle_knows (idling.Begins tag)

@@ -71,7 +71,7 @@ other_number None changed number change apart = refl
 other_number (Some own) changed number session.Keep apart = refl
 other_number (Some own) changed number session.Open apart = put_elsewhere own changed number new_session apart
 other_number (Some own) changed number (session.Note more told) apart = edited_elsewhere own changed number (session.Note more told) (map.get own changed) apart
-other_number (Some own) changed number (session.Select selection) apart = edited_elsewhere own changed number (session.Select selection) (map.get own changed) apart
+other_number (Some own) changed number (session.Select more selection) apart = edited_elsewhere own changed number (session.Select more selection) (map.get own changed) apart
 other_number (Some own) changed number (session.Idle tag told) apart = edited_elsewhere own changed number (session.Idle tag told) (map.get own changed) apart
 other_number (Some own) changed number session.End apart =
     get-remove nat_cmp_total own changed number ∙ ap (λ b. cond b None (map.get own number)) (apart_from changed number apart)
@@ -137,10 +137,10 @@ refusals_change state step refused = by fits.session
     by_told (Some told) is = inr (inl (record { told = told; is = made (session.Note nothing_enabled (Some told)) is }))
 
     by : OnlyNotes (outcome state step).session
-        ⊎ (((selects step.act ≡ true) × ((outcome state step).session ≡ session.Select None)) ⊎ BreaksIdle (own_in state step.who.user) step.who.number step.act (outcome state step).session)
+        ⊎ (((selects step.act ≡ true) × ((outcome state step).session ≡ session.Select nothing_enabled None)) ⊎ BreaksIdle (own_in state step.who.user) step.who.number step.act (outcome state step).session)
         → Left
     by (inl notes) = by_told notes.told notes.is
-    by (inr (inl closed)) = inr (inr (inl (closed.0, made (session.Select None) closed.1)))
+    by (inr (inl closed)) = inr (inr (inl (closed.0, made (session.Select nothing_enabled None) closed.1)))
     by (inr (inr broken)) = inr (inr (inr (record { idles = broken.idles; line = broken.line; is = made (session.Idle None None) broken.is })))
 
 pub available : NeverUnavailable

@@ -77,7 +77,7 @@ pub accounts_after_here : (accounts : Accounts) (who : SessionId) (effect : Sess
 accounts_after_here accounts who session.Keep own is = kept_here accounts who own is
 accounts_after_here accounts who session.Open own is = accounts_with_here accounts who session.Open own is
 accounts_after_here accounts who (session.Note more told) own is = accounts_with_here accounts who (session.Note more told) own is
-accounts_after_here accounts who (session.Select selection) own is = accounts_with_here accounts who (session.Select selection) own is
+accounts_after_here accounts who (session.Select more selection) own is = accounts_with_here accounts who (session.Select more selection) own is
 accounts_after_here accounts who (session.Idle tag told) own is = accounts_with_here accounts who (session.Idle tag told) own is
 accounts_after_here accounts who session.End own is = accounts_with_here accounts who session.End own is
 
@@ -88,7 +88,7 @@ pub accounts_after_there : (accounts : Accounts) (who : SessionId) (other : List
 accounts_after_there accounts who other session.Keep apart = refl
 accounts_after_there accounts who other session.Open apart = accounts_with_there accounts who other session.Open apart
 accounts_after_there accounts who other (session.Note more told) apart = accounts_with_there accounts who other (session.Note more told) apart
-accounts_after_there accounts who other (session.Select selection) apart = accounts_with_there accounts who other (session.Select selection) apart
+accounts_after_there accounts who other (session.Select more selection) apart = accounts_with_there accounts who other (session.Select more selection) apart
 accounts_after_there accounts who other (session.Idle tag told) apart = accounts_with_there accounts who other (session.Idle tag told) apart
 accounts_after_there accounts who other session.End apart = accounts_with_there accounts who other session.End apart
 

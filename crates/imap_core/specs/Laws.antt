@@ -76,7 +76,7 @@ abbrev pub unselected : State → SessionId → State
 unselected state who = record {
   site = state.site;
   world = state.world;
-  accounts = accounts_with state.accounts who (session.Select None);
+  accounts = accounts_with state.accounts who (session.Select nothing_enabled None);
 }
 
 -- a session was told of its mailbox, and nothing else changed

@@ -18,3 +18,4 @@ pub mod Same
 pub mod Sessions
 pub mod Starting
 pub mod Trace
+pub mod Version

@@ -76,8 +76,8 @@ abbrev pub accounts_after : Accounts → SessionId → SessionEffect → Account
 accounts_after accounts who session.Keep = accounts
 accounts_after accounts who session.Open = accounts_with accounts who session.Open
 accounts_after accounts who (session.Note more told) = accounts_with accounts who (session.Note more told)
-accounts_after accounts who (session.Select selection) =
-    accounts_with accounts who (session.Select selection)
+accounts_after accounts who (session.Select more selection) =
+    accounts_with accounts who (session.Select more selection)
 accounts_after accounts who (session.Idle tag told) = accounts_with accounts who (session.Idle tag told)
 accounts_after accounts who session.End = accounts_with accounts who session.End
 

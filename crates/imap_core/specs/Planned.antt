@@ -56,7 +56,7 @@ abbrev pub MayOpen : Option Own → ℕ → SessionEffect → Type 0
 MayOpen None number change = Unit {0}
 MayOpen (Some own) number session.Keep = Unit {0}
 MayOpen (Some own) number (session.Note more told) = Unit {0}
-MayOpen (Some own) number (session.Select selection) = Unit {0}
+MayOpen (Some own) number (session.Select more selection) = Unit {0}
 MayOpen (Some own) number (session.Idle tag told) = Unit {0}
 MayOpen (Some own) number session.Open =
     (map.len own < max_sessions) ⊎ (map.contains_key own number ≡ true)
@@ -67,7 +67,7 @@ abbrev pub MayTell : Option SessionState → SessionEffect → Type 0
 MayTell None change = Unit {0}
 MayTell (Some state) session.Keep = Unit {0}
 MayTell (Some state) (session.Note more told) = IfSome told (λ t. IsTellingFor t state.selected)
-MayTell (Some state) (session.Select selection) = Unit {0}
+MayTell (Some state) (session.Select more selection) = Unit {0}
 MayTell (Some state) (session.Idle tag told) = IfSome told (λ t. IsTellingFor t state.selected)
 MayTell (Some state) session.Open = Unit {0}
 MayTell (Some state) session.End = Unit {0}
@@ -77,7 +77,7 @@ abbrev pub room_needed : SessionEffect → ℕ
 room_needed session.Keep = 0
 room_needed session.Open = 0
 room_needed (session.Note more told) = added_by told
-room_needed (session.Select selection) = 0
+room_needed (session.Select more selection) = 0
 room_needed (session.Idle tag told) = added_by told
 room_needed session.End = 0
 

@@ -1,6 +1,6 @@
 -- What a step is answered, what becomes of its session, and what it asks of the mailboxes: by what the
 -- user sees, and the user's own sessions, alone.
-use Rattle.std.specs.Prelude.{ℕ, Bool, true, false, not, ◌&&◌, ◌||◌, nat_le, is_some, List, [], ◌∷◌, ◌++◌}
+use Rattle.std.specs.Prelude.{ℕ, Bool, true, false, not, ◌&&◌, ◌||◌, nat_le, List, [], ◌∷◌, ◌++◌}
 use Rattle.std.specs.Prelude.{Option, Some, None, if◌then◌else◌}
 use Rattle.std.specs.FinMap as map
 use Rattle.imap_answer.specs.Answer.{Answer, done, done_line, followed_by, nothing_enabled, preceded_by}
@@ -17,10 +17,10 @@ use Rattle.imap_changes.specs.Expunge.{close_answer}
 use Rattle.imap_print.specs.declared.response.Farewell.TheVariants.{LimitReached, MailboxUnavailable}
 use Rattle.imap_print.specs.declared.enabled.EnabledCapabilities.{EnabledCapabilities}
 use Rattle.imap_print.specs.declared.response.Refusal.{Refusal}
-use Rattle.imap_print.specs.declared.response.Refusal.TheVariants.{Cannot, Limit, Malformed, WrongState}
+use Rattle.imap_print.specs.declared.response.Refusal.TheVariants.{Limit, Malformed, WrongState}
 use Rattle.imap_session.specs.declared.select.Selecting.{Selecting}
+use Rattle.imap_resync.specs.Select.{is_malformed, select_with_parameters}
 use Rattle.imap_session.specs.Lost.{is_lost}
-use Rattle.imap_session.specs.Select.{refused_selecting, select_answer}
 use Rattle.imap_session.specs.State.{Selection, SessionState}
 use Rattle.imap_session.specs.Telling.{Telling}
 use Rattle.imap_view.specs.declared.readable.Readable.{Readable}
@@ -88,18 +88,17 @@ idle_outcome view own (idling.Ends tag) =
 abbrev pub kept : Answer → Outcome
 kept answer = answered answer session.Keep
 
+-- what a selection newly enables goes with it
 abbrev pub outcome_of_selecting : Selecting → Outcome
-outcome_of_selecting selecting = answered selecting.answer (session.Select selecting.selection)
+outcome_of_selecting selecting =
+    answered selecting.answer (session.Select selecting.answer.enables selecting.selection)
 
-abbrev pub has_parameters : SelectParameters → Bool
-has_parameters parameters = parameters.condstore || is_some parameters.qresync
-
--- SELECT and EXAMINE with parameters aren't built yet
+-- QRESYNC that isn't enabled is BAD, and leaves what is selected (RFC 7162, section 3.2.5)
 abbrev pub select_outcome : View → SessionState → (tag : List ℕ) → (read_only : Bool) →
     (mailbox : List ℕ) → SelectParameters → Outcome
-select_outcome view own tag read_only mailbox parameters = outcome_of_selecting
-    (if has_parameters parameters then refused_selecting own tag Cannot
-    else select_answer view own tag read_only mailbox)
+select_outcome view own tag read_only mailbox parameters =
+    if is_malformed own.enabled parameters then kept (refusal tag Malformed)
+    else outcome_of_selecting (select_with_parameters view own tag read_only mailbox parameters)
 
 -- a command that needs a mailbox selected (RFC 9051, section 3)
 abbrev pub if_selected : Option Selection → (tag : List ℕ) → Outcome → Outcome
@@ -107,12 +106,14 @@ if_selected None tag outcome = kept (refusal tag WrongState)
 if_selected (Some s) tag outcome = outcome
 
 abbrev pub unselect_outcome : SessionState → (tag : List ℕ) → Outcome
-unselect_outcome own tag = if_selected own.selected tag (answered (done tag) (session.Select None))
+unselect_outcome own tag =
+    if_selected own.selected tag (answered (done tag) (session.Select nothing_enabled None))
 
 -- CLOSE tells nothing of the mailbox that it closes
 abbrev pub close_outcome : View → SessionState → (tag : List ℕ) → Outcome
 close_outcome view own tag =
-    if_selected own.selected tag (answered (close_answer view own tag) (session.Select None))
+    if_selected own.selected tag
+    (answered (close_answer view own tag) (session.Select nothing_enabled None))
 
 abbrev pub command_outcome : View → SessionState → (tag : List ℕ) → (at : Moment) → Command → Outcome
 command_outcome view own tag at command.Logout = answered (logout_answer tag) session.End

@@ -51,7 +51,7 @@ with_idle tag state = record { selected = state.selected; enabled = state.enable
 -- a session that stays open, after what a step asks of it
 abbrev pub edited : SessionEffect → SessionState → SessionState
 edited (session.Note more told) state = with_enabled more (session_after told state)
-edited (session.Select selection) state = with_selection selection state
+edited (session.Select more selection) state = with_selection selection (with_enabled more state)
 edited (session.Idle tag told) state = with_idle tag (session_after told state)
 edited _ state = state
 
@@ -68,7 +68,7 @@ abbrev pub own_with : (number : ℕ) → SessionEffect → Own → Own
 own_with number session.Keep own = own
 own_with number session.Open own = map.insert own number new_session
 own_with number (session.Note more told) own = with_edit number (session.Note more told) own
-own_with number (session.Select selection) own = with_edit number (session.Select selection) own
+own_with number (session.Select more selection) own = with_edit number (session.Select more selection) own
 own_with number (session.Idle tag told) own = with_edit number (session.Idle tag told) own
 own_with number session.End own = map.remove own number
 

@@ -102,8 +102,8 @@ pub(crate) fn change_session(
         SessionEffect::Note(more, told) => {
             change_own(accounts, who, SessionEffect::Note(more, told));
         }
-        SessionEffect::Select(selection) => {
-            change_own(accounts, who, SessionEffect::Select(selection));
+        SessionEffect::Select(more, selection) => {
+            change_own(accounts, who, SessionEffect::Select(more, selection));
         }
         SessionEffect::Idle(tag, told) => {
             change_own(accounts, who, SessionEffect::Idle(tag, told));

@@ -3,7 +3,9 @@
 ghost use Rattle.std.specs.Prelude.{◌≡◌, ◌≢◌, false, Some, IfOk};
 ghost use Rattle.std.specs.List.{AllByRecursion};
 ghost use Rattle.imap_commands.specs.declared.command.Command.TheVariants.{Idle};
+ghost use Rattle.imap_answer.specs.Answer.{nothing_enabled};
 ghost use Rattle.imap_core.specs.declared.pending.Pending.TheVariants as pending;
+ghost use Rattle.imap_core.specs.declared.sessions.SessionEffect.TheVariants as session;
 ghost use Rattle.imap_core.specs.Notices.{may_tell_expunges, selected_mailbox};
 ghost use Rattle.imap_core.specs.Outcome.{answered};
 ghost use Rattle.imap_core.specs.Pending.{IsCompletable, completed};
@@ -26,14 +28,15 @@ use imap_answer::{Answer, CommandContext};
 use imap_changes::close_answer;
 use imap_grammar::{Command, SelectParameters};
 use imap_lex::Octets;
-use imap_print::{Refusal, Response};
-use imap_session::{NewSelection, Selecting, Session, refuse_selecting, select_answer};
+use imap_print::{EnabledCapabilities, Refusal, Response};
+use imap_resync::{is_malformed, select_with_parameters};
+use imap_session::{NewSelection, Selecting, Session};
 use imap_values::beside;
 use imap_view::{Readable, View};
 use session::logout_answer;
 use std::alloc::AllocError;
 
-/// Finds what comes of a command other than IDLE, but for the notices of its session.
+/// Returns the outcome of a command other than IDLE before the notices of its session are added.
 pub(crate) fn command_pending(
     context: &CommandContext<'_>,
     session: &Session,
@@ -82,14 +85,15 @@ fn answer_pending(
     Ok(Pending::Command(answer, may_tell_expunges(command)))
 }
 
-/// An answer after which nothing is told.
+/// Returns the outcome of an answer to which no notices are added.
 fn whole(answer: Answer, session: SessionEffect) -> Result<Pending, AllocError>
     ensures { IfOk result (λ given. given ≡ pending.Whole (answered answer session)) }
 {
     Ok(Pending::Whole(Outcome::answered(answer, session)?))
 }
 
-/// Who newly enables CONDSTORE is told HIGHESTMODSEQ of the selected mailbox (RFC 7162, section 3.1).
+/// Puts a line with HIGHESTMODSEQ of the selected mailbox before the answer if the command newly enables CONDSTORE
+/// (RFC 7162, section 3.1).
 fn with_highest(
     context: &CommandContext<'_>,
     session: &Session,
@@ -124,7 +128,7 @@ fn highest_line(
 }
 
 /// The selected mailbox, if the user may read it.
-fn selected_mailbox<'a>(view: &View<'a>, session: &Session) -> Option<Readable<'a>>
+pub(crate) fn selected_mailbox<'a>(view: &View<'a>, session: &Session) -> Option<Readable<'a>>
     ensures { result ≡ selected_mailbox view.now (state_of session.now).selected }
 {
     match &session.selected {
@@ -144,12 +148,14 @@ fn select_pending(
         let outcome = specs.select_outcome context.now.view own context.now.tag read_only in
         IfOk result (λ given. given ≡ pending.Whole (outcome mailbox.now parameters.now)) }
 {
-    let Selecting { answer, selection } = if parameters.condstore || parameters.qresync.is_some() {
-        refuse_selecting(context, session, Refusal::Cannot)?
-    } else {
-        select_answer(context, session, read_only, mailbox)?
-    };
-    whole(answer, SessionEffect::Select(selection))
+    if is_malformed(session.enabled, parameters) {
+        return whole(context.refuse(Refusal::Malformed)?, SessionEffect::Keep);
+    }
+    let Selecting { answer, selection } = select_with_parameters(
+        context, session, read_only, mailbox, parameters,
+    )?;
+    let enables = answer.enables();
+    whole(answer, SessionEffect::Select(enables, selection))
 }
 
 fn unselect_pending(context: &CommandContext<'_>, session: &Session) -> Result<Pending, AllocError>
@@ -159,9 +165,21 @@ fn unselect_pending(context: &CommandContext<'_>, session: &Session) -> Result<P
         IfOk result (λ given. IsCompletable context.now.view (Some own) given) }
 {
     match &session.selected {
-        Some(_) => whole(context.done()?, SessionEffect::Select(NewSelection::none())),
+        Some(_) => whole(context.done()?, unselecting()),
         None => whole(context.refuse(Refusal::WrongState)?, SessionEffect::Keep),
     }
+}
+
+/// No mailbox is selected any more.
+fn unselecting() -> SessionEffect
+    ensures { result ≡ session.Select nothing_enabled None }
+{
+    let nothing = EnabledCapabilities {
+        condstore: false,
+        imap4rev2: false,
+        qresync: false,
+    };
+    SessionEffect::Select(nothing, NewSelection::none())
 }
 
 /// A mailbox is closed without notices.
@@ -173,10 +191,7 @@ fn close_pending(context: &CommandContext<'_>, session: &Session) -> Result<Pend
         IfOk result (λ given. IsCompletable context.now.view (Some own) given) }
 {
     match &session.selected {
-        Some(_) => whole(
-            close_answer(context, session)?,
-            SessionEffect::Select(NewSelection::none()),
-        ),
+        Some(_) => whole(close_answer(context, session)?, unselecting()),
         None => whole(context.refuse(Refusal::WrongState)?, SessionEffect::Keep),
     }
 }

@@ -28,7 +28,7 @@ use imap_session::{KnownUpdate, NoticeOptions, Session, SessionNotices};
 use imap_upcoming::Upcoming;
 use std::alloc::{AllocError, Global};
 
-/// What becomes of an IDLE, before its session is told of its mailbox.
+/// A step of an IDLE, before notices are added.
 #[derive(Drop)]
 pub(crate) enum Idling {
     /// It begins, under the tag of its command.
@@ -39,7 +39,7 @@ pub(crate) enum Idling {
     Ends(Tag),
 }
 
-/// What comes of a step of a session that idles, or begins to.
+/// Returns the outcome of a step of an IDLE.
 pub(crate) fn idle_outcome(
     alloc: Global,
     planned: &PlannedChange<'_>,
@@ -73,7 +73,7 @@ pub(crate) fn idle_broken(alloc: Global, tag: &Tag) -> Result<Outcome, AllocErro
     Ok(Outcome::said(vec![in alloc; line]?, SessionEffect::Idle(None, None)))
 }
 
-/// What the session is told of its mailbox: expunges, too.
+/// Returns the notices of the session, with expunges.
 fn idle_notices(
     alloc: Global,
     planned: &PlannedChange<'_>,
@@ -103,7 +103,7 @@ fn idle_notices(
     notices_of_mailbox(alloc, session, mailbox, &options, &[])
 }
 
-/// The mailbox of which the session is told, which its step leaves as it is.
+/// The selected mailbox, which the step leaves as it is.
 fn idle_mailbox<'a>(planned: &PlannedChange<'a>, session: &Session) -> Option<Upcoming<'a>>
     requires { let world = world_of planned.now.world.now in
         let own = state_of session.now in

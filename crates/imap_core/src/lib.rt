@@ -15,6 +15,7 @@ mod frames;
 mod idling;
 pub mod laws;
 mod machine;
+mod mailbox_version;
 mod notices;
 mod open_session;
 mod opening;
@@ -27,6 +28,7 @@ mod step;
 
 pub use imap_answer::Moment;
 pub use machine::{Core, Prepared};
+pub use mailbox_version::MailboxVersion;
 pub use session_id::{SessionId, SessionNumber};
 pub use sessions::SessionEffect;
 pub use step::{Act, Step};

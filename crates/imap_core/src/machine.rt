@@ -21,9 +21,13 @@ ghost use Rattle.imap_core.specs.Planned.{ArePrintable, IsReady, MayTell, change
 ghost use Rattle.imap_core.specs.Planned.{replies_in, replies_of, room_needed, session_of};
 ghost use Rattle.imap_core.specs.Planned.{state_after, who_of};
 ghost use Rattle.imap_core.specs.Trace.{sent_to, transcript};
+ghost use Rattle.imap_core.specs.Version.{version_in, version_of};
+ghost use Rattle.imap_core.specs.Notices.{selected_mailbox};
 
 use crate::accounts::{change_session, open_session, own_sessions, reserve_known};
+use crate::commands::selected_mailbox;
 use crate::effects::{resolve_effects, with_effects};
+use crate::mailbox_version::MailboxVersion;
 use crate::notices::{PlannedChange, with_notices};
 use crate::opening::Opening;
 use crate::outcome::Outcome;
@@ -81,7 +85,7 @@ pub struct Prepared {
 }
 
 impl Prepared {
-    /// What the session is told once the step is made.
+    /// The replies to the step, for the session once the step is made.
     pub fn replies(&self) -> &[Response]
         ensures { result.now ≡ replies_of self.now }
     {
@@ -169,6 +173,20 @@ impl Core {
         open_session(&self.accounts, who)
     }
 
+    /// Returns the version of the mailbox that the session has selected. Returns `None` if the session isn't open, has
+    /// none selected, or its user may not read it.
+    pub fn selected_version(&self, who: &SessionId) -> Option<MailboxVersion>
+        ensures { result ≡ version_in self.now.state who.now.user who.now.number }
+    {
+        match self.session(who) {
+            Some(session) => {
+                let view = View::new(&self.world, &self.site, &who.user);
+                version_of_selected(&view, session)
+            }
+            None => None,
+        }
+    }
+
     /// Does nothing: its contract says the invariant of the type.
     pub(crate) fn invariant_holds(&self)
         ensures { IsMachineKept self.now.state.world self.now.state.accounts }
@@ -244,7 +262,7 @@ impl Core {
         replies
     }
 
-    /// Finds what comes of the step, but for notices.
+    /// Returns the outcome of the step before notices are added.
     fn pending(&self, alloc: Global, step: &Step) -> Result<Pending, AllocError>
         ensures outcome { let state = self.now.state in
             let active = session_at state.accounts step.now.who.user step.now.who.number in
@@ -261,7 +279,7 @@ impl Core {
         }
     }
 
-    /// Finds what comes of the step, by the change that it makes.
+    /// Adds the notices to the outcome of the step, which makes the change `change`.
     fn complete(
         &self,
         alloc: Global,
@@ -317,4 +335,12 @@ impl Core {
     {
         resolve_effects(alloc, &mut self.world, effects)
     }
+}
+
+/// The version of the mailbox that a session has selected.
+fn version_of_selected(view: &View<'_>, session: &Session) -> Option<MailboxVersion>
+    ensures { result ≡ option_map version_of (selected_mailbox view.now (state_of session.now).selected) }
+{
+    let mailbox = selected_mailbox(view, session)?;
+    Some(MailboxVersion::of(&mailbox))
 }

@@ -1,4 +1,4 @@
-//! What a session is told of its mailbox before the last line of a command's answer.
+//! Notices: the lines on changes of the selected mailbox, before the last line of a command's answer.
 
 ghost use Rattle.std.specs.Prelude.{◌≡◌, if◌then◌else◌, Some, None, IfOk, IfSome, option_copied, option_map};
 ghost use Rattle.std.specs.List.{AllByRecursion};
@@ -40,7 +40,7 @@ pub(crate) struct PlannedChange<'a> {
     pub(crate) change: &'a Change,
 }
 
-/// What comes of a step, with the notices of its session, if it is open.
+/// Returns the outcome of a step with the notices of its session. A session that isn't open gets none.
 pub(crate) fn with_notices(
     alloc: Global,
     planned: &PlannedChange<'_>,
@@ -165,7 +165,7 @@ pub(crate) fn notices_of_mailbox(
     }
 }
 
-/// The mailbox of which the session is told, as the command leaves it.
+/// The selected mailbox as the command leaves it. `None` if the answer is BAD or the session loses the mailbox.
 fn mailbox_after<'a>(
     planned: &PlannedChange<'a>,
     session: &Session,

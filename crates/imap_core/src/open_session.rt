@@ -88,11 +88,12 @@ impl OpenSession {
         self.room = 0;
     }
 
-    /// Selects another mailbox, or none. The room is counted anew.
-    pub(crate) fn select(&mut self, selection: NewSelection)
-        ensures { self.new.state ≡ specs.with_selection selection self.old.state }
+    /// Enables further capabilities, and selects another mailbox, or none. The room is counted anew.
+    pub(crate) fn select(&mut self, more: EnabledCapabilities, selection: NewSelection)
+        ensures { self.new.state ≡ specs.with_selection selection (specs.with_enabled more self.old.state) }
     {
         self.room = 0;
+        self.session.enable(more);
         self.session.select(selection);
     }
 

@@ -1,4 +1,4 @@
-//! What is made when a host starts.
+//! The state in which a host starts.
 
 ghost use Rattle.std.specs.Prelude.{◌≡◌, OnOk};
 ghost use Rattle.std.specs.FinMap as map;

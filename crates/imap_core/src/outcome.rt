@@ -1,4 +1,4 @@
-//! What comes of a step, before it is made.
+//! The outcome of a step, before the step is made.
 
 ghost use Rattle.std.specs.Prelude.{◌≡◌, IfOk};
 ghost use Rattle.std.specs.List.{AllByRecursion};
@@ -13,7 +13,7 @@ use imap_world::Effect;
 use std::alloc::{AllocError, Global};
 use std::marker::Model;
 
-/// The replies to a step, what it asks of the mailboxes, and what becomes of its session. A client reads
+/// The replies to a step, its effect on the mailboxes, and its effect on its session. A client reads
 /// each reply as one line.
 #[derive(Drop)]
 pub(crate) struct Outcome {
@@ -52,7 +52,7 @@ impl Model for Outcome {
 }
 
 impl Outcome {
-    /// Of a command with this answer.
+    /// The outcome of a command with this answer.
     pub(crate) fn answered(answer: Answer, session: SessionEffect) -> Result<Outcome, AllocError>
         ensures { IfOk result (λ outcome. outcome ≡ specs.answered answer session) }
     {
@@ -66,7 +66,7 @@ impl Outcome {
         })
     }
 
-    /// Of a step that is no command.
+    /// The outcome of a step that isn't a command: these replies, and no effect.
     pub(crate) fn said(replies: Vec<Response>, session: SessionEffect) -> Outcome
         requires { AllByRecursion IsPrintable replies.items }
         ensures { result ≡ specs.said replies.items session }
@@ -92,7 +92,7 @@ impl Outcome {
         &self.effect
     }
 
-    /// Returns the replies and what becomes of the session.
+    /// Returns the replies and the effect on the session.
     pub(crate) fn into_parts(self) -> (Vec<Response>, SessionEffect)
         ensures replies { result.0.items ≡ self.replies }
         ensures session { result.1 ≡ self.session }

@@ -1,4 +1,4 @@
-//! What comes of a step, but for notices.
+//! The outcome of a step before notices are added.
 
 ghost use Rattle.std.specs.Prelude.{◌≡◌};
 ghost use Rattle.imap_answer.specs.Alike.{effects_of};
@@ -14,9 +14,9 @@ use imap_world::Effect;
 /// mailbox as the step's change leaves it.
 #[derive(Drop)]
 pub(crate) enum Pending {
-    /// Nothing more is told.
+    /// The outcome is complete. No notices are added.
     Whole(Outcome),
-    /// The answer to a command, in whose last place notices stand, and whether they may tell expunges.
+    /// The answer to a command, before whose last line notices are put, and whether these may have expunges.
     Command(Answer, bool),
     /// An IDLE (RFC 2177) begins, goes on or ends.
     Idle(Idling),

@@ -25,7 +25,7 @@ use imap_session::Session;
 use imap_view::View;
 use std::alloc::{AllocError, Global};
 
-/// Finds what comes of a step, but for the notices of its session.
+/// Returns the outcome of a step before the notices of its session are added.
 pub(crate) fn step_pending(
     alloc: Global,
     view: &View<'_>,
@@ -98,7 +98,7 @@ fn dispatch_idle(
     }
 }
 
-/// A session that idles is told of its mailbox at a poll and at DONE. Any other line ends its IDLE.
+/// Returns the outcome of a step of a session that idles. A poll and DONE bring notices. Any other line ends the IDLE.
 fn pending_of_idle(alloc: Global, tag: &Tag, act: &Act) -> Result<Pending, AllocError>
     ensures outcome { IfOk result (λ pending. (view : View) (own : SessionState)
         → completed view (Some own) pending ≡ specs.reply_to_idle view own tag.now act.now) }
@@ -210,7 +210,7 @@ fn pending_of_command(
     }
 }
 
-/// Refuses octets that are no command, or a DONE where no IDLE runs (RFC 2177), which has no tag.
+/// Refuses octets that aren't a command, and a DONE while no IDLE runs (RFC 2177). `tag` is `None` for a DONE.
 fn refused(alloc: Global, tag: &Option<Tag>, refusal: Refusal) -> Result<Outcome, AllocError>
     ensures { IfOk result (λ outcome. outcome ≡ specs.refused (tag.now) refusal) }
 {

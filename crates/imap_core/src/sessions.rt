@@ -31,8 +31,8 @@ pub enum SessionEffect {
     Open,
     /// Its client enables these, and it is told this of its mailbox.
     Note(EnabledCapabilities, Option<KnownUpdate>),
-    /// Its client selects another mailbox, or none.
-    Select(NewSelection),
+    /// Its client enables these, and selects another mailbox, or none.
+    Select(EnabledCapabilities, NewSelection),
     /// Its client begins an IDLE with this tag, or ends one, and it is told this of its mailbox (RFC 2177).
     Idle(Option<Tag>, Option<KnownUpdate>),
     End,
@@ -114,7 +114,9 @@ impl OwnSessions {
             SessionEffect::Note(more, told) => {
                 self.edit(number, SessionEffect::Note(more, told));
             }
-            SessionEffect::Select(selection) => self.edit(number, SessionEffect::Select(selection)),
+            SessionEffect::Select(more, selection) => {
+                self.edit(number, SessionEffect::Select(more, selection));
+            }
             SessionEffect::Idle(tag, told) => self.edit(number, SessionEffect::Idle(tag, told)),
             SessionEffect::End => self.remove(number),
         }
@@ -192,7 +194,7 @@ fn edit_in(entry: &mut (SessionNumber, OpenSession), effect: SessionEffect)
 {
     match effect {
         SessionEffect::Note(more, told) => entry.1.note(more, told),
-        SessionEffect::Select(selection) => entry.1.select(selection),
+        SessionEffect::Select(more, selection) => entry.1.select(more, selection),
         SessionEffect::Idle(tag, told) => entry.1.idle(tag, told),
         SessionEffect::Keep | SessionEffect::Open | SessionEffect::End => {}
     }

@@ -46,13 +46,13 @@ pub(super) fn command_answer(
             patterns,
             returns,
         } => {
-            let query = ListArguments {
+            let arguments = ListArguments {
                 selection,
                 reference,
                 patterns,
                 returns,
             };
-            list_answer(context, &query)
+            list_answer(context, &arguments)
         }
         Command::Subscribe { mailbox } => subscribe_answer(context, mailbox),
         Command::Unsubscribe { mailbox } => unsubscribe_answer(context, mailbox),
