@@ -1,5 +1,5 @@
 -- What a step that was performed is as an entry.
-use Rattle.std.proofs.Common.{◌≡◌, ◌∙◌, ◌↔◌, inl, inr, sym, ap, ℕ, List, [], Ok}
+use Rattle.std.proofs.Common.{◌≡◌, ◌∙◌, ◌⊎◌, ◌↔◌, ◌+◌, inl, inr, sym, ap, ℕ, List, [], ◌∷◌, Ok, Err, Result, IfErr, IfOk, IsErrOf, OnErr, OnOk, length, length-append, arith}
 use Rattle.imap_core.specs.declared.step.Step.{Step}
 use Rattle.imap_core.specs.Machine.{State, outcome}
 use Rattle.imap_core.proofs.Steps.{one_is_apart}
@@ -10,11 +10,14 @@ use Rattle.imap_world.specs.declared.change.Write.{Write}
 use Rattle.imap_world.specs.Effects.{writes_of}
 use Rattle.imap_world.specs.Ready.{IsCurrent}
 use Rattle.imap_world.specs.World.{World}
+use Rattle.imap_print.specs.declared.response.Response.{Response}
+use Rattle.imap_hall.specs.declared.error.HallError.{HallError}
+use Rattle.imap_hall.specs.declared.error.HallError.TheVariants.{Exhausted}
 use Rattle.imap_hall.specs.declared.journal.Receipt.{Receipt}
 use Rattle.imap_hall.specs.declared.replies.Replies.{Replies}
 use Rattle.imap_hall.specs.Counts.{Counts}
-use Rattle.imap_hall.specs.Hall.{HallState, HasStepped, IsStepped, IsUnwritten, entry_of}
-use Rattle.imap_hall.specs.Journal.{point}
+use Rattle.imap_hall.specs.Hall.{HallState, HasRefused, HasStepped, IsStepped, IsUnwritten, IsUntouched, entry_of}
+use Rattle.imap_hall.specs.Journal.{max_entries, point}
 use Rattle.imap_hall.specs.Performing.{Performs}
 use Rattle.imap_hall.specs.Receipts.{IsNewest}
 
@@ -47,8 +50,36 @@ module _ (old new : State) (before after : Counts) (failed fails : ℕ) (step : 
       by (inl h) = h.0.second ∙ sym h.0.receipt
       by (inr h) = h.0.second ∙ sym h.0.receipt
 
+pub alone_as : {A B : Type 0} (rs ss ts : List Response) → rs ≡ ss → A ⊎ ((ss ≡ ts) × B) → A ⊎ ((rs ≡ ts) × B)
+alone_as rs ss ts is (inl h) = inl h
+alone_as rs ss ts is (inr h) = inr (is ∙ h.0, h.1)
+
 pub started : (world : World) (administrator : List ℕ) (users : List (List ℕ)) (change : List Write) → writes_of (admission world administrator users).effects world ≡ Ok change → IsCurrent change world
 started world administrator users change found = ((admission world administrator users).effects, admission_apart world administrator users, found)
 
 pub newest : {K : Type 0} (failed : K → ℕ) (old : HallState K) (step : Step) (r : Receipt) (new : HallState K) → HasStepped failed old step r new → IsNewest step r new.entries
 newest failed old step r new h = record { before = old.entries; parts = h.entries }
+
+one_more : {K : Type 0} (failed : K → ℕ) (old : HallState K) (step : Step) (r : Receipt) (new : HallState K) → HasStepped failed old step r new
+    → new.before + length new.entries ≡ old.before + length old.entries + 1
+one_more failed old step r new h = let entries = ap length h.entries ∙ length-append old.entries (entry_of step r ∷ []) in let before = h.before in
+    omega (arith, entries, before)
+
+none_more : {K : Type 0} (failed : K → ℕ) (old new : HallState K) → IsUntouched failed old new
+    → new.before + length new.entries ≡ old.before + length old.entries
+none_more failed old new h = let entries = ap length h.entries in let before = h.before in omega (arith, entries, before)
+
+pub counted : {K E : Type 0} (failed : K → ℕ) (old new : HallState K) (step : Step) (result : Result Receipt E) → IfOk result (λ r. HasStepped failed old step r new)
+    → OnOk result (new.before + length new.entries ≡ old.before + length old.entries + 1)
+counted failed old new step (Ok r) h = one_more failed old step r new h
+counted failed old new step (Err error) h = tt
+
+pub uncounted : {K A E : Type 0} (failed : K → ℕ) (old new : HallState K) (result : Result A E) → OnErr result (IsUntouched failed old new)
+    → OnErr result (new.before + length new.entries ≡ old.before + length old.entries)
+uncounted failed old new (Ok value) h = tt
+uncounted failed old new (Err error) h = none_more failed old new h
+
+pub refused : {K A : Type 0} (failed : K → ℕ) (old new : HallState K) (result : Result A HallError) → OnErr result (IsUntouched failed old new)
+    → (IsErrOf result Exhausted ↔ (old.before + length old.entries ≡ max_entries)) → IfErr result (λ e. HasRefused failed old e new)
+refused failed old new (Ok value) untouched ended = tt
+refused failed old new (Err error) untouched ended = record { untouched = untouched; ended = λ is. ended.0 (ap (λ e. Err e) is) }

@@ -8,6 +8,8 @@ use Rattle.imap_keeper.specs.Keeping.{max_failures}
 use Rattle.imap_print.specs.declared.response.Response.{Response}
 use Rattle.imap_world.specs.Effects.{writes_of}
 use Rattle.imap_world.specs.World.{World}
+use Rattle.imap_hall.specs.declared.error.HallError.{HallError}
+use Rattle.imap_hall.specs.declared.error.HallError.TheVariants.{Exhausted}
 use Rattle.imap_hall.specs.declared.journal.Entry.{Entry}
 use Rattle.imap_hall.specs.declared.journal.OldBase.{OldBase}
 use Rattle.imap_hall.specs.declared.journal.Receipt.{Receipt}
@@ -95,6 +97,12 @@ module _ {K : Type 0} where
     pub before : new.before ≡ old.before
     pub entries : new.entries ≡ old.entries
     pub failures : failed new.keeper ≡ failed old.keeper
+
+  -- it refused a step for this reason, and is at its end if it says so
+  pub record HasRefused (failed : K → ℕ) (old : HallState K) (error : HallError) (new : HallState K)
+      : Type 0 where
+    pub untouched : IsUntouched failed old new
+    pub ended : error ≡ Exhausted → old.before + length old.entries ≡ max_entries
 
   -- the journal begins where the machine is
   pub record IsTurnedOver (old new : HallState K) : Type 0 where

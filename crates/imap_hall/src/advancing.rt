@@ -53,8 +53,8 @@ pub(crate) fn advance<K: Keeper>(
     ensures memory { IfErr result (λ e. e ≡ error.Memory) }
     ensures saved { IsSaved K.content K.is_honest K.leaves K.stands
         core.old.state keeper.old step.now core.new.state keeper.new }
-    ensures alone { OnOk result (IsAlone K.failed K.is_honest K.leaves K.stands
-        core.old.state keeper.old step.now core.new.state keeper.new) }
+    ensures alone { IfOk result (λ r. IsAlone K.failed K.is_honest K.leaves K.stands
+        core.old.state keeper.old step.now r.0.replies.items core.new.state keeper.new) }
 {
     make_room(counts, journal, alloc, step)?;
     let own = count_of(counts, &step.who) + 1;

@@ -4,13 +4,14 @@ ghost use Rattle.std.specs.Prelude.{◌≡◌, ◌+◌, ◌↔◌, is_some, leng
 ghost use Rattle.std.specs.Prelude.{IfErr, IfOk, IsErrOf, OnErr, OnOk};
 ghost use Rattle.imap_core.specs.InStep.{session_at};
 ghost use Rattle.imap_core.specs.Opening.{state_at_start};
+ghost use Rattle.imap_core.specs.Version.{version_in};
 ghost use Rattle.imap_world.specs.World.{World as Mailboxes};
 ghost use Rattle.imap_hall.specs.declared.error.OpenError.TheVariants as error;
 ghost use Rattle.imap_hall.specs.Hall.{HasRisen, HasStepped, IsFresh, IsKept, IsTurnedOver, IsUntouched};
 ghost use Rattle.imap_hall.specs.Hall.{IsBaseOf, journal_entry};
 ghost use Rattle.imap_hall.specs.Journal.{max_entries};
 ghost use Rattle.imap_hall.specs.Receipts.{IsSameReceipt};
-ghost use Rattle.imap_hall.specs.Saving.{IsAlone, IsSaved};
+ghost use Rattle.imap_hall.specs.Saving.{IsAlone, IsOpened, IsOpenedAlone, IsSaved};
 
 use crate::advancing::advance;
 use crate::error::{HallError, OpenError};
@@ -18,7 +19,7 @@ use crate::journal::{Entry, OldBase, Receipt};
 use crate::opening::{Start, base_of, begin};
 use crate::own_counts::OwnCounts;
 use crate::room::Room;
-use imap_core::{Core, SessionId, Step};
+use imap_core::{Core, MailboxVersion, SessionId, Step};
 use imap_keeper::Keeper;
 use imap_names::UserName;
 use imap_user_map::UserMap;
@@ -83,6 +84,14 @@ impl<K: Keeper> Hall<K> {
         ensures store { IfErr result (λ e. e.0 ≡ error.Store → HasRisen (K.failed keeper) (K.failed e.1)) }
         ensures damaged { (world : Mailboxes) → K.content keeper world
             → IfErr result (λ e. K.is_honest e.1 → e.0 ≡ error.Damaged → ⊥) }
+        ensures crash { (world : Mailboxes) → K.content keeper world
+            → IfOk result (λ h. IsOpened K.is_honest K.leaves K.stands keeper h.now.state.world h.keeper) }
+        ensures alone { (world : Mailboxes) → K.content keeper world
+            → IfOk result (λ h. IsOpenedAlone K.is_honest K.leaves K.stands world
+            h.now.state.world h.keeper) }
+        ensures refused { (world : Mailboxes) → K.content keeper world
+            → IfErr result (λ e. IsOpened K.is_honest K.leaves K.stands keeper
+            (state_at_start world administrator users.now limits).world e.1) }
     {
         let mut keeper = keeper;
         match begin(&mut keeper, alloc, administrator, users, limits) {
@@ -109,8 +118,8 @@ impl<K: Keeper> Hall<K> {
             ↔ (self.old.before + length self.old.entries ≡ max_entries) }
         ensures saved { IsSaved K.content K.is_honest K.leaves K.stands
             self.old.now.state self.old.keeper step.now self.new.now.state self.new.keeper }
-        ensures alone { OnOk result (IsAlone K.failed K.is_honest K.leaves K.stands
-            self.old.now.state self.old.keeper step.now self.new.now.state self.new.keeper) }
+        ensures alone { IfOk result (λ r. IsAlone K.failed K.is_honest K.leaves K.stands self.old.now.state
+            self.old.keeper step.now r.replies.items self.new.now.state self.new.keeper) }
     {
         let (first, _second) = self.step_pair(alloc, step)?;
         Ok(first)
@@ -125,8 +134,8 @@ impl<K: Keeper> Hall<K> {
             ↔ (self.old.before + length self.old.entries ≡ max_entries) }
         ensures saved { IsSaved K.content K.is_honest K.leaves K.stands
             self.old.now.state self.old.keeper step.now self.new.now.state self.new.keeper }
-        ensures alone { OnOk result (IsAlone K.failed K.is_honest K.leaves K.stands
-            self.old.now.state self.old.keeper step.now self.new.now.state self.new.keeper) }
+        ensures alone { IfOk result (λ r. IsAlone K.failed K.is_honest K.leaves K.stands self.old.now.state
+            self.old.keeper step.now r.0.replies.items self.new.now.state self.new.keeper) }
     {
         let count = self.before + self.journal.len() as u64;
         if count >= MAX_ENTRIES {
@@ -199,6 +208,13 @@ impl<K: Keeper> Hall<K> {
         }
     }
 
+    /// Returns the version of the mailbox that the session has selected, as [`Core::selected_version`] does.
+    pub fn selected_version(&self, who: &SessionId) -> Option<MailboxVersion>
+        ensures { result ≡ version_in self.now.now.state who.now.user who.now.number }
+    {
+        self.core.selected_version(who)
+    }
+
     /// Ends the hall, and returns its keeper.
     pub fn into_keeper(self) -> K
         ensures keeper { result ≡ self.keeper }
@@ -218,13 +234,18 @@ impl<K: Keeper> Hall<K> {
 }
 
 impl<K: Keeper> Room for Hall<K> {
-    ghost use Rattle.std.specs.Prelude.{true};
+    ghost use Rattle.std.specs.Prelude.{◌+◌, length, true};
+    ghost use Rattle.imap_hall.specs.Hall.{HasRefused};
 
     ghost entries = { λ h. h.entries };
 
     ghost keeps_all = { true };
 
-    #[tactic(auto, using(crate::proofs::Stepped::newest))]
+    ghost count = { λ h. h.before + length h.entries };
+
+    ghost refuses = { λ old _ error new. HasRefused K.failed old error new };
+
+    #[tactic(auto, using(crate::proofs::Stepped::newest, crate::proofs::Stepped::counted, crate::proofs::Stepped::uncounted, crate::proofs::Stepped::refused))]
     fn step(&mut self, alloc: Global, step: &Step) -> Result<Receipt, HallError> {
         self.step(alloc, step)
     }

@@ -5,6 +5,7 @@ ghost use Rattle.imap_core.specs.Opening.{state_at_start};
 ghost use Rattle.imap_hall.specs.declared.error.OpenError.TheVariants as error;
 ghost use Rattle.imap_hall.specs.Hall.{HasRisen};
 ghost use Rattle.imap_hall.specs.Opening.{open_error};
+ghost use Rattle.imap_hall.specs.Saving.{IsOpened, IsOpenedAlone};
 ghost use Rattle.imap_world.specs.Effects.{after_writes};
 ghost use Rattle.imap_world.specs.Ready.{IsCurrent};
 ghost use Rattle.imap_world.specs.Stored.{world_of};
@@ -26,6 +27,7 @@ pub(crate) struct Start {
 }
 
 /// Loads what is kept, starts a machine, and saves the INBOXes that were made.
+#[tactic(auto, using(crate::proofs::Opened::left_unread, crate::proofs::Opened::left_saved, crate::proofs::Opened::left_alone))]
 pub(crate) fn begin<K: Keeper>(
     keeper: &mut K,
     alloc: Global,
@@ -46,6 +48,12 @@ pub(crate) fn begin<K: Keeper>(
     ensures damaged { K.is_honest keeper.new → (world : Mailboxes) → K.content keeper.old world
         → IfErr result (λ e. e ≡ error.Damaged → ⊥) }
     ensures honest { K.is_honest keeper.new → K.is_honest keeper.old }
+    ensures crash { (world : Mailboxes) → K.content keeper.old world
+        → IsOpened K.is_honest K.leaves K.stands keeper.old
+        (state_at_start world administrator users.now limits).world keeper.new }
+    ensures alone { (world : Mailboxes) → K.content keeper.old world
+        → IfOk result (λ start. IsOpenedAlone K.is_honest K.leaves K.stands
+        world start.core.state.world keeper.new) }
 {
     let world = match keeper.load(alloc) {
         Ok(world) => world,

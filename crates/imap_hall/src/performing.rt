@@ -1,6 +1,6 @@
 //! Saving and committing.
 
-ghost use Rattle.std.specs.Prelude.{◌≡◌, ◌⊎◌, [], IfErr, IfOk, OnErr, OnOk};
+ghost use Rattle.std.specs.Prelude.{◌≡◌, ◌⊎◌, [], IfErr, IfOk, OnErr};
 ghost use Rattle.imap_core.specs.Machine.{answer, next};
 ghost use Rattle.imap_core.specs.Planned.{IsReady, change_of, replies_of, state_after};
 ghost use Rattle.imap_keeper.specs.Keeping.{LeavesOnly, LeavesOr};
@@ -44,9 +44,10 @@ pub(crate) fn perform<K: Keeper>(
     ensures honest { K.is_honest keeper.new → K.is_honest keeper.old }
     ensures crash { K.is_honest keeper.new → LeavesOr (K.leaves keeper.old) (K.leaves keeper.new)
         (λ image. K.stands image (next core.old.state step.now).world) }
-    ensures alone { K.is_honest keeper.new → (change_of ready.prepared ≡ [] → ⊥)
-        → OnOk result (LeavesOnly (K.leaves keeper.new) (λ image. K.stands image core.new.state.world)
-        ⊎ HasRisen (K.failed keeper.old) (K.failed keeper.new)) }
+    ensures alone { IfOk result (λ replies. K.is_honest keeper.new → (change_of ready.prepared ≡ [] → ⊥)
+        → LeavesOnly (K.leaves keeper.new) (λ image. K.stands image core.new.state.world)
+        ⊎ ((replies.receipt.items ≡ unavailable step.now)
+        × HasRisen (K.failed keeper.old) (K.failed keeper.new))) }
 {
     let Ready {
         prepared,

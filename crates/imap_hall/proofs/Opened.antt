@@ -1,0 +1,29 @@
+-- What a crash leaves of an opening.
+use Rattle.std.proofs.Common.{◌≡◌, ◌∙◌, ◌⊎◌, inl, inr, sym, ap, subst, List, []}
+use Rattle.imap_keeper.specs.Keeping.{LeavesOnly, LeavesOr}
+use Rattle.imap_world.specs.declared.change.Write.{Write}
+use Rattle.imap_world.specs.Effects.{after_writes}
+use Rattle.imap_world.specs.World.{World}
+
+module _ {Image : Type 0} (Stands : Image → World → Type 0) (old mid : Image → Type 0) (read : LeavesOnly mid old) where
+  -- nothing was saved
+  pub left_unread : (started : World) → LeavesOr old mid (λ image. Stands image started)
+  left_unread started image is = inl (read image is)
+
+  pub left_saved : (new : Image → Type 0) (written started : World) → LeavesOr mid new (λ image. Stands image written) → written ≡ started
+      → LeavesOr old new (λ image. Stands image started)
+  left_saved new written started saved is image left = by (saved image left)
+    where
+      by : mid image ⊎ Stands image written → old image ⊎ Stands image started
+      by (inl h) = inl (read image h)
+      by (inr h) = inr (subst (Stands image) is h)
+
+-- what was written is no more than what was there, if it was nothing
+pub unwritten_same : (change : List Write) (world started : World) → started ≡ after_writes change world → change ≡ [] → started ≡ world
+unwritten_same change world started is none = is ∙ ap (λ writes. after_writes writes world) none
+
+pub left_alone : {Image : Type 0} (Stands : Image → World → Type 0) (new : Image → Type 0) (change : List Write) (world kept started : World)
+    → kept ≡ world → started ≡ after_writes change kept → (started ≡ world → ⊥)
+    → ((change ≡ [] → ⊥) → LeavesOnly new (λ image. Stands image (after_writes change kept))) → LeavesOnly new (λ image. Stands image started)
+left_alone Stands new change world kept started same is apart alone image left =
+    subst (Stands image) (sym is) (alone (λ none. apart (unwritten_same change kept started is none ∙ same)) image left)
