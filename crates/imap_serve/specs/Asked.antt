@@ -1,4 +1,5 @@
 -- What the frames of a stream ask for.
+use Rattle.std.specs.Prelude.{ℕ}
 use Rattle.imap_lex.specs.declared.frame.Frame.{Frame}
 use Rattle.imap_lex.specs.declared.frame.Frame.TheVariants as frame
 use Rattle.imap_core.specs.declared.step.Act.{Act}
@@ -17,3 +18,7 @@ ask_of (frame.Whole octets) = step (act_of_command octets)
 ask_of frame.Continue = ready
 ask_of (frame.Reject tag) = step (act.Do (rejected tag))
 ask_of frame.Hangup = hangup
+
+-- how often a gate is asked about one request at most
+abbrev pub max_asks : ℕ
+max_asks = 1000

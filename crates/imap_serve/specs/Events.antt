@@ -1,5 +1,5 @@
 -- What happens in a session over a connection.
-use Rattle.std.specs.Prelude.{⊤, ◌≡◌, ℕ, Bool, true, false, List, [], ◌∷◌, flat_map, if◌then◌else◌}
+use Rattle.std.specs.Prelude.{⊤, ◌≡◌, ◌&&◌, ◌||◌, ℕ, Bool, true, false, List, [], ◌∷◌, flat_map, if◌then◌else◌}
 use Rattle.std.specs.Prelude.{Option, Some, None}
 use Rattle.std.specs.List.{list_any}
 use Rattle.imap_core.specs.declared.session_id.SessionId.{SessionId}
@@ -69,6 +69,34 @@ ask_in (made entry) = asks_of_act entry.step.act
 ask_in ready = ask.ready ∷ []
 ask_in hangup = ask.hangup ∷ []
 ask_in idle = []
+
+-- ---- IDLE (RFC 2177)
+
+abbrev pub is_poll : Act → Bool
+is_poll act.Poll = true
+is_poll _ = false
+
+abbrev pub is_polled : Event → Bool
+is_polled (made entry) = is_poll entry.step.act
+is_polled _ = false
+
+-- a session idles from the reply that says so until its next request
+abbrev pub idles_after : (idles : Bool) → Event → Bool
+idles_after idles (made entry) = (is_poll entry.step.act && idles) || begin_idle entry.replies
+idles_after idles ready = idles
+idles_after idles hangup = idles
+idles_after idles idle = idles
+
+abbrev pub idles_after_all : (idles : Bool) → List Event → Bool
+idles_after_all idles [] = idles
+idles_after_all idles (e ∷ es) = idles_after_all (idles_after idles e) es
+
+-- the session is polled only while it idles
+abbrev pub IsPolledIdling : (idles : Bool) → List Event → Type 0
+IsPolledIdling idles [] = ⊤
+IsPolledIdling idles (e ∷ es) = (is_polled e ≡ true → idles ≡ true) × IsPolledIdling (idles_after idles e) es
+
+-- ---- of all events
 
 abbrev pub end_of : Event → Option End
 end_of (made entry) = if close entry.replies then Some end.Closed else None

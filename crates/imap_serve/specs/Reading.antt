@@ -1,5 +1,6 @@
 -- What a watched reader and writer do.
-use Rattle.std.specs.Prelude.{◌+◌, ◌-◌, ◌^◌, ◌≡◌, ◌≢◌, ◌⊎◌, ◌<◌, ◌≤◌, ℕ, List, [], min, take, length, Option, Some, Result, Ok, Err}
+use Rattle.std.specs.Prelude.{◌+◌, ◌-◌, ◌^◌, ◌≡◌, ◌≢◌, ◌⊎◌, ◌<◌, ◌≤◌, ℕ, List, [], min, take, length}
+use Rattle.std.specs.Prelude.{Option, Some, None, Result, Ok, Err}
 use Rattle.std.specs.Io.KnownBytes.{Appends, Consumes, IsAtEnd, Keeps}
 use Rattle.std.specs.IoError.{error_kind}
 use Rattle.std.specs.declared.io.Error.{Error}
@@ -7,10 +8,30 @@ use Rattle.std.specs.declared.io.ErrorKind.{ErrorKind}
 use Rattle.std.specs.declared.io.ErrorKind.TheVariants as kinds
 use Rattle.imap_serve.specs.declared.watched.Answer.{Answer}
 use Rattle.imap_serve.specs.declared.watched.Answer.TheVariants as answer
+use Rattle.imap_serve.specs.declared.watched.Log.{Log}
 use Rattle.imap_serve.specs.declared.watched.Taken.{Taken}
 use Rattle.imap_serve.specs.declared.watched.Taken.TheVariants.{Octets, End, Occasion}
 
--- ---- what a reader answers
+-- ---- what a reader or a writer answers
+
+-- how often a read or a write is tried that is interrupted
+abbrev pub max_tries : ℕ
+max_tries = 1001
+
+abbrev pub interruptions_after : Answer → ℕ → ℕ
+interruptions_after (answer.Octets count) before = 0
+interruptions_after answer.Nothing before = 0
+interruptions_after answer.Interrupted before = min (before + 1) (2 ^ 64 - 1)
+interruptions_after answer.Fault before = 0
+
+-- the answer is noted as the last one
+abbrev pub noted : Log → Answer → Log
+noted log answered =
+    record { last = Some answered; interruptions = interruptions_after answered log.interruptions }
+
+-- nothing was answered yet
+abbrev pub unasked : Log
+unasked = record { last = None; interruptions = 0 }
 
 -- what an error of this kind says
 abbrev pub IsAnswerOf : ErrorKind → Answer → Type 0
@@ -48,9 +69,26 @@ IsTaken (Octets count) last = last ≡ Some (answer.Octets count)
 IsTaken End last = last ≡ Some (answer.Octets 0)
 IsTaken Occasion last = last ≡ Some answer.Nothing
 
--- the last read failed, or was interrupted
-abbrev pub HasFailed : (last : Option Answer) → Type 0
-HasFailed last = (last ≡ Some answer.Fault) ⊎ (last ≡ Some answer.Interrupted)
+-- the last answer was a fault, or as many as are tried were interrupted in a row
+abbrev pub HasFailed : Log → Type 0
+HasFailed log =
+    (log.last ≡ Some answer.Fault)
+    ⊎ ((log.last ≡ Some answer.Interrupted) × (max_tries ≤ log.interruptions))
+
+-- ---- what a write brought
+
+-- some octets at the front were written; at an error none
+abbrev pub Accepts : Answer → Option (List ℕ) → Option (List ℕ) → List ℕ → Type 0
+Accepts (answer.Octets count) before after bytes =
+    Appends before after (take count bytes) × (count ≤ length bytes)
+Accepts answer.Nothing before after bytes = Keeps before after
+Accepts answer.Interrupted before after bytes = Keeps before after
+Accepts answer.Fault before after bytes = Keeps before after
+
+-- the writer failed as a reader does, or the last write took nothing
+abbrev pub HasNotWritten : Log → Type 0
+HasNotWritten log =
+    HasFailed log ⊎ (log.last ≡ Some answer.Nothing) ⊎ (log.last ≡ Some (answer.Octets 0))
 
 -- a beginning of the bytes was written
 abbrev pub AppendsPart : Option (List ℕ) → Option (List ℕ) → List ℕ → Type 0

@@ -1,18 +1,17 @@
 //! Steps for the frames of a session, and their replies.
-//!
-//! A reply is printed whole and handed to one write, whatever its length.
 
-ghost use Rattle.std.specs.Prelude.{◌≡◌, [], ◌∷◌, false, map, IfErr, IfOk, OnErr, OnOk};
+ghost use Rattle.std.specs.Prelude.{◌≡◌, [], ◌∷◌, false, map, true, IfErr, IfOk, OnErr, OnOk};
 ghost use Rattle.imap_lex.specs.Framing.{run};
 ghost use Rattle.imap_lex.specs.declared.frame.Frame.TheVariants.{Whole};
 ghost use Rattle.imap_core.specs.declared.step.Act.TheVariants.{Do};
 ghost use Rattle.imap_core.specs.Frames.{act_of_command, rejected};
 ghost use Rattle.imap_serve.specs.Asked.{ask_of};
-ghost use Rattle.imap_serve.specs.Events.{asks_of_act};
-ghost use Rattle.imap_serve.specs.Served.{Breaks, GoesOrCloses, IsCaused, scene, site};
+ghost use Rattle.imap_serve.specs.Events.{asks_of_act, is_poll};
+ghost use Rattle.imap_serve.specs.Reading.{unasked};
+ghost use Rattle.imap_serve.specs.Served.{Breaks, GoesOrCloses, IsCaused, IsRefused, scene, site};
 
 use crate::error::ServeError;
-use crate::gate::Gate;
+use crate::gate::{Gate, wait_for};
 use crate::moments::Moments;
 use crate::telling::{Flow, say, tell};
 use crate::watched::Watched;
@@ -24,11 +23,8 @@ use imap_values::{TryCopy, beside};
 use std::alloc::{AllocError, Global};
 use std::io::Write;
 
-/// How many times a gate is asked at most. After that the request goes on.
-const MAX_ASKS: u32 = 1000;
-
-/// Makes a step, and writes its replies.
-#[tactic(auto, using(crate::proofs::Scenes::made_all, crate::proofs::Scenes::made_part, crate::proofs::Scenes::not_made))]
+/// Makes a step, and writes its replies. A poll asks that the session idles.
+#[tactic(auto, using(crate::proofs::Scenes::made_all, crate::proofs::Scenes::made_part, crate::proofs::Scenes::not_made, crate::proofs::Scenes::refused_here, crate::proofs::Scenes::caused_writing, crate::proofs::Scenes::not_refused))]
 fn answer<R: Room, O: Write>(
     alloc: Global,
     room: &mut R,
@@ -36,16 +32,19 @@ fn answer<R: Room, O: Write>(
     flow: Flow,
     output: &mut Watched<O>,
 ) -> Result<Flow, ServeError>
-    ensures ok { IfOk result (λ flow. GoesOrCloses flow.closed (site step.now.who R.keeps_all)
+    requires { is_poll step.now.act ≡ true → flow.idles ≡ true }
+    ensures ok { IfOk result (λ next. GoesOrCloses next.closed (site step.now.who R.keeps_all)
+        flow.idles next.idles
         (scene (R.entries room.old) (O.contents output.old.inner))
         (scene (R.entries room.new) (O.contents output.new.inner)) (asks_of_act step.now.act)) }
-    ensures err { OnErr result (Breaks (site step.now.who R.keeps_all)
+    ensures err { OnErr result (Breaks (site step.now.who R.keeps_all) flow.idles
         (scene (R.entries room.old) (O.contents output.old.inner))
         (scene (R.entries room.new) (O.contents output.new.inner)) (asks_of_act step.now.act)) }
-    ensures cause { IfErr result (λ e. IsCaused e false output.new.failed) }
+    ensures cause { IfErr result (λ e. IsCaused e unasked output.new.log) }
+    ensures refused { IfErr result (λ e. IsRefused R.refuses e room.new) }
 {
     match room.step(alloc, step) {
-        Ok(receipt) => match tell(alloc, &receipt, flow, output) {
+        Ok(receipt) => match tell(alloc, &receipt, flow.made(&step.act), output) {
             Ok(flow) => Ok(flow),
             Err(error) => Err(error),
         },
@@ -54,7 +53,7 @@ fn answer<R: Room, O: Write>(
     }
 }
 
-/// Makes an act of the session, and writes the replies.
+/// Makes an act of the session, and writes the replies. A poll asks that the session idles.
 #[tactic(auto, using(crate::proofs::Scenes::breaks_off))]
 pub(crate) fn make<R: Room, O: Write>(
     alloc: Global,
@@ -65,13 +64,16 @@ pub(crate) fn make<R: Room, O: Write>(
     flow: Flow,
     output: &mut Watched<O>,
 ) -> Result<Flow, ServeError>
-    ensures ok { IfOk result (λ flow. GoesOrCloses flow.closed (site who.now R.keeps_all)
+    requires { is_poll act ≡ true → flow.idles ≡ true }
+    ensures ok { IfOk result (λ next. GoesOrCloses next.closed (site who.now R.keeps_all)
+        flow.idles next.idles
         (scene (R.entries room.old) (O.contents output.old.inner))
         (scene (R.entries room.new) (O.contents output.new.inner)) (asks_of_act act)) }
-    ensures err { OnErr result (Breaks (site who.now R.keeps_all)
+    ensures err { OnErr result (Breaks (site who.now R.keeps_all) flow.idles
         (scene (R.entries room.old) (O.contents output.old.inner))
         (scene (R.entries room.new) (O.contents output.new.inner)) (asks_of_act act)) }
-    ensures cause { IfErr result (λ e. IsCaused e false output.new.failed) }
+    ensures cause { IfErr result (λ e. IsCaused e unasked output.new.log) }
+    ensures refused { IfErr result (λ e. IsRefused R.refuses e room.new) }
 {
     match step_of(who, at, act) {
         Ok(step) => {
@@ -92,16 +94,8 @@ pub(crate) fn step_of(who: &SessionId, at: Moment, act: Act) -> Result<Step, All
     Ok(Step { who, at, act })
 }
 
-/// Asks the gate until it lets the request through, at most [`MAX_ASKS`] times.
-fn wait_for<G: Gate>(gate: &G, who: &SessionId, call: u64) {
-    for _ in 0..MAX_ASKS {
-        if gate.open(who, call) {
-            return;
-        }
-    }
-}
-
 /// Makes a request in the room once the gate lets it through, and writes the replies.
+#[tactic(auto, using(crate::proofs::Scenes::no_poll))]
 fn request<R: Room, O: Write, C: Moments, G: Gate>(
     alloc: Global,
     room: &mut R,
@@ -112,20 +106,22 @@ fn request<R: Room, O: Write, C: Moments, G: Gate>(
     flow: Flow,
     output: &mut Watched<O>,
 ) -> Result<Flow, ServeError>
-    ensures ok { IfOk result (λ flow. GoesOrCloses flow.closed (site who.now R.keeps_all)
+    requires { is_poll request ≡ false }
+    ensures ok { IfOk result (λ next. GoesOrCloses next.closed (site who.now R.keeps_all)
+        flow.idles next.idles
         (scene (R.entries room.old) (O.contents output.old.inner))
         (scene (R.entries room.new) (O.contents output.new.inner)) (asks_of_act request)) }
-    ensures err { OnErr result (Breaks (site who.now R.keeps_all)
+    ensures err { OnErr result (Breaks (site who.now R.keeps_all) flow.idles
         (scene (R.entries room.old) (O.contents output.old.inner))
         (scene (R.entries room.new) (O.contents output.new.inner)) (asks_of_act request)) }
-    ensures cause { IfErr result (λ e. IsCaused e false output.new.failed) }
+    ensures cause { IfErr result (λ e. IsCaused e unasked output.new.log) }
+    ensures refused { IfErr result (λ e. IsRefused R.refuses e room.new) }
 {
     let call = flow.calls.saturating_add(1);
-    wait_for(gate, who, call);
-    // A request ends an IDLE.
+    let _asked = wait_for(gate, who, call);
     let flow = Flow {
         closed: false,
-        idles: false,
+        idles: flow.idles,
         calls: call,
     };
     match make(alloc, room, who, clock.now(), request, flow, output) {
@@ -138,10 +134,11 @@ fn request<R: Room, O: Write, C: Moments, G: Gate>(
 }
 
 /// Returns the act of a command that came whole.
-#[tactic(auto, using(crate::proofs::Scenes::command_asked))]
+#[tactic(auto, using(crate::proofs::Scenes::command_asked, crate::proofs::Scenes::command_is_no_poll))]
 fn act_of_command(alloc: Global, octets: &Octets) -> Result<Act, AllocError>
     ensures act { IfOk result (λ act. act ≡ act_of_command octets.now) }
     ensures asks { IfOk result (λ act. asks_of_act act ≡ ask_of (Whole octets.now) ∷ []) }
+    ensures polls { IfOk result (λ act. is_poll act ≡ false) }
 {
     Ok(Act::of_command(alloc, octets)?)
 }
@@ -154,7 +151,7 @@ fn act_of_rejected(alloc: Global, tag: &Option<Tag>) -> Result<Act, AllocError>
 }
 
 /// Does what a frame asks for.
-#[tactic(auto, using(crate::proofs::Scenes::breaks_off, crate::proofs::Scenes::ready_all, crate::proofs::Scenes::ready_part, crate::proofs::Scenes::hangup_all, crate::proofs::Scenes::hangup_part))]
+#[tactic(auto, using(crate::proofs::Scenes::breaks_off, crate::proofs::Scenes::ready_all, crate::proofs::Scenes::ready_part, crate::proofs::Scenes::hangup_all, crate::proofs::Scenes::hangup_part, crate::proofs::Scenes::caused_writing, crate::proofs::Scenes::not_refused))]
 fn take_frame<R: Room, O: Write, C: Moments, G: Gate>(
     alloc: Global,
     room: &mut R,
@@ -165,13 +162,15 @@ fn take_frame<R: Room, O: Write, C: Moments, G: Gate>(
     flow: Flow,
     output: &mut Watched<O>,
 ) -> Result<Flow, ServeError>
-    ensures ok { IfOk result (λ flow. GoesOrCloses flow.closed (site who.now R.keeps_all)
+    ensures ok { IfOk result (λ next. GoesOrCloses next.closed (site who.now R.keeps_all)
+        flow.idles next.idles
         (scene (R.entries room.old) (O.contents output.old.inner))
         (scene (R.entries room.new) (O.contents output.new.inner)) (ask_of frame.now ∷ [])) }
-    ensures err { OnErr result (Breaks (site who.now R.keeps_all)
+    ensures err { OnErr result (Breaks (site who.now R.keeps_all) flow.idles
         (scene (R.entries room.old) (O.contents output.old.inner))
         (scene (R.entries room.new) (O.contents output.new.inner)) (ask_of frame.now ∷ [])) }
-    ensures cause { IfErr result (λ e. IsCaused e false output.new.failed) }
+    ensures cause { IfErr result (λ e. IsCaused e unasked output.new.log) }
+    ensures refused { IfErr result (λ e. IsRefused R.refuses e room.new) }
 {
     match frame {
         Frame::Whole(octets) => match act_of_command(alloc, octets) {
@@ -213,13 +212,15 @@ fn take_frames<R: Room, O: Write, C: Moments, G: Gate>(
     flow: Flow,
     output: &mut Watched<O>,
 ) -> Result<Flow, ServeError>
-    ensures ok { IfOk result (λ flow. GoesOrCloses flow.closed (site who.now R.keeps_all)
+    ensures ok { IfOk result (λ next. GoesOrCloses next.closed (site who.now R.keeps_all)
+        flow.idles next.idles
         (scene (R.entries room.old) (O.contents output.old.inner))
         (scene (R.entries room.new) (O.contents output.new.inner)) (map ask_of frames.now)) }
-    ensures err { OnErr result (Breaks (site who.now R.keeps_all)
+    ensures err { OnErr result (Breaks (site who.now R.keeps_all) flow.idles
         (scene (R.entries room.old) (O.contents output.old.inner))
         (scene (R.entries room.new) (O.contents output.new.inner)) (map ask_of frames.now)) }
-    ensures cause { IfErr result (λ e. IsCaused e false output.new.failed) }
+    ensures cause { IfErr result (λ e. IsCaused e unasked output.new.log) }
+    ensures refused { IfErr result (λ e. IsRefused R.refuses e room.new) }
 {
     let mut idles = flow.idles;
     let mut calls = flow.calls;
@@ -260,16 +261,18 @@ pub(crate) fn take_piece<R: Room, O: Write, C: Moments, G: Gate>(
     flow: Flow,
     output: &mut Watched<O>,
 ) -> Result<Flow, ServeError>
-    ensures ok { IfOk result (λ flow. GoesOrCloses flow.closed (site who.now R.keeps_all)
+    ensures ok { IfOk result (λ next. GoesOrCloses next.closed (site who.now R.keeps_all)
+        flow.idles next.idles
         (scene (R.entries room.old) (O.contents output.old.inner))
         (scene (R.entries room.new) (O.contents output.new.inner))
         (map ask_of (run framer.old piece.now).frames)) }
     ensures next { OnOk result (framer.new ≡ (run framer.old piece.now).next) }
-    ensures err { OnErr result (Breaks (site who.now R.keeps_all)
+    ensures err { OnErr result (Breaks (site who.now R.keeps_all) flow.idles
         (scene (R.entries room.old) (O.contents output.old.inner))
         (scene (R.entries room.new) (O.contents output.new.inner))
         (map ask_of (run framer.old piece.now).frames)) }
-    ensures cause { IfErr result (λ e. IsCaused e false output.new.failed) }
+    ensures cause { IfErr result (λ e. IsCaused e unasked output.new.log) }
+    ensures refused { IfErr result (λ e. IsRefused R.refuses e room.new) }
 {
     match framer.feed(alloc, piece) {
         Ok(frames) => take_frames(

@@ -1,13 +1,14 @@
 //! A session from its Open to its Leave.
 //!
-//! The room is asked for an end after a failure too. If it refuses the step Leave, the next Open of the
-//! session begins it anew.
+//! The room is asked for an end after a failure too. So the memory for the step Leave is taken before anything
+//! else. If the room refuses it, the next Open of the session begins it anew.
 
 ghost use Rattle.std.specs.Prelude.{◌≡◌, ◌≤◌, false, IfErr, IfOk, OnErr};
 ghost use Rattle.imap_core.specs.declared.step.Act.TheVariants as specs;
 ghost use Rattle.imap_serve.specs.declared.error.End.TheVariants.{Idle};
+ghost use Rattle.imap_serve.specs.Reading.{unasked};
 ghost use Rattle.imap_serve.specs.Served.{Breaks, BrokeOffAfter, EndedAfter, GivesUp, GoesOrCloses, IsAllRead};
-ghost use Rattle.imap_serve.specs.Served.{IsCaused, IsLastRead, Leaves, Serves, opening, scene, site};
+ghost use Rattle.imap_serve.specs.Served.{IsCaused, IsLastRead, IsRefused, Leaves, Serves, opening, scene, site};
 
 use crate::error::{End, ServeError};
 use crate::exchange::{make, step_of};
@@ -30,13 +31,14 @@ fn open_session<R: Room, O: Write, C: Moments>(
     clock: &C,
     output: &mut Watched<O>,
 ) -> Result<Flow, ServeError>
-    ensures ok { IfOk result (λ flow. GoesOrCloses flow.closed (site who.now R.keeps_all)
+    ensures ok { IfOk result (λ next. GoesOrCloses next.closed (site who.now R.keeps_all) false next.idles
         (scene (R.entries room.old) (O.contents output.old.inner))
         (scene (R.entries room.new) (O.contents output.new.inner)) opening) }
-    ensures err { OnErr result (Breaks (site who.now R.keeps_all)
+    ensures err { OnErr result (Breaks (site who.now R.keeps_all) false
         (scene (R.entries room.old) (O.contents output.old.inner))
         (scene (R.entries room.new) (O.contents output.new.inner)) opening) }
-    ensures cause { IfErr result (λ e. IsCaused e false output.new.failed) }
+    ensures cause { IfErr result (λ e. IsCaused e unasked output.new.log) }
+    ensures refused { IfErr result (λ e. IsRefused R.refuses e room.new) }
 {
     let flow = Flow {
         closed: false,
@@ -47,7 +49,7 @@ fn open_session<R: Room, O: Write, C: Moments>(
 }
 
 /// Opens the session, and does what its octets ask for until it ends.
-#[tactic(auto, using(crate::proofs::Scenes::opened_closes, crate::proofs::Scenes::opened_breaks, crate::proofs::Scenes::opened_ended, crate::proofs::Scenes::opened_broke))]
+#[tactic(auto, using(crate::proofs::Scenes::opened_closes, crate::proofs::Scenes::opened_breaks, crate::proofs::Scenes::opened_ended, crate::proofs::Scenes::opened_broke, crate::proofs::Scenes::caused_writer))]
 fn converse<R: Room, I: Read, O: Write, C: Moments, G: Gate, W: Wait>(
     rt: &W,
     alloc: Global,
@@ -60,17 +62,18 @@ fn converse<R: Room, I: Read, O: Write, C: Moments, G: Gate, W: Wait>(
     input: &mut Watched<I>,
     output: &mut Watched<O>,
 ) -> Result<End, ServeError>
-    ensures ended { IfOk result (λ end. EndedAfter max_octets end (site who.now R.keeps_all)
+    ensures ended { IfOk result (λ end. EndedAfter max_octets end (site who.now R.keeps_all) false
         (I.remaining input.old.inner) (I.remaining input.new.inner)
         (scene (R.entries room.old) (O.contents output.old.inner))
         (scene (R.entries room.new) (O.contents output.new.inner)) opening) }
-    ensures broke { IfErr result (λ e. BrokeOffAfter max_octets e (site who.now R.keeps_all)
+    ensures broke { IfErr result (λ e. BrokeOffAfter max_octets e (site who.now R.keeps_all) false
         (I.remaining input.old.inner) (I.remaining input.new.inner)
         (scene (R.entries room.old) (O.contents output.old.inner))
         (scene (R.entries room.new) (O.contents output.new.inner)) opening) }
-    ensures cause { IfErr result (λ e. IsCaused e input.new.failed output.new.failed) }
+    ensures cause { IfErr result (λ e. IsCaused e input.new.log output.new.log) }
+    ensures refused { IfErr result (λ e. IsRefused R.refuses e room.new) }
     ensures read { IfOk result (λ end. IsAllRead end (I.remaining input.new.inner)) }
-    ensures last { IfOk result (λ end. IsLastRead end input.new.last) }
+    ensures last { IfOk result (λ end. IsLastRead end input.new.log.last) }
     ensures idle { IfOk result (λ end. end ≡ Idle → idle_turns ≤ input.new.quiet) }
 {
     match open_session(alloc, room, who, clock, output) {
@@ -79,7 +82,8 @@ fn converse<R: Room, I: Read, O: Write, C: Moments, G: Gate, W: Wait>(
                 return Ok(End::Closed);
             }
             match talk(
-                rt, alloc, room, who, clock, gate, max_octets, idle_turns, input, output,
+                rt, alloc, room, who, clock, gate, max_octets, idle_turns, flow.idles, input,
+                output,
             ) {
                 Ok(end) => Ok(end),
                 Err(error) => Err(error),
@@ -89,23 +93,21 @@ fn converse<R: Room, I: Read, O: Write, C: Moments, G: Gate, W: Wait>(
     }
 }
 
-/// Leaves the room. If the room refuses that, the next Open begins the session anew.
-fn leave<R: Room, C: Moments>(alloc: Global, room: &mut R, who: &SessionId, clock: &C)
-    ensures { Leaves (site who.now R.keeps_all) (R.entries room.old) (R.entries room.new) }
+/// Asks the room for the step Leave. If the room refuses that, the next Open begins the session anew.
+fn leave<R: Room, C: Moments>(alloc: Global, room: &mut R, clock: &C, step: Step)
+    requires { step.act ≡ specs.Leave }
+    ensures { Leaves R.entries R.refuses (site step.who R.keeps_all) room.old room.new }
 {
-    match step_of(who, clock.now(), Act::Leave) {
-        Ok(step) => {
-            leave_by(alloc, room, &step);
-            drop(step);
-        }
-        Err(_) => {}
-    }
+    let mut step = step;
+    step.at = clock.now();
+    leave_by(alloc, room, &step);
+    drop(step);
 }
 
 #[tactic(auto, using(crate::proofs::Scenes::left, crate::proofs::Scenes::stayed))]
 fn leave_by<R: Room>(alloc: Global, room: &mut R, step: &Step)
     requires { step.now.act ≡ specs.Leave }
-    ensures { Leaves (site step.now.who R.keeps_all) (R.entries room.old) (R.entries room.new) }
+    ensures { Leaves R.entries R.refuses (site step.now.who R.keeps_all) room.old room.new }
 {
     match room.step(alloc, step) {
         Ok(_) => {}
@@ -120,7 +122,7 @@ fn leave_by<R: Room>(alloc: Global, room: &mut R, step: &Step)
 /// together.
 ///
 /// After a failure a beginning of the replies was written; all of them if the reader failed.
-#[tactic(auto, using(crate::proofs::Scenes::serves, crate::proofs::Scenes::gives_up))]
+#[tactic(auto, using(crate::proofs::Scenes::serves, crate::proofs::Scenes::gives_up, crate::proofs::Scenes::never_began))]
 pub fn serve<R: Room, I: Read, O: Write, C: Moments, G: Gate, W: Wait>(
     rt: &W,
     alloc: Global,
@@ -133,28 +135,29 @@ pub fn serve<R: Room, I: Read, O: Write, C: Moments, G: Gate, W: Wait>(
     input: &mut Watched<I>,
     output: &mut Watched<O>,
 ) -> Result<End, ServeError>
-    ensures ended { IfOk result (λ end. Serves max_octets end (site who.now R.keeps_all)
-        (I.remaining input.old.inner) (I.remaining input.new.inner)
-        (scene (R.entries room.old) (O.contents output.old.inner))
-        (scene (R.entries room.new) (O.contents output.new.inner))) }
-    ensures broke { IfErr result (λ e. GivesUp max_octets e (site who.now R.keeps_all)
-        (I.remaining input.old.inner) (I.remaining input.new.inner)
-        (scene (R.entries room.old) (O.contents output.old.inner))
-        (scene (R.entries room.new) (O.contents output.new.inner))) }
-    ensures cause { IfErr result (λ e. IsCaused e input.new.failed output.new.failed) }
+    ensures ended { IfOk result (λ end. Serves R.entries R.refuses max_octets end (site who.now R.keeps_all)
+        (I.remaining input.old.inner) (I.remaining input.new.inner) room.old room.new
+        (O.contents output.old.inner) (O.contents output.new.inner)) }
+    ensures broke { IfErr result (λ e. GivesUp R.entries R.refuses max_octets e (site who.now R.keeps_all)
+        (I.remaining input.old.inner) (I.remaining input.new.inner) room.old room.new
+        (O.contents output.old.inner) (O.contents output.new.inner)) }
+    ensures cause { IfErr result (λ e. IsCaused e input.new.log output.new.log) }
     ensures read { IfOk result (λ end. IsAllRead end (I.remaining input.new.inner)) }
-    ensures last { IfOk result (λ end. IsLastRead end input.new.last) }
+    ensures last { IfOk result (λ end. IsLastRead end input.new.log.last) }
     ensures idle { IfOk result (λ end. end ≡ Idle → idle_turns ≤ input.new.quiet) }
 {
+    let Ok(step) = step_of(who, clock.now(), Act::Leave) else {
+        return Err(ServeError::Memory);
+    };
     match converse(
         rt, alloc, room, who, clock, gate, max_octets, idle_turns, input, output,
     ) {
         Ok(end) => {
-            leave(alloc, room, who, clock);
+            leave(alloc, room, clock, step);
             Ok(end)
         }
         Err(error) => {
-            leave(alloc, room, who, clock);
+            leave(alloc, room, clock, step);
             Err(error)
         }
     }

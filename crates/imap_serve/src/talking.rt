@@ -1,9 +1,10 @@
 //! A session from its first read to its last.
 
-ghost use Rattle.std.specs.Prelude.{◌≡◌, ◌≤◌, [], false, IfErr, IfOk, OnErr};
+ghost use Rattle.std.specs.Prelude.{◌≡◌, ◌≤◌, [], true, IfErr, IfOk, OnErr};
 ghost use Rattle.imap_serve.specs.declared.error.End.TheVariants.{Idle};
+ghost use Rattle.imap_serve.specs.Reading.{unasked};
 ghost use Rattle.imap_serve.specs.Served.{Breaks, BrokeOffAfter, EndedAfter, GoesOrCloses, IsAllRead, IsCaused};
-ghost use Rattle.imap_serve.specs.Served.{IsLastRead, scene, site};
+ghost use Rattle.imap_serve.specs.Served.{IsLastRead, IsRefused, scene, site};
 
 use crate::error::{End, ServeError};
 use crate::exchange::{make, take_piece};
@@ -22,7 +23,7 @@ use std::sync::Wait;
 /// The most octets that one read takes.
 const PIECE_OCTETS: usize = 4096;
 
-/// Tells an idling session what changed (RFC 2177).
+/// Tells a session what changed, which idles (RFC 2177).
 fn poll<R: Room, O: Write, C: Moments>(
     alloc: Global,
     room: &mut R,
@@ -31,20 +32,23 @@ fn poll<R: Room, O: Write, C: Moments>(
     flow: Flow,
     output: &mut Watched<O>,
 ) -> Result<Flow, ServeError>
-    ensures ok { IfOk result (λ flow. GoesOrCloses flow.closed (site who.now R.keeps_all)
+    requires { flow.idles ≡ true }
+    ensures ok { IfOk result (λ next. GoesOrCloses next.closed (site who.now R.keeps_all)
+        flow.idles next.idles
         (scene (R.entries room.old) (O.contents output.old.inner))
         (scene (R.entries room.new) (O.contents output.new.inner)) []) }
-    ensures err { OnErr result (Breaks (site who.now R.keeps_all)
+    ensures err { OnErr result (Breaks (site who.now R.keeps_all) flow.idles
         (scene (R.entries room.old) (O.contents output.old.inner))
         (scene (R.entries room.new) (O.contents output.new.inner)) []) }
-    ensures cause { IfErr result (λ e. IsCaused e false output.new.failed) }
+    ensures cause { IfErr result (λ e. IsCaused e unasked output.new.log) }
+    ensures refused { IfErr result (λ e. IsRefused R.refuses e room.new) }
 {
     make(alloc, room, who, clock.now(), Act::Poll, flow, output)
 }
 
 /// Reads, and does what the octets ask for, until the input ends, the session is closed, or nothing came for too
-/// long.
-#[tactic(auto, using(crate::proofs::Scenes::heard_nothing, crate::proofs::Scenes::heard_more, crate::proofs::Scenes::heard_all, crate::proofs::Scenes::heard_unread, crate::proofs::Scenes::heard_still, crate::proofs::Scenes::heard_poll))]
+/// long. `idles` says whether the session idles at the beginning.
+#[tactic(auto, using(crate::proofs::Scenes::heard_nothing, crate::proofs::Scenes::heard_more, crate::proofs::Scenes::heard_all, crate::proofs::Scenes::heard_unread, crate::proofs::Scenes::heard_still, crate::proofs::Scenes::heard_poll, crate::proofs::Scenes::caused_writer, crate::proofs::Scenes::caused_writing, crate::proofs::Scenes::not_refused))]
 pub(crate) fn talk<R: Room, I: Read, O: Write, C: Moments, G: Gate, W: Wait>(
     rt: &W,
     alloc: Global,
@@ -54,26 +58,28 @@ pub(crate) fn talk<R: Room, I: Read, O: Write, C: Moments, G: Gate, W: Wait>(
     gate: &G,
     max_octets: u64,
     idle_turns: u64,
+    idles: bool,
     input: &mut Watched<I>,
     output: &mut Watched<O>,
 ) -> Result<End, ServeError>
-    ensures ended { IfOk result (λ end. EndedAfter max_octets end (site who.now R.keeps_all)
+    ensures ended { IfOk result (λ end. EndedAfter max_octets end (site who.now R.keeps_all) idles
         (I.remaining input.old.inner) (I.remaining input.new.inner)
         (scene (R.entries room.old) (O.contents output.old.inner))
         (scene (R.entries room.new) (O.contents output.new.inner)) []) }
-    ensures broke { IfErr result (λ e. BrokeOffAfter max_octets e (site who.now R.keeps_all)
+    ensures broke { IfErr result (λ e. BrokeOffAfter max_octets e (site who.now R.keeps_all) idles
         (I.remaining input.old.inner) (I.remaining input.new.inner)
         (scene (R.entries room.old) (O.contents output.old.inner))
         (scene (R.entries room.new) (O.contents output.new.inner)) []) }
-    ensures cause { IfErr result (λ e. IsCaused e input.new.failed output.new.failed) }
+    ensures cause { IfErr result (λ e. IsCaused e input.new.log output.new.log) }
+    ensures refused { IfErr result (λ e. IsRefused R.refuses e room.new) }
     ensures read { IfOk result (λ end. IsAllRead end (I.remaining input.new.inner)) }
-    ensures last { IfOk result (λ end. IsLastRead end input.new.last) }
+    ensures last { IfOk result (λ end. IsLastRead end input.new.log.last) }
     ensures idle { IfOk result (λ end. end ≡ Idle → idle_turns ≤ input.new.quiet) }
 {
     let mut framer = Framer::new(alloc, max_octets);
     let mut piece = [0u8; PIECE_OCTETS];
     let mut polled = room.change_count();
-    let mut idles = false;
+    let mut idles = idles;
     let mut calls = 0;
     for _ in rt.forever() {
         let flow = Flow {
@@ -120,6 +126,7 @@ pub(crate) fn talk<R: Room, I: Read, O: Write, C: Moments, G: Gate, W: Wait>(
                             if flow.closed {
                                 return Ok(End::Closed);
                             }
+                            idles = flow.idles;
                         }
                         Err(error) => return Err(error),
                     }

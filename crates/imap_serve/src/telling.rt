@@ -1,18 +1,22 @@
 //! Replies are printed and written.
 
-ghost use Rattle.std.specs.Prelude.{◌≡◌, false, IfErr, IfOk, OnErr, OnOk};
+ghost use Rattle.std.specs.Prelude.{◌≡◌, ◌&&◌, ◌||◌, ◌<◌, ◌≤◌, length, take, IfErr, IfOk, OnErr, OnOk};
 ghost use Rattle.std.specs.Io.KnownBytes.{Appends};
 ghost use Rattle.imap_print.specs.Printed.{printed};
-ghost use Rattle.imap_serve.specs.Events.{begin_idle, close, is_bye, is_idling};
+ghost use Rattle.imap_serve.specs.Events.{begin_idle, close, is_bye, is_idling, is_poll};
 ghost use Rattle.imap_serve.specs.Reading.{AppendsPart};
-ghost use Rattle.imap_serve.specs.Served.{IsCaused};
+ghost use Rattle.imap_serve.specs.Served.{IsCausedWriting};
 
 use crate::error::ServeError;
 use crate::watched::Watched;
-use imap_hall::Receipt;
+use imap_core::Act;
+use imap_hall::{Receipt, reply_octets};
 use imap_print::{Response, print};
 use std::alloc::Global;
 use std::io::Write;
+
+/// Replies are printed and written in pieces that take about this much memory.
+const PIECE_OCTETS: u64 = 65_536;
 
 /// The state of a session.
 #[derive(Clone, Copy, Debug, PartialEq, Eq)]
@@ -25,7 +29,20 @@ pub(crate) struct Flow {
     pub(crate) calls: u64,
 }
 
-/// Prints and writes replies.
+impl Flow {
+    /// The state after an act, without its replies. An IDLE lasts until the next request.
+    pub(crate) fn made(self, act: &Act) -> Flow
+        ensures { result.idles ≡ is_poll act.now && self.idles }
+    {
+        Flow {
+            closed: false,
+            idles: matches!(act, Act::Poll) && self.idles,
+            calls: self.calls,
+        }
+    }
+}
+
+/// Prints and writes replies, a piece after the other. After a write that failed nothing more is printed.
 pub(crate) fn say<O: Write>(
     alloc: Global,
     output: &mut Watched<O>,
@@ -35,15 +52,57 @@ pub(crate) fn say<O: Write>(
         (Appends (O.contents output.old.inner) (O.contents output.new.inner) (printed replies.now)) }
     ensures err { OnErr result
         (AppendsPart (O.contents output.old.inner) (O.contents output.new.inner) (printed replies.now)) }
-    ensures cause { IfErr result (λ e. IsCaused e false output.new.failed) }
+    ensures cause { IfErr result (λ e. IsCausedWriting e output.new.log) }
 {
-    match print(alloc, replies) {
+    let mut done = 0;
+    while done < replies.len() {
+        match say_piece(alloc, output, &replies[done..]) {
+            Ok(count) => done += count,
+            Err(error) => return Err(error),
+        }
+    }
+    Ok(())
+}
+
+/// Prints and writes the first of the replies, and returns how many.
+fn say_piece<O: Write>(
+    alloc: Global,
+    output: &mut Watched<O>,
+    replies: &[Response],
+) -> Result<usize, ServeError>
+    requires { 0 < length replies.now }
+    ensures ok { IfOk result (λ n.
+        Appends (O.contents output.old.inner) (O.contents output.new.inner) (printed (take n replies.now))
+        × (0 < n) × (n ≤ length replies.now)) }
+    ensures err { OnErr result
+        (AppendsPart (O.contents output.old.inner) (O.contents output.new.inner) (printed replies.now)) }
+    ensures cause { IfErr result (λ e. IsCausedWriting e output.new.log) }
+{
+    let count = piece_len(replies);
+    match print(alloc, &replies[..count]) {
         Ok(text) => match output.write_whole(text.as_slice()) {
-            Ok(()) => Ok(()),
+            Ok(()) => Ok(count),
             Err(_) => Err(ServeError::Write),
         },
         Err(_) => Err(ServeError::Memory),
     }
+}
+
+/// Returns how many of the replies are printed at once: as many as take [`PIECE_OCTETS`] together.
+fn piece_len(replies: &[Response]) -> usize
+    requires { 0 < length replies.now }
+    ensures { (0 < result) × (result ≤ length replies.now) }
+{
+    let mut octets: u64 = 0;
+    let mut count = 0;
+    for reply in replies {
+        octets = octets.saturating_add(reply_octets(reply));
+        count += 1;
+        if octets >= PIECE_OCTETS {
+            return count;
+        }
+    }
+    count
 }
 
 /// Writes the replies of a receipt.
@@ -55,10 +114,11 @@ pub(crate) fn tell<O: Write>(
 ) -> Result<Flow, ServeError>
     ensures ok { OnOk result (Appends (O.contents output.old.inner) (O.contents output.new.inner)
         (printed receipt.now.replies.items)) }
-    ensures flow { IfOk result (λ flow. flow.closed ≡ close receipt.now.replies.items) }
+    ensures closed { IfOk result (λ next. next.closed ≡ close receipt.now.replies.items) }
+    ensures idles { IfOk result (λ next. next.idles ≡ flow.idles || begin_idle receipt.now.replies.items) }
     ensures err { OnErr result (AppendsPart (O.contents output.old.inner) (O.contents output.new.inner)
         (printed receipt.now.replies.items)) }
-    ensures cause { IfErr result (λ e. IsCaused e false output.new.failed) }
+    ensures cause { IfErr result (λ e. IsCausedWriting e output.new.log) }
 {
     let replies = receipt.replies.as_slice();
     let next = Flow {

@@ -1,12 +1,14 @@
-//! Readers and writers, and whether they failed.
+//! Readers and writers, and what they answered last.
 //!
 //! What the reader answered last is noted, so that the end of the input isn't taken for a read that brought
-//! nothing, nor the other way round.
+//! nothing, nor the other way round; and that of a writer, so that a session breaks off only where it failed.
 
-ghost use Rattle.std.specs.Prelude.{◌≡◌, ◌<◌, ◌≤◌, [], false, length, take, true, IfOk, None, OnErr, OnOk, Some};
+ghost use Rattle.std.specs.Prelude.{◌≡◌, ◌<◌, ◌≤◌, [], length, take, IfOk, OnErr, OnOk, Some};
 ghost use Rattle.std.specs.Io.KnownBytes.{Appends, Consumes};
-ghost use Rattle.imap_serve.specs.Reading.{AppendsPart, Brings, HasFailed, IsAnswer};
-ghost use Rattle.imap_serve.specs.Reading.{IsAnswerOf, IsQuiet, IsTaken, Takes};
+ghost use Rattle.imap_serve.specs.declared.watched.Answer.TheVariants as specs;
+ghost use Rattle.imap_serve.specs.Reading.{Accepts, AppendsPart, Brings, HasFailed, HasNotWritten, IsAnswer};
+ghost use Rattle.imap_serve.specs.Reading.{IsAnswerOf, IsQuiet, IsTaken, Takes, noted, unasked};
+ghost use Rattle.imap_serve.specs.Reading.{interruptions_after};
 
 use std::io;
 use std::io::{ErrorKind, Read, Write};
@@ -14,21 +16,40 @@ use std::io::{ErrorKind, Read, Write};
 /// How many times in a row a read or a write that was interrupted is tried.
 const MAX_TRIES: u32 = 1001;
 
-/// A reader or a writer, and whether it failed. Only its own calls note that.
+/// A reader or a writer, and what it answered last. Only its own calls note that.
 #[derive(Debug, Drop)]
 pub struct Watched<T> {
     inner: T,
-    failed: bool,
-    /// What the last read was answered.
-    last: Option<Answer>,
+    log: Log,
     /// How many reads in a row brought nothing.
     quiet: u64,
 }
 
-/// What a reader answers.
+/// What a reader or a writer answered last.
+#[derive(Clone, Copy, Debug, PartialEq, Eq)]
+pub(crate) struct Log {
+    pub(crate) last: Option<Answer>,
+    /// How many of the last answers in a row were interruptions.
+    pub(crate) interruptions: u64,
+}
+
+impl Log {
+    /// Notes an answer.
+    fn note(&mut self, answer: Answer)
+        ensures { self.new ≡ noted self.old answer }
+    {
+        self.last = Some(answer);
+        self.interruptions = match answer {
+            Answer::Interrupted => self.interruptions.saturating_add(1),
+            Answer::Octets(_) | Answer::Nothing | Answer::Fault => 0,
+        };
+    }
+}
+
+/// What a reader or a writer answers.
 #[derive(Clone, Copy, Debug, PartialEq, Eq)]
 pub(crate) enum Answer {
-    /// This many octets; none at the end.
+    /// This many octets. A reader has none at the end.
     Octets(usize),
     /// Nothing came in time.
     Nothing,
@@ -51,15 +72,17 @@ pub(crate) enum Taken {
 pub(crate) struct Failed;
 
 impl<T> Watched<T> {
-    /// A reader or a writer that has not failed yet.
+    /// A reader or a writer that was not asked yet.
     pub fn new(inner: T) -> Watched<T>
         ensures inner { result.inner ≡ inner }
-        ensures fresh { (result.failed ≡ false) × (result.last ≡ None) × (result.quiet ≡ 0) }
+        ensures fresh { (result.log ≡ unasked) × (result.quiet ≡ 0) }
     {
         Watched {
             inner,
-            failed: false,
-            last: None,
+            log: Log {
+                last: None,
+                interruptions: 0,
+            },
             quiet: 0,
         }
     }
@@ -84,13 +107,13 @@ impl<I: Read> Watched<I> {
     fn ask(&mut self, buf: &mut [u8]) -> Answer
         requires { 0 < length buf.old }
         ensures brings { Brings result (I.remaining self.old.inner) (I.remaining self.new.inner) buf.new }
-        ensures noted { self.new.last ≡ Some result }
+        ensures noted { self.new.log ≡ noted self.old.log result }
         ensures quiet { self.new.quiet ≡ self.old.quiet }
         ensures len { length buf.new ≡ length buf.old }
     {
         let read = self.inner.read(buf);
         let answer = answer_of(&read);
-        self.last = Some(answer);
+        self.log.note(answer);
         answer
     }
 
@@ -100,11 +123,10 @@ impl<I: Read> Watched<I> {
         requires { 0 < length buf.old }
         ensures ok { IfOk result (λ taken.
             Takes taken (I.remaining self.old.inner) (I.remaining self.new.inner) buf.new) }
-        ensures answered { IfOk result (λ taken. IsTaken taken self.new.last) }
+        ensures answered { IfOk result (λ taken. IsTaken taken self.new.log.last) }
         ensures quiet { IfOk result (λ taken. IsQuiet taken self.old.quiet self.new.quiet) }
         ensures err { OnErr result (Consumes (I.remaining self.old.inner) (I.remaining self.new.inner) []) }
-        ensures failed { OnErr result (self.new.failed ≡ true) }
-        ensures fault { OnErr result (HasFailed self.new.last) }
+        ensures fault { OnErr result (HasFailed self.new.log) }
     {
         for _ in 0..MAX_TRIES {
             match self.ask(buf) {
@@ -118,18 +140,14 @@ impl<I: Read> Watched<I> {
                     return Ok(Taken::Occasion);
                 }
                 Answer::Interrupted => {}
-                Answer::Fault => {
-                    self.failed = true;
-                    return Err(Failed);
-                }
+                Answer::Fault => return Err(Failed),
             }
         }
-        self.failed = true;
         Err(Failed)
     }
 }
 
-/// Returns what the result of a read says.
+/// Returns what the result of a read or a write says.
 fn answer_of(read: &io::Result<usize>) -> Answer
     ensures { IsAnswer read.now result }
 {
@@ -152,6 +170,17 @@ fn answer_of_kind(kind: ErrorKind) -> Answer
 }
 
 impl<O: Write> Watched<O> {
+    /// Writes once, and notes what the writer answered.
+    fn offer(&mut self, bytes: &[u8]) -> Answer
+        ensures accepts { Accepts result (O.contents self.old.inner) (O.contents self.new.inner) bytes.now }
+        ensures noted { self.new.log ≡ noted self.old.log result }
+    {
+        let written = self.inner.write(bytes);
+        let answer = answer_of(&written);
+        self.log.note(answer);
+        answer
+    }
+
     /// Writes some octets of a piece that isn't empty. A write that was interrupted is made again, up to 1,000
     /// times. A write of nothing is a failure.
     #[tactic(auto, using(crate::proofs::Bytes::appends_nothing, crate::proofs::Bytes::appends_keeps, crate::proofs::Bytes::appends_then))]
@@ -160,18 +189,17 @@ impl<O: Write> Watched<O> {
         ensures ok { IfOk result (λ n.
             Appends (O.contents self.old.inner) (O.contents self.new.inner) (take n bytes.now)
             × (0 < n) × (n ≤ length bytes.now)) }
+        ensures answered { IfOk result (λ n. self.new.log.last ≡ Some (specs.Octets n)) }
         ensures err { OnErr result (Appends (O.contents self.old.inner) (O.contents self.new.inner) []) }
-        ensures failed { OnErr result (self.new.failed ≡ true) }
+        ensures fault { OnErr result (HasNotWritten self.new.log) }
     {
         for _ in 0..MAX_TRIES {
-            match self.inner.write(bytes) {
-                Ok(0) => break,
-                Ok(count) => return Ok(count),
-                Err(error) if error.kind() == ErrorKind::Interrupted => {}
-                Err(_) => break,
+            match self.offer(bytes) {
+                Answer::Octets(0) | Answer::Nothing | Answer::Fault => return Err(Failed),
+                Answer::Octets(count) => return Ok(count),
+                Answer::Interrupted => continue,
             }
         }
-        self.failed = true;
         Err(Failed)
     }
 
@@ -181,7 +209,7 @@ impl<O: Write> Watched<O> {
             (Appends (O.contents self.old.inner) (O.contents self.new.inner) bytes.now) }
         ensures err { OnErr result
             (AppendsPart (O.contents self.old.inner) (O.contents self.new.inner) bytes.now) }
-        ensures failed { OnErr result (self.new.failed ≡ true) }
+        ensures fault { OnErr result (HasNotWritten self.new.log) }
     {
         let mut done = 0;
         while done < bytes.len() {

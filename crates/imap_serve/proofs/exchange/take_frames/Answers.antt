@@ -12,9 +12,12 @@ returns-then-flow-clause-ok g c =
     let x = c.frame-item.result in
     let s : Site = site c.args.who.now g.R.Room.keeps_all in
     let xs = c.args.frames.now in
-    let last : Closes s b d (ask_of x ∷ []) = subst (λ closed. GoesOrCloses closed s b d (ask_of x ∷ [])) c.if-flow.true c.in-Ok.ensures.ok in
-    subst (λ closed. GoesOrCloses closed s a d (map ask_of xs)) (sym c.if-flow.true)
-    (frames_close s a b d xs c.loop-frame.frame-index x (search rules) c.loop-frame.invariant (subst (λ y. Closes s b d (ask_of y ∷ [])) c.frame-item.is last))
+    let p = c.args.flow.idles in
+    let q = c.loop-frame.idles in
+    let t = c.in-Ok.flow.idles in
+    let last : Closes s q b d (ask_of x ∷ []) = subst (λ closed. GoesOrCloses closed s q t b d (ask_of x ∷ [])) c.if-flow.true c.in-Ok.ensures.ok in
+    subst (λ closed. GoesOrCloses closed s p t a d (map ask_of xs)) (sym c.if-flow.true)
+    (frames_close s p q a b d xs c.loop-frame.frame-index x (search rules) c.loop-frame.invariant (subst (λ y. Closes s q b d (ask_of y ∷ [])) c.frame-item.is last))
 
 pub returns-in-Err-clause-err : goal.returns-in-Err-clause-err
 returns-in-Err-clause-err g c =
@@ -23,4 +26,5 @@ returns-in-Err-clause-err g c =
     let d : Scene = scene (g.R.Room.entries c.take_frame.new.room) (g.O.Write.contents c.take_frame.new.output.inner) in
     let x = c.frame-item.result in
     let s : Site = site c.args.who.now g.R.Room.keeps_all in
-    frames_break s a b d c.args.frames.now c.loop-frame.frame-index x (search rules) c.loop-frame.invariant (subst (λ y. Breaks s b d (ask_of y ∷ [])) c.frame-item.is c.in-Err.ensures.err)
+    let q = c.loop-frame.idles in
+    frames_break s c.args.flow.idles q a b d c.args.frames.now c.loop-frame.frame-index x (search rules) c.loop-frame.invariant (subst (λ y. Breaks s q b d (ask_of y ∷ [])) c.frame-item.is c.in-Err.ensures.err)

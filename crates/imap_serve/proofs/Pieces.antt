@@ -1,0 +1,41 @@
+-- Replies that are printed and written in pieces.
+use Rattle.std.proofs.Common.{◌≡◌, ◌∙◌, ◌+◌, length, sym, ap, refl, ℕ, List, [], ◌∷◌, ◌++◌, take, drop, Option, append_assoc, subst}
+use Rattle.std.proofs.lemmas.List.{take-append-drop}
+use Rattle.std.proofs.Math.Seq.{take-add}
+use Rattle.std.specs.Io.KnownBytes.{Appends}
+use Rattle.imap_print.specs.declared.response.Response.{Response}
+use Rattle.imap_print.specs.Printed.{line, printed}
+use Rattle.imap_serve.specs.Reading.{AppendsPart}
+use Rattle.imap_serve.proofs.Bytes.{appends_more}
+use Rattle.imap_serve.proofs.Scenes.{flat_map_more}
+
+front_own : (xs ys : List ℕ) → xs ≡ take (length xs) (xs ++ ys)
+front_own [] ys = refl
+front_own (x ∷ xs) ys = ap (λ l. x ∷ l) (front_own xs ys)
+
+-- octets that stand at the front of all were written
+part_of : (a b : Option (List ℕ)) (xs ys whole : List ℕ) → Appends a b xs → xs ++ ys ≡ whole → AppendsPart a b whole
+part_of a b xs ys whole h is = (length xs, subst (Appends a b) (front_own xs ys ∙ ap (take (length xs)) is) h)
+
+-- a part of the first octets is a part of all
+part_more : (a b : Option (List ℕ)) (xs ys whole : List ℕ) → AppendsPart a b xs → xs ++ ys ≡ whole → AppendsPart a b whole
+part_more a b xs ys whole h is =
+    part_of a b (take h.0 xs) (drop h.0 xs ++ ys) whole h.1
+    (sym (append_assoc (take h.0 xs) (drop h.0 xs) ys) ∙ (ap (λ l. l ++ ys) (take-append-drop h.0 xs) ∙ is))
+
+printed_parts : (n : ℕ) (xs : List Response) → printed (take n xs) ++ printed (drop n xs) ≡ printed xs
+printed_parts n xs = sym (flat_map_more line (take n xs) (drop n xs)) ∙ ap printed (take-append-drop n xs)
+
+pub part_of_piece : (a b : Option (List ℕ)) (n : ℕ) (xs : List Response) → AppendsPart a b (printed (take n xs)) → AppendsPart a b (printed xs)
+part_of_piece a b n xs h = part_more a b (printed (take n xs)) (printed (drop n xs)) (printed xs) h (printed_parts n xs)
+
+module _ (a b c : Option (List ℕ)) (done : ℕ) (xs : List Response) (h : Appends a b (printed (take done xs))) where
+  -- one more piece was written
+  pub pieces_more : (n : ℕ) → Appends b c (printed (take n (drop done xs))) → Appends a c (printed (take (done + n) xs))
+  pieces_more n k = subst (Appends a c) (sym (flat_map_more line (take done xs) (take n (drop done xs))) ∙ ap printed (sym (take-add done n xs))) (appends_more a b c (printed (take done xs)) (printed (take n (drop done xs))) h k)
+
+  -- a part of one more piece was written
+  pub pieces_part : AppendsPart b c (printed (drop done xs)) → AppendsPart a c (printed xs)
+  pieces_part k = part_of a c (printed (take done xs) ++ take k.0 (printed (drop done xs))) (drop k.0 (printed (drop done xs))) (printed xs)
+      (appends_more a b c (printed (take done xs)) (take k.0 (printed (drop done xs))) h k.1)
+      (append_assoc (printed (take done xs)) (take k.0 (printed (drop done xs))) (drop k.0 (printed (drop done xs))) ∙ (ap (λ l. printed (take done xs) ++ l) (take-append-drop k.0 (printed (drop done xs))) ∙ printed_parts done xs))
