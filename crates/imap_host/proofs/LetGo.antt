@@ -1,5 +1,5 @@
 -- Receipts that a seat lets go of.
-use Rattle.std.proofs.Common.{◌≡◌, ◌∙◌, sym, ap, refl, subst, ℕ, Bool, true, false, true≢false, List, [], ◌∷◌, ◌++◌, map, nat_le, if◌then◌else◌, Option, Some, None, append_assoc}
+use Rattle.std.proofs.Common.{◌≡◌, ◌∙◌, ◌⊎◌, inl, inr, sym, ap, refl, subst, ℕ, ◌<◌, ◌≤◌, Bool, true, false, true≢false, List, [], ◌∷◌, ◌++◌, drop, length, map, nat_le, if◌then◌else◌, Option, Some, None, append_assoc, arith}
 use Rattle.std.proofs.lemmas.List.{map-append}
 use Rattle.std.specs.Prelude.{option_to_list}
 use Rattle.imap_core.specs.declared.step.Step.{Step}
@@ -8,7 +8,7 @@ use Rattle.imap_hall.specs.Hall.{entry_of}
 use Rattle.imap_hall.specs.Journal.{JournalEntry}
 use Rattle.imap_hall.specs.Receipts.{AreLast, IsNewest}
 use Rattle.imap_host.specs.declared.seat.Kept.{Kept}
-use Rattle.imap_host.specs.Seats.{IsReceipt, Remembers, begins_before, from_base, kept_entry}
+use Rattle.imap_host.specs.Seats.{IsReceipt, LetsGo, Remembers, begins_before, but_newest, from_base, has_more_before, kept_entry}
 
 pub none_left : (base : ℕ) (ks : List Kept) → begins_before base ks ≡ false → from_base base ks ≡ ks
 none_left base [] is = refl
@@ -53,9 +53,83 @@ remembered base old step r new h =
     ∙ (sym (map-append kept_entry (from_base base old) (h.kept ∷ [])) ∙ ap (map kept_entry) (sym h.receipts)))
     (last_and (map kept_entry old) (map kept_entry (from_base base old)) (entry_of step r) (kept_last base old))
 
-pub newest_kept : (base : ℕ) (old : List Kept) (step : Step) (r : Receipt) (new : List Kept) → Remembers base old step r new → IsNewest step r (map kept_entry new)
-newest_kept base old step r new h = record {
-  before = map kept_entry (from_base base old);
-  parts = ap (map kept_entry) h.receipts ∙ map-append kept_entry (from_base base old) (h.kept ∷ [])
-      ∙ ap (λ e. map kept_entry (from_base base old) ++ e ∷ []) (entry_kept h.kept step r h.is);
+-- ---- all but the newest
+
+pub no_more_left : (base : ℕ) (ks : List Kept) → has_more_before base ks ≡ false → but_newest base ks ≡ ks
+no_more_left base [] is = refl
+no_more_left base (k ∷ []) is = refl
+no_more_left base (k ∷ l ∷ ks) is = ap (λ b. if b then but_newest base (l ∷ ks) else k ∷ l ∷ ks) is
+
+pub one_less_kept : (base : ℕ) (ks rest : List Kept) (taken : Option Kept) → has_more_before base ks ≡ true
+    → ks ≡ option_to_list taken ++ rest → but_newest base rest ≡ but_newest base ks
+one_less_kept base [] rest taken is parts = absurd (true≢false (sym is))
+one_less_kept base (k ∷ []) rest taken is parts = absurd (true≢false (sym is))
+one_less_kept base (k ∷ l ∷ ks) rest None is parts = ap (but_newest base) (sym parts)
+one_less_kept base (k ∷ l ∷ ks) rest (Some x) is parts =
+    ap (but_newest base) (sym (ap (drop 1) parts)) ∙ sym (ap (λ b. if b then but_newest base (l ∷ ks) else k ∷ l ∷ ks) is)
+
+pub more_than_one : (base : ℕ) (ks : List Kept) → 1 < length ks → begins_before base ks ≡ has_more_before base ks
+more_than_one base [] many = absurd (omega (arith, many))
+more_than_one base (k ∷ []) many = absurd (omega (arith, many))
+more_than_one base (k ∷ l ∷ ks) many = refl
+
+pub at_most_one : (base : ℕ) (ks : List Kept) → length ks ≤ 1 → false ≡ has_more_before base ks
+at_most_one base [] few = refl
+at_most_one base (k ∷ []) few = refl
+at_most_one base (k ∷ l ∷ ks) few = absurd (omega (arith, few))
+
+kept_but_newest : (base : ℕ) (ks : List Kept) → AreLast false (map kept_entry ks) (map kept_entry (but_newest base ks))
+kept_but_newest base [] = record { before = []; parts = refl; all = λ _. refl }
+kept_but_newest base (k ∷ []) = record { before = []; parts = refl; all = λ _. refl }
+kept_but_newest base (k ∷ l ∷ ks) = by (kept_but_newest base (l ∷ ks)) (nat_le k.receipt.place base)
+  where
+    by : AreLast false (map kept_entry (l ∷ ks)) (map kept_entry (but_newest base (l ∷ ks))) → (b : Bool) → AreLast false (map kept_entry (k ∷ l ∷ ks)) (map kept_entry (if b then but_newest base (l ∷ ks) else k ∷ l ∷ ks))
+    by h true = more_before k (l ∷ ks) (but_newest base (l ∷ ks)) h
+    by h false = record { before = []; parts = refl; all = λ _. refl }
+
+-- the receipts that are kept end with this one
+abbrev EndsWith : Kept → List Kept → Type 0
+EndsWith k ks = (front : List Kept) × (ks ≡ front ++ k ∷ [])
+
+newest_stays : (base : ℕ) (xs : List Kept) (k : Kept) → EndsWith k (but_newest base (xs ++ k ∷ []))
+newest_stays base [] k = ([], refl)
+newest_stays base (x ∷ []) k = by (nat_le x.receipt.place base)
+  where
+    by : (b : Bool) → EndsWith k (if b then k ∷ [] else x ∷ k ∷ [])
+    by true = ([], refl)
+    by false = (x ∷ [], refl)
+newest_stays base (x ∷ y ∷ xs) k = by (newest_stays base (y ∷ xs) k) (nat_le x.receipt.place base)
+  where
+    by : EndsWith k (but_newest base (y ∷ xs ++ k ∷ [])) → (b : Bool) → EndsWith k (if b then but_newest base (y ∷ xs ++ k ∷ []) else x ∷ y ∷ xs ++ k ∷ [])
+    by h true = h
+    by h false = (x ∷ y ∷ xs, refl)
+
+pub lets_go_same : (old new : List Kept) → new ≡ old → LetsGo old new
+lets_go_same old new is = inl is
+
+pub lets_go_turned : (base : ℕ) (old new : List Kept) → new ≡ but_newest base old → LetsGo old new
+lets_go_turned base old new is = inr (base, is)
+
+last_of_last : (whole kept less : List JournalEntry) → AreLast false whole kept → AreLast false kept less → AreLast false whole less
+last_of_last whole kept less h k = record {
+  before = h.before ++ k.before;
+  parts = h.parts ∙ (ap (λ l. h.before ++ l) k.parts ∙ sym (append_assoc h.before k.before less));
+  all = λ is. absurd (true≢false (sym is));
 }
+
+module _ (base : ℕ) (old : List Kept) (step : Step) (r : Receipt) (mid : List Kept) (h : Remembers base old step r mid) where
+  pub remembered_still : (new : List Kept) → LetsGo mid new → AreLast false (map kept_entry old ++ entry_of step r ∷ []) (map kept_entry new)
+  remembered_still new (inl is) = subst (λ l. AreLast false (map kept_entry old ++ entry_of step r ∷ []) (map kept_entry l)) (sym is) (remembered base old step r mid h)
+  remembered_still new (inr k) = subst (λ l. AreLast false (map kept_entry old ++ entry_of step r ∷ []) (map kept_entry l)) (sym k.1)
+      (last_of_last (map kept_entry old ++ entry_of step r ∷ []) (map kept_entry mid) (map kept_entry (but_newest k.0 mid)) (remembered base old step r mid h) (kept_but_newest k.0 mid))
+
+  ends_newest : (ks : List Kept) → EndsWith h.kept ks → IsNewest step r (map kept_entry ks)
+  ends_newest ks e = record {
+    before = map kept_entry e.0;
+    parts = ap (map kept_entry) e.1 ∙ map-append kept_entry e.0 (h.kept ∷ [])
+        ∙ ap (λ x. map kept_entry e.0 ++ x ∷ []) (entry_kept h.kept step r h.is);
+  }
+
+  pub newest_still : (new : List Kept) → LetsGo mid new → IsNewest step r (map kept_entry new)
+  newest_still new (inl is) = ends_newest new (from_base base old, is ∙ h.receipts)
+  newest_still new (inr k) = ends_newest new (subst (EndsWith h.kept) (sym (k.1 ∙ ap (but_newest k.0) h.receipts)) (newest_stays k.0 (from_base base old) h.kept))

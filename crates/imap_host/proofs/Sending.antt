@@ -58,7 +58,7 @@ use Rattle.imap_host.specs.contracts.seat.Seat.{the_row as seat_row, the_type as
 use Rattle.std.specs.contracts.alloc.Global.{the_row as global_row}
 use Rattle.std.specs.declared.sync.ledger.Ledger as ledger
 use Rattle.imap_print.proofs.response.Response.TheSendSync.{the_send as response_send}
-use Rattle.imap_user_map.proofs.user_map.UserMap.TheSendSync.{the_send as user_map_send}
+use Rattle.imap_user_map.proofs.user_map.UserMap.TheSendSync.{the_send as user_map_send, the_sync as user_map_sync}
 
 pub ruleset parts_cross = (sendable, crosses, as_row_send, octets_send, date_send, field_name_send, flag_send, set_send, search_date_send, search_in_send)
 
@@ -103,13 +103,13 @@ pub kept_send : IsSend kept_row
 kept_send = declared_send kept_type (step_send, (receipt_send, tt))
 
 pub seat_send : (L : RattleType) (g : ledger.Ghosts L.Denot) → IsSend L → IsSend (seat_row L g)
-seat_send L g send = declared_send (seat_type L g) (session_send, (search sendable, (Deque-send kept_row kept_send, (share_send L g, tt))))
+seat_send L g send = declared_send (seat_type L g) (session_send, (search sendable, (search sendable, (Deque-send kept_row kept_send, (share_send L g, (search sendable, tt))))))
 
 pub host_state_send : (K L : RattleType) (g : keeper.Ghosts K.Denot) (h : ledger.Ghosts L.Denot) → IsSend K → IsSend L → IsSend (host_state_row K L g h)
-host_state_send K L g h k l = declared_send (host_state_type K L g h) (hall_send K g k, (search (user_map_send, sendable), (search sendable, (book_send L h, (share_send L h, tt)))))
+host_state_send K L g h k l = declared_send (host_state_type K L g h) (hall_send K g k, (search sendable, (book_send L h, (share_send L h, tt))))
 
 pub host_sync : (K L : RattleType) (g : keeper.Ghosts K.Denot) (h : ledger.Ghosts L.Denot) → IsSend K → IsSend L → IsSync (host_row K L g h)
-host_sync K L g h k l = search (sendable, crosses, host_state_send) depth 60 fits 20000
+host_sync K L g h k l = search (sendable, crosses, host_state_send, user_map_sync) depth 60 fits 20000
 
 pub pair_send : (A B : RattleType) → IsSend A → IsSend B → IsSend (TupleAt (40 ∷ 44 ∷ 41 ∷ []) (A ∷ B ∷ []))
 pair_send A B a b = search sendable depth 60

@@ -1,5 +1,5 @@
 -- What a seat keeps of what it was given.
-use Rattle.std.specs.Prelude.{◌≡◌, ℕ, Bool, false, List, [], ◌∷◌, ◌++◌, Option, Some, None, nat_le, if◌then◌else◌}
+use Rattle.std.specs.Prelude.{◌≡◌, ◌⊎◌, ℕ, Bool, false, List, [], ◌∷◌, ◌++◌, Option, Some, None, nat_le, if◌then◌else◌}
 use Rattle.std.specs.FinMap as map
 use Rattle.imap_core.specs.declared.step.Step.{Step}
 use Rattle.imap_hall.specs.declared.journal.Receipt.{Receipt}
@@ -27,6 +27,22 @@ begins_before base (k ∷ ks) = nat_le k.receipt.place base
 abbrev pub from_base : (base : ℕ) → List Kept → List Kept
 from_base base [] = []
 from_base base (k ∷ ks) = if nat_le k.receipt.place base then from_base base ks else k ∷ ks
+
+-- there is one more receipt after the first, which is of an entry before the base
+abbrev pub has_more_before : (base : ℕ) → List Kept → Bool
+has_more_before base [] = false
+has_more_before base (k ∷ []) = false
+has_more_before base (k ∷ l ∷ ks) = nat_le k.receipt.place base
+
+-- without those at the front whose entries stand before the base, but with the newest
+abbrev pub but_newest : (base : ℕ) → List Kept → List Kept
+but_newest base [] = []
+but_newest base (k ∷ []) = k ∷ []
+but_newest base (k ∷ l ∷ ks) = if nat_le k.receipt.place base then but_newest base (l ∷ ks) else k ∷ l ∷ ks
+
+-- the receipts were let go of that a seat needs no more when it is told the base, if it is told one
+abbrev pub LetsGo : (old new : List Kept) → Type 0
+LetsGo old new = (new ≡ old) ⊎ ((base : ℕ) × (new ≡ but_newest base old))
 
 -- the receipt was added, and old ones were let go
 pub record Remembers (base : ℕ) (old : List Kept) (step : Step) (r : Receipt) (new : List Kept) : Type 0 where

@@ -6,14 +6,14 @@ use Rattle.imap_host.specs.declared.seat.Kept.{Kept}
 use Rattle.imap_host.specs.declared.seat.Seat.{Seat}
 use Rattle.imap_host.specs.Seats.{kept_entry}
 
--- what a seat keeps: its session, the place of the base as it was told, and the receipts
+-- what a seat keeps: its session, the place of the base as a turn-over told it, and the receipts
 pub record SeatNotes : Type 0 where
   pub who : SessionId
   pub base : ℕ
   pub receipts : List Kept
 
 abbrev pub notes_of : {L : Type 0} → Seat L → SeatNotes
-notes_of s = record { who = s.who; base = s.base; receipts = s.receipts.items }
+notes_of s = record { who = s.who; base = s.told_base; receipts = s.receipts.items }
 
 -- the receipts of entries since the base, before which `before` entries were made
 abbrev pub since : (before : ℕ) → List Kept → List Kept
@@ -51,7 +51,7 @@ AreEachSettled before journal (s ∷ ss) =
 abbrev pub receipts_since : (before : ℕ) → List SeatNotes → ℕ
 receipts_since before seats = sum_by (λ s. length (since before s.receipts)) seats
 
--- the greatest place of a base that a seat was told, 0 if none was
+-- the greatest place of a base that a turn-over told a seat, 0 if there was none
 abbrev pub last_base : List SeatNotes → ℕ
 last_base [] = 0
 last_base (s ∷ ss) = max s.base (last_base ss)

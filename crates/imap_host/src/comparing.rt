@@ -13,8 +13,8 @@ use std::collections::VecDeque;
 use std::sync::ledger::Ledger;
 
 /// Whether the journal and the seats agree. Each entry since the base has one receipt, which has the entry's place,
-/// session, number, step and replies, and the greatest base that a seat knows is the journal's. `before` is how many
-/// entries were made before the base.
+/// session, number, step and replies, and the greatest base that a turn-over told a seat is the journal's. `before`
+/// is how many entries were made before the base.
 pub(crate) fn are_settled<L: Ledger>(before: u64, entries: &[Entry], seats: &[Seat<L>]) -> bool
     ensures { IsTrue result ↔ AreSettled before (map journal_entry entries.now) (map notes_of seats.now) }
 {
@@ -25,7 +25,7 @@ pub(crate) fn are_settled<L: Ledger>(before: u64, entries: &[Entry], seats: &[Se
             Some(count) if count <= left => left -= count,
             _ => return false,
         }
-        base = base.max(seat.base);
+        base = base.max(seat.told_base);
     }
     left == 0 && base == before
 }

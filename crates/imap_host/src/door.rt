@@ -1,5 +1,6 @@
 //! Doors.
 
+use imap_serve::{End, ServeError};
 use std::io::{Read, Write};
 
 /// Where connections come from.
@@ -10,4 +11,7 @@ pub trait Door {
 
     /// Returns the reader and the writer of the next connection, or `None` if no connection comes any more.
     fn next(&mut self) -> Option<(Self::In, Self::Out)>;
+
+    /// Learns how the session over the last connection ended.
+    fn ended(&mut self, end: Result<End, ServeError>);
 }

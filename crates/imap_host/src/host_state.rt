@@ -1,29 +1,20 @@
 //! The state of a host, which lies under its lock.
 
-ghost use Rattle.std.specs.Prelude.{◌≡◌, ◌+◌, ◌<◌, ◌≤◌, ◌^◌, ℕ, [], length, List, IfErr, IfOk, OnErr, OnOk};
-ghost use Rattle.std.specs.FinMap as map;
+ghost use Rattle.std.specs.Prelude.{◌≡◌, ◌+◌, ◌↔◌, ◌<◌, ◌≤◌, [], length, IfOk, IsTrue, OnErr, OnOk};
 ghost use Rattle.imap_hall.specs.Hall.{HasStepped, IsBaseOf, IsTurnedOver, IsUntouched};
-ghost use Rattle.imap_host.specs.declared.seat.SeatError.TheVariants as error;
 ghost use Rattle.imap_hall.specs.Receipts.{IsSameReceipt};
-ghost use Rattle.imap_host.specs.Seats.{last_of};
 
 use crate::host::PARTS;
-use crate::seat::{Seat, SeatError};
-use imap_core::{SessionId, SessionNumber, Step};
+use imap_core::Step;
 use imap_hall::{Hall, HallError, OldBase, Receipt};
 use imap_keeper::Keeper;
-use imap_names::UserName;
-use imap_user_map::UserMap;
 use std::alloc::{AllocError, Global};
-use std::collections::VecDeque;
 use std::sync::ledger::{Blank, Book, Ledger, Share};
 
 /// A hall, the book of the ledger that counts its entries, and the parts of the ledger that no seat has.
 #[derive(Drop)]
 pub struct HostState<K: Keeper, L: Ledger> {
     pub hall: Hall<K>,
-    /// The number of each user's last seat.
-    pub numbers: UserMap<u64>,
     /// How many parts no seat has.
     pub left: u64,
     pub(crate) book: Book<L>,
@@ -31,7 +22,6 @@ pub struct HostState<K: Keeper, L: Ledger> {
     ghost parts: { rest.parts ≡ left },
     ghost idle: { rest.amount ≡ 0 },
     ghost few: { left ≤ 1048576 },
-    ghost seated: { (user : List ℕ) → last_of numbers.map user + left ≤ 1048576 },
     ghost counted: { book.total ≡ hall.before + length hall.entries },
 }
 
@@ -46,7 +36,7 @@ pub struct ReceiptPair {
 
 impl<K: Keeper, L: Ledger> HostState<K, L> {
     /// The state of a host without seats, over a hall without entries.
-    pub fn new(alloc: Global, hall: Hall<K>, blank: Blank) -> HostState<K, L>
+    pub fn new(hall: Hall<K>, blank: Blank) -> HostState<K, L>
         requires name { blank.name ≡ L.name }
         requires parts { (blank.parts ≡ L.parts) × (blank.parts ≡ 1048576) }
         requires fresh { (hall.before ≡ 0) × (hall.entries ≡ []) }
@@ -56,45 +46,28 @@ impl<K: Keeper, L: Ledger> HostState<K, L> {
         let (book, rest) = blank.open::<L>();
         HostState {
             hall,
-            numbers: UserMap::new(alloc),
             left: PARTS,
             book,
             rest,
         }
     }
 
-    /// Gives the user one more seat. The seats of each user are numbered from 1. Fails with `Full` if only one
-    /// part is left.
-    pub fn seat(&mut self, alloc: Global, user: UserName) -> Result<Seat<L>, SeatError>
-        ensures user { IfOk result (λ s. s.who.user ≡ user) }
-        ensures number { IfOk result (λ s. s.who.number ≡ last_of self.old.numbers.map user + 1) }
-        ensures noted { IfOk result
-            (λ s. self.new.numbers.map ≡ map.insert self.old.numbers.map user s.who.number) }
-        ensures fresh { IfOk result (λ s. (s.base ≡ 0) × (s.receipts.items ≡ []) × (s.share.amount ≡ 0)) }
-        ensures left { OnOk result (self.new.left + 1 ≡ self.old.left) }
-        ensures full { IfErr result (λ e. e ≡ error.Full → self.old.left ≤ 1) }
-        ensures err { OnErr result (self.new.left ≡ self.old.left) }
+    /// Whether only one part of the ledger is left, or none.
+    pub fn is_full(&self) -> bool
+        ensures { IsTrue result ↔ (self.now.left ≤ 1) }
+    {
+        self.left <= 1
+    }
+
+    /// Returns the part of one more seat.
+    pub fn part(&mut self) -> Share<L>
+        requires { 1 < self.old.left }
+        ensures part { (result.parts ≡ 1) × (result.amount ≡ 0) }
+        ensures left { self.new.left + 1 ≡ self.old.left }
         ensures hall { self.new.hall ≡ self.old.hall }
     {
-        if self.left <= 1 {
-            return Err(SeatError::Full);
-        }
-        let HostState {
-            hall: _,
-            numbers,
-            left,
-            book: _,
-            rest,
-        } = self;
-        let who = next_session(numbers, alloc, user)?;
-        let share = rest.split_off(1, 0);
-        *left -= 1;
-        Ok(Seat {
-            who,
-            base: 0,
-            receipts: VecDeque::new(alloc),
-            share,
-        })
+        self.left -= 1;
+        self.rest.split_off(1, 0)
     }
 
     /// Makes a step, and adds one to the amount of the seat's share.
@@ -116,7 +89,6 @@ impl<K: Keeper, L: Ledger> HostState<K, L> {
     {
         let HostState {
             hall,
-            numbers: _,
             left: _,
             book,
             rest: _,
@@ -140,7 +112,6 @@ impl<K: Keeper, L: Ledger> HostState<K, L> {
     {
         let HostState {
             hall,
-            numbers: _,
             left: _,
             book: _,
             rest: _,
@@ -155,54 +126,10 @@ impl<K: Keeper, L: Ledger> HostState<K, L> {
     {
         let HostState {
             hall,
-            numbers: _,
             left: _,
             book: _,
             rest: _,
         } = self;
         hall
-    }
-}
-
-/// Returns the next session of a user, and notes its number.
-fn next_session(
-    numbers: &mut UserMap<u64>,
-    alloc: Global,
-    user: UserName,
-) -> Result<SessionId, AllocError>
-    requires { last_of numbers.old.map user < 1048576 }
-    ensures user { IfOk result (λ who. who.user ≡ user) }
-    ensures number { IfOk result (λ who. who.number ≡ last_of numbers.old.map user + 1) }
-    ensures noted { IfOk result (λ who. numbers.new.map ≡ map.insert numbers.old.map user who.number) }
-    ensures err { OnErr result (numbers.new.map ≡ numbers.old.map) }
-{
-    let number = last_of(numbers, &user) + 1;
-    let key = String::from_str(alloc, user.as_str())?;
-    numbers.reserve(1)?;
-    numbers.insert_reserved(key, number);
-    Ok(SessionId {
-        user,
-        number: session_number(number),
-    })
-}
-
-/// Returns the number of the user's last seat, 0 if the user has none.
-fn last_of(numbers: &UserMap<u64>, user: &UserName) -> u64
-    ensures { result ≡ last_of numbers.now.map user.now }
-{
-    match numbers.get(user.as_str()) {
-        Some(number) => *number,
-        None => 0,
-    }
-}
-
-/// Returns the session number, which is from 1 to 2^32 - 1.
-fn session_number(number: u64) -> SessionNumber
-    requires { (1 ≤ number) × (number < 2 ^ 32) }
-    ensures { result ≡ number }
-{
-    match SessionNumber::new(number as u32) {
-        Some(number) => number,
-        None => unreachable!(),
     }
 }

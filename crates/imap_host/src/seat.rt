@@ -1,15 +1,16 @@
 //! Seats.
 //!
 //! A seat lets go of receipts from before the journal's base at each call, since a session may last for
-//! weeks.
+//! weeks. Nobody else can: while a session rests, its worker has the seat. So a seat that holds much makes the
+//! journal begin anew, and then lets go of all its receipts but the newest.
 
-ghost use Rattle.std.specs.Prelude.{◌≡◌, ◌≤◌};
+ghost use Rattle.std.specs.Prelude.{◌≡◌, ◌≤◌, []};
 ghost use Rattle.std.specs.VecDeque.{deque_capacity, deque_len};
-ghost use Rattle.imap_host.specs.Seats.{begins_before, from_base};
+ghost use Rattle.imap_host.specs.Seats.{begins_before, but_newest, from_base, has_more_before};
 
 use imap_core::{SessionId, Step};
 use imap_hall::Receipt;
-use std::alloc::AllocError;
+use std::alloc::{AllocError, Global};
 use std::collections::VecDeque;
 use std::sync::ledger::{Ledger, Share};
 use thiserror::Error;
@@ -27,12 +28,34 @@ pub struct Seat<L: Ledger> {
     pub who: SessionId,
     /// How many entries were made before the journal's base, as of the seat's last call.
     pub base: u64,
+    /// The same, as of the seat's last call of [`Host::turn_over`](crate::Host::turn_over); 0 if there was none.
+    pub told_base: u64,
     pub receipts: VecDeque<Kept>,
     pub(crate) share: Share<L>,
+    /// About how much memory the receipts hold. It is a hint.
+    pub(crate) octets: u64,
     ghost one_part: { share.parts ≡ 1 },
 }
 
 impl<L: Ledger> Seat<L> {
+    /// A seat without receipts.
+    pub(crate) fn new(alloc: Global, who: SessionId, share: Share<L>) -> Seat<L>
+        requires { share.parts ≡ 1 }
+        ensures who { result.who ≡ who }
+        ensures bases { (result.base ≡ 0) × (result.told_base ≡ 0) }
+        ensures receipts { result.receipts.items ≡ [] }
+        ensures amount { result.share.amount ≡ share.amount }
+    {
+        Seat {
+            who,
+            base: 0,
+            told_base: 0,
+            receipts: VecDeque::new(alloc),
+            share,
+            octets: 0,
+        }
+    }
+
     /// Ends the seat, and returns its share of the ledger.
     pub(crate) fn into_share(self) -> Share<L>
         ensures parts { result.parts ≡ 1 }
@@ -41,8 +64,10 @@ impl<L: Ledger> Seat<L> {
         let Seat {
             who: _,
             base: _,
+            told_base: _,
             receipts: _,
             share,
+            octets: _,
         } = self;
         share
     }
@@ -88,4 +113,22 @@ fn begins_before(receipts: &VecDeque<Kept>, base: u64) -> bool
         Some(kept) => kept.receipt.place <= base,
         None => false,
     }
+}
+
+/// Drops the receipts at the front that are of entries before the base, but for the newest of all.
+#[tactic(auto, using(crate::proofs::LetGo::no_more_left, crate::proofs::LetGo::one_less_kept))]
+pub(crate) fn let_go_but_newest(receipts: &mut VecDeque<Kept>, base: u64)
+    ensures { receipts.new.items ≡ but_newest base receipts.old.items }
+{
+    while has_more_before(receipts, base) {
+        drop(receipts.pop_front());
+    }
+}
+
+/// Whether the first receipt is of an entry before the base, and not the only one.
+#[tactic(auto, using(crate::proofs::LetGo::more_than_one, crate::proofs::LetGo::at_most_one))]
+fn has_more_before(receipts: &VecDeque<Kept>, base: u64) -> bool
+    ensures { result ≡ has_more_before base receipts.now.items }
+{
+    receipts.len() > 1 && begins_before(receipts, base)
 }

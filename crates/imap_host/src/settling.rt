@@ -5,7 +5,7 @@ ghost use Rattle.imap_host.specs.Settling.{AreSettled, notes_of};
 ghost use Rattle.imap_host.specs.declared.settling.SettleError.TheVariants as error;
 
 use crate::comparing::are_settled;
-use crate::host::{Host, PARTS};
+use crate::host::{Host, OpenHost, PARTS};
 use crate::host_state::HostState;
 use crate::seat::Seat;
 use imap_hall::Hall;
@@ -66,7 +66,6 @@ impl<K: Keeper, L: Ledger> HostState<K, L> {
         }
         let HostState {
             hall,
-            numbers: _,
             left: _,
             mut book,
             rest,
@@ -78,20 +77,29 @@ impl<K: Keeper, L: Ledger> HostState<K, L> {
 }
 
 impl<K: Keeper, L: Ledger> Host<K, L> {
-    /// As [`HostState::settle`].
+    /// As [`HostState::settle`]. A refusal returns the host open, so that its state can be seen.
     pub fn settle(
         self,
         seats: Vec<Seat<L>>,
-    ) -> Result<Hall<K>, (SettleError, Host<K, L>, Vec<Seat<L>>)>
+    ) -> Result<Hall<K>, (SettleError, OpenHost<K, L>, Vec<Seat<L>>)>
         requires { L.parts ≡ 1048576 }
         ensures counted { IfOk result (λ h. h.before + length h.entries
             ≡ sum_by (λ s. s.share.amount) seats.items) }
         ensures settled { IfOk result (λ h. AreSettled h.before h.entries (map notes_of seats.items)) }
-        ensures kept { IfErr result (λ e. e.2 ≡ seats) }
+        ensures missing { IfErr result
+            (λ e. e.0 ≡ error.Missing → e.1.state.left + vec_len seats < 1048576) }
+        ensures mismatch { IfErr result (λ e. e.0 ≡ error.Mismatch
+            → (1048576 ≤ e.1.state.left + vec_len seats)
+            × (AreSettled e.1.state.hall.before e.1.state.hall.entries (map notes_of seats.items) → ⊥)) }
+        ensures kept { IfErr result (λ e. (e.1.numbers ≡ self.numbers) × (e.2 ≡ seats)) }
     {
-        match self.into_state().settle(seats) {
-            Ok(hall) => Ok(hall),
-            Err((error, state, seats)) => Err((error, Host::of_state(state), seats)),
+        let OpenHost { state, numbers } = self.into_open();
+        match state.settle(seats) {
+            Ok(hall) => {
+                drop(numbers);
+                Ok(hall)
+            }
+            Err((error, state, seats)) => Err((error, OpenHost { state, numbers }, seats)),
         }
     }
 }

@@ -8,7 +8,7 @@ use crate::door::Door;
 use crate::host::Host;
 use crate::seat::Seat;
 use imap_keeper::Keeper;
-use imap_serve::{Gate, Moments, Watched, serve};
+use imap_serve::{End, Gate, Moments, ServeError, Watched, serve};
 use std::alloc::Global;
 use std::io::{Read, Write};
 use std::slice::IterMut;
@@ -25,7 +25,7 @@ pub enum CrewError {
     Start,
 }
 
-/// Serves a connection as a session of the seat.
+/// Serves a connection as a session of the seat. Returns how the session ended.
 fn serve_one<K: Keeper, L: Ledger, I: Read + Drop, O: Write + Drop, C: Moments, G: Gate, R: Wait>(
     rt: &R,
     alloc: Global,
@@ -36,27 +36,24 @@ fn serve_one<K: Keeper, L: Ledger, I: Read + Drop, O: Write + Drop, C: Moments, 
     gate: &G,
     max_octets: u64,
     idle_turns: u64,
-) {
+) -> Result<End, ServeError> {
     let (input, output) = connection;
     let mut input = Watched::new(input);
     let mut output = Watched::new(output);
-    // Without memory for the name the connection is closed.
-    if let Ok(who) = seat.who.try_copy() {
-        let mut desk = Desk { rt, host, seat };
-        // Whatever ended the session, the next one is served.
-        let _ended = serve(
-            rt,
-            alloc,
-            &mut desk,
-            &who,
-            clock,
-            gate,
-            max_octets,
-            idle_turns,
-            &mut input,
-            &mut output,
-        );
-    }
+    let who = seat.who.try_copy()?;
+    let mut desk = Desk { rt, host, seat };
+    serve(
+        rt,
+        alloc,
+        &mut desk,
+        &who,
+        clock,
+        gate,
+        max_octets,
+        idle_turns,
+        &mut input,
+        &mut output,
+    )
 }
 
 /// Serves the connections of a door one after the other.
@@ -74,7 +71,7 @@ fn work<K: Keeper, L: Ledger, D: Door, C: Moments, G: Gate, R: Wait>(
         let Some(connection) = post.1.next() else {
             break;
         };
-        serve_one(
+        let end = serve_one(
             rt,
             alloc,
             host,
@@ -85,6 +82,8 @@ fn work<K: Keeper, L: Ledger, D: Door, C: Moments, G: Gate, R: Wait>(
             max_octets,
             idle_turns,
         );
+        // However it ended, the next one is served.
+        post.1.ended(end);
     }
 }
 
