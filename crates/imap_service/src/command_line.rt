@@ -1,20 +1,27 @@
 //! The command line.
 
+use crate::report::LogLevel;
 use crate::service::{Port, Service};
 use clap::error::ErrorKind;
 use clap::{Arg, ArgAction, ArgMatches, Command};
 use imap_names::UserName;
 use imap_script::{DEFAULT_LIMITS, read_max_messages, read_max_octets, read_number};
+use imap_world::Limits;
 use std::alloc::{AllocError, AllocFailed, Global};
 use std::rt::Env;
 use std::{env, io};
 use thiserror::Error;
+
+/// The version of the program, as `CHANGELOG.md` has it.
+pub const VERSION: &str = "0.1.0";
 
 /// What the program is asked to do.
 #[derive(Debug, Drop)]
 pub enum Task {
     /// To run the script on standard input.
     Script,
+    /// To say which version of the program this is.
+    Version,
     /// To serve users over TCP.
     Serve {
         /// The path of the database that keeps the mail.
@@ -29,9 +36,17 @@ pub enum CommandLineError {
     /// The parser's own text: what it found wrong, or the help that was asked for.
     #[error("{0}")]
     Usage(clap::Error),
-    /// The words can't be had, there is no subcommand, or the value of an option isn't valid.
-    #[error("imapd: bad command line\n")]
-    Unclear,
+    #[error("imapd: bad command line\nimapd: the words of the command line can't be read\n")]
+    Unreadable,
+    #[error("imapd: bad command line\nimapd: a subcommand is wanted: serve or script\n")]
+    NoSubcommand,
+    /// The value of an option isn't valid.
+    #[error("imapd: bad command line\nimapd: --{option} {value}: {reason}\n")]
+    Value {
+        option: &'static str,
+        value: String,
+        reason: &'static str,
+    },
     #[error("imapd: out of memory\n")]
     Memory,
 }
@@ -64,7 +79,7 @@ pub fn read_command_line<R: Env + AllocGlobal>(rt: &R) -> Result<Task, CommandLi
         Err(error) if error.kind() == io::ErrorKind::OutOfMemory => {
             return Err(CommandLineError::Memory);
         }
-        Err(_) => return Err(CommandLineError::Unclear),
+        Err(_) => return Err(CommandLineError::Unreadable),
     };
     read_words(rt.alloc(), words.as_slice())
 }
@@ -76,12 +91,22 @@ pub fn read_words(alloc: Global, words: &[String]) -> Result<Task, CommandLineEr
     );
     let command = Command::new(alloc, "imapd")
         .about("An IMAP server for shared mailboxes")
+        .version(VERSION)
         .subcommand(script)?;
-    let matches = with_serve(alloc, command)?.try_get_matches_from(words)?;
+    match with_serve(alloc, command)?.try_get_matches_from(words) {
+        Ok(matches) => read_matches(alloc, &matches),
+        Err(error) => match error.kind() {
+            ErrorKind::DisplayVersion => Ok(Task::Version),
+            _ => Err(CommandLineError::from(error)),
+        },
+    }
+}
+
+fn read_matches(alloc: Global, matches: &ArgMatches<'_>) -> Result<Task, CommandLineError> {
     match matches.subcommand() {
         Some(("script", _)) => Ok(Task::Script),
         Some(("serve", found)) => read_service(alloc, found),
-        _ => Err(CommandLineError::Unclear),
+        _ => Err(CommandLineError::NoSubcommand),
     }
 }
 
@@ -117,7 +142,11 @@ fn serve_command<'a>(alloc: Global) -> Result<Command<'a>, AllocError> {
     );
     let command = command.arg(max_messages)?;
     let max_octets = option(alloc, "max-octets", "N").help("How many octets a message may have");
-    command.arg(max_octets)
+    let command = command.arg(max_octets)?;
+    let log = option(alloc, "log", "LINES").help(
+        "What standard error is told: off, errors (the default) or connections",
+    );
+    command.arg(log)
 }
 
 /// An option `--NAME` that may be given once. `value` names its value in the help.
@@ -131,21 +160,58 @@ fn option<'a>(alloc: Global, name: &'a str, value: &'a str) -> Arg<'a> {
 /// Reads the options of `serve`.
 fn read_service(alloc: Global, found: &ArgMatches<'_>) -> Result<Task, CommandLineError> {
     let database = String::from_str(alloc, found.get_str("db").unwrap_or(""))?;
-    let administrator = read_user(alloc, found.get_str("admin").unwrap_or(""))?;
-    let mut limits = DEFAULT_LIMITS;
-    if let Some(text) = found.get_str("max-messages") {
-        limits.max_messages = read_max_messages(text).ok_or(CommandLineError::Unclear)?;
-    }
-    if let Some(text) = found.get_str("max-octets") {
-        limits.max_octets = read_max_octets(text).ok_or(CommandLineError::Unclear)?;
-    }
+    let administrator = read_user(alloc, "admin", found.get_str("admin").unwrap_or(""))?;
+    let limits = read_limits(alloc, found)?;
+    let log = read_log(alloc, found.get_str("log").unwrap_or("errors"))?;
     let ports = read_ports(alloc, found.get_strs("listen").unwrap_or(&[]))?;
     let service = Service {
         administrator,
         ports,
         limits,
+        log,
     };
     Ok(Task::Serve { database, service })
+}
+
+fn read_limits(alloc: Global, found: &ArgMatches<'_>) -> Result<Limits, CommandLineError> {
+    let mut limits = DEFAULT_LIMITS;
+    if let Some(text) = found.get_str("max-messages") {
+        match read_max_messages(text) {
+            Some(number) => limits.max_messages = number,
+            None => return Err(fault(alloc, "max-messages", text, "1 to 1000000 are wanted")),
+        }
+    }
+    if let Some(text) = found.get_str("max-octets") {
+        match read_max_octets(text) {
+            Some(number) => limits.max_octets = number,
+            None => return Err(fault(alloc, "max-octets", text, "1 to 1073741824 are wanted")),
+        }
+    }
+    Ok(limits)
+}
+
+/// Why the value of an option isn't valid.
+fn fault(
+    alloc: Global,
+    option: &'static str,
+    value: &str,
+    reason: &'static str,
+) -> CommandLineError {
+    match String::from_str(alloc, value) {
+        Ok(value) => CommandLineError::Value {
+            option,
+            value,
+            reason,
+        },
+        Err(_) => CommandLineError::Memory,
+    }
+}
+
+fn read_log(alloc: Global, text: &str) -> Result<LogLevel, CommandLineError> {
+    match LogLevel::read(text) {
+        Some(level) => Ok(level),
+        None => Err(fault(alloc, "log", text, "off, errors or connections is wanted")),
+    }
 }
 
 /// Reads the users with their ports. No user is named twice.
@@ -153,27 +219,47 @@ fn read_ports(alloc: Global, texts: &[&str]) -> Result<Vec<Port>, CommandLineErr
     let mut ports = Vec::new(alloc);
     for text in texts {
         let port = read_port(alloc, text)?;
-        if ports
-            .iter()
-            .any(|other: &Port| other.user.is_same(&port.user))
-        {
-            return Err(CommandLineError::Unclear);
+        if is_named(ports.as_slice(), &port.user) {
+            return Err(fault(alloc, "listen", text, "the user is named before"));
         }
         ports.push(port)?;
     }
     Ok(ports)
 }
 
-/// Reads `NAME=PORT`. The name ends at the last `=`.
-fn read_port(alloc: Global, text: &str) -> Result<Port, CommandLineError> {
-    let (name, number) = text.rsplit_once('=').ok_or(CommandLineError::Unclear)?;
-    let number = read_number(number, 1, u64::from(u16::MAX)).ok_or(CommandLineError::Unclear)?;
-    Ok(Port {
-        user: read_user(alloc, name)?,
-        number: number as u16,
-    })
+fn is_named(ports: &[Port], user: &UserName) -> bool {
+    ports.iter().any(|other| other.user.is_same(user))
 }
 
-fn read_user(alloc: Global, name: &str) -> Result<UserName, CommandLineError> {
-    UserName::read(alloc, name)?.ok_or(CommandLineError::Unclear)
+/// Reads `NAME=PORT`. The name ends at the last `=`.
+fn read_port(alloc: Global, text: &str) -> Result<Port, CommandLineError> {
+    match split_port(text) {
+        Some((name, number)) => Ok(Port {
+            user: read_user(alloc, "listen", name)?,
+            number,
+        }),
+        None => Err(fault(
+            alloc,
+            "listen",
+            text,
+            "NAME=PORT is wanted, PORT from 1 to 65535",
+        )),
+    }
+}
+
+fn split_port(text: &str) -> Option<(&str, u16)> {
+    let (name, number) = text.rsplit_once('=')?;
+    let number = read_number(number, 1, u64::from(u16::MAX))?;
+    Some((name, number as u16))
+}
+
+fn read_user(
+    alloc: Global,
+    option: &'static str,
+    name: &str,
+) -> Result<UserName, CommandLineError> {
+    match UserName::read(alloc, name)? {
+        Some(user) => Ok(user),
+        None => Err(fault(alloc, option, name, "this is no name of a user")),
+    }
 }

@@ -1,6 +1,6 @@
 //! How the program ends: its exit statuses, and what standard error is told.
 
-use crate::command_line::CommandLineError;
+use crate::command_line::{CommandLineError, VERSION};
 use crate::service::ServiceError;
 use imap_script::ScriptError;
 use std::process::ExitCode;
@@ -13,12 +13,20 @@ const OUT_OF_MEMORY: u8 = 4;
 
 const NO_STORE: u8 = 5;
 
+/// Prints the program's version. Returns the exit status: 0, or 3 if standard output failed.
+pub fn report_version(rt: &impl Print) -> ExitCode {
+    match println!(rt; "imapd {VERSION}") {
+        Ok(()) => ExitCode::SUCCESS,
+        Err(_) => ExitCode::from(BROKEN_STREAM),
+    }
+}
+
 /// Tells standard error, as far as it takes it, why the command line wasn't read. Returns the exit status: 4 for
 /// want of memory, else 2.
 pub fn report_misuse(rt: &impl Eprint, error: &CommandLineError) -> ExitCode {
     let status = match error {
-        CommandLineError::Usage(_) | CommandLineError::Unclear => MISUSED,
         CommandLineError::Memory => OUT_OF_MEMORY,
+        _ => MISUSED,
     };
     let _ = rt.eprint(error);
     ExitCode::from(status)
@@ -36,18 +44,24 @@ pub fn report_script_error(rt: &impl Eprint, error: &ScriptError) -> ExitCode {
     ExitCode::from(status)
 }
 
-/// Tells standard error, as far as it takes it, why serving ended. Returns the exit status: 3 if no connection comes
-/// any more or standard output failed, which standard error isn't told, 4 for want of memory, and 5 if the store
-/// can't be used.
+/// Tells standard error, as far as it takes it, why serving ended: in words after the line that each exit status has.
+/// Returns the exit status: 3 if a port can't be had, too few files may be open, no connection comes any more or
+/// standard output failed, 4 for want of memory, and 5 if the store can't be used.
 pub fn report_service_error(rt: &impl Eprint, error: ServiceError) -> ExitCode {
     match error {
-        ServiceError::Io => ExitCode::from(BROKEN_STREAM),
+        ServiceError::Output
+        | ServiceError::NoConnection
+        | ServiceError::Port { .. }
+        | ServiceError::Descriptors { .. } => {
+            let _ = eprintln!(rt; "imapd: {error}");
+            ExitCode::from(BROKEN_STREAM)
+        }
         ServiceError::Memory => {
             let _ = eprintln!(rt; "imapd: out of memory");
             ExitCode::from(OUT_OF_MEMORY)
         }
-        ServiceError::Store => {
-            let _ = eprintln!(rt; "imapd: store unusable");
+        ServiceError::Store(fault) => {
+            let _ = eprintln!(rt; "imapd: store unusable\nimapd: {fault}");
             ExitCode::from(NO_STORE)
         }
     }

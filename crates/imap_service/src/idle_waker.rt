@@ -1,11 +1,10 @@
 //! Wakers of the workers whose sessions idle.
 
-use mio::{Events, Poll, Token, Waker};
+use mio::{Poll, Token, Waker};
 use std::alloc::{AllocError, Global};
 use std::io;
-use std::net::Net;
-use std::sync::Mutex;
 use std::sync::atomic::{AtomicBool, AtomicU64, Ordering};
+use std::sync::{Mutex, Wait};
 
 /// The connection of a worker is ready.
 pub(crate) const CONNECTION: Token = Token(0);
@@ -13,38 +12,41 @@ pub(crate) const CONNECTION: Token = Token(0);
 /// A worker was woken.
 const WOKEN: Token = Token(1);
 
-/// Where a worker waits for its connection, and by which it is woken.
+/// By which a worker is woken while it has a connection.
 #[derive(Drop)]
 pub struct IdleWaker {
-    pub(crate) waiting: Mutex<Waiting>,
-    waker: Waker,
+    waker: Mutex<Option<Waker>>,
     is_armed: AtomicBool,
 }
 
-/// What a worker needs for waiting. No other uses it.
-#[derive(Drop)]
-pub(crate) struct Waiting {
-    pub(crate) poll: Poll,
-    pub(crate) events: Events,
-}
-
 impl IdleWaker {
-    fn new<R: Net>(rt: &R, alloc: Global) -> io::Result<IdleWaker> {
-        let poll = Poll::new(rt)?;
-        let waker = Waker::new(poll.registry(), WOKEN)?;
-        let events = Events::with_capacity(alloc, 2)?;
-        Ok(IdleWaker {
-            waiting: Mutex::new(Waiting { poll, events }),
-            waker,
+    fn new() -> IdleWaker {
+        IdleWaker {
+            waker: Mutex::new(None),
             is_armed: AtomicBool::new(false),
-        })
+        }
+    }
+
+    /// From now on a wake ends a wait of `poll`.
+    pub(crate) fn attach<R: Wait>(&self, rt: &R, poll: &Poll) -> io::Result<()> {
+        let waker = Waker::new(poll.registry(), WOKEN)?;
+        *self.waker.lock(rt) = Some(waker);
+        Ok(())
+    }
+
+    /// The worker has no connection any more.
+    pub(crate) fn detach<R: Wait>(&self, rt: &R) {
+        self.is_armed.store(false, Ordering::SeqCst);
+        *self.waker.lock(rt) = None;
     }
 
     /// Wakes the worker if the waker is armed, and disarms it.
-    fn wake(&self) {
+    fn wake<R: Wait>(&self, rt: &R) {
         if self.is_armed.swap(false, Ordering::SeqCst) {
-            // A worker that isn't woken looks again within a second.
-            let _woken = self.waker.wake();
+            if let Some(waker) = &*self.waker.lock(rt) {
+                // A worker that isn't woken looks again within a second.
+                let _woken = waker.wake();
+            }
         }
     }
 }
@@ -59,10 +61,10 @@ pub struct IdleWakers {
 
 impl IdleWakers {
     /// Makes `count` wakers.
-    pub fn new<R: Net>(rt: &R, alloc: Global, count: usize) -> io::Result<IdleWakers> {
+    pub fn new(alloc: Global, count: usize) -> Result<IdleWakers, AllocError> {
         let mut wakers = Vec::new(alloc);
         for _ in 0..count {
-            wakers.push(IdleWaker::new(rt, alloc)?)?;
+            wakers.push(IdleWaker::new())?;
         }
         Ok(IdleWakers {
             wakers,
@@ -70,6 +72,7 @@ impl IdleWakers {
         })
     }
 
+    /// Returns the wakers, one for each worker.
     pub fn as_slice(&self) -> &[IdleWaker] {
         self.wakers.as_slice()
     }
@@ -80,10 +83,10 @@ impl IdleWakers {
     }
 
     /// Wakes each worker whose waker is armed.
-    pub fn wake_all(&self) {
+    pub fn wake_all<R: Wait>(&self, rt: &R) {
         self.count.fetch_add(1, Ordering::SeqCst);
         for waker in &self.wakers {
-            waker.wake();
+            waker.wake(rt);
         }
     }
 

@@ -1,25 +1,53 @@
 //! Serving users over TCP, each at a port of their own, and what the program `imapd` is asked to do.
 //!
 //! [`read_command_line`] returns a [`Task`]. [`run`] serves the users of a [`Service`] from what a keeper keeps: a
-//! worker for each seat waits at the user's port and serves one connection after the other. A worker whose session
-//! idles waits for its connection and for its waker ([`WakeableStream`], [`IdleWakers`]), which wakes it when another
-//! session changed something. [`report_misuse`], [`report_script_error`] and [`report_service_error`] return the exit
-//! statuses of the program.
+//! thread for each port receives its clients ([`Reception`]), and a worker for each seat takes one after the other
+//! ([`PortDoor`], [`ClientDoor`]). A worker whose session idles waits for its connection and for its waker ([`WakeableStream`],
+//! [`IdleWakers`]), which wakes it when another session changed something. [`Report`] says on standard error what
+//! happens. [`report_misuse`], [`report_script_error`] and [`report_service_error`] return the exit statuses of the
+//! program.
 #![tactic(auto)]
 
+mod accept_faults;
+mod client_door;
 mod command_line;
+mod descriptors;
 mod exit_status;
+mod guarded_stream;
+mod http_request;
 mod idle_ticks;
 mod idle_waker;
-mod listener_door;
+mod listening;
+mod log_tail;
 mod notify_on_change;
+mod port_door;
+mod private_files;
+mod reception;
+mod refusing;
+mod report;
+mod reporting_keeper;
 mod service;
+mod serving;
+mod shared_stream;
 mod system_clock;
 mod wakeable_stream;
 
-pub use command_line::{CommandLineError, Task, read_command_line, read_words};
-pub use exit_status::{report_misuse, report_script_error, report_service_error};
+pub use accept_faults::AcceptFaults;
+pub use client_door::ClientDoor;
+pub use command_line::{CommandLineError, Task, VERSION, read_command_line, read_words};
+pub use descriptors::{needed, read_limit};
+pub use exit_status::{report_misuse, report_script_error, report_service_error, report_version};
+pub use guarded_stream::GuardedStream;
+pub use http_request::RequestLine;
 pub use idle_ticks::{IdleTicks, TICKS_PER_SECOND};
 pub use idle_waker::{IdleWaker, IdleWakers};
-pub use service::{IDLE_TICKS, Port, Service, ServiceError, run};
+pub use listening::listen_at;
+pub use log_tail::{LogLook, look_at, report_unread};
+pub use port_door::{PortDoor, Receptionist};
+pub use private_files::{make_missing, make_private};
+pub use reception::{Reception, SEATS};
+pub use report::{LogLevel, Report};
+pub use service::{Port, Service, ServiceError, StoreFault};
+pub use serving::{IDLE_TICKS, posts, run};
+pub use shared_stream::SharedStream;
 pub use wakeable_stream::WakeableStream;

@@ -10,12 +10,13 @@ ghost use Rattle.std.specs.Prelude.{IfOk};
 use crate::idle_ticks::IdleTicks;
 use crate::idle_waker::{CONNECTION, IdleWaker, IdleWakers};
 use mio::unix::SourceFd;
-use mio::{Events, Interest};
+use mio::{Events, Interest, Poll};
+use std::alloc::Global;
 use std::io::{self, ErrorKind, Read};
-use std::net::TcpStream;
+use std::net::{Net, TcpListener, TcpStream};
 use std::os::fd::AsRawFd;
 use std::rt::Clock;
-use std::sync::Wait;
+use std::sync::{Arc, Wait};
 use std::time::{Duration, Instant};
 
 /// After how many milliseconds without an octet a client pauses. Its worker isn't woken before.
@@ -37,11 +38,14 @@ enum Woken {
 /// [`TICKS_PER_SECOND`](crate::TICKS_PER_SECOND) reads that bring nothing, and at most all but one of them end by a
 /// wake.
 #[derive(Drop)]
-pub struct WakeableStream<'a, R: Wait + Clock> {
+pub struct WakeableStream<'a, R: Net<Listener = TcpListener, Stream = TcpStream> + Wait + Clock> {
     rt: &'a R,
     wakers: &'a IdleWakers,
     waker: &'a IdleWaker,
-    stream: TcpStream,
+    stream: Arc<TcpStream>,
+    /// Where the worker waits for both.
+    poll: Poll,
+    events: Events,
     /// Whether the client has not paused since octets came.
     is_sending: bool,
     ticks: IdleTicks,
@@ -51,28 +55,29 @@ pub struct WakeableStream<'a, R: Wait + Clock> {
     seen: u64,
 }
 
-impl<'a, R: Wait + Clock> WakeableStream<'a, R> {
+impl<'a, R: Net<Listener = TcpListener, Stream = TcpStream> + Wait + Clock> WakeableStream<'a, R> {
     /// The connection `stream` of the worker of `waker`, which is one of `wakers`. Fails if the worker can't wait
     /// for it.
     pub fn new(
         rt: &'a R,
+        alloc: Global,
         wakers: &'a IdleWakers,
         waker: &'a IdleWaker,
-        stream: TcpStream,
+        stream: Arc<TcpStream>,
     ) -> io::Result<WakeableStream<'a, R>> {
         stream.set_read_timeout(Some(Duration::from_millis(PAUSE_MILLIS)))?;
+        let poll = Poll::new(rt)?;
         let descriptor = stream.as_raw_fd();
-        waker
-            .waiting
-            .lock(rt)
-            .poll
-            .registry()
-            .register(&mut SourceFd(&descriptor), CONNECTION, Interest::READABLE)?;
+        let registry = poll.registry();
+        registry.register(&mut SourceFd(&descriptor), CONNECTION, Interest::READABLE)?;
+        waker.attach(rt, &poll)?;
         Ok(WakeableStream {
             rt,
             wakers,
             waker,
             stream,
+            poll,
+            events: Events::with_capacity(alloc, 2)?,
             is_sending: false,
             ticks: IdleTicks::new(),
             until: None,
@@ -95,8 +100,6 @@ impl<'a, R: Wait + Clock> WakeableStream<'a, R> {
 
     fn wait(&mut self) -> io::Result<Woken> {
         let waker = self.waker;
-        let mut guard = waker.waiting.lock(self.rt);
-        let waiting = &mut *guard;
         for _ in self.rt.forever() {
             let left = self.left()?;
             if left.is_zero() {
@@ -106,10 +109,10 @@ impl<'a, R: Wait + Clock> WakeableStream<'a, R> {
                 self.wakers.disarm(waker);
                 return Ok(Woken::Waker);
             }
-            let polled = waiting.poll.poll(&mut waiting.events, Some(left));
+            let polled = self.poll.poll(&mut self.events, Some(left));
             self.wakers.disarm(waker);
             polled?;
-            if is_ready(&waiting.events) {
+            if is_ready(&self.events) {
                 return Ok(Woken::Connection);
             }
         }
@@ -120,7 +123,7 @@ impl<'a, R: Wait + Clock> WakeableStream<'a, R> {
     fn take(&mut self, buf: &mut [u8]) -> io::Result<usize>
         ensures { IfOk result (λ n. IsPrefixLen n buf.new) }
     {
-        let count = self.stream.read(buf)?;
+        let count = (&*self.stream).read(buf)?;
         self.is_sending = true;
         self.ticks = IdleTicks::new();
         self.until = None;
@@ -138,7 +141,8 @@ fn nothing() -> io::Error {
     io::Error::from(ErrorKind::WouldBlock)
 }
 
-impl<'a, R: Wait + Clock> Read for WakeableStream<'a, R> {
+impl<'a, R: Net<Listener = TcpListener, Stream = TcpStream> + Wait + Clock> Read
+    for WakeableStream<'a, R> {
     fn read(&mut self, buf: &mut [u8]) -> io::Result<usize> {
         if self.is_sending {
             match self.take(buf) {

@@ -10,23 +10,31 @@ use crate::store::FileKeeper;
 use imap_host::PARTS;
 use imap_script::script;
 use imap_service::{
-    Task, read_command_line, report_misuse, report_script_error, report_service_error, run,
+    Task, read_command_line, report_misuse, report_script_error, report_service_error,
+    report_version, run,
 };
 use std::marker::Brand;
 use std::process::ExitCode;
 use std::sync::ledger::Blank;
+use std::time::Instant;
 
 fn main(rt: HostRuntime) -> ExitCode {
+    let since = Instant::now(&rt).ok();
     match read_command_line(&rt) {
         Ok(Task::Script) => match script(&rt, rt.stdin(), rt.stdout()) {
             Ok(()) => ExitCode::SUCCESS,
             Err(error) => report_script_error(&rt, &error),
         },
-        Ok(Task::Serve { database, service }) => match store::open(&rt, database.as_str()) {
+        Ok(Task::Version) => report_version(&rt),
+        Ok(Task::Serve { database, service }) => match store::open(
+            &rt,
+            database.as_str(),
+            service.log,
+        ) {
             Ok(keeper) => {
                 let blank = Blank::new(PARTS);
                 let (keeper, error) = run::<FileKeeper, Brand, HostRuntime>(
-                    &rt, keeper, service, blank,
+                    &rt, keeper, service, since, blank,
                 );
                 drop(keeper);
                 report_service_error(&rt, error)

@@ -1,24 +1,62 @@
 //! The store in a file.
+//!
+//! Pages of a new store end in a sum (SQLite's `cksumvfs`), so that a changed bit is found when the store is opened. A
+//! store without sums is taken as it is.
 
-use imap_service::ServiceError;
+use imap_service::{LogLevel, ServiceError, StoreFault, make_missing, make_private, report_unread};
 use imap_sql_keeper::SqlKeeper;
 use sqlite::{Connection, Error, ErrorCode, File, FileStore};
 
 /// A keeper in a file.
 pub(crate) type FileKeeper = SqlKeeper<FileStore<File>>;
 
-/// Takes the database in the file over, which is made if it is missing.
-pub(crate) fn open(rt: &HostRuntime, path: &str) -> Result<FileKeeper, ServiceError> {
-    let conn = match Connection::open(rt, path) {
-        Ok(conn) => conn,
-        Err(Error::SqliteFailure(ErrorCode::OutOfMemory)) => return Err(ServiceError::Memory),
-        Err(_) => return Err(ServiceError::Store),
-    };
+/// Takes the database in the file over, which is made if it is missing. It and the files beside it can then be read
+/// and written by their owner alone. A log that an earlier run left is put back into the database.
+pub(crate) fn open(
+    rt: &HostRuntime,
+    path: &str,
+    level: LogLevel,
+) -> Result<FileKeeper, ServiceError> {
+    make_missing(rt, path)?;
+    if report_unread(rt, level, path)? {
+        put_log_back(rt, path)?;
+    }
+    let conn = connect(rt, path)?;
+    make_private(rt, path)?;
     match SqlKeeper::adopt(conn) {
         Ok(keeper) => Ok(keeper),
         Err((conn, error)) => {
             drop(conn);
             Err(ServiceError::from(error))
         }
+    }
+}
+
+/// Puts the log back into the database.
+fn put_log_back(rt: &HostRuntime, path: &str) -> Result<(), ServiceError> {
+    match connect(rt, path)?.close() {
+        Ok(()) => Ok(()),
+        Err(error) => Err(fault(error)),
+    }
+}
+
+fn connect(rt: &HostRuntime, path: &str) -> Result<Connection<FileStore<File>>, ServiceError> {
+    match Connection::open_with_sums(rt, path) {
+        Ok(conn) => Ok(conn),
+        Err(error) => Err(fault(error)),
+    }
+}
+
+/// Why a database can't be opened.
+fn fault(error: Error) -> ServiceError {
+    match error {
+        Error::SqliteFailure(ErrorCode::OutOfMemory) => ServiceError::Memory,
+        Error::SqliteFailure(ErrorCode::DatabaseBusy) => ServiceError::Store(StoreFault::InUse),
+        Error::SqliteFailure(ErrorCode::NotADatabase | ErrorCode::DatabaseCorrupt) => {
+            ServiceError::Store(StoreFault::NotADatabase)
+        }
+        Error::SqliteFailure(ErrorCode::CannotOpen) => ServiceError::Store(StoreFault::CannotOpen),
+        Error::SqliteFailure(ErrorCode::DiskFull) => ServiceError::Store(StoreFault::Full),
+        _ => ServiceError::Store(StoreFault::Disk),
     }
 }

@@ -1,0 +1,116 @@
+//! Doors of the workers who serve the clients of a port.
+//!
+//! The socket stays blocking, since a writer's `WouldBlock` is a failed write. Its reads end after a
+//! millisecond by a timeout of their own, and its writes after minutes in which the client took nothing.
+
+use crate::guarded_stream::GuardedStream;
+use crate::http_request::RequestLine;
+use crate::idle_waker::{IdleWaker, IdleWakers};
+use crate::reception::Reception;
+use crate::report::Report;
+use crate::shared_stream::SharedStream;
+use crate::wakeable_stream::WakeableStream;
+use imap_host::Door;
+use imap_names::UserName;
+use imap_serve::{End, ServeError};
+use std::alloc::Global;
+use std::io;
+use std::net::{Net, TcpListener, TcpStream};
+use std::rt::Clock;
+use std::sync::{Arc, Wait};
+use std::time::Duration;
+
+/// A worker's door to a port.
+#[derive(Drop)]
+pub struct ClientDoor<
+    'a,
+    R: Net<Listener = TcpListener, Stream = TcpStream> + Wait + Clock + Eprint,
+> {
+    pub rt: &'a R,
+    pub alloc: Global,
+    pub reception: &'a Reception,
+    pub wakers: &'a IdleWakers,
+    /// The worker's own, which is one of `wakers`.
+    pub waker: &'a IdleWaker,
+    pub report: &'a Report<'a, R>,
+    pub user: &'a UserName,
+    /// The number of the worker's session.
+    pub number: usize,
+    /// For how long a client may keep a reply from being written.
+    pub write_timeout: Duration,
+    /// Whether the worker has a client.
+    pub has_client: bool,
+}
+
+impl<'a, R: Net<Listener = TcpListener, Stream = TcpStream> + Wait + Clock + Eprint> ClientDoor<
+    'a,
+    R,
+> {
+    /// Lets the client go that was served last.
+    fn let_go(&mut self) {
+        if self.has_client {
+            self.waker.detach(self.rt);
+            self.reception.leave(self.rt);
+            self.has_client = false;
+        }
+    }
+
+    /// Returns what is read of a client and what is written to it.
+    fn connect(&self, client: TcpStream) -> io::Result<(GuardedStream<'a, R>, SharedStream)> {
+        client.set_nodelay(true)?;
+        client.set_write_timeout(Some(self.write_timeout))?;
+        let stream = Arc::new(self.alloc, client)?;
+        let input = WakeableStream::new(
+            self.rt,
+            self.alloc,
+            self.wakers,
+            self.waker,
+            stream.clone()?,
+        )?;
+        let guarded = GuardedStream {
+            input,
+            stream: stream.clone()?,
+            line: RequestLine::new(),
+        };
+        Ok((guarded, SharedStream { stream }))
+    }
+}
+
+impl<'a, R: Net<Listener = TcpListener, Stream = TcpStream> + Wait + Clock + Eprint + Sync> Door
+    for ClientDoor<'a, R> {
+    type In = GuardedStream<'a, R>;
+
+    type Out = SharedStream;
+
+    /// Returns the next client, or `None` if none comes any more. A client that can't be served, for want of
+    /// descriptors or memory, is let go.
+    fn next(&mut self) -> Option<(GuardedStream<'a, R>, SharedStream)> {
+        for _ in self.rt.forever() {
+            self.let_go();
+            let client = self.reception.take(self.rt)?;
+            self.has_client = true;
+            if let Ok(connection) = self.connect(client) {
+                self.report.opened(self.user, self.number);
+                return Some(connection);
+            }
+        }
+        None
+    }
+
+    fn ended(&mut self, end: Result<End, ServeError>) {
+        self.report.ended(self.user, self.number, why(end));
+    }
+}
+
+/// How a session ended, in words.
+fn why(end: Result<End, ServeError>) -> &'static str {
+    match end {
+        Ok(End::Closed) => "closed",
+        Ok(End::InputEnded) => "the client left",
+        Ok(End::Idle) => "idle too long",
+        Err(ServeError::Memory) => "out of memory",
+        Err(ServeError::Read) => "the connection can't be read",
+        Err(ServeError::Write) => "the connection can't be written",
+        Err(ServeError::Exhausted) => "the journal is at its end",
+    }
+}

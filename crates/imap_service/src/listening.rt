@@ -1,0 +1,54 @@
+//! Listening at ports of this machine.
+
+use crate::descriptors::{allowed, needed};
+use crate::reception::Reception;
+use crate::service::{Port, ServiceError};
+use std::io;
+use std::net::{Ipv4Addr, Net, TcpListener, TcpStream};
+use std::rt::Files;
+
+/// Listens at all ports of this machine alone, and then prints a line for each. Fails before the first line if the
+/// process may not open as many files as the connections of all ports may need.
+pub(crate) fn listen<
+    R: Net<Listener = TcpListener, Stream = TcpStream> + Print + Files + AllocGlobal,
+>(rt: &R, ports: &[Port]) -> Result<Vec<Reception>, ServiceError> {
+    let needed = needed(ports.len());
+    if let Some(allowed) = allowed(rt) {
+        if allowed < needed {
+            return Err(ServiceError::Descriptors { needed, allowed });
+        }
+    }
+    let mut receptions = Vec::new(rt.alloc());
+    for port in ports {
+        let listener = listen_at(rt, port.number)?;
+        receptions.push(Reception::new(rt.alloc(), listener)?)?;
+    }
+    for port in ports {
+        print_port(rt, port)?;
+    }
+    Ok(receptions)
+}
+
+/// Listens at a port of this machine alone.
+pub fn listen_at<R: Net<Listener = TcpListener, Stream = TcpStream>>(
+    rt: &R,
+    number: u16,
+) -> Result<TcpListener, ServiceError> {
+    match TcpListener::bind(rt, (Ipv4Addr::LOCALHOST, number)) {
+        Ok(listener) => Ok(listener),
+        Err(error) => match error.kind() {
+            io::ErrorKind::OutOfMemory => Err(ServiceError::Memory),
+            kind => Err(ServiceError::Port { number, kind }),
+        },
+    }
+}
+
+fn print_port<R: Print>(rt: &R, port: &Port) -> Result<(), ServiceError> {
+    match println!(rt; "listening {} {}", port.user.as_str(), port.number) {
+        Ok(()) => Ok(()),
+        Err(error) => match error.kind() {
+            io::ErrorKind::OutOfMemory => Err(ServiceError::Memory),
+            _ => Err(ServiceError::Output),
+        },
+    }
+}

@@ -1,0 +1,21 @@
+//! What is written to a connection.
+
+use std::io::{self, Write};
+use std::net::TcpStream;
+use std::sync::Arc;
+
+/// The writer of a connection that is read elsewhere. Both share one descriptor.
+#[derive(Drop)]
+pub struct SharedStream {
+    pub(crate) stream: Arc<TcpStream>,
+}
+
+impl Write for SharedStream {
+    fn write(&mut self, buf: &[u8]) -> io::Result<usize> {
+        (&*self.stream).write(buf)
+    }
+
+    fn flush(&mut self) -> io::Result<()> {
+        Ok(())
+    }
+}
