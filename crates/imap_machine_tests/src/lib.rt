@@ -10,6 +10,8 @@ mod acts;
 #[cfg(test)]
 mod batches;
 #[cfg(test)]
+mod conditional_stores;
+#[cfg(test)]
 mod keepers;
 #[cfg(test)]
 mod looks;
@@ -21,6 +23,14 @@ mod messages;
 mod notices;
 #[cfg(test)]
 mod parts;
+#[cfg(test)]
+mod resyncing;
+#[cfg(test)]
+mod returning;
+#[cfg(test)]
+mod searching;
+#[cfg(test)]
+mod talks;
 #[cfg(test)]
 mod wanted;
 #[cfg(test)]

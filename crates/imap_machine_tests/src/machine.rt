@@ -133,7 +133,8 @@ fn push_printed(alloc: Global, out: &mut Vec<u8>, replies: &[Response]) -> Resul
     out.extend_from_slice(b"|")
 }
 
-fn said(alloc: Global, core: &mut Core, steps: &[Step]) -> Result<Vec<u8>, AllocError> {
+/// What the machine answers to these steps, with `|` after each.
+pub(crate) fn said(alloc: Global, core: &mut Core, steps: &[Step]) -> Result<Vec<u8>, AllocError> {
     let said = core.run(alloc, steps)?;
     let mut out = Vec::new(alloc);
     for replies in &said {

@@ -33,7 +33,11 @@ const COMMANDS: [&[u8]; 12] = [
     b"a NOOP\r\n",
 ];
 
-fn step(alloc: Global, number: u32, act: Result<Act, AllocError>) -> Result<Step, AllocError> {
+pub(crate) fn step(
+    alloc: Global,
+    number: u32,
+    act: Result<Act, AllocError>,
+) -> Result<Step, AllocError> {
     let (who, act) = both(session(alloc, number), act)?;
     Ok(Step {
         who,

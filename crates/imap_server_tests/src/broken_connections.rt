@@ -1,7 +1,7 @@
 //! Streams that are cut, and readers and writers that fail.
 
 use crate::connection::{Behaviour, OCTETS, WHOLE};
-use crate::serving::{Served, serve_anew};
+use crate::serving::{Served, expect_after_greeting, serve_anew, shown};
 use imap_serve::{End, ServeError};
 use std::alloc::AllocError;
 use std::sync::Wait;
@@ -109,7 +109,28 @@ fn a_writer_fails(rt: HostRuntime) {
     for writes in 0..WRITTEN.len() as u32 + 1 {
         assert!(rt; writer_fails(&rt, writes, false), "write {writes}");
     }
-    assert!(rt; writer_fails(&rt, 300, true), "a write takes nothing");
+}
+
+#[test]
+fn a_writer_takes_nothing(rt: HostRuntime) {
+    for writes in 0..WRITTEN.len() as u32 + 1 {
+        assert!(rt; writer_fails(&rt, writes, true), "write {writes}");
+    }
+}
+
+/// A session ends after three reads that bring nothing. A read fails after these, or after two.
+#[test]
+fn a_session_ends_before_a_read_fails(rt: HostRuntime) {
+    const ROWS: [(u32, &[u8]); 2] = [(3, b"* BYE idle too long\r\nOk(Idle)"), (2, b"Err(Read)")];
+    for &(reads, wanted) in &ROWS {
+        let behaviour = Behaviour {
+            reads,
+            is_silent: true,
+            ..WHOLE
+        };
+        let served = serve_anew(&rt, b"", behaviour);
+        expect_after_greeting(&rt, shown(rt.alloc(), served), wanted);
+    }
 }
 
 /// Interrupts each read and each write this often in a row. Returns whether the session ends so,

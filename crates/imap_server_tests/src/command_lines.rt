@@ -1,12 +1,13 @@
 //! Command lines, and the statuses with which the program ends.
 
-use crate::wanted::expect;
+use crate::wanted::{expect, expect_text};
 use imap_script::ScriptError;
 use imap_service::{
-    CommandLineError, Service, ServiceError, Task, read_words, report_misuse, report_script_error,
-    report_service_error,
+    CommandLineError, LogLevel, Service, ServiceError, StoreFault, Task, read_words, report_misuse,
+    report_script_error, report_service_error,
 };
 use std::alloc::{AllocError, Global};
+use std::io::ErrorKind;
 use std::process::{Abort, ExitCode};
 
 fn words(alloc: Global, texts: &[&str]) -> Result<Vec<String>, AllocError> {
@@ -32,6 +33,9 @@ fn shown_service(alloc: Global, database: &str, service: &Service) -> Result<Vec
         "{database} {name} {} {}",
         limits.max_messages, limits.max_octets
     )?;
+    if service.log == LogLevel::Connections {
+        text.push_str(" connections")?;
+    }
     for port in &service.ports {
         let shown = format!(in alloc; " {}={}", port.user.as_str(), port.number)?;
         text.push_str(shown.as_str())?;
@@ -43,6 +47,7 @@ fn shown_service(alloc: Global, database: &str, service: &Service) -> Result<Vec
 fn shown(alloc: Global, texts: &[&str]) -> Result<Vec<u8>, AllocError> {
     match task(alloc, texts) {
         Ok(Task::Script) => Vec::from_slice(alloc, b"script"),
+        Ok(Task::Version) => Vec::from_slice(alloc, b"version"),
         Ok(Task::Serve { database, service }) => shown_service(alloc, database.as_str(), &service),
         Err(_) => Vec::from_slice(alloc, b"none"),
     }
@@ -50,8 +55,9 @@ fn shown(alloc: Global, texts: &[&str]) -> Result<Vec<u8>, AllocError> {
 
 #[test]
 fn reads_command_lines(rt: HostRuntime) {
-    const ROWS: [(&[&str], &[u8]); 3] = [
+    const ROWS: [(&[&str], &[u8]); 4] = [
         (&["imapd", "script"], b"script"),
+        (&["imapd", "--version"], b"version"),
         (
             &[
                 "imapd", "serve", "--db", "mail.db", "--admin", "root", "--listen", "ann=1143",
@@ -70,9 +76,10 @@ fn reads_command_lines(rt: HostRuntime) {
                 "root",
                 "--listen=root=065535",
                 "--max-messages=1",
+                "--log=connections",
                 "--db=/x y",
             ],
-            b"/x y root 1 1073741824 a=b=1 root=65535",
+            b"/x y root 1 1073741824 connections a=b=1 root=65535",
         ),
     ];
     for &(texts, wanted) in &ROWS {
@@ -143,7 +150,9 @@ fn refuses_command_lines(rt: HostRuntime) {
 /// Options, of which each is refused beside `--admin root --listen ann=1143`.
 #[test]
 fn refuses_options(rt: HostRuntime) {
-    const ROWS: [&str; 11] = [
+    const ROWS: [&str; 13] = [
+        "--log=all",
+        "--log=",
         "--listen=bob",
         "--listen=bob=",
         "--listen=bob=0",
@@ -180,12 +189,67 @@ fn ends_with_a_status(rt: HostRuntime) {
         assert!(rt; report_script_error(&rt, error) == ExitCode::from(*status));
     }
     assert!(rt; report_misuse(&rt, &CommandLineError::Memory) == ExitCode::from(4));
-    const ENDS: [(ServiceError, u8); 3] = [
-        (ServiceError::Io, 3),
+    const ENDS: [(ServiceError, u8); 6] = [
+        (ServiceError::Output, 3),
+        (ServiceError::NoConnection, 3),
+        (
+            ServiceError::Port {
+                number: 1143,
+                kind: ErrorKind::AddrInUse,
+            },
+            3,
+        ),
+        (
+            ServiceError::Descriptors {
+                needed: 65,
+                allowed: 64,
+            },
+            3,
+        ),
         (ServiceError::Memory, 4),
-        (ServiceError::Store, 5),
+        (ServiceError::Store(StoreFault::InUse), 5),
     ];
     for &(error, status) in &ENDS {
         assert!(rt; report_service_error(&rt, error) == ExitCode::from(status));
+    }
+}
+
+/// What is said of a command line that is refused.
+fn said(alloc: Global, texts: &[&str]) -> Result<String, AllocError> {
+    match task(alloc, texts) {
+        Ok(_) => String::from_str(alloc, "nothing"),
+        Err(error) => format!(in alloc; "{error}"),
+    }
+}
+
+/// The second line says which word is wrong, and why.
+#[test]
+fn says_what_is_wrong(rt: HostRuntime) {
+    const SERVE: [&str; 4] = ["imapd", "serve", "--db=x", "--admin=root"];
+    const ROWS: [(&str, &str); 3] = [
+        (
+            "--listen=ann=0",
+            "imapd: bad command line\nimapd: --listen ann=0: NAME=PORT is wanted, PORT from 1 to 65535\n",
+        ),
+        (
+            "--listen=-a=1",
+            "imapd: bad command line\nimapd: --listen -a: this is no name of a user\n",
+        ),
+        (
+            "--log=all",
+            "imapd: bad command line\nimapd: --log all: off, errors or connections is wanted\n",
+        ),
+    ];
+    for &(option, wanted) in &ROWS {
+        let [program, serve, database, administrator] = SERVE;
+        let texts = [
+            program,
+            serve,
+            database,
+            administrator,
+            "--listen=bob=1",
+            option,
+        ];
+        expect_text(&rt, said(rt.alloc(), &texts), wanted);
     }
 }

@@ -1,6 +1,7 @@
 //! Doors to connections in memory.
 
 use imap_host::Door;
+use imap_serve::{End, ServeError};
 use std::io::{self, Read, Write};
 
 /// What a client sends.
@@ -51,4 +52,6 @@ impl Door for Clients {
         self.left -= 1;
         Some((Source { text: self.text }, Sink))
     }
+
+    fn ended(&mut self, _end: Result<End, ServeError>) {}
 }

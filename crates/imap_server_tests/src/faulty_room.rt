@@ -33,9 +33,15 @@ impl<R: Room> FaultyRoom<R> {
 }
 
 impl<R: Room> Room for FaultyRoom<R> {
+    ghost use Rattle.std.specs.Prelude.{⊤};
+
     ghost entries = { λ faulty. R.entries faulty.room };
 
     ghost keeps_all = { R.keeps_all };
+
+    ghost count = { λ faulty. R.count faulty.room };
+
+    ghost refuses = { λ _ _ _ _. ⊤ };
 
     fn step(&mut self, alloc: Global, step: &Step) -> Result<Receipt, HallError> {
         self.asked = self.asked.saturating_add(1);

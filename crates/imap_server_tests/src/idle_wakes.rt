@@ -4,7 +4,7 @@ use imap_service::{IDLE_TICKS, IdleTicks, IdleWakers, TICKS_PER_SECOND, Wakeable
 use std::io::{self, ErrorKind, Read, Write};
 use std::net::{Net, TcpListener, TcpStream};
 use std::rt::Clock;
-use std::sync::Wait;
+use std::sync::{Arc, Wait};
 use std::time::Instant;
 
 /// After how many seconds a session ends whose worker is woken `wakes_per_second` times in each second.
@@ -49,7 +49,7 @@ fn connection<R: Net<Listener = TcpListener, Stream = TcpStream>>(
 }
 
 /// How many milliseconds `reads` reads take that bring nothing. The workers are woken before each.
-fn millis_of<R: Wait + Clock>(
+fn millis_of<R: Net<Listener = TcpListener, Stream = TcpStream> + Wait + Clock>(
     rt: &R,
     wakers: &IdleWakers,
     input: &mut WakeableStream<'_, R>,
@@ -58,7 +58,7 @@ fn millis_of<R: Wait + Clock>(
     let start = Instant::now(rt)?;
     let mut buf = [0u8; 16];
     for _ in 0..reads {
-        wakers.wake_all();
+        wakers.wake_all(rt);
         match input.read(&mut buf) {
             Err(error) if error.kind() == ErrorKind::WouldBlock => {}
             _ => return Err(io::Error::from(ErrorKind::InvalidData)),
@@ -80,22 +80,29 @@ struct Times {
     after: u128,
 }
 
-fn waited<R: Net<Listener = TcpListener, Stream = TcpStream> + Wait + Clock + AllocGlobal>(
-    rt: &R,
-    wakers: &IdleWakers,
-) -> io::Result<Times> {
-    let (input, mut client) = connection(rt)?;
-    let [waker, ..] = wakers.as_slice() else {
-        return Err(io::Error::from(ErrorKind::InvalidData));
-    };
-    let mut input = WakeableStream::new(rt, wakers, waker, input)?;
-    let woken = millis_of(rt, wakers, &mut input, TICKS_PER_SECOND - 1)?;
-    let last = millis_of(rt, wakers, &mut input, 1)?;
+/// How many octets two reads bring after the client has sent two commands.
+fn read_twice<R: Net<Listener = TcpListener, Stream = TcpStream> + Wait + Clock>(
+    input: &mut WakeableStream<'_, R>,
+    client: &mut TcpStream,
+) -> io::Result<usize> {
     client.write_all(b"a1 NOOP\r\na2 NOOP\r\n")?;
     let mut buf = [0u8; 16];
     let first = input.read(&mut buf)?;
-    let count = first.saturating_add(input.read(&mut buf)?);
-    let after = millis_of(rt, wakers, &mut input, 1)?;
+    let second = input.read(&mut buf)?;
+    Ok(first.saturating_add(second))
+}
+
+/// What the worker of this stream does.
+fn times_of<R: Net<Listener = TcpListener, Stream = TcpStream> + Wait + Clock>(
+    rt: &R,
+    wakers: &IdleWakers,
+    input: &mut WakeableStream<'_, R>,
+    client: &mut TcpStream,
+) -> io::Result<Times> {
+    let woken = millis_of(rt, wakers, input, TICKS_PER_SECOND - 1)?;
+    let last = millis_of(rt, wakers, input, 1)?;
+    let count = read_twice(input, client)?;
+    let after = millis_of(rt, wakers, input, 1)?;
     Ok(Times {
         woken,
         last,
@@ -104,10 +111,25 @@ fn waited<R: Net<Listener = TcpListener, Stream = TcpStream> + Wait + Clock + Al
     })
 }
 
+fn waited<R: Net<Listener = TcpListener, Stream = TcpStream> + Wait + Clock + AllocGlobal>(
+    rt: &R,
+    wakers: &IdleWakers,
+) -> io::Result<Times> {
+    let [waker, ..] = wakers.as_slice() else {
+        return Err(io::Error::from(ErrorKind::InvalidData));
+    };
+    let (input, mut client) = connection(rt)?;
+    let input = Arc::new(rt.alloc(), input)?;
+    match WakeableStream::new(rt, rt.alloc(), wakers, waker, input) {
+        Ok(mut input) => times_of(rt, wakers, &mut input, &mut client),
+        Err(error) => Err(error),
+    }
+}
+
 fn waited_anew<R: Net<Listener = TcpListener, Stream = TcpStream> + Wait + Clock + AllocGlobal>(
     rt: &R,
 ) -> io::Result<Times> {
-    let wakers = IdleWakers::new(rt, rt.alloc(), 1)?;
+    let wakers = IdleWakers::new(rt.alloc(), 1)?;
     waited(rt, &wakers)
 }
 

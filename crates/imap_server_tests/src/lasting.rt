@@ -10,7 +10,7 @@ use std::marker::Brand;
 use std::sync::Wait;
 use std::sync::ledger::{Blank, Ledger};
 
-const CALLS: u32 = 100_000;
+const CALLS: u32 = 30_000;
 
 /// How many receipts a seat of root keeps at most while it makes `CALLS` calls.
 fn most_kept<K: Keeper, L: Ledger, R: Wait + AllocGlobal>(rt: &R, host: &mut Host<K, L>) -> usize {
@@ -34,16 +34,25 @@ fn kept<L: Ledger, R: Wait + AllocGlobal>(rt: &R, blank: Blank) -> (usize, u64, 
         Ok(hall) => {
             let mut host = host::<ListKeeper, L>(rt.alloc(), hall, blank);
             let most = most_kept(rt, &mut host);
-            let hall = host.into_hall();
-            (most, hall.count(), hall.entries().len())
+            counted(most, host)
         }
         Err(_) => (0, 0, 0),
     }
 }
 
-/// The journal begins anew after 10,000 entries, and the seat lets go of receipts with it.
+fn counted<K: Keeper + Drop, L: Ledger>(most: usize, host: Host<K, L>) -> (usize, u64, usize) {
+    let hall = host.into_hall();
+    let counts = (most, hall.count(), hall.entries().len());
+    drop(hall);
+    counts
+}
+
+/// The journal begins anew after 10,000 entries at the latest, and the seat lets go of receipts with it.
 #[test]
 fn receipts_do_not_grow(rt: HostRuntime) {
-    let kept = kept::<Brand, HostRuntime>(&rt, Blank::new(PARTS));
-    assert!(rt; kept == (10_000, 100_000, 0), "{kept:?}");
+    let (most, count, left) = kept::<Brand, HostRuntime>(&rt, Blank::new(PARTS));
+    assert!(rt;
+        most <= 10_000 && count == 30_000 && left < 10_000,
+        "{most} {count} {left}"
+    );
 }

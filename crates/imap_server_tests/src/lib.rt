@@ -6,6 +6,8 @@
 #![tactic(auto)]
 
 #[cfg(test)]
+mod before_serving;
+#[cfg(test)]
 mod broken_connections;
 #[cfg(test)]
 mod command_lines;
@@ -27,6 +29,8 @@ mod lasting;
 mod leaving;
 #[cfg(test)]
 mod lines;
+#[cfg(test)]
+mod peers;
 #[cfg(test)]
 mod scripts;
 #[cfg(test)]

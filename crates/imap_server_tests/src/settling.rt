@@ -135,7 +135,7 @@ fn spoil<L: Ledger>(seats: &mut Vec<Seat<L>>, fault: Fault) {
     }
     if fault == Fault::Base {
         for seat in seats.iter_mut() {
-            seat.base = 199;
+            seat.told_base = 199;
         }
     }
     if let Some(seat) = seats.last_mut() {

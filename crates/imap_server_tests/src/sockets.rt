@@ -7,7 +7,7 @@ use crate::serving::{IDLE_TICKS, Standing};
 use imap_host::{Door, Host, PARTS, Seat, crew};
 use imap_keeper::{Keeper, ListKeeper};
 use imap_script::DEFAULT_LIMITS;
-use imap_serve::OpenGate;
+use imap_serve::{End, OpenGate, ServeError};
 use std::alloc::{AllocError, Global};
 use std::io::{self, Read, Write};
 use std::marker::Brand;
@@ -39,6 +39,8 @@ impl Door for Once {
         let output = input.try_clone().ok()?;
         Some((input, output))
     }
+
+    fn ended(&mut self, _end: Result<End, ServeError>) {}
 }
 
 /// What a client gets who sends a text.

@@ -7,7 +7,8 @@
 //! scripts and the transcripts that they are to have.
 //!
 //! Lines `-- TEXT` are no part of a script. `-- stop at each call` runs the script once for each call of
-//! each of the database's two files: this call fails, and all later ones. A line says what was left. Any
+//! each of the database's two files, from the first on if there are no mailboxes yet: this call fails, and all later
+//! ones. A line says what was left. Any
 //! other TEXT is SQL that runs in a copy of the database at the end. A line says what can be loaded then.
 #![tactic(auto)]
 

@@ -51,8 +51,7 @@ pub(crate) fn stop_report<K: TestKeeper>(
     scenario: &Scenario,
     world: &World,
 ) -> Result<&'static str, KeepError> {
-    let keeper = new_keeper::<K>(alloc, world)?;
-    let image = image_of(keeper.close(alloc))?;
+    let image = start_image::<K>(alloc, world)?;
     let log = stop_each::<K>(alloc, &image, FileKind::Log, scenario, world)?;
     let database = stop_each::<K>(alloc, &image, FileKind::Database, scenario, world)?;
     if log == Outcome::Kept && database == Outcome::Kept {
@@ -60,6 +59,15 @@ pub(crate) fn stop_report<K: TestKeeper>(
     } else {
         Ok("after a stop the mailboxes are others\n")
     }
+}
+
+/// What the files have at first: nothing, if there are no mailboxes yet.
+fn start_image<K: TestKeeper>(alloc: Global, world: &World) -> Result<Image, KeepError> {
+    if world.mailboxes().len() == 0 {
+        return Ok(Image::empty(alloc));
+    }
+    let keeper = new_keeper::<K>(alloc, world)?;
+    image_of(keeper.close(alloc))
 }
 
 /// Has each call of a file fail in turn, until a run ends in which none does. `Whole` if none ever did.

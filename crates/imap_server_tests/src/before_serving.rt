@@ -1,0 +1,138 @@
+//! What the program looks at before it serves, or while it waits for clients.
+
+use imap_service::{AcceptFaults, LogLook, RequestLine, look_at, needed, read_limit};
+use std::alloc::{AllocError, Global};
+use std::io::{self, ErrorKind};
+use std::time::Duration;
+
+/// Whether a first line is an HTTP request line, whole and octet by octet.
+fn is_request(text: &[u8]) -> (bool, bool) {
+    let mut whole = RequestLine::new();
+    let mut cut = RequestLine::new();
+    let mut is_cut = false;
+    for octet in text {
+        is_cut = cut.look_at(&[*octet]) || is_cut;
+    }
+    (whole.look_at(text), is_cut)
+}
+
+#[test]
+fn tells_requests_from_commands(rt: HostRuntime) {
+    const ROWS: [(&[u8], bool); 13] = [
+        (b"GET / HTTP/1.1\r\n", true),
+        (b"POST /x?y=z HTTP/1.0\r\nHost: x\r\n", true),
+        (b"OPTIONS * HTTP/1.1\r\n", true),
+        (b"GET / HTTP/1 HTTP/1.1\r\n", true),
+        (b"a1 NOOP\r\n", false),
+        (b"A NOOP\r\n", false),
+        (b"GET /\r\nX / HTTP/1.1\r\n", false),
+        (b"GET  / HTTP/1.1\r\n", false),
+        (b"get / HTTP/1.1\r\n", false),
+        (b"GET / HTTP/2\r\n", false),
+        (b"A1 / HTTP/1.1\r\n", false),
+        (b" / HTTP/1.1\r\n", false),
+        (b"a1 NOOP\r\nGET / HTTP/1.1\r\n", false),
+    ];
+    for &(text, wanted) in &ROWS {
+        assert!(rt; is_request(text) == (wanted, wanted), "{text:?}");
+    }
+}
+
+/// As Linux shows it.
+#[test]
+fn reads_how_many_files_may_be_open(rt: HostRuntime) {
+    const LIMITED: &str =
+        "Limit                     Soft Limit           Hard Limit           Units     \n\
+        Max processes             95571                95571                processes \n\
+        Max open files            1024                 524288               files     \n";
+    const UNLIMITED: &str =
+        "Max open files            unlimited            unlimited            files     \n";
+    assert!(rt; read_limit(LIMITED) == Some(1024));
+    assert!(rt; read_limit(UNLIMITED).is_none() && read_limit("").is_none());
+    assert!(rt; needed(20) <= 1024 && needed(21) > 1024);
+}
+
+/// After how many failing accepts a listener is given up, of 40.
+fn given_up(code: i32) -> u32 {
+    let mut faults = AcceptFaults::new();
+    let mut count: u32 = 0;
+    for _ in 0..40 {
+        if !faults.may_go_on(&io::Error::from_raw_os_error(code)) {
+            break;
+        }
+        count = count.saturating_add(1);
+    }
+    count
+}
+
+/// Sixteen faults (`EINVAL`) end it. Want of descriptors (`EMFILE`) and clients that gave up (`ECONNABORTED`) don't.
+#[test]
+fn waits_after_failing_accepts(rt: HostRuntime) {
+    assert!(rt; given_up(22) == 15 && given_up(24) == 40 && given_up(103) == 40);
+    const MILLIS: [u64; 9] = [10, 20, 40, 80, 160, 320, 640, 1000, 1000];
+    let mut faults = AcceptFaults::new();
+    for &millis in &MILLIS {
+        let _goes_on = faults.may_go_on(&io::Error::from(ErrorKind::ConnectionAborted));
+        assert!(rt; faults.pause() == Duration::from_millis(millis));
+    }
+}
+
+/// A log as SQLite writes it, with pages of 512 octets: one commit of one page, and one of two.
+const HEADER: [u8; 32] = *b"\x37\x7f\x06\x82\x00\x2d\xe2\x18\x00\x00\x02\x00\x00\x00\x00\x01\
+    \x01\x02\x03\x04\x0a\x0b\x0c\x0d\xd9\xce\x05\x14\x9f\xb3\xe7\xc3";
+
+const FRAMES: [[u8; 24]; 3] = [
+    *b"\x00\x00\x00\x01\x00\x00\x00\x01\x01\x02\x03\x04\x0a\x0b\x0c\x0d\x3c\x52\xb2\xfa\xbd\x23\xe6\x2c",
+    *b"\x00\x00\x00\x01\x00\x00\x00\x00\x01\x02\x03\x04\x0a\x0b\x0c\x0d\x6e\x71\x27\x85\xdb\xfe\x5b\x67",
+    *b"\x00\x00\x00\x02\x00\x00\x00\x02\x01\x02\x03\x04\x0a\x0b\x0c\x0d\x8b\x71\x48\xd5\x94\x79\x90\x6c",
+];
+
+const PAGES: [u8; 3] = [1, 1, 2];
+
+/// The log, of which the octet at `at` has one bit changed, up to `length`.
+fn log(alloc: Global, length: usize, at: Option<usize>) -> Result<Vec<u8>, AllocError> {
+    let mut log = Vec::new(alloc);
+    log.extend_from_slice(&HEADER)?;
+    for (frame, page) in FRAMES.iter().zip(&PAGES) {
+        log.extend_from_slice(frame)?;
+        log.push(*page)?;
+        log.resize(log.len().saturating_add(511), 0)?;
+    }
+    log.truncate(length);
+    if let Some(at) = at {
+        if let Some(octet) = log.get_mut(at) {
+            *octet ^= 1;
+        }
+    }
+    Ok(log)
+}
+
+fn looked_at(alloc: Global, length: usize, at: Option<usize>) -> Option<LogLook> {
+    let log = log(alloc, length, at).ok()?;
+    look_at(alloc, &mut log.as_slice()).ok()
+}
+
+#[test]
+fn looks_at_a_log(rt: HostRuntime) {
+    const ROWS: [(usize, Option<usize>, u64); 9] = [
+        (1640, None, 0),
+        (568, None, 0),
+        (1104, None, 536),
+        (1300, None, 732),
+        (1640, Some(3), 1640),
+        (1640, Some(40), 1608),
+        (1640, Some(600), 1072),
+        (1640, Some(1639), 1072),
+        (41, Some(3), 0),
+    ];
+    for &(length, at, unread) in &ROWS {
+        let wanted = LogLook {
+            length: length as u64,
+            unread,
+        };
+        assert!(rt;
+            looked_at(rt.alloc(), length, at) == Some(wanted),
+            "{length} {at:?}"
+        );
+    }
+}
