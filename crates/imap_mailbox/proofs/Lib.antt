@@ -22,6 +22,7 @@ pub mod ExpungedAll
 pub mod Lending
 pub mod Bounds
 pub mod Last
+pub mod FirstAbove
 pub mod Sizes
 pub mod BroughtUp
 pub mod DecidedShown

@@ -12,6 +12,7 @@ pub mod Owned
 pub mod Counted
 pub mod Held
 pub mod Lent
+pub mod Above
 pub mod Order
 pub mod Client
 pub mod Shown

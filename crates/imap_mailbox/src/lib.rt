@@ -9,6 +9,7 @@
 //! that the summary of events tells each user what the events tell.
 #![tactic(auto)]
 
+mod above;
 mod calls;
 mod copies;
 mod counting;

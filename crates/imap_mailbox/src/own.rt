@@ -1,6 +1,6 @@
 //! Changes of the flag `\Seen`, which each user has apart.
 
-ghost use Rattle.std.specs.Prelude.{◌≡◌, ℕ, ◌+◌, ◌<◌, ◌≤◌, [], ◌∷◌, ◌++◌, length, map, OnOk};
+ghost use Rattle.std.specs.Prelude.{◌≡◌, ℕ, ◌+◌, ◌<◌, ◌≤◌, [], ◌∷◌, ◌++◌, length, map, nat_lt, OnOk};
 ghost use Rattle.imap_modseq.specs.Merge.{befores, AreInOrder};
 ghost use Rattle.imap_modseq.specs.Numbers.{max_events, own_before};
 ghost use Rattle.imap_mailbox.specs.History.{own_entry};
@@ -215,6 +215,14 @@ impl OwnSeen {
         ensures { result ≡ latest uid self.now.list }
     {
         last_of(&self.latest, uid)
+    }
+
+    /// Whether the mod-sequence of the last change of the UID is above `number`, at once if `near` is the place
+    /// of the UID. It is then that of the next UID.
+    pub(crate) fn is_later(&self, uid: u32, number: u64, near: &mut usize) -> bool
+        ensures { result ≡ nat_lt number (latest_number (latest uid self.now.list)) }
+    {
+        number < self.latest_near(uid, near).unwrap_or((0, false)).0
     }
 
     /// As [`OwnSeen::latest`], at once if `near` is the place of the UID. It is then that of the next UID.

@@ -3,9 +3,11 @@
 ghost use Rattle.std.specs.Prelude.{◌≡◌, ◌<◌, ◌≤◌, length, min, nat_lt, slice_index_or};
 ghost use Rattle.std.specs.List.{prefix_len};
 ghost use Rattle.imap_mailbox.specs.Rows as specs;
+ghost use Rattle.imap_mailbox.specs.Above.{IsFirstAbove};
 ghost use Rattle.imap_mailbox.specs.Lent.{row_shown, place_in, row_uids};
 ghost use Rattle.imap_mailbox.specs.Status.{deleted_in, unseen_in, size_in, max_size};
 
+use crate::above::{first_own_above, first_plain_above};
 use crate::flags::SharedFlags;
 use crate::message::{Message, count_lower, find_message};
 use crate::own::OwnSeen;
@@ -98,6 +100,19 @@ impl<'a> Rows<'a> {
         match self.own {
             Some(own) => own_is_above(message, own, number),
             None => number < plain_row(message).number,
+        }
+    }
+
+    /// The place of the first message from `start` on and before `end` whose mod-sequence is above `number`, or
+    /// `end` if there is none.
+    pub fn skip_unchanged(&self, start: usize, end: usize, number: u64) -> usize
+        requires order { start ≤ end }
+        requires within { end ≤ length self.now }
+        ensures { IsFirstAbove number start end result self.now }
+    {
+        match self.own {
+            Some(own) => first_own_above(self.messages, own, start, end, number),
+            None => first_plain_above(self.messages, start, end, number),
         }
     }
 

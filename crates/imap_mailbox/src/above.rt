@@ -1,0 +1,83 @@
+//! Rows above a mod-sequence, by a walk.
+
+ghost use Rattle.std.specs.Prelude.{◌≡◌, ℕ, ◌+◌, ◌<◌, ◌≤◌, [], length, map, nat_lt, true};
+ghost use Rattle.imap_modseq.specs.Merge.{befores, AreInOrder};
+ghost use Rattle.imap_modseq.specs.Numbers.{max_events};
+ghost use Rattle.imap_mailbox.specs.Above.{IsFirstAbove};
+ghost use Rattle.imap_mailbox.specs.History.{own_entry};
+ghost use Rattle.imap_mailbox.specs.Summary.{latest, latest_number, row_in, ArePlacesBelow};
+
+use crate::message::Message;
+use crate::own::OwnSeen;
+use crate::row::{own_row, plain_row};
+
+/// The place of the first message from `start` on and before `end` that is above `number`, or `end`, for a user
+/// without own changes.
+pub(crate) fn first_plain_above(
+    messages: &[Message],
+    start: usize,
+    end: usize,
+    number: u64,
+) -> usize
+    requires order { start ≤ end }
+    requires within { end ≤ length messages.now }
+    requires places { ArePlacesBelow (max_events + 1) messages.now }
+    ensures { IsFirstAbove number start end result (map (row_in []) messages.now) }
+{
+    for place in start..end {
+        if number < plain_row(&messages[place]).number {
+            return place;
+        }
+    }
+    end
+}
+
+/// The place of the first message from `start` on and before `end` that is above `number`, or `end`, for a user
+/// with own changes.
+pub(crate) fn first_own_above(
+    messages: &[Message],
+    own: &OwnSeen,
+    start: usize,
+    end: usize,
+    number: u64,
+) -> usize
+    requires order { start ≤ end }
+    requires within { end ≤ length messages.now }
+    requires places { ArePlacesBelow (max_events + 1) messages.now }
+    requires changes { AreInOrder 0 max_events (befores (map own_entry own.now.list)) }
+    requires few { length own.now.list ≤ max_events }
+    ensures { IsFirstAbove number start end result (map (row_in own.now.list) messages.now) }
+{
+    let quiet = number.saturating_sub(1 + own.len() as u64);
+    let settled = own.last_number() <= number;
+    let mut near = 0;
+    for place in start..end {
+        if is_own_above(&messages[place], own, number, quiet, settled, &mut near) {
+            return place;
+        }
+    }
+    end
+}
+
+/// Whether the mod-sequence of the message is above `number`. A last shared event at a place below `quiet` isn't
+/// above it. If `settled`, no own change is; else the look-up of the message's own changes begins at `near`.
+fn is_own_above(
+    message: &Message,
+    own: &OwnSeen,
+    number: u64,
+    quiet: u64,
+    settled: bool,
+    near: &mut usize,
+) -> bool
+    requires place { message.now.place ≤ max_events }
+    requires order { AreInOrder 0 max_events (befores (map own_entry own.now.list)) }
+    requires few { length own.now.list ≤ max_events }
+    requires quiet { 0 < quiet → quiet + length own.now.list + 1 ≤ number }
+    requires settled { settled ≡ true → (uid : ℕ) → latest_number (latest uid own.now.list) ≤ number }
+    ensures { result ≡ nat_lt number (row_in own.now.list message.now).number }
+{
+    if message.place < quiet && (settled || !own.is_later(message.uid, number, near)) {
+        return false;
+    }
+    number < own_row(message, own).number
+}
