@@ -1,5 +1,5 @@
 -- What the entries of an access control list are after a change, for who reads it by `entry`.
-use Rattle.std.proofs.Common.{◌≡◌, ℕ, List, Bool, true, false, cond, ◌==◌, Option, Some, None, refl, sym, ap, ◌∙◌}
+use Rattle.std.proofs.Common.{◌≡◌, ℕ, List, [], Bool, true, false, cond, ◌==◌, Option, Some, None, refl, sym, ap, ◌∙◌}
 use Rattle.std.specs.Option.{unwrap_or}
 use Rattle.std.specs.Str.{bytes_eq}
 use Rattle.std.specs.Ordering.{nat_cmp, eq_by_cmp}
@@ -9,9 +9,11 @@ use Rattle.std.specs.FinMap.{get-empty, get-insert, get-remove}
 use Rattle.std.proofs.lemmas.Bool.{eqb-true}
 use Rattle.std.proofs.lemmas.Map.Text.{is_eq-slice_cmp}
 use Rattle.bitflags.specs.Sets.{known_from, known_bits}
-use Rattle.imap_rights.specs.Rights.{no_rights, all_rights, known, flag_names}
+use Rattle.imap_rights.specs.Rights.{no_rights, all_rights, known, flag_names, less, union}
 use Rattle.imap_rights.specs.Acl.{AclMap, with_entry, owner_acl}
 use Rattle.imap_rights.specs.Effective.{entry, owner_rights, effective}
+use Rattle.imap_rights.specs.Groups.{Members, groups_of, stands_for, takes_from, union_where}
+use Rattle.imap_rights.proofs.Finite.{entries-map_of, map_of-nil}
 
 chosen : (b : Bool) (o p : Option ℕ) → unwrap_or (cond b o p) no_rights ≡ cond b (unwrap_or o no_rights) (unwrap_or p no_rights)
 chosen true o p = refl
@@ -42,8 +44,13 @@ pub entry-owner_acl : (owner q : List ℕ) → entry (owner_acl owner) q ≡ con
 entry-owner_acl owner q = entry-insert map.empty owner all_rights q ∙ ap (cond (bytes_eq q owner) all_rights) (entry-empty q)
 
 -- without entries the owner has l and a, and nobody else has a right
-pub effective-empty : (user owner : List ℕ) → effective user owner map.empty ≡ cond (bytes_eq user owner) owner_rights no_rights
-effective-empty user owner = simp entry-empty
+pub effective-empty : (user owner : List ℕ) (groups : Members) → effective user owner groups map.empty ≡ cond (bytes_eq user owner) owner_rights no_rights
+effective-empty user owner groups =
+    ap (λ granted. cond (bytes_eq user owner) (union granted owner_rights) granted)
+    (λ i. less (union_where (stands_for (groups_of groups user) user) (no_entries i)) (union_where (takes_from (groups_of groups user) user) (no_entries i)))
+  where
+    no_entries : map.entries (map.empty {X = ℕ} {R = slice_cmp nat_cmp}) ≡ []
+    no_entries = ap map.entries (sym map_of-nil) ∙ entries-map_of [] refl
 
 -- the bits that are rights
 pub known_bits-flag_names : known_bits flag_names ≡ all_rights

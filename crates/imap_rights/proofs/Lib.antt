@@ -9,6 +9,10 @@ pub mod Positions
 pub mod Puts
 pub mod Changed
 pub mod ReadBack
+pub mod Unions
+pub mod Members
 pub mod Given
+pub mod AnothersList
+pub mod Owners
 pub mod AclLaws
 pub mod InOrder

@@ -1,13 +1,12 @@
 -- The entries of an access control list as they are kept.
-use Rattle.std.specs.Prelude.{◌≡◌, ℕ, ◌≤◌, suc, Bool, IsTrue, length, true, false, List, [], ◌∷◌, map}
-use Rattle.std.specs.Prelude.{find as find_item, bytes_eq, ◌==◌}
+use Rattle.std.specs.Prelude.{◌≡◌, ℕ, ◌≤◌, suc, Bool, IsTrue, length, true, List, [], ◌∷◌, map}
+use Rattle.std.specs.Prelude.{find as find_item}
 use Rattle.std.specs.Prelude.{◌&&◌, not, nat_le, is_some, option_map, unwrap_or, Result, Ok, Err}
 use Rattle.std.specs.Ordering.{nat_cmp, eq_by_cmp}
 use Rattle.std.specs.Cmp.Lexicographic.{slice_cmp}
 use Rattle.std.specs.FinMap.Entries.{is_sorted, by_order, put, where_key, find}
 use Rattle.std.specs.List.{list_all}
 use Rattle.imap_rights.specs.Rights.{bits, no_rights}
-use Rattle.imap_rights.specs.Identifier.{minus}
 use Rattle.imap_rights.specs.Acl.{is_entry, max_entries}
 use Rattle.imap_rights.specs.declared.acl.Entry.{Entry}
 
@@ -28,11 +27,6 @@ pub record AreEntries (entries : List Entry) : Type 0 where
 abbrev pub rights_where : (List ℕ → Bool) → List Entry → ℕ
 rights_where is_at entries =
     unwrap_or (option_map (λ e. bits e.rights) (find_item (λ e. is_at e.identifier) entries)) no_rights
-
--- whether an identifier is the negative one of a subject
-abbrev pub is_negative_of : List ℕ → List ℕ → Bool
-is_negative_of [] subject = false
-is_negative_of (c ∷ rest) subject = (c == minus) && bytes_eq rest subject
 
 -- a position, after one more entry
 abbrev pub next_position : Result ℕ ℕ → Result ℕ ℕ

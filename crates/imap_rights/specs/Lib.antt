@@ -2,6 +2,7 @@
 pub mod Rights
 pub mod Change
 pub mod Identifier
+pub mod Groups
 pub mod Acl
 pub mod Effective
 pub mod Entries

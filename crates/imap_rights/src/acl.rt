@@ -6,22 +6,24 @@ ghost use Rattle.std.specs.FinMap as finite;
 ghost use Rattle.imap_rights.specs.Rights.{bits, known, no_rights};
 ghost use Rattle.imap_rights.specs.Acl.{AclMap, IsAcl, is_some_rights, max_entries, with_entry, is_full_for};
 ghost use Rattle.imap_rights.specs.Acl.{owner_acl};
-ghost use Rattle.imap_rights.specs.Effective.{effective, entry, negative};
-ghost use Rattle.imap_rights.specs.Entries.{AreEntries, PutsEntry, pairs_of, rights_where, is_negative_of};
-ghost use Rattle.imap_rights.specs.Entries.{position};
+ghost use Rattle.imap_rights.specs.Effective.{effective, entry, granted_by};
+ghost use Rattle.imap_rights.specs.Entries.{AreEntries, PutsEntry, pairs_of, position, rights_where};
+ghost use Rattle.imap_rights.specs.Groups.{stands_for, takes_from, union_where};
 ghost use Rattle.imap_rights.specs.Entries.{without_pair, has_entry, is_full};
 
+use crate::groups::{Groups, stands_for, takes_from};
 use crate::identifier::Identifier;
 use crate::rights::Rights;
 use crate::sorting::{are_entries, are_rising, sort_entries};
 use bitflags::Flags;
+use imap_user_map::UserMap;
 use std::alloc::{AllocError, AllocFailed, Global};
 use std::cmp::Ordering;
 use std::marker::Model;
 use thiserror::Error;
 
 /// The most entries of a list.
-pub const MAX_ENTRIES: usize = 64;
+pub const MAX_ENTRIES: usize = 128;
 
 /// An access control list: the rights of each identifier (RFC 4314, section 2).
 ///
@@ -76,8 +78,6 @@ impl<T: Drop> From<AllocFailed<T>> for AclError {
         AclError::Memory
     }
 }
-
-const ANYONE: &[u8] = b"anyone";
 
 impl Acl {
     /// A list without entries.
@@ -195,17 +195,12 @@ impl Acl {
     }
 
     /// The rights that `user` holds on a mailbox of `owner` with this list (RFC 4314, section 2): those of
-    /// the entries of the user and of `anyone`, less those of their entries with a leading `-`. The owner
-    /// always has l and a.
-    pub fn effective(&self, user: &str, owner: &str) -> Rights
-        ensures { bits result ≡ effective user.now owner.now self.now }
+    /// the entries of the user, of `anyone` and of the user's groups, less those of their entries with a
+    /// leading `-`. The owner always has l and a. It takes no memory.
+    pub fn effective(&self, user: &str, owner: &str, groups: &Groups) -> Rights
+        ensures { bits result ≡ effective user.now owner.now groups.now self.now }
     {
-        let user_octets = user.as_bytes();
-        let given = self.rights_at(user_octets).union(self.rights_at(ANYONE));
-        let taken = self
-            .rights_taken_from(user_octets)
-            .union(self.rights_taken_from(ANYONE));
-        let granted = given.less(taken);
+        let granted = self.granted(user, groups.of(user));
         if user == owner {
             granted.union(Rights::LOOKUP.union(Rights::ADMINISTER))
         } else {
@@ -222,16 +217,19 @@ impl Acl {
         })
     }
 
+    /// What the entries give the user of these groups, less what they take away.
+    fn granted(&self, user: &str, groups: &UserMap<()>) -> Rights
+        ensures { bits result ≡ granted_by groups.now.map user.now self.now }
+    {
+        let given = rights_given(self.entries.as_slice(), groups, user);
+        let taken = rights_taken(self.entries.as_slice(), groups, user);
+        given.less(taken)
+    }
+
     fn rights_at(&self, identifier: &[u8]) -> Rights
         ensures { bits result ≡ entry self.now identifier.now }
     {
         rights_in(self.entries.as_slice(), identifier)
-    }
-
-    fn rights_taken_from(&self, subject: &[u8]) -> Rights
-        ensures { bits result ≡ entry self.now (negative subject.now) }
-    {
-        rights_taken_in(self.entries.as_slice(), subject)
     }
 }
 
@@ -244,23 +242,30 @@ fn rights_in(entries: &[Entry], identifier: &[u8]) -> Rights
         .map_or(Rights::empty(), |entry| entry.rights)
 }
 
-fn rights_taken_in(entries: &[Entry], subject: &[u8]) -> Rights
-    ensures { bits result ≡ rights_where (λ k. is_negative_of k subject.now) entries.now }
+// The rights that entries give the user of these groups.
+fn rights_given(entries: &[Entry], groups: &UserMap<()>, user: &str) -> Rights
+    ensures { bits result ≡ union_where (stands_for groups.now.map user.now) (pairs_of entries.now) }
 {
-    entries
-        .iter()
-        .find(|entry| is_negative(entry.identifier.as_bytes(), subject))
-        .map_or(Rights::empty(), |entry| entry.rights)
+    let mut rights = Rights::empty();
+    for entry in entries {
+        if stands_for(groups, user, entry.identifier.as_str()) {
+            rights = rights.union(entry.rights);
+        }
+    }
+    rights
 }
 
-// Whether an identifier takes rights from a subject.
-fn is_negative(identifier: &[u8], subject: &[u8]) -> bool
-    ensures { result ≡ is_negative_of identifier.now subject.now }
+// The rights that entries take from the user of these groups.
+fn rights_taken(entries: &[Entry], groups: &UserMap<()>, user: &str) -> Rights
+    ensures { bits result ≡ union_where (takes_from groups.now.map user.now) (pairs_of entries.now) }
 {
-    match identifier {
-        [b'-', rest @ ..] => rest == subject,
-        _ => false,
+    let mut rights = Rights::empty();
+    for entry in entries {
+        if takes_from(groups, user, entry.identifier.as_str()) {
+            rights = rights.union(entry.rights);
+        }
     }
+    rights
 }
 
 // Ok with the position of an identifier among the entries, or Err with the position of a new entry for it.

@@ -1,5 +1,6 @@
 //! Theorems on the definitions that the contracts cite. The functions do nothing.
-ghost use Rattle.imap_rights.specs.Laws.{IdentifiersAreRead, LettersAreRead, RightsAreThoseGiven};
+ghost use Rattle.imap_rights.specs.Laws.{AnothersListGivesNothing, IdentifiersAreRead, LettersAreRead};
+ghost use Rattle.imap_rights.specs.Laws.{MembersAreThoseAdded, OrderOfMembersIsLost, RightsAreThoseGiven};
 
 /// The octets of an identifier are read as that identifier.
 pub fn identifiers_are_read()
@@ -14,4 +15,19 @@ pub fn letters_are_read()
 /// Which rights a user has, right by right.
 pub fn rights_are_those_given()
     ensures { RightsAreThoseGiven }
+{}
+
+/// What a list by which one user alone has rights gives to another.
+pub fn anothers_list_gives_nothing()
+    ensures { AnothersListGivesNothing }
+{}
+
+/// Which users are in which groups.
+pub fn members_are_those_added()
+    ensures { MembersAreThoseAdded }
+{}
+
+/// Users may be put into groups in any order.
+pub fn order_of_members_is_lost()
+    ensures { OrderOfMembersIsLost }
 {}

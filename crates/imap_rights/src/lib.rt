@@ -4,13 +4,17 @@
 
 mod acl;
 mod change;
+mod groups;
 mod identifier;
 pub mod laws;
 mod rights;
 mod sameness;
+mod shared_groups;
 mod sorting;
 
 pub use acl::{Acl, AclError, Entry, MAX_ENTRIES};
 pub use change::{RightsChange, read_rights};
+pub use groups::Groups;
 pub use identifier::{Identifier, IdentifierError, MAX_IDENTIFIER_OCTETS};
 pub use rights::Rights;
+pub use shared_groups::SharedGroups;
