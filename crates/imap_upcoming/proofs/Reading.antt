@@ -40,16 +40,16 @@ module _ (site : Site) (user : List ℕ) where
       by false hidden false is = sym (ap (λ b. if_read b m) is)
       by false hidden true is = absurd (true≢false (sym (has_more rights read visible_rights refl is) ∙ hidden))
 
-  readable_at : (name : Name) (m : Mailbox) → is_root name ≡ false → option_and_then readable_of (seen_at site user name m) ≡ readable_for user (owner_of site name) m
+  readable_at : (name : Name) (m : Mailbox) → is_root name ≡ false → option_and_then readable_of (seen_at site user name m) ≡ readable_for user (owner_of site name) site.groups m
   readable_at name m named =
-      ap (λ b. option_and_then readable_of (cond b None (seen_with site user (effective user (owner_of site name) m.acl) m))) named
-      ∙ if_visible (effective user (owner_of site name) m.acl) m
+      ap (λ b. option_and_then readable_of (cond b None (seen_with site user (effective user (owner_of site name) site.groups m.acl) m))) named
+      ∙ if_visible (effective user (owner_of site name) site.groups m.acl) m
 
   -- by the mailbox that is found
-  pub readable_is : (world : World) (name : Name) → is_root name ≡ false → readable_in (view_of site user world) name ≡ option_and_then (readable_for user (owner_of site name)) (map.get world.mailboxes name)
+  pub readable_is : (world : World) (name : Name) → is_root name ≡ false → readable_in (view_of site user world) name ≡ option_and_then (readable_for user (owner_of site name) site.groups) (map.get world.mailboxes name)
   readable_is world name named = ap (option_and_then readable_of) (get_seen site user world name) ∙ by (map.get world.mailboxes name)
     where
-      by : (o : Option Mailbox) → option_and_then readable_of (option_and_then (seen_at site user name) o) ≡ option_and_then (readable_for user (owner_of site name)) o
+      by : (o : Option Mailbox) → option_and_then readable_of (option_and_then (seen_at site user name) o) ≡ option_and_then (readable_for user (owner_of site name) site.groups) o
       by None = refl
       by (Some m) = readable_at name m named
 
@@ -67,10 +67,10 @@ module _ (site : Site) (user : List ℕ) where
       if_so m true e = sym (some_same (messages_for user m.validity m.messages) r e)
       if_so m false e = absurd (cc e)
 
-      at : (m : Mailbox) (root : Bool) → option_and_then readable_of (cond root None (seen_with site user (effective user (owner_of site name) m.acl) m)) ≡ Some r → r ≡ messages_for user m.validity m.messages
+      at : (m : Mailbox) (root : Bool) → option_and_then readable_of (cond root None (seen_with site user (effective user (owner_of site name) site.groups m.acl) m)) ≡ Some r → r ≡ messages_for user m.validity m.messages
       at m true e = absurd (cc e)
       at m false e =
-          let rights = effective user (owner_of site name) m.acl in
+          let rights = effective user (owner_of site name) site.groups m.acl in
           if_so m (has_any rights read) (sym (if_visible rights m) ∙ e)
 
       by : (o : Option Mailbox) → map.get world.mailboxes name ≡ o → option_and_then readable_of (option_and_then (seen_at site user name) o) ≡ Some r → IsReadOf world name r

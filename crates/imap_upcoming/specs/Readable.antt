@@ -3,6 +3,7 @@ use Rattle.std.specs.Prelude.{ℕ, List, length, Option, Some, None, if◌then�
 use Rattle.imap_mailbox.specs.History.{own_at}
 use Rattle.imap_mailbox.specs.Summary.{Summary, highest_of, rows_of}
 use Rattle.imap_rights.specs.Effective.{effective}
+use Rattle.imap_rights.specs.Groups.{Members}
 use Rattle.imap_rights.specs.Rights.{has_any, read}
 use Rattle.imap_upcoming.specs.declared.upcoming.Upcoming.{Upcoming}
 use Rattle.imap_view.specs.declared.readable.Readable.{Readable}
@@ -19,9 +20,10 @@ messages_for user validity s = record {
 }
 
 -- if the user may read them; `owner` is that of the tree
-abbrev pub readable_for : (user owner : List ℕ) → Mailbox → Option Readable
-readable_for user owner m =
-    if has_any (effective user owner m.acl) read then Some (messages_for user m.validity m.messages) else None
+abbrev pub readable_for : (user owner : List ℕ) → Members → Mailbox → Option Readable
+readable_for user owner groups m =
+    if has_any (effective user owner groups m.acl) read then Some (messages_for user m.validity m.messages)
+    else None
 
 -- what the code's own stands for
 abbrev pub readable : Upcoming → Readable

@@ -24,7 +24,7 @@ use crate::upcoming_messages::UpcomingMessages;
 use imap_batch::BatchWrite;
 use imap_modseq::highest_after;
 use imap_names::{Name, UserName};
-use imap_rights::{Acl, Rights};
+use imap_rights::{Acl, Groups, Rights};
 use imap_view::View;
 use imap_world::{Change, MailboxEntry, Site, World};
 
@@ -64,7 +64,14 @@ impl<'a> Upcoming<'a> {
     {
         let entry = world.mailbox(&name.as_ref())?;
         let view = View::new(world, site, user);
-        Upcoming::of_entry(entry, user, view.owner(name), change, name)
+        Upcoming::of_entry(
+            entry,
+            user,
+            view.owner(name),
+            site.groups.groups(),
+            change,
+            name,
+        )
     }
 
     /// The mailbox of this name, if the user may read it then. `owner` is that of its tree.
@@ -72,20 +79,21 @@ impl<'a> Upcoming<'a> {
         entry: &'a MailboxEntry,
         user: &UserName,
         owner: &UserName,
+        groups: &Groups,
         change: &'a Change,
         name: &Name,
     ) -> Option<Upcoming<'a>>
         requires may { MayBeMade user.now name.now change.now (plain entry.now).messages }
         requires kept { IsKept (plain entry.now).messages }
         ensures readable { let after = mailbox_after name.now change.now (plain entry.now) in
-            option_map readable result ≡ option_and_then (readable_for user.now owner.now) after }
+            option_map readable result ≡ option_and_then (readable_for user.now owner.now groups.now) after }
         ensures valid { IfSome result (λ u. AreRowsInOrder u.next_uid u.highest u.messages) }
         ensures uids { IfSome result (λ u. u.next_uid < uid_limit) }
         ensures few { IfSome result (λ u. u.own ≤ max_events) }
         ensures bounded { IfSome result (λ u. u.highest ≤ max_number) }
     {
         let acl = acl_after(name, &entry.acl, change)?;
-        let may = may_read(user, owner, acl);
+        let may = may_read(user, owner, groups, acl);
         if !may {
             return None;
         }
@@ -134,9 +142,9 @@ impl<'a> Upcoming<'a> {
 }
 
 /// Whether the user may read a mailbox with this list in a tree of `owner`.
-fn may_read(user: &UserName, owner: &UserName, acl: &Acl) -> bool
-    ensures { result ≡ has_any (effective user.now owner.now acl.now) read }
+fn may_read(user: &UserName, owner: &UserName, groups: &Groups, acl: &Acl) -> bool
+    ensures { result ≡ has_any (effective user.now owner.now groups.now acl.now) read }
 {
-    acl.effective(user.as_str(), owner.as_str())
+    acl.effective(user.as_str(), owner.as_str(), groups)
         .has_any(Rights::READ)
 }

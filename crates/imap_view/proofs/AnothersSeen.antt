@@ -38,7 +38,7 @@ module _ (site : Site) (user : List ℕ) (m : Mailbox) (batch : Batch) (apart : 
 
   same_at : (name : Name) → seen_at site user name (batched batch m) ≡ seen_at site user name m
   same_at name =
-      let rights = effective user (owner_of site name) m.acl in
+      let rights = effective user (owner_of site name) site.groups m.acl in
       ap (λ s. cond (is_root name) None (cond (has_any rights visible_rights) (Some s) None)) (same_with rights)
 
 module _ (site : Site) (user : List ℕ) (world : World) (name : Name) (batch : Batch) (m : Mailbox) (there : map.get world.mailboxes name ≡ Some m) (same : seen_at site user name (batched batch m) ≡ seen_at site user name m) where

@@ -92,7 +92,7 @@ module _ (site : Site) (user : List ℕ) (m : Mailbox) (batch : Batch) (kept : I
 
   batched_at : (name : Name) → IsPossibleAt batch (seen_at site user name m) → IsBatched site batch m (seen_at site user name m) (seen_at site user name (batched batch m))
   batched_at name possible =
-      let rights = effective user (owner_of site name) m.acl in
+      let rights = effective user (owner_of site name) site.groups m.acl in
       sight_batched rights (is_root name) (has_any rights visible_rights) possible
 
 -- ---- the view after a batch of one mailbox

@@ -152,7 +152,7 @@ module _ (site : Site) (user : List ℕ) (world : World) where
   -- ---- how the new mailboxes are seen
 
   abbrev seen_by : ℕ → List ℕ → AclMap → Option Seen
-  seen_by validity owner acl = seen_with site user (effective user owner acl) (new_mailbox validity acl)
+  seen_by validity owner acl = seen_with site user (effective user owner site.groups acl) (new_mailbox validity acl)
 
   -- by the list of another mailbox, without its messages
   anew : (validity rights : ℕ) (m : Mailbox) → seen_with site user rights (new_mailbox validity m.acl) ≡ option_map (seen_anew view.site view.user validity) (seen_with site user rights m)
@@ -171,7 +171,7 @@ module _ (site : Site) (user : List ℕ) (world : World) where
   inherits validity (deepest ∷ root ∷ []) may =
       let own : owner_by_root site root ≡ view.user =
       ap (λ a. owner_by_root a root) (sym (site_of site user world)) ∙ equal_octets (owner_by_root view.site root) view.user may in
-      λ i. seen_with (sym (site_of site user world) i) (sym (user_of site user world) i) (effective (sym (user_of site user world) i) (own i) (owner_acl (own i))) (new_mailbox validity (owner_acl (own i)))
+      λ i. seen_with (sym (site_of site user world) i) (sym (user_of site user world) i) (effective (sym (user_of site user world) i) (own i) (sym (site_of site user world) i).groups (owner_acl (own i))) (new_mailbox validity (owner_acl (own i)))
   inherits validity (deepest ∷ above ∷ next ∷ more) may = by (map.get world.mailboxes (above ∷ next ∷ more)) refl (inherits validity (above ∷ next ∷ more))
     where
       owner : List ℕ
@@ -189,7 +189,7 @@ module _ (site : Site) (user : List ℕ) (world : World) where
       shown : (m : Mailbox) → map.get world.mailboxes (above ∷ next ∷ more) ≡ Some m → (o : Option Seen) → map.get view.seen (above ∷ next ∷ more) ≡ o
           → seen_by validity owner m.acl ≡ seen_or (option_map (seen_anew view.site view.user validity) o) (new_seen view (above ∷ next ∷ more) validity)
       shown m is (Some s) at =
-          anew validity (effective user owner m.acl) m
+          anew validity (effective user owner site.groups m.acl) m
           ∙ ap (option_map (seen_anew view.site view.user validity)) (sym (there (Some m) is) ∙ at)
       shown m is None at =
           absurd (true≢false (sym (sym (rest_free (ap is_some at)) ∙ taken_is_there (above ∷ next ∷ more) (rest_may (ap is_some at)) ∙ ap is_some is)))

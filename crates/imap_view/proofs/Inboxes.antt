@@ -16,7 +16,8 @@ use Rattle.imap_names.proofs.NameLaws.{is_name_at, equal_names, same_names, get_
 use Rattle.imap_names.proofs.OrderLaws.{name_antisymmetric}
 use Rattle.imap_names.proofs.UserLaws.{user_name_facts}
 use Rattle.imap_rights.specs.Acl.{owner_acl}
-use Rattle.imap_rights.specs.Effective.{anyone, negative, entry, granted, effective, owner_rights}
+use Rattle.imap_rights.proofs.AnothersList.{anothers}
+use Rattle.imap_rights.specs.Effective.{granted, effective, owner_rights}
 use Rattle.imap_rights.specs.Rights.{no_rights, all_rights, union, less, visible_rights}
 use Rattle.imap_world.specs.declared.site.Site.{Site}
 use Rattle.imap_world.specs.Mailbox.{Mailbox, new_mailbox}
@@ -80,34 +81,22 @@ own_root : (site : Site) (other : List ℕ) → 0 < length other → owner_by_ro
 own_root site [] some = absurd (omega (arith, some))
 own_root site (octet ∷ octets) some = refl
 
+seen_without : (site : Site) (user : List ℕ) (m : Mailbox) → seen_with site user no_rights m ≡ None
+seen_without site user m = ap (λ n. cond (not (n == 0)) (Some (seen_by_rights site user no_rights m)) None) (and_zero_l visible_rights)
+
 module _ (other : List ℕ) where
-  entry_of_another : (q : List ℕ) → other ≢ q → entry (owner_acl other) q ≡ no_rights
-  entry_of_another q differ = ap (λ o. unwrap_or o no_rights) (get-insert nat_list_cmp_total map.empty other all_rights q ∙ by (is_user q other) refl)
-    where
-      by : (b : Bool) → is_user q other ≡ b → cond b (Some all_rights) (map.get (map.empty {X = ℕ} {R = slice_cmp nat_cmp}) q) ≡ None
-      by true e = absurd (differ (sym (equal_users q other e)))
-      by false e = get-empty (slice_cmp nat_cmp) q
-
-  nothing_granted : (user : List ℕ) → other ≢ user → other ≢ anyone → granted user (owner_acl other) ≡ no_rights
-  nothing_granted user differ someone =
-      let taken = union (entry (owner_acl other) (negative user)) (entry (owner_acl other) (negative anyone)) in
-      (λ i. less (union (entry_of_another user differ i) (entry_of_another anyone someone i)) taken)
-      ∙ ap (λ n. less n taken) (or_zero_r no_rights) ∙ ap (bit_xor no_rights) (and_zero_l taken) ∙ xor_zero_r no_rights
-
-  seen_without : (site : Site) (user : List ℕ) (m : Mailbox) → seen_with site user no_rights m ≡ None
-  seen_without site user m = ap (λ n. cond (not (n == 0)) (Some (seen_by_rights site user no_rights m)) None) (and_zero_l visible_rights)
-
-  module _ (site : Site) (user : List ℕ) (some : 0 < length other) (someone : other ≢ anyone) (differ : other ≢ user) where
+  module _ (site : Site) (user : List ℕ) (valid : is_user_name other ≡ true) (differ : other ≢ user) where
     inbox_unseen : (validity : ℕ) → seen_at site user (inbox other) (new_mailbox validity (owner_acl other)) ≡ None
     inbox_unseen validity =
         let new = new_mailbox validity (owner_acl other) in
-        ap (λ o. seen_with site user (effective user o (owner_acl other)) new) (own_root site other some)
-        ∙ ap (λ b. seen_with site user (cond b (union (granted user (owner_acl other)) owner_rights) (granted user (owner_acl other))) new) (not_bytes user other (λ e. differ (sym e)))
-        ∙ ap (λ r. seen_with site user r new) (nothing_granted user differ someone) ∙ seen_without site user new
+        let held = granted user site.groups (owner_acl other) in
+        ap (λ o. seen_with site user (effective user o site.groups (owner_acl other)) new) (own_root site other (user_name_facts other valid).some)
+        ∙ ap (λ b. seen_with site user (cond b (union held owner_rights) held) new) (not_bytes user other (λ e. differ (sym e)))
+        ∙ ap (λ r. seen_with site user r new) (anothers site.groups user other valid (not_bytes other user differ)) ∙ seen_without site user new
 
     inbox_unknown : (world : World) → may_know_name site user (seen_in site user world) (inbox other) ≡ false
     inbox_unknown world =
-        ap (λ o. bytes_eq o user || (false || false)) (own_root site other some)
+        ap (λ o. bytes_eq o user || (false || false)) (own_root site other (user_name_facts other valid).some)
         ∙ ap (λ b. b || (false || false)) (not_bytes other user differ)
 
     inbox_hidden : (world : World) (there : Bool) → map.contains_key world.mailboxes (inbox other) ≡ there → (b : Bool)
@@ -117,12 +106,6 @@ module _ (other : List ℕ) where
     inbox_hidden world false is false =
         put_is_hidden site user world (record { name = inbox other; validity = epoch world.epochs (inbox other) + 1; acl = owner_acl other }) (none_of (map.get world.mailboxes (inbox other)) is) (inbox_unseen (epoch world.epochs (inbox other) + 1)) (inbox_unknown world)
 
-not_anyone : (other : List ℕ) → is_user_name other ≡ true → other ≢ anyone
-not_anyone other valid e =
-    let named = or_parts _ _ (user_name_facts other valid).user in
-    let word = or_parts (bytes_eq other anyone) _ named.0 in
-    absurd (cc (sym word.0 ∙ (bytes_eq-Decides other anyone).1 e))
-
 pub others_inboxes : OthersInboxesAreHidden
 others_inboxes site user other world valid differ =
-    inbox_hidden other site user (user_name_facts other valid).some (not_anyone other valid) differ world (map.contains_key world.mailboxes (inbox other)) refl (epoch world.epochs (inbox other) == max_validity)
+    inbox_hidden other site user valid differ world (map.contains_key world.mailboxes (inbox other)) refl (epoch world.epochs (inbox other) == max_validity)

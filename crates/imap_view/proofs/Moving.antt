@@ -74,8 +74,8 @@ within_one_root top q long e = root_of-within top q (omega (arith, long)) e
 seen_alike : (site : Site) (user : List ℕ) (q p : Name) → is_root q ≡ false → is_root p ≡ false → root_of q ≡ root_of p → (o : Option Mailbox) → option_and_then (seen_at site user q) o ≡ option_and_then (seen_at site user p) o
 seen_alike site user q p a b e None = refl
 seen_alike site user q p a b e (Some m) =
-    (λ i. cond (a i) None (seen_with site user (effective user (owner_by_root site (e i)) m.acl) m))
-    ∙ ap (λ b. cond b None (seen_with site user (effective user (owner_by_root site (root_of p)) m.acl) m)) (sym b)
+    (λ i. cond (a i) None (seen_with site user (effective user (owner_by_root site (e i)) site.groups m.acl) m))
+    ∙ ap (λ b. cond b None (seen_with site user (effective user (owner_by_root site (root_of p)) site.groups m.acl) m)) (sym b)
 
 -- ---- the view, by look-ups
 
@@ -110,7 +110,7 @@ module _ (site : Site) (user : List ℕ) where
   validity_seen k validity m = by (is_root k) (has_any rights visible_rights) (shows_messages rights)
     where
       rights : ℕ
-      rights = effective user (owner_by_root site (root_of k)) m.acl
+      rights = effective user (owner_by_root site (root_of k)) site.groups m.acl
 
       seen_so : Option ℕ → Seen
       seen_so shown = record (seen_by_rights site user rights m) { validity = shown }

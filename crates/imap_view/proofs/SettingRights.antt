@@ -49,14 +49,14 @@ module _ (site : Site) (user : List ℕ) (m : Mailbox) (shown : AclMap) where
             seen = ap (λ b. cond b (Some (seen_by_rights site user rights m)) None) is;
           }
 
-  shown_at : (name : Name) → acl_of (seen_at site user name m) ≡ Some shown → ShowsList site user (seen_at site user name m) (is_root name) (effective user (owner_of site name) m.acl) m shown
+  shown_at : (name : Name) → acl_of (seen_at site user name m) ≡ Some shown → ShowsList site user (seen_at site user name m) (is_root name) (effective user (owner_of site name) site.groups m.acl) m shown
   shown_at name e = by (is_root name) refl
     where
-      by : (b : Bool) → is_root name ≡ b → ShowsList site user (seen_at site user name m) (is_root name) (effective user (owner_of site name) m.acl) m shown
-      by true is = absurd (cc (sym e ∙ ap (λ b. acl_of (cond b None (seen_with site user (effective user (owner_of site name) m.acl) m))) is))
+      by : (b : Bool) → is_root name ≡ b → ShowsList site user (seen_at site user name m) (is_root name) (effective user (owner_of site name) site.groups m.acl) m shown
+      by true is = absurd (cc (sym e ∙ ap (λ b. acl_of (cond b None (seen_with site user (effective user (owner_of site name) site.groups m.acl) m))) is))
       by false is =
-          let at : seen_at site user name m ≡ seen_with site user (effective user (owner_of site name) m.acl) m = ap (λ b. cond b None (seen_with site user (effective user (owner_of site name) m.acl) m)) is in
-          let shows = shown_by (effective user (owner_of site name) m.acl) (ap acl_of (sym at) ∙ e) in
+          let at : seen_at site user name m ≡ seen_with site user (effective user (owner_of site name) site.groups m.acl) m = ap (λ b. cond b None (seen_with site user (effective user (owner_of site name) site.groups m.acl) m)) is in
+          let shows = shown_by (effective user (owner_of site name) site.groups m.acl) (ap acl_of (sym at) ∙ e) in
           record {
             same = shows.same;
             named = is;
@@ -93,7 +93,7 @@ module _ (site : Site) (user : List ℕ) (world : World) (name : Name) (m : Mail
     after = record world { mailboxes = map.insert world.mailboxes name (record m { acl = acl }) }
 
     abbrev new : Option Seen
-    new = seen_with site user (effective user (owner_of site name) acl) (record m { acl = acl })
+    new = seen_with site user (effective user (owner_of site name) site.groups acl) (record m { acl = acl })
 
     within : (q : Name) → may_know_name site user (put_option (seen_in site user world) name new) q ≡ true → may_know_name site user (seen_in site user world) q ≡ true
     within = below_within site user (put_option (seen_in site user world) name new) (seen_in site user world) (put_within site user (seen_in site user world) name new (inl place))
@@ -138,7 +138,7 @@ module _ (site : Site) (user : List ℕ) (world : World) (name : Name) (identifi
   with_list m acl there shown room =
       let at : map.get (view_of site user world).seen name ≡ seen_at site user name m = get_seen site user world name ∙ ap (option_and_then (seen_at site user name)) there in
       let shows = shown_at site user m acl name (ap acl_of (sym at) ∙ shown) in
-      let held : ℕ = effective user (owner_of site name) m.acl in
+      let held : ℕ = effective user (owner_of site name) site.groups m.acl in
       let before : Seen = seen_by_rights site user held m in
       let seen : map.get (view_of site user world).seen name ≡ Some before = at ∙ shows.seen in
       let place = ap (λ s. shows_names_below site user s name) (sym (seen_is site user world))
@@ -152,8 +152,8 @@ module _ (site : Site) (user : List ℕ) (world : World) (name : Name) (identifi
         changed = ap (λ (a : AclMap). cond (is_full_for a identifier (applied change (entry a identifier))) (Err Limit) (Ok (with_entry a identifier (applied change (entry a identifier))))) shows.same
             ∙ ap (λ b. cond b (Err Limit) (Ok new)) room;
         seen = with_acl_seen site user world name m new there shows.named place
-            ∙ ap as_seen (seen_again site user held (effective user (owner_of site name) new) m new shows.administers)
-            ∙ (λ i. as_seen (seen_still (effective (sym (user_of site user world) i) (owner_of (sym (site_of site user world) i) name) new) new before))
+            ∙ ap as_seen (seen_again site user held (effective user (owner_of site name) site.groups new) m new shows.administers)
+            ∙ (λ i. as_seen (seen_still (effective (sym (user_of site user world) i) (owner_of (sym (site_of site user world) i) name) (sym (site_of site user world) i).groups new) new before))
             ∙ ap (λ o. as_seen (seen_with_entry (view_of site user world) name identifier change before o)) (sym list)
             ∙ ap (λ o. as_seen (seen_with_rights (view_of site user world) name identifier change o)) (sym seen);
       }

@@ -97,11 +97,11 @@ module _ (site : Site) (user : List ℕ) (world : World) where
         ∙ ap (λ (v : View). map.get v.seen q) is
 
     -- with the rights that the user holds
-    module _ (named : is_root q ≡ false) (rights : ℕ) (held : rights ≡ effective user (owner_of site q) mailbox.acl) where
+    module _ (named : is_root q ≡ false) (rights : ℕ) (held : rights ≡ effective user (owner_of site q) site.groups mailbox.acl) where
       by_rights : seen_at view.site view.user q mailbox ≡ seen_with site user rights mailbox
       by_rights =
           (λ i. seen_at (sym site_there i) (sym user_there i) q mailbox)
-          ∙ ap (λ b. cond b None (seen_with site user (effective user (owner_of site q) mailbox.acl) mailbox)) named ∙ ap (λ r. seen_with site user r mailbox) (sym held)
+          ∙ ap (λ b. cond b None (seen_with site user (effective user (owner_of site q) site.groups mailbox.acl) mailbox)) named ∙ ap (λ r. seen_with site user r mailbox) (sym held)
 
       pub visible_is_seen : has_any rights visible_rights ≡ true → seen_at view.site view.user q mailbox ≡ Some (seen_by_rights site user rights mailbox)
       visible_is_seen visible = by_rights ∙ ap (λ b. cond b (Some (seen_by_rights site user rights mailbox)) None) visible

@@ -88,7 +88,7 @@ is_root (deepest ∷ above ∷ more) = false
 abbrev pub seen_at : Site → (user : List ℕ) → Name → Mailbox → Option Seen
 seen_at site user name mailbox =
     if is_root name then None
-    else seen_with site user (effective user (owner_of site name) mailbox.acl) mailbox
+    else seen_with site user (effective user (owner_of site name) site.groups mailbox.acl) mailbox
 
 -- what the code's own stands for
 abbrev pub shown : SeenMailbox → Seen

@@ -71,7 +71,7 @@ seen_still rights acl before =
 -- what a holder of `a` sees of the mailbox with another list
 abbrev pub seen_by_acl : View → Name → Seen → AclMap → Option Seen
 seen_by_acl view name before acl =
-    seen_still (effective view.user (owner_of view.site name) acl) acl before
+    seen_still (effective view.user (owner_of view.site name) view.site.groups acl) acl before
 
 abbrev pub seen_with_entry :
     View → Name → (identifier : List ℕ) → RightsChange → Seen → Option AclMap → Option Seen
@@ -151,7 +151,8 @@ missing_in view (deepest ∷ above ∷ more) =
 -- what an owner sees of a new mailbox that is the owner's alone
 abbrev pub seen_by_owner : Site → (owner : List ℕ) → (validity : ℕ) → Option Seen
 seen_by_owner site owner validity =
-    seen_with site owner (effective owner owner (owner_acl owner)) (new_mailbox validity (owner_acl owner))
+    seen_with site owner (effective owner owner site.groups (owner_acl owner))
+    (new_mailbox validity (owner_acl owner))
 
 -- a new mailbox with the list of one that the user sees so: it has no messages
 abbrev pub seen_anew : Site → (user : List ℕ) → (validity : ℕ) → Seen → Seen

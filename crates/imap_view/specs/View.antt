@@ -6,6 +6,7 @@ use Rattle.std.specs.Coded.{Coded, coded_ℕ, coded_list, coded×, code_by}
 use Rattle.imap_names.specs.Name.{Name}
 use Rattle.imap_names.specs.Order.{Names}
 use Rattle.imap_rights.specs.Acl.{AclMap}
+use Rattle.imap_rights.specs.Groups.{Members, members_code}
 use Rattle.imap_rights.specs.Rights.{has_any, create, no_rights, names_below_rights}
 use Rattle.imap_user_map.specs.Finite.{keep}
 use Rattle.imap_world.specs.declared.site.Site.{Site}
@@ -24,9 +25,14 @@ pub record View : Type 0 where
 
 abbrev pub site_code : Coded Site
 site_code =
-    code_by (List ℕ × (ℕ × ℕ)) (coded× (coded_list coded_ℕ) (coded× coded_ℕ coded_ℕ))
-    (λ s. (s.administrator, (s.limits.max_messages, s.limits.max_octets)))
-    (λ p. record { administrator = p.0; limits = record { max_messages = p.1.0; max_octets = p.1.1 } })
+    code_by (List ℕ × ((ℕ × ℕ) × Members))
+    (coded× (coded_list coded_ℕ) (coded× (coded× coded_ℕ coded_ℕ) members_code))
+    (λ s. (s.administrator, ((s.limits.max_messages, s.limits.max_octets), s.groups)))
+    (λ p. record {
+      administrator = p.0;
+      limits = record { max_messages = p.1.0.0; max_octets = p.1.0.1 };
+      groups = p.1.1;
+    })
     (λ _. refl)
 
 abbrev pub view_code : Coded View

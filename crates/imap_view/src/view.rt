@@ -86,7 +86,8 @@ impl<'a> View<'a> {
             ≡ seen_at self.now.site self.now.user name.now (plain mailbox.now) }
     {
         let owner = owner_by_root(self.site, name.root());
-        let rights = mailbox.acl.effective(self.user.as_str(), owner);
+        let groups = self.site.groups.groups();
+        let rights = mailbox.acl.effective(self.user.as_str(), owner, groups);
         if rights.show_mailbox() {
             Some(Seen {
                 rights,

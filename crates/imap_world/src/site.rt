@@ -1,6 +1,7 @@
 //! What is settled when a host starts.
 
 use imap_names::UserName;
+use imap_rights::SharedGroups;
 
 /// Limits that the host's administrator may choose.
 #[derive(Clone, Copy, Debug, PartialEq, Eq)]
@@ -12,9 +13,11 @@ pub struct Limits {
 }
 
 /// What doesn't change while the server runs.
-#[derive(Debug, Drop)]
+#[derive(Drop)]
 pub struct Site {
     /// The owner of the Shared tree, who is also a user.
     pub administrator: UserName,
     pub limits: Limits,
+    /// Which users are in the groups that access control lists may name.
+    pub groups: SharedGroups,
 }

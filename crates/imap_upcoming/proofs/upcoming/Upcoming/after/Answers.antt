@@ -43,6 +43,6 @@ returns-clause-readable c =
     let turned = asked_turns user world c.mailbox.ensures.valid name m there site c.args.change.now c.requires.asked in
     let owner : c.owner.result.now ≡ owner_of site name = c.owner.ensures ∙ ap (λ (v : View). owner_of v.site name) c.new-view.ensures ∙ ap (λ s. owner_of s name) (site_of site user world) in
     c.of_entry.ensures.readable
-    ∙ ap (λ o. option_and_then (readable_for user o) (mailbox_after name c.args.change.now m)) owner
-    ∙ ap (option_and_then (readable_for user (owner_of site name))) (sym turned.found)
+    ∙ (λ i. option_and_then (readable_for user (owner i) (c.groups.ensures i)) (mailbox_after name c.args.change.now m))
+    ∙ ap (option_and_then (readable_for user (owner_of site name) site.groups)) (sym turned.found)
     ∙ sym (readable_is site user (after_writes c.args.change.now world) name (named name c.as_ref.ensures.valid))

@@ -6,6 +6,7 @@ use Rattle.imap_batch.specs.declared.write.BatchWrite.{BatchWrite}
 use Rattle.imap_names.specs.Name.{Name}
 use Rattle.imap_rights.specs.Acl.{AclMap}
 use Rattle.imap_rights.specs.Effective.{effective}
+use Rattle.imap_rights.specs.Groups.{Members}
 use Rattle.imap_rights.specs.Rights.{has_any, read}
 use Rattle.imap_world.specs.declared.change.Write.{Write}
 use Rattle.imap_world.specs.Mailbox.{Mailbox, plain}
@@ -14,14 +15,14 @@ use Rattle.imap_upcoming.proofs.upcoming.Upcoming.of_entry.Goals as goal
 use Rattle.imap_upcoming.specs.Changed.{acl_after, batch_for, mailbox_after, messages_after}
 use Rattle.imap_upcoming.specs.Readable.{messages_for, readable, readable_for}
 
-module _ (user owner : List ℕ) (name : Name) (change : List Write) (m : Mailbox) where
+module _ (user owner : List ℕ) (groups : Members) (name : Name) (change : List Write) (m : Mailbox) where
   abbrev made : Option AclMap → Option BatchWrite → Option Mailbox
   made acl w = option_map (λ a. record { validity = m.validity; acl = a; messages = messages_after w m.messages }) acl
 
-  is_read : (acl : AclMap) (w : Option BatchWrite) → acl_after name m.acl change ≡ Some acl → batch_for name change ≡ w → has_any (effective user owner acl) read ≡ true
-      → option_and_then (readable_for user owner) (mailbox_after name change m) ≡ Some (messages_for user m.validity (messages_after w m.messages))
+  is_read : (acl : AclMap) (w : Option BatchWrite) → acl_after name m.acl change ≡ Some acl → batch_for name change ≡ w → has_any (effective user owner groups acl) read ≡ true
+      → option_and_then (readable_for user owner groups) (mailbox_after name change m) ≡ Some (messages_for user m.validity (messages_after w m.messages))
   is_read acl w list batch may =
-      (λ i. option_and_then (readable_for user owner) (made (list i) (batch i)))
+      (λ i. option_and_then (readable_for user owner groups) (made (list i) (batch i)))
       ∙ ap (λ b. cond b (Some (messages_for user m.validity (messages_after w m.messages))) None) may
 
 pub written-requires : goal.written-requires
@@ -36,7 +37,7 @@ returns-in-Some c =
     let order = in_order w.batch.user m.validity (with_batch w.batch m.messages) (batches_keep m.messages w may.0 c.requires.kept).0 (readable c.written.result) c.written.ensures.readable in
     record {
       readable = ap Some (c.written.ensures.readable ∙ ap (λ u. messages_for u m.validity (with_batch w.batch m.messages)) may.1)
-          ∙ sym (is_read c.args.user.now c.args.owner.now c.args.name.now c.args.change.now m c.in_ok-acl.acl.now (Some w)
+          ∙ sym (is_read c.args.user.now c.args.owner.now c.args.groups.now c.args.name.now c.args.change.now m c.in_ok-acl.acl.now (Some w)
           (sym c.acl_after.ensures ∙ ap option_copied c.in_ok-acl.was) batch (sym c.may_read-may.ensures ∙ c.if-not-may.false));
       valid = order.rows;
       uids = c.written.ensures.uids;
