@@ -33,7 +33,7 @@ use Rattle.imap_tree.specs.MyRights.{my_rights_answer, my_rights_of_name, my_rig
 use Rattle.imap_tree.specs.NewName.{new_name_read, or_refusal}
 use Rattle.imap_tree.specs.Rename.{rename_answer, rename_of_name, rename_to}
 use Rattle.imap_tree.specs.Selected.{is_selected}
-use Rattle.imap_tree.specs.SetAcl.{delete_acl_answer, set_acl_answer, set_acl_by, set_rights_answer, set_rights_by, set_rights_of_name}
+use Rattle.imap_tree.specs.SetAcl.{delete_acl_answer, grantee_read, set_acl_answer, set_acl_by, set_rights_answer, set_rights_by, set_rights_of_name}
 
 module _ (view : View) (tag : List ℕ) where
   -- ---- MYRIGHTS
@@ -84,25 +84,25 @@ module _ (view : View) (tag : List ℕ) where
   set_rights_read name change None = fits_alone view _ _ refl
   set_rights_read name change (Some identifier) = set_rights_may name change identifier _ refl _
 
-  set_rights_held : (name : Name) (change : RightsChange) (identifier : List ℕ) (held : Bool)
-      → IsFit view (cond held (set_rights_by view tag name change (identifier_read identifier)) (refusal tag (missing_right_refusal (rights_in view name))))
-  set_rights_held name change identifier true = set_rights_read name change (identifier_read identifier)
+  set_rights_held : (name : Name) (change : RightsChange) (identifier : Option (List ℕ)) (held : Bool)
+      → IsFit view (cond held (set_rights_by view tag name change identifier) (refusal tag (missing_right_refusal (rights_in view name))))
+  set_rights_held name change identifier true = set_rights_read name change identifier
   set_rights_held name change identifier false = missing_right_fits view tag (rights_in view name)
 
-  set_rights_fits : (mailbox identifier : List ℕ) (change : RightsChange) → IsFit view (set_rights_answer view tag mailbox identifier change)
+  set_rights_fits : (mailbox : List ℕ) (identifier : Option (List ℕ)) (change : RightsChange) → IsFit view (set_rights_answer view tag mailbox identifier change)
   set_rights_fits mailbox identifier change =
       fits_if_named view tag mailbox (set_rights_of_name view tag identifier change)
       (λ name. set_rights_held name change identifier (has_any (rights_in view name) administer))
 
   set_acl_change : (mailbox identifier : List ℕ) (change : Option RightsChange) → IsFit view (set_acl_by view tag mailbox identifier change)
   set_acl_change mailbox identifier None = fits_alone view _ _ refl
-  set_acl_change mailbox identifier (Some change) = set_rights_fits mailbox identifier change
+  set_acl_change mailbox identifier (Some change) = set_rights_fits mailbox (grantee_read identifier) change
 
   pub set_acl_fits : (mailbox identifier rights : List ℕ) → IsFit view (set_acl_answer view tag mailbox identifier rights)
   set_acl_fits mailbox identifier rights = set_acl_change mailbox identifier (rights_read rights)
 
   pub delete_acl_fits : (mailbox identifier : List ℕ) → IsFit view (delete_acl_answer view tag mailbox identifier)
-  delete_acl_fits mailbox identifier = set_rights_fits mailbox identifier (replacing no_rights)
+  delete_acl_fits mailbox identifier = set_rights_fits mailbox (identifier_read identifier) (replacing no_rights)
 
   -- ---- DELETE
 

@@ -1,5 +1,6 @@
 -- SETACL and DELETEACL (RFC 4314, sections 3.1 and 3.2).
 use Rattle.std.specs.Prelude.{ℕ, Bool, true, not, ◌==◌, List, Option, Some, None, if◌then◌else◌}
+use Rattle.std.specs.Prelude.{option_and_then}
 use Rattle.imap_answer.specs.Answer.{Answer, done, done_with, refusal}
 use Rattle.imap_answer.specs.Name.{if_named}
 use Rattle.imap_names.specs.Name.{Name}
@@ -8,7 +9,8 @@ use Rattle.imap_rights.specs.declared.change.RightsChange.{RightsChange}
 use Rattle.imap_rights.specs.Acl.{AclMap}
 use Rattle.imap_rights.specs.Effective.{entry}
 use Rattle.imap_rights.specs.Change.{replacing, rights_read}
-use Rattle.imap_rights.specs.Identifier.{identifier_read}
+use Rattle.imap_rights.specs.Groups.{is_misnamed}
+use Rattle.imap_rights.specs.Identifier.{identifier_read, subject_of}
 use Rattle.imap_rights.specs.Rights.{administer, has_any, no_rights}
 use Rattle.imap_view.specs.TreeAfter.{entry_after, may_set_rights}
 use Rattle.imap_view.specs.View.{View, acl_in, rights_in}
@@ -29,25 +31,36 @@ set_rights_by view tag name change (Some identifier) =
     else if keeps_entry identifier change (acl_in view name) then done tag
     else done_with tag (SetRights name identifier change)
 
-abbrev pub set_rights_of_name : View → (tag identifier : List ℕ) → RightsChange → Name → Answer
+-- by what the octets are read as
+abbrev pub set_rights_of_name :
+    View → (tag : List ℕ) → (identifier : Option (List ℕ)) → RightsChange → Name → Answer
 set_rights_of_name view tag identifier change name =
-    if has_any (rights_in view name) administer
-    then set_rights_by view tag name change (identifier_read identifier)
+    if has_any (rights_in view name) administer then set_rights_by view tag name change identifier
     else refusal tag (missing_right_refusal (rights_in view name))
 
-abbrev pub set_rights_answer : View → (tag mailbox identifier : List ℕ) → RightsChange → Answer
+abbrev pub set_rights_answer :
+    View → (tag mailbox : List ℕ) → (identifier : Option (List ℕ)) → RightsChange → Answer
 set_rights_answer view tag mailbox identifier change =
     if_named view tag mailbox (set_rights_of_name view tag identifier change)
+
+abbrev pub unless_misnamed : List ℕ → Option (List ℕ)
+unless_misnamed identifier = if is_misnamed (subject_of identifier) then None else Some identifier
+
+-- the identifier that octets spell, if an entry may be set for it: not `group:` before what names no group
+abbrev pub grantee_read : List ℕ → Option (List ℕ)
+grantee_read octets = option_and_then unless_misnamed (identifier_read octets)
 
 -- by the rights that a text asks for, if each of its letters is a right
 abbrev pub set_acl_by : View → (tag mailbox identifier : List ℕ) → Option RightsChange → Answer
 set_acl_by view tag mailbox identifier None = refusal tag Malformed
-set_acl_by view tag mailbox identifier (Some change) = set_rights_answer view tag mailbox identifier change
+set_acl_by view tag mailbox identifier (Some change) =
+    set_rights_answer view tag mailbox (grantee_read identifier) change
 
 abbrev pub set_acl_answer : View → (tag mailbox identifier rights : List ℕ) → Answer
 set_acl_answer view tag mailbox identifier rights =
     set_acl_by view tag mailbox identifier (rights_read rights)
 
+-- an entry that stands is taken away, whatever its identifier names
 abbrev pub delete_acl_answer : View → (tag mailbox identifier : List ℕ) → Answer
 delete_acl_answer view tag mailbox identifier =
-    set_rights_answer view tag mailbox identifier (replacing no_rights)
+    set_rights_answer view tag mailbox (identifier_read identifier) (replacing no_rights)

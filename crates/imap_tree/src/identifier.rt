@@ -8,7 +8,10 @@ use imap_rights::{Identifier, IdentifierError};
 use std::alloc::{AllocError, Global};
 
 /// The identifier that the octets spell, if they spell one (RFC 4314, section 2).
-pub(crate) fn identifier(alloc: Global, octets: &Octets) -> Result<Option<Identifier>, AllocError>
+pub(crate) fn read_identifier(
+    alloc: Global,
+    octets: &Octets,
+) -> Result<Option<Identifier>, AllocError>
     ensures { IfOk result (λ identifier. identifier ≡ identifier_read octets.now) }
 {
     match Identifier::read(alloc, octets.as_slice()) {

@@ -5,7 +5,7 @@ ghost use Rattle.imap_print.specs.Lines.{IsPrintable};
 ghost use Rattle.imap_rights.specs.Identifier.{identifier_read};
 ghost use Rattle.imap_tree.specs.ListRights as specs;
 
-use crate::identifier::identifier;
+use crate::identifier::read_identifier;
 use imap_answer::{Answer, CommandContext, missing_right_refusal};
 use imap_lex::Octets;
 use imap_names::Name;
@@ -40,7 +40,7 @@ fn list_rights_of_name(
     if !rights.has_any(Rights::ADMINISTER) {
         return context.refuse(missing_right_refusal(rights));
     }
-    match identifier(context.alloc(), text)? {
+    match read_identifier(context.alloc(), text)? {
         Some(identifier) => {
             let line = list_rights_line(context, name, &identifier)?;
             context.done_after(vec![in context.alloc(); line]?)

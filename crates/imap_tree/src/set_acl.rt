@@ -5,7 +5,7 @@ ghost use Rattle.imap_tree.specs.SetAcl as specs;
 ghost use Rattle.imap_view.specs.TreeAfter.{may_set_rights};
 ghost use Rattle.imap_view.specs.View.{acl_in};
 
-use crate::identifier::identifier;
+use crate::identifier::read_identifier;
 use bitflags::Flags;
 use imap_answer::{Answer, CommandContext, missing_right_refusal};
 use imap_lex::Octets;
@@ -15,7 +15,7 @@ use imap_rights::{Identifier, Rights, RightsChange, read_rights};
 use imap_values::beside;
 use imap_view::View;
 use imap_world::Effect;
-use std::alloc::AllocError;
+use std::alloc::{AllocError, Global};
 
 /// Answers SETACL of an identifier's rights on a mailbox, all as they stand in the command.
 pub fn set_acl_answer(
@@ -28,7 +28,7 @@ pub fn set_acl_answer(
         IfOk result (λ given. given ≡ answer mailbox.now identifier.now rights.now) }
 {
     match read_rights(rights.as_slice()) {
-        Some(change) => set_rights(context, mailbox, identifier, change),
+        Some(change) => grant(context, mailbox, identifier, change),
         None => context.refuse(Refusal::Malformed),
     }
 }
@@ -43,17 +43,44 @@ pub fn delete_acl_answer(
         IfOk result (λ given. given ≡ answer mailbox.now identifier.now) }
 {
     let none = RightsChange::Replace(Rights::empty());
+    let identifier = read_identifier(context.alloc(), identifier)?;
     set_rights(context, mailbox, identifier, none)
 }
 
-fn set_rights(
+fn grant(
     context: &CommandContext<'_>,
     mailbox: &Octets,
     identifier: &Octets,
     change: RightsChange,
 ) -> Result<Answer, AllocError>
-    ensures { let answer = specs.set_rights_answer context.now.view context.now.tag in
-        IfOk result (λ given. given ≡ answer mailbox.now identifier.now change) }
+    ensures { let answer = specs.set_rights_answer context.now.view context.now.tag mailbox.now in
+        IfOk result (λ given. given ≡ answer (specs.grantee_read identifier.now) change) }
+{
+    let identifier = read_grantee(context.alloc(), identifier)?;
+    set_rights(context, mailbox, identifier, change)
+}
+
+/// The identifier that octets spell, if an entry may be set for it.
+fn read_grantee(alloc: Global, octets: &Octets) -> Result<Option<Identifier>, AllocError>
+    ensures { IfOk result (λ identifier. identifier ≡ specs.grantee_read octets.now) }
+{
+    let Some(identifier) = read_identifier(alloc, octets)? else {
+        return Ok(None);
+    };
+    if identifier.misnames_group(alloc)? {
+        return Ok(None);
+    }
+    Ok(Some(identifier))
+}
+
+fn set_rights(
+    context: &CommandContext<'_>,
+    mailbox: &Octets,
+    identifier: Option<Identifier>,
+    change: RightsChange,
+) -> Result<Answer, AllocError>
+    ensures { let answer = specs.set_rights_answer context.now.view context.now.tag mailbox.now in
+        IfOk result (λ given. given ≡ answer identifier change) }
 {
     match context.name(mailbox)? {
         Some(name) => set_rights_of_name(context, &name, identifier, change),
@@ -64,17 +91,17 @@ fn set_rights(
 fn set_rights_of_name(
     context: &CommandContext<'_>,
     name: &Name,
-    text: &Octets,
+    identifier: Option<Identifier>,
     change: RightsChange,
 ) -> Result<Answer, AllocError>
-    ensures { let answer = specs.set_rights_of_name context.now.view context.now.tag text.now change in
+    ensures { let answer = specs.set_rights_of_name context.now.view context.now.tag identifier change in
         IfOk result (λ given. given ≡ answer name.now) }
 {
     let rights = context.view().rights(&name.as_ref());
     if !rights.has_any(Rights::ADMINISTER) {
         return context.refuse(missing_right_refusal(rights));
     }
-    match identifier(context.alloc(), text)? {
+    match identifier {
         Some(identifier) => set_rights_of_identifier(context, name, identifier, change),
         None => context.refuse(Refusal::Cannot),
     }
