@@ -79,7 +79,7 @@ module _ (view : View) (viewed : IsViewed view) (name : Name) where
   shown_at : (seen : Seen) (o : Option Mailbox) → map.get viewed.world.mailboxes name ≡ o → option_and_then (seen_at view.site view.user name) o ≡ Some seen → IsShown seen
   shown_at seen None there e = absurd (cc e)
   shown_at seen (Some mailbox) there e =
-      let rights = effective view.user (owner_of view.site name) mailbox.acl in
+      let rights = effective view.user (owner_of view.site name) view.site.groups mailbox.acl in
       shown_by seen mailbox (viewed.kept.at name mailbox there) rights (is_root name) (has_any rights visible_rights) e
 
   pub shown_is : (seen : Seen) → map.get view.seen name ≡ Some seen → IsShown seen

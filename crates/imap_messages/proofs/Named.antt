@@ -2,14 +2,14 @@
 use Rattle.std.proofs.Common.{◌≡◌, ℕ, ◌+◌, ◌<◌, ◌≤◌, Bool, true, false, cond, ◌||◌, ◌&&◌, not, List, [], ◌∷◌, ◌++◌, append_assoc, length, get_or, drop, drop-cons, add-one, Option, Some, None, is_some, refl, sym, ap, subst, ◌∙◌, arith}
 use Rattle.std.specs.Prelude.{nat_lt}
 use Rattle.std.specs.List.{AllByRecursion, list_any}
-use Rattle.std.proofs.lemmas.Bool.{ltb-true}
+use Rattle.std.proofs.lemmas.Bool.{ltb-true, not-true}
 use Rattle.std.proofs.lemmas.List.{append-nil}
 use Rattle.imap_mailbox.specs.declared.known.KnownMessage.{KnownMessage}
 use Rattle.imap_mailbox.specs.Rows.{Row}
 use Rattle.imap_syntax.specs.declared.set.Numbering.{Numbering}
 use Rattle.imap_syntax.specs.declared.set.SeqRange.{SeqRange}
 use Rattle.imap_messages.specs.declared.reading.Reading.{Reading}
-use Rattle.imap_messages.specs.Changed.{changed_of, is_changed}
+use Rattle.imap_messages.specs.Changed.{changed_of, is_changed, is_left}
 use Rattle.imap_messages.specs.Fetched.{Wanted}
 use Rattle.imap_messages.specs.Found.{IsReading, marks_named}
 use Rattle.imap_targets.specs.declared.message_numbers.Numbered.{Numbered}
@@ -47,6 +47,13 @@ counts_few sets own (Some row) few = by sets row.seen (nat_lt own max_events) re
     by true false false e = few
     by true true left e = few
     by false seen left e = few
+
+-- what hasn't changed is there, and isn't told
+left_there : (by_uid : Bool) (since : Option ℕ) (row : Option Row) → is_left since row ≡ true → ((not by_uid && not (is_some row)) ≡ false) × (is_changed since row ≡ false)
+left_there by_uid None row e = absurd (cc e)
+left_there by_uid (Some since) None e = absurd (cc e)
+left_there true (Some since) (Some row) e = (refl, not-true _ e)
+left_there false (Some since) (Some row) e = (refl, not-true _ e)
 
 module _ (by_uid : Bool) (since : Option ℕ) (wanted : Wanted) (sets : Bool) (mailbox : Readable) (by : Numbering) (last : ℕ) (ranges : List SeqRange) (known : List KnownMessage) where
   abbrev chosen : List Numbered → List Numbered
@@ -188,3 +195,9 @@ module _ (by_uid : Bool) (since : Option ℕ) (wanted : Wanted) (sets : Bool) (m
       missed found refuses before =
           sym (both (not by_uid) (is_gone mailbox.rows message) (list_any (is_gone mailbox.rows) later) (ap (λ b. not by_uid && b) (sym gone) ∙ refuses))
           ∙ ap (λ ms. is_refused by_uid mailbox.rows ms) (sym next) ∙ before.refused
+
+    -- it is there, and hasn't changed
+    pub passed : in_set last ranges (number_by by message) ≡ true → (found : Reading) → is_left since (row_with uid mailbox.rows) ≡ true → IsSoFar i found → IsSoFar (i + 1) found
+    passed named found kept before =
+        let there = left_there by_uid since (row_with uid mailbox.rows) kept in
+        left named (row_with uid mailbox.rows) refl found there.0 there.1 before

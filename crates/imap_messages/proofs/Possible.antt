@@ -41,7 +41,7 @@ some_one a b e = cc e
 
 module _ (view : View) (viewed : IsViewed view) (name : Name) (seen : Seen) (m : NewMessage) (room : is_full seen.messages.room ≡ false) where
   abbrev rights_on : Mailbox → ℕ
-  rights_on mailbox = effective view.user (owner_of view.site name) mailbox.acl
+  rights_on mailbox = effective view.user (owner_of view.site name) view.site.groups mailbox.acl
 
   abbrev shows : Mailbox → Seen
   shows mailbox = seen_by_rights view.site view.user (rights_on mailbox) mailbox

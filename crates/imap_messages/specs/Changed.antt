@@ -7,7 +7,7 @@ use Rattle.imap_resync.specs.UidSet.{UidSet}
 use Rattle.imap_resync.specs.Vanished.{earlier_line, vanished_in}
 use Rattle.imap_syntax.specs.declared.set.SeqRange.{SeqRange}
 use Rattle.imap_targets.specs.declared.message_numbers.Numbered.{Numbered}
-use Rattle.imap_targets.specs.MessageNumbers.{row_with}
+use Rattle.imap_targets.specs.MessageNumbers.{is_unchanged, row_with}
 use Rattle.imap_view.specs.View.{View}
 
 -- ---- the messages whose mod-sequence is greater than the number, if one is given
@@ -16,6 +16,11 @@ abbrev pub is_changed : (since : Option ℕ) → Option Row → Bool
 is_changed None row = true
 is_changed (Some since) None = false
 is_changed (Some since) (Some row) = nat_lt since row.number
+
+-- the message is there, and its mod-sequence isn't greater
+abbrev pub is_left : (since : Option ℕ) → Option Row → Bool
+is_left None row = false
+is_left (Some since) row = is_unchanged since row
 
 abbrev pub changed_of : (since : Option ℕ) → List Row → List Numbered → List Numbered
 changed_of since rows messages = filter (λ m. is_changed since (row_with m.uid rows)) messages

@@ -15,7 +15,7 @@ ghost use Rattle.imap_messages.specs.Fetch as specs;
 ghost use Rattle.imap_messages.specs.Found.{IsReading};
 ghost use Rattle.imap_targets.specs.Effects.{marking_effect};
 ghost use Rattle.imap_modseq.specs.Numbers.{max_events, max_number};
-ghost use Rattle.imap_targets.specs.MessageNumbers.{is_by_uid as by_uid_in, is_refused, ranges_of};
+ghost use Rattle.imap_targets.specs.MessageNumbers.{is_by_uid as by_uid_in, is_refused, ranges_of, row_with};
 ghost use Rattle.imap_targets.specs.Spans.{named_in};
 ghost use Rattle.imap_print.specs.Lines.{IsPrintable};
 ghost use Rattle.imap_rights.specs.Rights.{has_any, seen};
@@ -26,7 +26,7 @@ ghost use Rattle.imap_view.specs.View.{rights_in};
 use crate::reading::Reading;
 use crate::wanted::Wanted;
 use imap_answer::{Answer, CommandContext};
-use imap_mailbox::Row;
+use imap_mailbox::{Row, Rows};
 use imap_names::Name;
 use imap_print::{EnabledCapabilities, Refusal, Response};
 use imap_query::FetchItem;
@@ -399,6 +399,9 @@ fn read_named(
         if !messages.has(number, uid) {
             continue;
         }
+        if passes_over(&mut finder, since, &mailbox.rows, uid) {
+            continue;
+        }
         let row = finder.find(&mailbox.rows, uid);
         if refuses(by_uid, &row) {
             return Ok(None);
@@ -409,6 +412,17 @@ fn read_named(
         reading.add_if_there(alloc, wanted, number, &row)?;
     }
     Ok(Some(reading))
+}
+
+/// Whether the message with the UID is there, and hasn't changed after `since`.
+fn passes_over(finder: &mut RowFinder, since: Option<u64>, rows: &Rows<'_>, uid: u32) -> bool
+    requires { AreRising (row_uids rows.now) }
+    ensures { result ≡ changed.is_left since (row_with uid rows.now) }
+{
+    match since {
+        Some(since) => finder.skip_unchanged(rows, uid, since),
+        None => false,
+    }
 }
 
 /// Whether the message has a mod-sequence greater than `since`, if that is given.

@@ -2,7 +2,7 @@
 
 ghost use Rattle.std.specs.Prelude.{◌≡◌, ◌≢◌, ◌+◌, ◌-◌, ◌<◌, ◌≤◌, ℕ, drop, length, None, IfSome};
 ghost use Rattle.imap_mailbox.specs.Brought.{Agree};
-ghost use Rattle.imap_session.specs.Cursors.{AreFirst, AreLow};
+ghost use Rattle.imap_session.specs.Cursors.{AreFirst};
 
 use crate::known_list::KnownList;
 use crate::row_cursor::RowCursor;
@@ -61,22 +61,6 @@ fn end_if_there(rows: &Rows<'_>, start: usize, known: &KnownList, place: usize) 
     }
 }
 
-/// The place of the first row from `start` on whose mod-sequence is above `number`, or `end` if there is none
-/// before it.
-fn first_above(rows: &Rows<'_>, start: usize, end: usize, number: u64) -> usize
-    requires order { start ≤ end }
-    requires within { end ≤ length rows.now }
-    ensures range { (start ≤ result) × (result ≤ end) }
-    ensures low { AreLow number (result - start) (drop start rows.now) }
-{
-    for place in start..end {
-        if rows.is_above(place, number) {
-            return place;
-        }
-    }
-    end
-}
-
 impl<'a> RowCursor for MailboxRows<'a> {
     ghost rest = { λ rows. rows };
 
@@ -103,7 +87,7 @@ impl<'a> RowCursor for MailboxRows<'a> {
     /// at their mod-sequences alone.
     fn skip_known(&mut self, known: &KnownList, place: usize, number: u64) -> usize {
         if let Some(end) = end_if_there(self.rows, self.place, known, place) {
-            let next = first_above(self.rows, self.place, end, number);
+            let next = self.rows.skip_unchanged(self.place, end, number);
             let run = next - self.place;
             self.place = next;
             return run;

@@ -1,5 +1,6 @@
 -- The messages that a command names.
 use Rattle.std.proofs.Common.{◌≡◌, ℕ, zero, suc, ◌+◌, ◌-◌, ◌<◌, ◌≤◌, Bool, true, false, cond, List, [], ◌∷◌, length, get_or, eqb, Option, Some, None, option_map, is_some, not, refl, sym, ap, ◌∙◌, arith}
+use Rattle.std.specs.Prelude.{nat_lt}
 use Rattle.std.proofs.lemmas.Bool.{eq-eqb, ne_eqb}
 use Rattle.std.proofs.lemmas.List.{length-map}
 use Rattle.imap_mailbox.specs.declared.known.KnownMessage.{KnownMessage}
@@ -10,7 +11,8 @@ use Rattle.imap_mailbox.specs.Summary.{Rises}
 use Rattle.imap_mailbox.proofs.Finding.{at_least, inside}
 use Rattle.imap_session.specs.Held.{UidsRise, uid_limit}
 use Rattle.imap_session.proofs.Telling.{length_fits}
-use Rattle.imap_targets.specs.MessageNumbers.{known_with, last_uid, row_with}
+use Rattle.imap_session.proofs.Worded.{row_at as standing}
+use Rattle.imap_targets.specs.MessageNumbers.{is_unchanged, known_with, last_uid, row_with}
 
 -- ---- the last UID
 
@@ -55,6 +57,13 @@ row_nowhere uid (r ∷ rows) e = none_by uid (eqb r.uid uid) r rows (place_in ui
 
 pub row_within : (uid : ℕ) (rows : List Row) (i : ℕ) → place_in uid (row_uids rows) ≡ Some i → i < length rows
 row_within uid rows i e = omega (arith, inside uid (row_uids rows) i e, length-map rows (λ (r : Row). r.uid))
+
+-- the message at the place of the UID, of which it is known whether it is above the number
+pub unchanged_at : (uid number : ℕ) (rows : List Row) (i : ℕ) (above : Bool) → place_in uid (row_uids rows) ≡ Some i
+    → ((row : Row) → row ≡ get_or rows i row → above ≡ nat_lt number row.number) → is_unchanged number (row_with uid rows) ≡ not above
+unchanged_at uid number rows i above there known =
+    let stands = standing rows i (row_within uid rows i there) in
+    ap (is_unchanged number) (row_at uid rows i stands.row there ∙ ap Some (sym stands.is)) ∙ ap not (sym (known stands.row stands.is))
 
 mapped : (o : Option ℕ) → is_some (option_map (λ n. n + 1) o) ≡ is_some o
 mapped None = refl

@@ -82,7 +82,7 @@ pub record IsContent (user : List ℕ) (c : Content) : Type 0 where
 
 module _ (view : View) (viewed : IsViewed view) (name : Name) (seen : Seen) (c : Content) (shows : seen.messages.content ≡ Some c) where
   abbrev rights_on : Mailbox → ℕ
-  rights_on mailbox = effective view.user (owner_of view.site name) mailbox.acl
+  rights_on mailbox = effective view.user (owner_of view.site name) view.site.groups mailbox.acl
 
   abbrev shown : Mailbox → Seen
   shown mailbox = seen_by_rights view.site view.user (rights_on mailbox) mailbox

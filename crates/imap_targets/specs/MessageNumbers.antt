@@ -1,6 +1,6 @@
 -- The messages that a set of numbers or UIDs names (RFC 9051, sections 2.3.1 and 9, `sequence-set`).
 use Rattle.std.specs.Prelude.{ℕ, ◌+◌, ◌==◌, nat_le, Bool, true, false, ◌&&◌, ◌||◌, List, [], ◌∷◌, length, map}
-use Rattle.std.specs.Prelude.{Option, Some, None, is_some, not, if◌then◌else◌}
+use Rattle.std.specs.Prelude.{Option, Some, None, is_some, nat_lt, not, if◌then◌else◌}
 use Rattle.std.specs.List.{list_all, list_any}
 use Rattle.imap_mailbox.specs.declared.known.KnownMessage.{KnownMessage}
 use Rattle.imap_mailbox.specs.Rows.{Row}
@@ -99,6 +99,11 @@ messages_named by next_uid ranges known = messages_from by (last_of by next_uid 
 abbrev pub row_with : (uid : ℕ) → List Row → Option Row
 row_with uid [] = None
 row_with uid (r ∷ rows) = if r.uid == uid then Some r else row_with uid rows
+
+-- the message is there, and its mod-sequence isn't greater
+abbrev pub is_unchanged : (number : ℕ) → Option Row → Bool
+is_unchanged number None = false
+is_unchanged number (Some row) = not (nat_lt number row.number)
 
 -- the known message with the UID, if there is one
 abbrev pub known_with : (uid : ℕ) → List KnownMessage → Option KnownMessage

@@ -3,7 +3,7 @@
 ghost use Rattle.std.specs.Prelude.{◌≡◌, option_map};
 ghost use Rattle.imap_mailbox.specs.Lent.{place_in, row_shown, row_uids};
 ghost use Rattle.imap_mailbox.specs.Summary.{AreRising};
-ghost use Rattle.imap_targets.specs.MessageNumbers.{row_with};
+ghost use Rattle.imap_targets.specs.MessageNumbers.{is_unchanged, row_with};
 
 use imap_mailbox::{Near, Row, Rows};
 
@@ -35,6 +35,24 @@ impl RowFinder {
                 Some(rows.get_near(index, &mut self.near))
             }
             None => None,
+        }
+    }
+
+    /// Whether the message with the UID is there with a mod-sequence of at most `number`. It takes less than
+    /// [`RowFinder::find`].
+    pub fn skip_unchanged(&mut self, rows: &Rows<'_>, uid: u32, number: u64) -> bool
+        requires { AreRising (row_uids rows.now) }
+        ensures { result ≡ is_unchanged number (row_with uid rows.now) }
+    {
+        match index_near(rows, uid, self.index) {
+            Some(index) => {
+                if rows.is_above(index, number) {
+                    return false;
+                }
+                self.index = index.saturating_add(1);
+                true
+            }
+            None => false,
         }
     }
 }

@@ -1,5 +1,5 @@
 use Rattle.std.proofs.Common.{◌≡◌, ◌+◌, ◌-◌, ◌<◌, drop, get_or, length, sym, ap, subst, ◌∙◌, arith}
-use Rattle.std.proofs.lemmas.List.{drop-drop, length-drop}
+use Rattle.std.proofs.lemmas.List.{drop-drop, get_or-drop, length-drop}
 use Rattle.imap_mailbox.specs.Brought.{Agree}
 use Rattle.imap_session.specs.Cursors.{AreFirst, AreLow, IsKnownRun}
 use Rattle.imap_session.proofs.AllThere.{run_there}
@@ -30,8 +30,12 @@ loop-at-preserved c =
 pub returns-in-Some-clause-known : goal.returns-in-Some-clause-known
 returns-in-Some-clause-known c =
     let known = drop c.args.place c.args.known.now.list in
-    let run = c.first_above-next.result - c.self.inside.place in
+    let start = c.self.inside.place in
+    let rows = c.self.inside.rows.now in
+    let first = c.skip_unchanged-next.ensures in
+    let run = c.skip_unchanged-next.result - start in
+    let low : AreLow c.args.number run (drop start rows) = λ i r lt is. first.low (start + i) r (omega arith) (omega (arith, lt)) (is ∙ get_or-drop start rows i r) in
     let there = c.in-Some.ensures.there (λ e. cc e) c.args.number (subst (Agree c.args.number known) (sym c.self.view_is) c.requires.agree) in
     run_there c.args.number run known c.args.self.now c.requires.agree (subst (AreFirst known) c.self.view_is there)
-    (omega (arith, c.first_above-next.ensures.range, c.in-Some.ensures.end, length-drop c.args.place c.args.known.now.list))
-    (subst (AreLow c.args.number run) c.self.view_is c.first_above-next.ensures.low)
+    (omega (arith, first.after, first.within, c.in-Some.ensures.end, length-drop c.args.place c.args.known.now.list))
+    (subst (AreLow c.args.number run) c.self.view_is low)
