@@ -19,7 +19,7 @@ nfc_ascii octets ascii =
     ∙ ap encode_utf8_all (normalize-ascii Nfc octets (All-from_ascii octets ascii))
     ∙ encodes-IsAscii octets ascii
 
-lower_ascii : (octets : List ℕ) → IsAscii octets → folded_text octets ≡ map to_ascii_lowercase octets
+pub lower_ascii : (octets : List ℕ) → IsAscii octets → folded_text octets ≡ map to_ascii_lowercase octets
 lower_ascii octets ascii =
     ap (λ (l : List ℕ). encode_utf8_all (default_case_fold l)) (chars-IsAscii octets ascii)
     ∙ ap encode_utf8_all (default_case_fold-ascii octets (All-from_ascii octets ascii))

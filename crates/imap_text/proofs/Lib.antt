@@ -5,4 +5,7 @@ pub mod Chosen
 pub mod Within
 pub mod Names
 pub mod Shortest
+pub mod HeaderLength
 pub mod Ascii
+pub mod FoldedRuns
+pub mod ComposedRuns

@@ -32,7 +32,7 @@ ends_with_line : (octets : List ℕ) → EndsWithEmptyLine octets → (front : L
 ends_with_line octets (inl e) = ([], e)
 ends_with_line octets (inr h) = (h.0 ++ crlf, h.1 ∙ sym (append_assoc h.0 crlf crlf))
 
-two_octets : (octets : List ℕ) → EndsWithEmptyLine octets → 2 ≤ length octets
+pub two_octets : (octets : List ℕ) → EndsWithEmptyLine octets → 2 ≤ length octets
 two_octets octets is = let ends = ends_with_line octets is in omega (arith, ap length ends.1, length-append ends.0 crlf)
 
 -- the longer of two fronts begins with the shorter

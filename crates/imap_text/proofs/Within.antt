@@ -6,7 +6,7 @@ use Rattle.std.proofs.lemmas.List.Prefix.{front_rest, at_from_reads, at_reads}
 use Rattle.memchr.specs.Find.{OccursAt, FindsNeedle}
 use Rattle.imap_text.specs.Folds.{IsWithin}
 
-within_at : (whole part : List ℕ) (at : ℕ) → OccursAt whole part at → IsWithin part whole
+abbrev pub within_at : (whole part : List ℕ) (at : ℕ) → OccursAt whole part at → IsWithin part whole
 within_at whole part at occurs =
     let there = at_from_reads 0 whole part at occurs.fits occurs.reads in
     record {
@@ -15,7 +15,7 @@ within_at whole part at occurs =
       is = sym (take-append-drop at whole) ∙ ap (λ (l : List ℕ). take at whole ++ l) there;
     }
 
-occurs_within : (whole part : List ℕ) (is : IsWithin part whole) → OccursAt whole part (length is.front)
+pub occurs_within : (whole part : List ℕ) (is : IsWithin part whole) → OccursAt whole part (length is.front)
 occurs_within whole part is =
     record {
       fits = omega (arith, ap length is.is, length-append is.front (part ++ is.back), length-append part is.back);

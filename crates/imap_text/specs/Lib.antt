@@ -4,3 +4,4 @@ pub mod Sections
 pub mod Fields
 pub mod Found
 pub mod Folds
+pub mod Runs

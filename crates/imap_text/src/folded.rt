@@ -3,8 +3,10 @@
 ghost use Rattle.std.specs.Prelude.{◌≡◌, ◌↔◌, IfOk, IsTrue, IsAscii};
 ghost use Rattle.imap_text.specs.Folds.{fold, IsWithin};
 
-use caseless::default_case_fold_str;
+use crate::composing::is_composed;
+use crate::folding::fold_runs;
 use memchr::memmem;
+use memchr::memmem::Finder;
 use std::alloc::{AllocError, Global};
 use std::marker::Model;
 use unicode_normalization::to_nfc;
@@ -46,9 +48,11 @@ fn fold_any(alloc: Global, octets: &[u8]) -> Result<Vec<u8>, AllocError>
     ensures { IfOk result (λ text. text.items ≡ fold octets.now) }
 {
     let text = String::from_utf8_lossy(alloc, octets)?;
+    if is_composed(text.as_str()) {
+        return fold_runs(alloc, text.as_str());
+    }
     let composed = to_nfc(alloc, text.as_str())?;
-    let folded = default_case_fold_str(alloc, composed.as_str())?;
-    Ok(folded.into_bytes())
+    fold_runs(alloc, composed.as_str())
 }
 
 /// Returns the fold of ASCII, which is in NFC and folds octet by octet. It takes a fiftieth of the time of
@@ -61,6 +65,36 @@ fn fold_ascii(alloc: Global, octets: &[u8]) -> Result<Vec<u8>, AllocError>
     text.extend_from_slice(octets)?;
     text.as_mut_slice().make_ascii_lowercase();
     Ok(text)
+}
+
+/// A text that is looked for, ready to be looked for in several texts. In contracts it is the UTF-8 of its
+/// fold.
+#[derive(Debug, Drop)]
+pub struct Needle(Finder<'static>);
+
+impl Model for Needle {
+    ghost use Rattle.std.specs.Prelude.{ℕ, List};
+
+    ghost Value = { List ℕ };
+
+    ghost view = { λ n. n.0 };
+}
+
+impl Needle {
+    /// Folds `octets` as [`Folded::new`] does.
+    pub fn new(alloc: Global, octets: &[u8]) -> Result<Needle, AllocError>
+        ensures { IfOk result (λ needle. needle ≡ fold octets.now) }
+    {
+        let folded = Folded::new(alloc, octets)?;
+        Ok(Needle(Finder::new(folded.0.as_slice()).into_owned(alloc)?))
+    }
+
+    /// Whether this text stands in `text`. Takes time in proportion to both.
+    pub fn is_in(&self, text: &Folded) -> bool
+        ensures { IsTrue result ↔ IsWithin self.now text.now }
+    {
+        self.0.find(text.0.as_slice()).is_some()
+    }
 }
 
 /// Whether the fold of `wanted` stands in the fold of `octets`. To look for several texts in one message,

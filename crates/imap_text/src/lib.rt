@@ -4,14 +4,17 @@
 //! Lines end with CRLF alone. Sections share the octets of the message.
 #![tactic(auto)]
 
+mod composing;
 mod field;
 mod folded;
+mod folding;
 mod header_fields;
 pub mod laws;
 mod line;
+mod runs;
 mod section;
 
-pub use folded::{Folded, contains_fold};
+pub use folded::{Folded, Needle, contains_fold};
 pub use header_fields::{field_texts, fields};
 pub use imap_syntax::DateTime as InternalDate;
 pub use section::{header, header_length, partial, text};

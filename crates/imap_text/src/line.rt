@@ -6,7 +6,7 @@ ghost use Rattle.imap_text.specs.Found.{IsFirstLine};
 
 use imap_lex::line_length;
 
-const CRLF: &[u8] = b"\r\n";
+pub(crate) const CRLF: &[u8] = b"\r\n";
 
 /// Splits the first line of `octets`, its CRLF with it, from what follows. Octets without a CRLF are one
 /// line. Returns `None` if there are no octets.

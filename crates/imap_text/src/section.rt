@@ -1,11 +1,17 @@
 //! Header, text, and parts of them (RFC 9051, section 6.4.5.1).
 
-ghost use Rattle.std.specs.Prelude.{◌≡◌, ◌≤◌, length, IfOk};
+ghost use Rattle.std.specs.Prelude.{◌≡◌, ◌≤◌, eqb, length, IfOk};
+ghost use Rattle.std.specs.List.{starts_with};
+ghost use Rattle.imap_lex.specs.Chars.{crlf};
 ghost use Rattle.imap_text.specs.Sections.{header, text, partial};
 
-use crate::line::{is_empty_line, split_line};
+use crate::line::CRLF;
 use imap_lex::Octets;
+use memchr::memmem;
 use std::alloc::AllocError;
+
+/// The end of a line, and an empty line after it.
+const EMPTY_LINE: &[u8] = b"\r\n\r\n";
 
 /// Returns the number of octets of the header: those up to the first empty line, with it. Without an empty
 /// line the header is the whole message.
@@ -13,14 +19,19 @@ pub fn header_length(octets: &[u8]) -> usize
     ensures length { result ≡ length (header octets.now) }
     ensures within { result ≤ length octets.now }
 {
-    let mut rest = octets;
-    while let Some((line, later)) = split_line(rest) {
-        rest = later;
-        if is_empty_line(line) {
-            return octets.len() - rest.len();
-        }
+    if begins_with_empty_line(octets) {
+        return CRLF.len();
     }
-    octets.len()
+    match memmem::find(octets, EMPTY_LINE) {
+        Some(at) => at + EMPTY_LINE.len(),
+        None => octets.len(),
+    }
+}
+
+fn begins_with_empty_line(octets: &[u8]) -> bool
+    ensures { result ≡ starts_with eqb octets.now crlf }
+{
+    octets.starts_with(CRLF)
 }
 
 /// Returns the header of a message, without copying it.
