@@ -11,7 +11,7 @@ ghost use Rattle.imap_search.specs.Tokens as tokens;
 use crate::flags::{has_flag, is_as, is_dated};
 use crate::message_texts::MessageTexts;
 use crate::needles::Needles;
-use crate::texts::{has_field, has_text_in};
+use crate::texts::has_text_in;
 use imap_mailbox::Row;
 use imap_query::{SearchKey, SearchKeys};
 use imap_targets::{in_set, ranges_of};
@@ -38,7 +38,7 @@ pub(crate) fn finds_all(
 ) -> Result<bool, AllocError>
     ensures { IfOk result (λ found. found ≡ tokens.finds_all (candidate_shown candidate.now) keys.now) }
 {
-    let mut texts = MessageTexts::new(candidate.row.octets.as_slice());
+    let mut texts = MessageTexts::new(alloc, candidate.row.octets.as_slice());
     finds_each(alloc, needles, candidate, &mut texts, keys.as_slice())
 }
 
@@ -83,13 +83,9 @@ fn finds(
         SearchKey::Contains { place, text } => {
             has_text_in(alloc, needles, *place, text.as_slice(), texts)
         }
-        SearchKey::Header { field, text } => has_field(
-            alloc,
-            needles,
-            field.as_slice(),
-            text.as_slice(),
-            candidate.row.octets.as_slice(),
-        ),
+        SearchKey::Header { field, text } => {
+            texts.has_in_field(alloc, needles, field.as_slice(), text.as_slice())
+        }
         SearchKey::Date { relation, date } => {
             Ok(is_dated(*relation, candidate.row.date.day(), date.day_number()))
         }

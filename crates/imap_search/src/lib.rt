@@ -4,6 +4,7 @@
 //! message is looked at as it is now, and not as the session was last told.
 #![tactic(auto)]
 
+mod field_texts;
 mod flags;
 mod key;
 mod key_facts;

@@ -1,11 +1,13 @@
 //! The texts of a message, each folded once.
 
 ghost use Rattle.std.specs.Prelude.{◌≡◌, IfOk, OnOk, ℕ, List, Some};
+ghost use Rattle.imap_search.specs.Finds.{has_field};
 ghost use Rattle.imap_search.specs.Folded.{IsFoldIn};
 ghost use Rattle.imap_search.specs.Within.{is_within};
 ghost use Rattle.imap_text.specs.Folds.{fold};
 ghost use Rattle.imap_text.specs.Sections.{text};
 
+use crate::field_texts::FieldTexts;
 use crate::needles::Needles;
 use imap_text::{Folded, header_length};
 use std::alloc::{AllocError, Global};
@@ -17,10 +19,11 @@ pub(crate) struct MessageTexts<'a> {
     octets: &'a [u8],
     whole: Option<Folded>,
     body: Option<Folded>,
+    fields: FieldTexts<'a>,
 }
 
 impl<'a> Model for MessageTexts<'a> {
-    ghost use Rattle.std.specs.Prelude.{ℕ, List};
+    ghost use Rattle.std.specs.Prelude.{◌≡◌, ℕ, List};
     ghost use Rattle.imap_search.specs.Folded.{IsFoldIn};
     ghost use Rattle.imap_text.specs.Folds.{fold};
     ghost use Rattle.imap_text.specs.Sections.{text};
@@ -30,26 +33,20 @@ impl<'a> Model for MessageTexts<'a> {
     ghost view = { λ t. t.octets.now };
 
     ghost invariant = { λ t. IsFoldIn (fold t.octets.now) t.whole
-        × IsFoldIn (fold (text t.octets.now)) t.body };
+        × IsFoldIn (fold (text t.octets.now)) t.body × (t.fields ≡ t.octets.now) };
 }
 
 impl<'a> MessageTexts<'a> {
     /// Nothing is folded so far.
-    pub(crate) fn new(octets: &'a [u8]) -> MessageTexts<'a>
+    pub(crate) fn new(alloc: Global, octets: &'a [u8]) -> MessageTexts<'a>
         ensures { result ≡ octets.now }
     {
         MessageTexts {
             octets,
             whole: None,
             body: None,
+            fields: FieldTexts::new(alloc, octets),
         }
-    }
-
-    /// The octets of the message.
-    pub(crate) fn octets(&self) -> &'a [u8]
-        ensures { result.now ≡ self.now }
-    {
-        self.octets
     }
 
     /// Whether the text stands in the message, header and body.
@@ -78,6 +75,20 @@ impl<'a> MessageTexts<'a> {
     {
         fill(&mut self.body, alloc, body_of(self.octets))?;
         is_in_slot(&self.body, alloc, needles, wanted)
+    }
+
+    /// Whether the text stands in a header field of this name. An empty text stands in each.
+    pub(crate) fn has_in_field(
+        &mut self,
+        alloc: Global,
+        needles: &mut Needles,
+        name: &[u8],
+        wanted: &[u8],
+    ) -> Result<bool, AllocError>
+        ensures octets { self.new ≡ self.old }
+        ensures found { IfOk result (λ found. found ≡ has_field name.now wanted.now self.old) }
+    {
+        self.fields.has(alloc, needles, name, wanted)
     }
 }
 

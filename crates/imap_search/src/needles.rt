@@ -4,17 +4,17 @@ ghost use Rattle.std.specs.Prelude.{◌≡◌, IfOk};
 ghost use Rattle.imap_search.specs.Within.{is_within};
 ghost use Rattle.imap_text.specs.Folds.{fold};
 
-use imap_text::Folded;
+use imap_text::{Folded, Needle};
 use std::alloc::{AllocError, Global};
 use std::collections::BTreeMap;
 use std::marker::Model;
 
-/// The texts that the keys of one command look for. Each is folded when it is first looked for, and not again for
+/// The texts that the keys of one command look for. Each is made ready when it is first looked for, and not again for
 /// the next message. Contracts see nothing of it: what is found doesn't depend on what was folded before.
 #[derive(Drop)]
 pub(crate) struct Needles {
     // Sorted, and not by a hash with a known seed: no choice of texts makes a look-up slow.
-    folds: BTreeMap<Vec<u8>, Folded>,
+    folds: BTreeMap<Vec<u8>, Needle>,
 }
 
 impl Model for Needles {
@@ -45,25 +45,25 @@ impl Needles {
         ensures { IfOk result (λ found. found ≡ is_within (fold wanted.now) text.now) }
     {
         match self.folds.get(wanted) {
-            Some(folded) => Ok(is_part(folded, text)),
+            Some(needle) => Ok(is_part(needle, text)),
             None => self.is_new_in(alloc, wanted, text),
         }
     }
 
-    /// Folds `wanted`, and keeps that.
+    /// Makes `wanted` ready, and keeps that.
     fn is_new_in(&mut self, alloc: Global, wanted: &[u8], text: &Folded) -> Result<bool, AllocError>
         ensures { IfOk result (λ found. found ≡ is_within (fold wanted.now) text.now) }
     {
-        let folded = Folded::new(alloc, wanted)?;
-        let found = is_part(&folded, text);
-        self.folds.insert(Vec::from_slice(alloc, wanted)?, folded)?;
+        let needle = Needle::new(alloc, wanted)?;
+        let found = is_part(&needle, text);
+        self.folds.insert(Vec::from_slice(alloc, wanted)?, needle)?;
         Ok(found)
     }
 }
 
 /// Whether `part` stands in `text`.
-fn is_part(part: &Folded, text: &Folded) -> bool
+fn is_part(part: &Needle, text: &Folded) -> bool
     ensures { result ≡ is_within part.now text.now }
 {
-    text.contains(part)
+    part.is_in(text)
 }

@@ -7,4 +7,4 @@ use Rattle.imap_search.proofs.needles.Needles.is_in.Goals as goal
 pub returns-in-Some : goal.returns-in-Some
 returns-in-Some c =
     let found = sym c.get.ensures.value ∙ ap option_copied c.in-Some.is in
-    c.is_part.ensures ∙ ap (λ part. is_within part c.args.text.now) (kept_fold c.args.wanted.now _ c.in-Some.folded.now c.self.invariant found)
+    c.is_part.ensures ∙ ap (λ part. is_within part c.args.text.now) (kept_fold c.args.wanted.now _ c.in-Some.needle.now c.self.invariant found)
