@@ -4,6 +4,7 @@
 #![tactic(auto)]
 
 mod below;
+mod diagnosing;
 mod grouping;
 mod lists;
 mod making;
@@ -14,6 +15,7 @@ mod rows;
 mod values;
 
 pub use below::{Restore, read_below};
+pub use diagnosing::find_damage;
 pub use lists::{read_epochs, read_subscriptions};
 pub use names::read_key;
 pub use parts::read_parts;

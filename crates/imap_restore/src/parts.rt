@@ -26,7 +26,7 @@ use std::alloc::{AllocError, Global};
 use std::collections::BTreeSet;
 
 /// The ids of mailboxes.
-fn ids_of(alloc: Global, mailboxes: &[StoredMailbox]) -> Result<Vec<i64>, AllocError>
+pub(crate) fn ids_of(alloc: Global, mailboxes: &[StoredMailbox]) -> Result<Vec<i64>, AllocError>
     ensures { IfOk result (λ ids. ids.items ≡ map (λ it. it.id) mailboxes.now) }
 {
     let mut ids = Vec::with_capacity(alloc, mailboxes.len())?;
@@ -36,7 +36,7 @@ fn ids_of(alloc: Global, mailboxes: &[StoredMailbox]) -> Result<Vec<i64>, AllocE
     Ok(ids)
 }
 
-fn set_of(alloc: Global, ids: Vec<i64>) -> Result<BTreeSet<i64>, AllocError>
+pub(crate) fn set_of(alloc: Global, ids: Vec<i64>) -> Result<BTreeSet<i64>, AllocError>
     ensures { IfOk result (λ set. (id : ℤ)
         → IsTrue (sorted.contains int_cmp set id) ↔ Contains ids.items id) }
 {
@@ -44,7 +44,7 @@ fn set_of(alloc: Global, ids: Vec<i64>) -> Result<BTreeSet<i64>, AllocError>
     Ok(set)
 }
 
-fn has_id(ids: &BTreeSet<i64>, id: i64) -> bool
+pub(crate) fn has_id(ids: &BTreeSet<i64>, id: i64) -> bool
     ensures { result ≡ sorted.contains int_cmp ids.now id }
 {
     ids.contains(&id)

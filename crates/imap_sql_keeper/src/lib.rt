@@ -2,6 +2,7 @@
 #![tactic(auto)]
 
 mod adopting;
+mod diagnosing;
 mod loading;
 mod refusal;
 mod saving;

@@ -1,6 +1,6 @@
 //! Reading a world from a database.
 
-ghost use Rattle.std.specs.Prelude.{◌≡◌, Err, IfOk};
+ghost use Rattle.std.specs.Prelude.{◌≡◌, Err, IfOk, IsTrue, OnOk};
 ghost use Rattle.imap_keeper.specs.declared.error.KeepError.TheVariants.{Damaged};
 ghost use Rattle.imap_keeper.specs.Keeping.{LeavesOnly};
 ghost use Rattle.imap_sql_keeper.specs.Keeping.{IsAtRest, Keeps};
@@ -17,7 +17,8 @@ use imap_world::World;
 use sqlite::{Alter, Connection};
 use std::alloc::Global;
 
-/// Reads the world that the tables hold. Fails with `Damaged` only if they hold none.
+/// Reads the world that the tables hold. Fails with `Damaged` only if they hold none. Fails if the connection is shut,
+/// and not with `Damaged`.
 pub(crate) fn load_world<S: Alter>(
     conn: &mut Connection<S>,
     alloc: Global,
@@ -35,6 +36,10 @@ pub(crate) fn load_world<S: Alter>(
     ensures honest { HasCleanDisk (state S.Store conn.new) → HasCleanDisk (state S.Store conn.old) }
     ensures crash { HasCleanDisk (state S.Store conn.new)
         → LeavesOnly (state S.Store conn.new).may_leave (state S.Store conn.old).may_leave }
+    ensures open { HasCleanDisk (state S.Store conn.new)
+        → OnOk result (IsTrue (state S.Store conn.old).is_open) }
+    ensures read { HasCleanDisk (state S.Store conn.new)
+        → result ≡ Err Damaged → IsTrue (state S.Store conn.old).is_open }
 {
     // What an open connection shows obeys its schema.
     let _ = conn.schema();

@@ -35,6 +35,8 @@ fn make_none<S: Alter>(conn: &mut Connection<S>) -> Result<(), Error>
         → LeavesMade [] (state S.Store conn.old) (state S.Store conn.new) }
     ensures alone { HasCleanDisk (state S.Store conn.new) → OnOk result ((db : Trees)
         → (state S.Store conn.new).may_leave db → Made [] (state S.Store conn.old) db) }
+    ensures open { HasCleanDisk (state S.Store conn.new)
+        → OnOk result (IsTrue (state S.Store conn.old).is_open) }
 {
     check_open(conn)
 }
@@ -54,6 +56,8 @@ fn make_some<S: Alter>(conn: &mut Connection<S>, rows: &[RowChange]) -> Result<(
         → LeavesMade rows.now (state S.Store conn.old) (state S.Store conn.new) }
     ensures alone { HasCleanDisk (state S.Store conn.new) → OnOk result ((db : Trees)
         → (state S.Store conn.new).may_leave db → Made rows.now (state S.Store conn.old) db) }
+    ensures open { HasCleanDisk (state S.Store conn.new)
+        → OnOk result (IsTrue (state S.Store conn.old).is_open) }
 {
     save_rows(conn, rows)
 }
@@ -72,6 +76,8 @@ fn make_rows<S: Alter>(conn: &mut Connection<S>, rows: &[RowChange]) -> Result<(
         → LeavesMade rows.now (state S.Store conn.old) (state S.Store conn.new) }
     ensures alone { HasCleanDisk (state S.Store conn.new) → OnOk result ((db : Trees)
         → (state S.Store conn.new).may_leave db → Made rows.now (state S.Store conn.old) db) }
+    ensures open { HasCleanDisk (state S.Store conn.new)
+        → OnOk result (IsTrue (state S.Store conn.old).is_open) }
 {
     if rows.is_empty() {
         return make_none(conn);
@@ -102,6 +108,8 @@ pub(crate) fn save_change<S: Alter>(
         → (world : World) → Keeps (state S.Store conn.old) world → IsCurrent change.now world
         → OnOk result (LeavesOnly (state S.Store conn.new).may_leave
         (λ db. Hold db (after_writes change.now world))) }
+    ensures open { HasCleanDisk (state S.Store conn.new)
+        → OnOk result (IsTrue (state S.Store conn.old).is_open) }
 {
     let rows = row_changes(alloc, change)?;
     match make_rows(conn, rows.as_slice()) {

@@ -1,21 +1,24 @@
 //! A keeper in a SQL database.
 
-ghost use Rattle.std.specs.Prelude.{◌≡◌, Err, IfErr, IfOk, IsTrue};
+ghost use Rattle.std.specs.Prelude.{◌≡◌, Err, IfErr, IfOk, IsTrue, OnErr, OnOk};
 ghost use Rattle.std.specs.FinMap as map;
 ghost use Rattle.imap_keeper.specs.declared.error.KeepError.TheVariants.{Damaged};
+ghost use Rattle.imap_keeper.specs.Keeping.{HasBase, LeavesOnly, LeavesOr, OfChanged, failures_after};
 ghost use Rattle.imap_restore.specs.Holding.{Hold};
 ghost use Rattle.imap_sql_keeper.specs.Adopting.{FindsStore, IsDamaged, IsNew};
 ghost use Rattle.imap_sql_keeper.specs.Keeping.{Keeps};
 ghost use Rattle.imap_tables.specs.Tables.{no_schema};
+ghost use Rattle.imap_world.specs.Stored.{world_of};
 ghost use Rattle.imap_world.specs.World.{World as Mailboxes};
 ghost use Rattle.sqlite.specs.Held.{state};
 ghost use Rattle.sqlite.specs.State.{HasCleanDisk, Survives};
 ghost use Rattle.sqlite.specs.Tree.{Trees};
 
 use crate::adopting::find_store;
+use crate::diagnosing::damage_of;
 use crate::loading::load_world;
 use crate::saving::save_change;
-use imap_keeper::{KeepError, Keeper, count_after};
+use imap_keeper::{Damage, KeepError, Keeper, count_after};
 use imap_world::{Change, World};
 use sqlite::{Alter, Connection};
 use std::alloc::Global;
@@ -89,6 +92,18 @@ impl<S: Alter> SqlKeeper<S> {
     }
 }
 
+impl<S: Alter + Drop> SqlKeeper<S> {
+    /// Ends a keeper that could not load, and names a row of its tables that stands for nothing. Returns
+    /// `None` if none is found, or memory runs out.
+    pub fn into_damage(self, alloc: Global) -> Option<Damage> {
+        let SqlKeeper {
+            mut conn,
+            failures: _,
+        } = self;
+        damage_of(&mut conn, alloc)
+    }
+}
+
 impl<S: Alter> Keeper for SqlKeeper<S> {
     ghost use Rattle.imap_restore.specs.Holding.{Hold};
     ghost use Rattle.imap_sql_keeper.specs.Keeping.{Keeps};
@@ -108,7 +123,27 @@ impl<S: Alter> Keeper for SqlKeeper<S> {
 
     ghost stands = { Hold };
 
-    fn save(&mut self, alloc: Global, change: &Change) -> Result<(), KeepError> {
+    /// Fails if the connection is shut.
+    fn save(&mut self, alloc: Global, change: &Change) -> Result<(), KeepError>
+        requires { HasBase (Keeps (state S.Store self.old.conn)) change.now }
+        ensures ok { OfChanged (Keeps (state S.Store self.old.conn)) change.now (λ after.
+            OnOk result (Keeps (state S.Store self.new.conn) after)) }
+        ensures err { (world : Mailboxes) → Keeps (state S.Store self.old.conn) world
+            → OnErr result (Keeps (state S.Store self.new.conn) world) }
+        ensures failures { self.new.failures ≡ failures_after result self.old.failures }
+        ensures undamaged { result ≡ Err Damaged → ⊥ }
+        ensures honest { HasCleanDisk (state S.Store self.new.conn)
+            → HasCleanDisk (state S.Store self.old.conn) }
+        ensures crash { HasCleanDisk (state S.Store self.new.conn)
+            → OfChanged (Keeps (state S.Store self.old.conn)) change.now (λ after.
+            LeavesOr (state S.Store self.old.conn).may_leave (state S.Store self.new.conn).may_leave
+            (λ image. Hold image after)) }
+        ensures alone { HasCleanDisk (state S.Store self.new.conn)
+            → OfChanged (Keeps (state S.Store self.old.conn)) change.now (λ after.
+            OnOk result (LeavesOnly (state S.Store self.new.conn).may_leave (λ image. Hold image after))) }
+        ensures open { HasCleanDisk (state S.Store self.new.conn)
+            → OnOk result (IsTrue (state S.Store self.old.conn).is_open) }
+    {
         match save_change(&mut self.conn, alloc, change) {
             Ok(()) => Ok(()),
             Err(error) => {
@@ -118,7 +153,26 @@ impl<S: Alter> Keeper for SqlKeeper<S> {
         }
     }
 
-    fn load(&mut self, alloc: Global) -> Result<World, KeepError> {
+    /// Fails if the connection is shut, and not with `Damaged`.
+    fn load(&mut self, alloc: Global) -> Result<World, KeepError>
+        ensures found { IfOk result (λ world. Keeps (state S.Store self.new.conn) (world_of world)) }
+        ensures known { HasCleanDisk (state S.Store self.new.conn)
+            → (world : Mailboxes) → Keeps (state S.Store self.old.conn) world
+            → IfOk result (λ found. world_of found ≡ world) }
+        ensures damaged { HasCleanDisk (state S.Store self.new.conn)
+            → (world : Mailboxes) → Keeps (state S.Store self.old.conn) world → result ≡ Err Damaged → ⊥ }
+        ensures unchanged { (world : Mailboxes) → Keeps (state S.Store self.old.conn) world
+            → Keeps (state S.Store self.new.conn) world }
+        ensures failures { self.new.failures ≡ failures_after result self.old.failures }
+        ensures honest { HasCleanDisk (state S.Store self.new.conn)
+            → HasCleanDisk (state S.Store self.old.conn) }
+        ensures crash { HasCleanDisk (state S.Store self.new.conn)
+            → LeavesOnly (state S.Store self.new.conn).may_leave (state S.Store self.old.conn).may_leave }
+        ensures open { HasCleanDisk (state S.Store self.new.conn)
+            → OnOk result (IsTrue (state S.Store self.old.conn).is_open) }
+        ensures read { HasCleanDisk (state S.Store self.new.conn)
+            → result ≡ Err Damaged → IsTrue (state S.Store self.old.conn).is_open }
+    {
         match load_world(&mut self.conn, alloc) {
             Ok(world) => Ok(world),
             Err(error) => {
