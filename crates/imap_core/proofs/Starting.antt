@@ -336,7 +336,7 @@ module _ (world : World) (administrator : List ℕ) (users : List (List ℕ)) wh
   asked_users user = fair.asked user ∙ ap (λ b. b && needs_inbox world user) (known_users user)
 
 pub starts_so : StartsWithInboxes
-starts_so world administrator users limits =
+starts_so world administrator users groups limits =
     let owners = (fair world administrator users).owners in
     let made = written world administrator users in
     let mailboxes : (after_all (admission world administrator users).effects world).mailboxes ≡ put_each (new_inbox world) owners world.mailboxes =

@@ -1,6 +1,7 @@
 -- What is made when a host starts.
 use Rattle.std.specs.Prelude.{ℕ, Bool, not, ◌&&◌, nat_lt, List, [], ◌∷◌, ◌++◌, if◌then◌else◌}
 use Rattle.std.specs.FinMap as map
+use Rattle.imap_rights.specs.Groups.{Members}
 use Rattle.imap_world.specs.declared.effect.Effect.{Effect}
 use Rattle.imap_world.specs.declared.effect.Effect.TheVariants.{CreateInbox}
 use Rattle.imap_world.specs.declared.site.Limits.{Limits}
@@ -45,9 +46,10 @@ with_users world (user ∷ users) so_far = with_users world users (with_user wor
 abbrev pub admission : World → (administrator : List ℕ) → (users : List (List ℕ)) → Admission
 admission world administrator users = with_users world (administrator ∷ users) nobody
 
-abbrev pub state_at_start : World → (administrator : List ℕ) → (users : List (List ℕ)) → Limits → State
-state_at_start world administrator users limits = record {
-  site = record { administrator = administrator; limits = limits };
+abbrev pub state_at_start :
+    World → (administrator : List ℕ) → (users : List (List ℕ)) → Members → Limits → State
+state_at_start world administrator users groups limits = record {
+  site = record { administrator = administrator; limits = limits; groups = groups };
   world = after_all (admission world administrator users).effects world;
   accounts = (admission world administrator users).accounts;
 }

@@ -4,6 +4,7 @@ use Rattle.std.specs.List.{list_any}
 use Rattle.std.specs.FinMap as map
 use Rattle.imap_names.specs.Name.{Name}
 use Rattle.imap_rights.specs.Acl.{owner_acl}
+use Rattle.imap_rights.specs.Groups.{Members}
 use Rattle.imap_world.specs.declared.site.Limits.{Limits}
 use Rattle.imap_world.specs.declared.site.Site.{Site}
 use Rattle.imap_world.specs.Mailbox.{Mailbox, new_mailbox}
@@ -45,6 +46,7 @@ pub record IsStart (world : World) (site : Site) (users : List (List ℕ)) (star
 
 -- The administrator is a user like the others.
 abbrev pub StartsWithInboxes : Type 0
-StartsWithInboxes = (world : World) (administrator : List ℕ) (users : List (List ℕ)) (limits : Limits) →
-    let site : Site = record { administrator = administrator; limits = limits } in
-    IsStart world site (administrator ∷ users) (state_at_start world administrator users limits)
+StartsWithInboxes =
+    (world : World) (administrator : List ℕ) (users : List (List ℕ)) (groups : Members) (limits : Limits) →
+    let site : Site = record { administrator = administrator; limits = limits; groups = groups } in
+    IsStart world site (administrator ∷ users) (state_at_start world administrator users groups limits)

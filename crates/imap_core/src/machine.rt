@@ -38,6 +38,7 @@ use crate::sessions::{OwnSessions, SessionEffect, room_needed};
 use crate::step::Step;
 use imap_names::{UserName, inbox_ref};
 use imap_print::Response;
+use imap_rights::{Groups, SharedGroups};
 use imap_session::Session;
 use imap_user_map::UserMap;
 use imap_values::beside;
@@ -101,7 +102,7 @@ impl Prepared {
 }
 
 impl Core {
-    /// Starts a host with these users, of whom the administrator is one, and makes the INBOX of each who
+    /// Starts a host with these users, of whom the administrator is one, in these groups, and makes the INBOX of each who
     /// has none. The change holds those that were made. An INBOX that was gone and has no UIDVALIDITY
     /// left isn't made.
     pub fn open(
@@ -109,13 +110,15 @@ impl Core {
         world: World,
         administrator: UserName,
         users: &[UserName],
+        groups: Groups,
         limits: Limits,
     ) -> Result<(Core, Change), AllocError>
-        ensures state { let start = state_at_start (world_of world) administrator users.now limits in
+        ensures state { let start = state_at_start (world_of world) administrator users.now groups limits in
             IfOk result (λ made. made.0.state ≡ start) }
         ensures change { let asked = (admission (world_of world) administrator users.now).effects in
             IfOk result (λ made. writes_of asked (world_of world) ≡ Ok made.1) }
     {
+        let groups = SharedGroups::new(alloc, groups)?;
         let mut opening = Opening::new(alloc);
         opening.admit(alloc, &world, &administrator)?;
         opening.admit_all(alloc, &world, users)?;
@@ -126,6 +129,7 @@ impl Core {
         let site = Site {
             administrator,
             limits,
+            groups,
         };
         let core = Core {
             site,
@@ -150,6 +154,7 @@ impl Core {
         let site = Site {
             administrator: self.site.administrator.try_copy()?,
             limits: self.site.limits,
+            groups: self.site.groups.try_copy()?,
         };
         Ok(Core {
             site,

@@ -22,6 +22,7 @@ use crate::room::Room;
 use imap_core::{Core, MailboxVersion, SessionId, Step};
 use imap_keeper::Keeper;
 use imap_names::UserName;
+use imap_rights::Groups;
 use imap_user_map::UserMap;
 use imap_world::Limits;
 use std::alloc::{AllocError, Global};
@@ -70,14 +71,15 @@ impl<K: Keeper> Hall<K> {
         keeper: K,
         administrator: UserName,
         users: &[UserName],
+        groups: Groups,
         limits: Limits,
     ) -> Result<Hall<K>, (OpenError, K)>
         ensures fresh { IfOk result IsFresh }
         ensures state { IfOk result (λ h. (world : Mailboxes)
-            × (h.now.state ≡ state_at_start world administrator users.now limits)) }
+            × (h.now.state ≡ state_at_start world administrator users.now groups limits)) }
         ensures known { (world : Mailboxes) → K.content keeper world
             → IfOk result (λ h. K.is_honest h.keeper
-            → h.now.state ≡ state_at_start world administrator users.now limits) }
+            → h.now.state ≡ state_at_start world administrator users.now groups limits) }
         ensures stored { IfOk result (λ h. K.content h.keeper h.now.state.world) }
         ensures kept { (world : Mailboxes) → K.content keeper world
             → IfErr result (λ e. K.content e.1 world) }
@@ -91,10 +93,10 @@ impl<K: Keeper> Hall<K> {
             h.now.state.world h.keeper) }
         ensures refused { (world : Mailboxes) → K.content keeper world
             → IfErr result (λ e. IsOpened K.is_honest K.leaves K.stands keeper
-            (state_at_start world administrator users.now limits).world e.1) }
+            (state_at_start world administrator users.now groups limits).world e.1) }
     {
         let mut keeper = keeper;
-        match begin(&mut keeper, alloc, administrator, users, limits) {
+        match begin(&mut keeper, alloc, administrator, users, groups, limits) {
             Ok(Start { core, base }) => Ok(Hall {
                 core,
                 counts: UserMap::new(alloc),

@@ -16,6 +16,7 @@ use crate::saving::save_change;
 use imap_core::Core;
 use imap_keeper::{KeepError, Keeper};
 use imap_names::UserName;
+use imap_rights::Groups;
 use imap_world::{Change, Limits, World};
 use std::alloc::{AllocError, Global};
 
@@ -33,12 +34,14 @@ pub(crate) fn begin<K: Keeper>(
     alloc: Global,
     administrator: UserName,
     users: &[UserName],
+    groups: Groups,
     limits: Limits,
 ) -> Result<Start, OpenError>
     ensures state { IfOk result (λ start. (world : Mailboxes)
-        × (start.core.state ≡ state_at_start world administrator users.now limits)) }
+        × (start.core.state ≡ state_at_start world administrator users.now groups limits)) }
     ensures known { K.is_honest keeper.new → (world : Mailboxes) → K.content keeper.old world
-        → IfOk result (λ start. start.core.state ≡ state_at_start world administrator users.now limits) }
+        → IfOk result (λ start.
+        start.core.state ≡ state_at_start world administrator users.now groups limits) }
     ensures base { IfOk result (λ start. start.base.state ≡ start.core.state) }
     ensures stored { IfOk result (λ start. K.content keeper.new start.core.state.world) }
     ensures kept { (world : Mailboxes) → K.content keeper.old world
@@ -50,7 +53,7 @@ pub(crate) fn begin<K: Keeper>(
     ensures honest { K.is_honest keeper.new → K.is_honest keeper.old }
     ensures crash { (world : Mailboxes) → K.content keeper.old world
         → IsOpened K.is_honest K.leaves K.stands keeper.old
-        (state_at_start world administrator users.now limits).world keeper.new }
+        (state_at_start world administrator users.now groups limits).world keeper.new }
     ensures alone { (world : Mailboxes) → K.content keeper.old world
         → IfOk result (λ start. IsOpenedAlone K.is_honest K.leaves K.stands
         world start.core.state.world keeper.new) }
@@ -59,7 +62,7 @@ pub(crate) fn begin<K: Keeper>(
         Ok(world) => world,
         Err(error) => return Err(open_error(error)),
     };
-    let (start, change) = start_machine(alloc, world, administrator, users, limits)?;
+    let (start, change) = start_machine(alloc, world, administrator, users, groups, limits)?;
     match save_change(keeper, alloc, &change) {
         Ok(()) => Ok(start),
         Err(error) => Err(open_error(error)),
@@ -72,15 +75,16 @@ fn start_machine(
     world: World,
     administrator: UserName,
     users: &[UserName],
+    groups: Groups,
     limits: Limits,
 ) -> Result<(Start, Change), AllocError>
     ensures state { IfOk result (λ made.
-        made.0.core.state ≡ state_at_start (world_of world) administrator users.now limits) }
+        made.0.core.state ≡ state_at_start (world_of world) administrator users.now groups limits) }
     ensures base { IfOk result (λ made. made.0.base.state ≡ made.0.core.state) }
     ensures current { IfOk result (λ made. IsCurrent made.1 (world_of world)) }
     ensures change { IfOk result (λ made. made.0.core.state.world ≡ after_writes made.1 (world_of world)) }
 {
-    let (mut core, change) = Core::open(alloc, world, administrator, users, limits)?;
+    let (mut core, change) = Core::open(alloc, world, administrator, users, groups, limits)?;
     let base = base_of(alloc, &mut core)?;
     Ok((Start { core, base }, change))
 }

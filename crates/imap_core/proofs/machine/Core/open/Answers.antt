@@ -27,4 +27,4 @@ invariant_of-core c =
     (c.in_ok-admit.ensures ∙ ap (λ so_far. with_user world c.args.administrator so_far) c.new-opening.ensures) in
     starts_kept _ _ c.mailbox.ensures.valid c.mailbox.ensures.kept
     (subst (λ (a : Admission). (user : List ℕ) (own : Own) → map.get a.accounts user ≡ Some own → own ≡ map.empty) (sym asked)
-    (starts_so world c.args.administrator c.args.users.now c.args.limits).sessions)
+    (starts_so world c.args.administrator c.args.users.now c.args.groups c.args.limits).sessions)

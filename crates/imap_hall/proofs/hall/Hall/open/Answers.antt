@@ -1,3 +1,6 @@
+use Rattle.std.proofs.Common.{◌≡◌, ◌⊎◌, sym, ap, subst}
+use Rattle.imap_core.specs.Machine.{State}
+use Rattle.imap_world.specs.World.{World}
 use Rattle.imap_hall.proofs.Kept.{fresh, fresh_kept}
 use Rattle.imap_hall.proofs.hall.Hall.open.Goals as goal
 
@@ -10,3 +13,9 @@ pub returns-in-Ok-clause-fresh : goal.returns-in-Ok-clause-fresh
 returns-in-Ok-clause-fresh g c =
     fresh g.K.Keeper.content c.in-Ok.field-0.core c.in-Ok.field-0.base c.new.result.map c.new-in-Ok.result.map c.new-in-Ok-2.result.items c.begin.new.keeper
     c.in-Ok.ensures.base c.new.ensures c.new-in-Ok.ensures c.new-in-Ok-2.ensures.items
+
+pub returns-in-Ok-clause-crash : goal.returns-in-Ok-clause-crash
+returns-in-Ok-clause-crash g c world holds honest image left =
+    subst (λ (w : World). g.K.Keeper.leaves c.args.keeper image ⊎ g.K.Keeper.stands image w)
+    (ap (λ (s : State). s.world) (sym (c.in-Ok.ensures.known honest world holds)))
+    (c.in-Ok.ensures.crash world holds honest image left)
