@@ -1,9 +1,10 @@
-//! The head of a script: the users, the limits, and the mailboxes at the start.
+//! The head of a script: the users and their groups, the limits, and the mailboxes at the start.
 
 use crate::error::ScriptError;
 use crate::limits::{DEFAULT_LIMITS, read_max_messages, read_max_octets};
 use crate::line::LineError;
 use crate::mailboxes::Mailboxes;
+use crate::members::Members;
 use imap_hall::Hall;
 use imap_keeper::Keeper;
 use imap_names::{Name, UserName, read_full};
@@ -17,6 +18,7 @@ use std::collections::HashSet;
 pub(crate) enum HeadWord {
     Admin,
     User,
+    Member,
     Limit,
     Mailbox,
     Acl,
@@ -27,6 +29,7 @@ impl HeadWord {
         match word {
             "admin" => Some(HeadWord::Admin),
             "user" => Some(HeadWord::User),
+            "member" => Some(HeadWord::Member),
             "limit" => Some(HeadWord::Limit),
             "mailbox" => Some(HeadWord::Mailbox),
             "acl" => Some(HeadWord::Acl),
@@ -35,12 +38,13 @@ impl HeadWord {
     }
 }
 
-/// The users and limits with which a hall is opened.
+/// The users, groups and limits with which a hall is opened.
 #[derive(Drop)]
 pub(crate) struct Start {
     administrator: UserName,
     /// The other users, each once.
     users: Vec<UserName>,
+    members: Members,
     limits: Limits,
 }
 
@@ -58,11 +62,15 @@ impl Start {
         let Ok(administrator) = self.administrator.try_copy() else {
             return Err((ScriptError::Memory, keeper));
         };
+        let Ok(groups) = self.members.groups(alloc) else {
+            return Err((ScriptError::Memory, keeper));
+        };
         match Hall::open(
             alloc,
             keeper,
             administrator,
             self.users.as_slice(),
+            groups,
             self.limits,
         ) {
             Ok(hall) => Ok(hall),
@@ -77,6 +85,7 @@ pub(crate) struct Head {
     administrator: UserName,
     /// The other users, each once.
     users: Vec<UserName>,
+    members: Members,
     limits: Limits,
     mailboxes: Mailboxes,
     /// The names of all users, the administrator among them.
@@ -92,6 +101,7 @@ impl Head {
         Ok(Head {
             administrator,
             users: Vec::new(alloc),
+            members: Members::new(alloc),
             limits: DEFAULT_LIMITS,
             mailboxes: Mailboxes::new(alloc),
             known,
@@ -108,17 +118,19 @@ impl Head {
         match word {
             HeadWord::Admin => Err(LineError::Bad),
             HeadWord::User => self.add_user(alloc, rest),
+            HeadWord::Member => self.add_member(alloc, rest),
             HeadWord::Limit => self.set_limit(rest),
             HeadWord::Mailbox => self.choose_mailbox(alloc, rest),
             HeadWord::Acl => self.set_entry(alloc, rest),
         }
     }
 
-    /// Returns what the lines say: the users and limits, and the mailboxes at the start.
+    /// Returns what the lines say: the users, groups and limits, and the mailboxes at the start.
     pub(crate) fn finish(self, alloc: Global) -> Result<(Start, World), LineError> {
         let Head {
             administrator,
             users,
+            members,
             limits,
             mailboxes,
             known: _,
@@ -127,6 +139,7 @@ impl Head {
         let start = Start {
             administrator,
             users,
+            members,
             limits,
         };
         Ok((start, world))
@@ -138,6 +151,16 @@ impl Head {
             self.users.push(user)?;
         }
         Ok(())
+    }
+
+    /// Puts a user who was named before into a group.
+    fn add_member(&mut self, alloc: Global, text: &str) -> Result<(), LineError> {
+        let (group, user) = text.split_once(' ').ok_or(LineError::Bad)?;
+        if !self.known.contains(user) {
+            return Err(LineError::Bad);
+        }
+        let group = read_user(alloc, group)?;
+        self.members.add(group, read_user(alloc, user)?)
     }
 
     fn set_limit(&mut self, text: &str) -> Result<(), LineError> {

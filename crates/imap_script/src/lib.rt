@@ -7,6 +7,7 @@ mod input;
 mod limits;
 mod line;
 mod mailboxes;
+mod members;
 mod run;
 mod scenario;
 mod step;

@@ -5,6 +5,7 @@ use crate::service::{Port, Service};
 use clap::error::ErrorKind;
 use clap::{Arg, ArgAction, ArgMatches, Command};
 use imap_names::UserName;
+use imap_rights::Groups;
 use imap_script::{DEFAULT_LIMITS, read_max_messages, read_max_octets, read_number};
 use imap_world::Limits;
 use std::alloc::{AllocError, AllocFailed, Global};
@@ -16,7 +17,7 @@ use thiserror::Error;
 pub const VERSION: &str = "0.1.0";
 
 /// What the program is asked to do.
-#[derive(Debug, Drop)]
+#[derive(Drop)]
 pub enum Task {
     /// To run the script on standard input.
     Script,
@@ -137,6 +138,10 @@ fn serve_command<'a>(alloc: Global) -> Result<Command<'a>, AllocError> {
         .required(true)
         .action(ArgAction::Append);
     let command = command.arg(listen)?;
+    let member = option(alloc, "member", "GROUP=NAME")
+        .help("Puts a served user or the administrator into a group; may be repeated")
+        .action(ArgAction::Append);
+    let command = command.arg(member)?;
     let max_messages = option(alloc, "max-messages", "N").help(
         "How many messages a mailbox may hold",
     );
@@ -164,9 +169,12 @@ fn read_service(alloc: Global, found: &ArgMatches<'_>) -> Result<Task, CommandLi
     let limits = read_limits(alloc, found)?;
     let log = read_log(alloc, found.get_str("log").unwrap_or("errors"))?;
     let ports = read_ports(alloc, found.get_strs("listen").unwrap_or(&[]))?;
+    let members = found.get_strs("member").unwrap_or(&[]);
+    let groups = read_groups(alloc, members, &administrator, ports.as_slice())?;
     let service = Service {
         administrator,
         ports,
+        groups,
         limits,
         log,
     };
@@ -245,6 +253,65 @@ fn read_port(alloc: Global, text: &str) -> Result<Port, CommandLineError> {
             "NAME=PORT is wanted, PORT from 1 to 65535",
         )),
     }
+}
+
+/// Reads who is in which groups. Who is named twice in a group is in it once.
+fn read_groups(
+    alloc: Global,
+    texts: &[&str],
+    administrator: &UserName,
+    ports: &[Port],
+) -> Result<Groups, CommandLineError> {
+    let mut groups = Groups::new(alloc);
+    for text in texts {
+        if let Err(error) = add_member(alloc, &mut groups, text, administrator, ports) {
+            return Err(error);
+        }
+    }
+    Ok(groups)
+}
+
+/// Reads `GROUP=NAME`, and puts the user into the group. The group's name ends at the first `=`.
+fn add_member(
+    alloc: Global,
+    groups: &mut Groups,
+    text: &str,
+    administrator: &UserName,
+    ports: &[Port],
+) -> Result<(), CommandLineError> {
+    let Some((group, name)) = text.split_once('=') else {
+        return Err(fault(alloc, "member", text, "GROUP=NAME is wanted"));
+    };
+    let Some(user) = find_user(name, administrator, ports) else {
+        return Err(fault(
+            alloc,
+            "member",
+            name,
+            "this is neither a user who is served nor the administrator",
+        ));
+    };
+    if groups.add(alloc, group, user)? {
+        Ok(())
+    } else {
+        Err(fault(alloc, "member", group, "this is no name of a group"))
+    }
+}
+
+/// The administrator or the served user of this name.
+fn find_user<'a>(
+    name: &str,
+    administrator: &'a UserName,
+    ports: &'a [Port],
+) -> Option<&'a UserName> {
+    if administrator.as_str() == name {
+        return Some(administrator);
+    }
+    for port in ports {
+        if port.user.as_str() == name {
+            return Some(&port.user);
+        }
+    }
+    None
 }
 
 fn split_port(text: &str) -> Option<(&str, u16)> {

@@ -29,6 +29,7 @@ mod reporting_keeper;
 mod service;
 mod serving;
 mod shared_stream;
+mod store_table;
 mod system_clock;
 mod wakeable_stream;
 
@@ -50,4 +51,5 @@ pub use report::{LogLevel, Report};
 pub use service::{Port, Service, ServiceError, StoreFault};
 pub use serving::{IDLE_TICKS, posts, run};
 pub use shared_stream::SharedStream;
+pub use store_table::StoreTable;
 pub use wakeable_stream::WakeableStream;

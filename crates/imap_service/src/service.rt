@@ -1,10 +1,12 @@
 //! What is served, and why serving ends.
 
 use crate::report::LogLevel;
+use crate::store_table::StoreTable;
 use imap_hall::OpenError;
 use imap_host::SeatError;
-use imap_keeper::KeepError;
+use imap_keeper::{Damage, KeepError, RowFault};
 use imap_names::UserName;
+use imap_rights::Groups;
 use imap_world::Limits;
 use std::alloc::{AllocError, AllocFailed};
 use std::io;
@@ -18,11 +20,13 @@ pub struct Port {
 }
 
 /// What is served.
-#[derive(Debug, Drop)]
+#[derive(Drop)]
 pub struct Service {
     pub administrator: UserName,
     /// The users who are served, each once.
     pub ports: Vec<Port>,
+    /// Which of these users, and whether the administrator, are in which groups.
+    pub groups: Groups,
     pub limits: Limits,
     /// Which lines are said while it is served.
     pub log: LogLevel,
@@ -61,8 +65,47 @@ pub enum StoreFault {
     Disk,
     #[error("it refused to be read or changed")]
     Refused,
-    #[error("its tables are of another version, or their rows stand for no mailboxes")]
+    #[error("its tables are those of another program, or table meta has no row that says this version")]
+    OtherTables,
+    #[error("its rows stand for no mailboxes")]
     Damaged,
+    /// Of which one stands for nothing. `row` is the number by which SQL knows it, `rowid`.
+    #[error("table {table}, row {row}: {fault}")]
+    Row {
+        table: StoreTable,
+        row: i64,
+        fault: RowFault,
+    },
+}
+
+impl ServiceError {
+    /// Why the tables of a database aren't taken over.
+    pub fn of_tables(error: KeepError) -> ServiceError {
+        match error {
+            KeepError::Damaged => ServiceError::Store(StoreFault::OtherTables),
+            _ => ServiceError::from(error),
+        }
+    }
+
+    /// Whether rows of the store stand for no mailboxes, and none of them is named.
+    pub fn is_damage(&self) -> bool {
+        *self == ServiceError::Store(StoreFault::Damaged)
+    }
+
+    /// The same, with the row that is named.
+    pub fn with_row(self, named: Option<Damage>) -> ServiceError {
+        match named {
+            Some(damage) => match StoreTable::named(damage.table) {
+                Some(table) => ServiceError::Store(StoreFault::Row {
+                    table,
+                    row: damage.row,
+                    fault: damage.fault,
+                }),
+                None => self,
+            },
+            None => self,
+        }
+    }
 }
 
 impl From<AllocError> for ServiceError {

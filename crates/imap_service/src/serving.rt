@@ -18,6 +18,7 @@ use imap_hall::Hall;
 use imap_host::{Host, Seat, crew};
 use imap_keeper::Keeper;
 use imap_names::UserName;
+use imap_rights::Groups;
 use imap_world::{Limits, World};
 use std::alloc::{AllocError, Global};
 use std::net::{Net, TcpListener, TcpStream};
@@ -55,6 +56,7 @@ pub fn run<
     let Service {
         administrator,
         ports,
+        groups,
         limits,
         log,
     } = service;
@@ -71,7 +73,8 @@ pub fn run<
         max_octets: limits.max_octets,
         since,
     };
-    let (keeper, error) = match open(rt.alloc(), keeper, administrator, ports.as_slice(), limits) {
+    let users = ports.as_slice();
+    let (keeper, error) = match open(rt.alloc(), keeper, administrator, users, groups, limits) {
         Ok(hall) => serve_hall::<ReportingKeeper<'_, K, R>, L, R>(&setting, hall, blank),
         Err((error, keeper)) => (keeper, error),
     };
@@ -88,12 +91,13 @@ struct Setting<'a, R: Eprint> {
     since: Option<Instant>,
 }
 
-/// Opens the hall of these users.
+/// Opens the hall of these users, who are in these groups.
 fn open<K: Keeper>(
     alloc: Global,
     keeper: K,
     administrator: UserName,
     ports: &[Port],
+    groups: Groups,
     limits: Limits,
 ) -> Result<Hall<K>, (ServiceError, K)>
     ensures fresh { IfOk result IsFresh }
@@ -101,7 +105,14 @@ fn open<K: Keeper>(
     let Ok(users) = users(alloc, ports) else {
         return Err((ServiceError::Memory, keeper));
     };
-    let opened = Hall::open(alloc, keeper, administrator, users.as_slice(), limits);
+    let opened = Hall::open(
+        alloc,
+        keeper,
+        administrator,
+        users.as_slice(),
+        groups,
+        limits,
+    );
     drop(users);
     match opened {
         Ok(hall) => Ok(hall),

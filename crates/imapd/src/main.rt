@@ -36,8 +36,7 @@ fn main(rt: HostRuntime) -> ExitCode {
                 let (keeper, error) = run::<FileKeeper, Brand, HostRuntime>(
                     &rt, keeper, service, since, blank,
                 );
-                drop(keeper);
-                report_service_error(&rt, error)
+                report_service_error(&rt, store::end(&rt, keeper, error))
             }
             Err(error) => report_service_error(&rt, error),
         },

@@ -27,9 +27,18 @@ pub(crate) fn open(
         Ok(keeper) => Ok(keeper),
         Err((conn, error)) => {
             drop(conn);
-            Err(ServiceError::from(error))
+            Err(ServiceError::of_tables(error))
         }
     }
+}
+
+/// Ends the keeper with which serving ended so. If its rows stand for no mailboxes, one of them is named.
+pub(crate) fn end(rt: &HostRuntime, keeper: FileKeeper, error: ServiceError) -> ServiceError {
+    if !error.is_damage() {
+        drop(keeper);
+        return error;
+    }
+    error.with_row(keeper.into_damage(rt.alloc()))
 }
 
 /// Puts the log back into the database.
