@@ -2,6 +2,7 @@
 
 use crate::batches::{adding, expunging, marking};
 use crate::looks::{list, look, room};
+use crate::machine::both;
 use crate::world::{give, make, name, place, subscribe, user};
 use imap_names::Name;
 use imap_world::{Effect, MailboxEntry, World, WorldError, Write, can_move};
@@ -75,8 +76,8 @@ fn make_asked(
 // ---- effects
 
 fn unsubscription(alloc: Global, who: &str, text: &str) -> Result<Effect, WorldError> {
-    let user = user(alloc, who)?;
-    Ok(Effect::Unsubscribe(user, name(alloc, text)?))
+    let (user, name) = both(user(alloc, who), name(alloc, text))?;
+    Ok(Effect::Unsubscribe(user, name))
 }
 
 fn inbox(alloc: Global, who: &str) -> Result<Effect, WorldError> {
@@ -84,8 +85,8 @@ fn inbox(alloc: Global, who: &str) -> Result<Effect, WorldError> {
 }
 
 fn creation(alloc: Global, owner: &str, text: &str) -> Result<Effect, WorldError> {
-    let owner = user(alloc, owner)?;
-    Ok(Effect::Create(owner, name(alloc, text)?))
+    let (owner, name) = both(user(alloc, owner), name(alloc, text))?;
+    Ok(Effect::Create(owner, name))
 }
 
 fn deletion(alloc: Global, text: &str) -> Result<Effect, WorldError> {
@@ -93,9 +94,9 @@ fn deletion(alloc: Global, text: &str) -> Result<Effect, WorldError> {
 }
 
 fn renaming(alloc: Global, owner: &str, old: &str, new: &str) -> Result<Effect, WorldError> {
-    let owner = user(alloc, owner)?;
-    let old = name(alloc, old)?;
-    Ok(Effect::Rename(owner, old, name(alloc, new)?))
+    let names = both(name(alloc, old), name(alloc, new));
+    let (owner, (old, new)) = both(user(alloc, owner), names)?;
+    Ok(Effect::Rename(owner, old, new))
 }
 
 // ---- what is shown

@@ -1,5 +1,6 @@
 //! What bob asks of the messages of a mailbox.
 
+use crate::machine::both;
 use crate::messages::choice::new_message;
 use crate::world::{name, user};
 use imap_batch::{Batch, FlagUpdate, NewMessage};
@@ -15,8 +16,8 @@ fn asked(
     marks: Vec<FlagUpdate>,
     expunged: Vec<u32>,
 ) -> Result<Effect, AllocError> {
-    let name = name(alloc, text)?;
-    let user = user(alloc, "bob")?;
+    let named = both(name(alloc, text), user(alloc, "bob"));
+    let ((name, user), (added, (marks, expunged))) = both(named, Ok((added, (marks, expunged))))?;
     let batch = Batch {
         user,
         added: Items::from_vec(added),
@@ -38,8 +39,8 @@ fn keywords(alloc: Global, count: u8) -> Result<SharedFlags, AllocError> {
 
 /// A message with this many keywords is added.
 pub(crate) fn adding(alloc: Global, text: &str, words: u8) -> Result<Effect, AllocError> {
-    let mut message = new_message(alloc, false)?;
-    message.flags = keywords(alloc, words)?;
+    let (mut message, flags) = both(new_message(alloc, false), keywords(alloc, words))?;
+    message.flags = flags;
     let added = vec![in alloc; message]?;
     asked(alloc, text, added, Vec::new(alloc), Vec::new(alloc))
 }

@@ -4,6 +4,7 @@ ghost use Rattle.std.specs.Prelude.{◌≡◌, ◌∷◌, [], IfOk, OnOk};
 ghost use Rattle.imap_world.specs.Ready.{IsReady};
 ghost use Rattle.imap_world.specs.Stored.{world_of};
 
+use crate::machine::both;
 use crate::wanted::expect_text;
 use crate::world::{name, user};
 use imap_keeper::{KeepError, Keeper, ListKeeper, Refuser};
@@ -37,18 +38,18 @@ const REFUSED: &str = "Ok(()) 0 true\nOk(()) 0 true\nErr(Refused) 1 true\nno cha
 fn effect(alloc: Global, asked: Asked) -> Result<Effect, AllocError> {
     match asked {
         Asked::Create(owner, text) => {
-            let owner = user(alloc, owner)?;
-            Ok(Effect::Create(owner, name(alloc, text)?))
+            let (owner, name) = both(user(alloc, owner), name(alloc, text))?;
+            Ok(Effect::Create(owner, name))
         }
         Asked::Delete(text) => Ok(Effect::Delete(name(alloc, text)?)),
         Asked::Rename(owner, old, new) => {
-            let owner = user(alloc, owner)?;
-            let old = name(alloc, old)?;
-            Ok(Effect::Rename(owner, old, name(alloc, new)?))
+            let names = both(name(alloc, old), name(alloc, new));
+            let (owner, (old, new)) = both(user(alloc, owner), names)?;
+            Ok(Effect::Rename(owner, old, new))
         }
         Asked::Subscribe(who, text) => {
-            let who = user(alloc, who)?;
-            Ok(Effect::Subscribe(who, name(alloc, text)?))
+            let (who, name) = both(user(alloc, who), name(alloc, text))?;
+            Ok(Effect::Subscribe(who, name))
         }
     }
 }

@@ -10,8 +10,6 @@ mod acts;
 #[cfg(test)]
 mod batches;
 #[cfg(test)]
-mod conditional_stores;
-#[cfg(test)]
 mod keepers;
 #[cfg(test)]
 mod looks;
@@ -23,8 +21,6 @@ mod messages;
 mod notices;
 #[cfg(test)]
 mod parts;
-#[cfg(test)]
-mod resyncing;
 #[cfg(test)]
 mod returning;
 #[cfg(test)]

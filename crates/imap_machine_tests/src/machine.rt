@@ -7,6 +7,7 @@ use imap_core::{Act, Core, Moment, SessionId, SessionNumber, Step};
 use imap_grammar::parse;
 use imap_lex::Octets;
 use imap_print::{Response, print};
+use imap_rights::Groups;
 use imap_syntax::DateTime;
 use imap_world::{World, WorldError};
 use std::alloc::{AllocError, Global};
@@ -60,7 +61,10 @@ fn kept_if<T: Drop>(is_kept: bool, value: T) -> Result<T, AllocError> {
     if is_kept { Ok(value) } else { Err(AllocError) }
 }
 
-fn push<T: Drop>(items: &mut Vec<T>, item: Result<T, AllocError>) -> Result<(), AllocError> {
+pub(crate) fn push<T: Drop>(
+    items: &mut Vec<T>,
+    item: Result<T, AllocError>,
+) -> Result<(), AllocError> {
     items.push(item?)?;
     Ok(())
 }
@@ -117,7 +121,7 @@ fn world(alloc: Global, count: u32) -> Result<World, AllocError> {
 /// A machine over this world, where root is the administrator.
 pub(crate) fn machine(alloc: Global, count: u32) -> Result<Core, AllocError> {
     let (world, root) = both(world(alloc, count), user(alloc, "root"))?;
-    first(Core::open(alloc, world, root, &[], LIMITS))
+    first(Core::open(alloc, world, root, &[], Groups::new(alloc), LIMITS))
 }
 
 fn machine_copy(alloc: Global, count: u32) -> Result<Core, AllocError> {
@@ -221,7 +225,8 @@ fn written_at_start(alloc: Global, users: &[&str]) -> Result<usize, AllocError> 
         push(&mut others, user(alloc, text))?;
     }
     let root = user(alloc, "root")?;
-    let opened = Core::open(alloc, World::new(alloc), root, &others, LIMITS);
+    let groups = Groups::new(alloc);
+    let opened = Core::open(alloc, World::new(alloc), root, &others, groups, LIMITS);
     let change = second(opened)?;
     Ok(change.writes().len())
 }

@@ -24,7 +24,7 @@ const MEANWHILE: [&[u8]; 12] = [
 ];
 
 /// How often the client comes back.
-const TURNS: u32 = 200;
+const TURNS: u32 = 1_000;
 
 /// What a client holds of a message: its UID, and its flags as bits.
 #[derive(Clone, Copy, PartialEq, Eq)]

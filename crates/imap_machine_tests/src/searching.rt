@@ -1,7 +1,7 @@
 //! SEARCH and UID SEARCH (RFC 9051, section 6.4.4).
 
 use crate::machine::machine;
-use crate::talks::{Turn, begin, push_wrong, wrong_turn};
+use crate::talks::{begin, push_wrong};
 use crate::wanted::expect;
 use imap_core::Core;
 use std::alloc::{AllocError, Global};
@@ -137,87 +137,4 @@ fn wrong_keys(alloc: Global) -> Result<Vec<u8>, AllocError> {
 #[test]
 fn keys_find_messages_alone_and_in_pairs(rt: HostRuntime) {
     expect(&rt, wrong_keys(rt.alloc()), b"");
-}
-
-/// 2,000 messages come into INBOX, and the first three and the last one go.
-const MANY: [&[u8]; 16] = [
-    b"e APPEND INBOX {1+}\r\nx\r\n",
-    b"s SELECT INBOX\r\n",
-    b"c COPY 1:* INBOX\r\n",
-    b"c COPY 1:* INBOX\r\n",
-    b"c COPY 1:* INBOX\r\n",
-    b"c COPY 1:* INBOX\r\n",
-    b"c COPY 1:* INBOX\r\n",
-    b"c COPY 1:* INBOX\r\n",
-    b"c COPY 1:* INBOX\r\n",
-    b"c COPY 1:* INBOX\r\n",
-    b"c COPY 1:* INBOX\r\n",
-    b"c COPY 1:* INBOX\r\n",
-    b"c COPY 1:976 INBOX\r\n",
-    b"f STORE 5,1000,1995 +FLAGS.SILENT (\\Flagged)\r\n",
-    b"d STORE 1:3,2000 +FLAGS.SILENT (\\Deleted)\r\n",
-    b"x EXPUNGE\r\n",
-];
-
-const AMONG_MANY: [Turn; 11] = [
-    Turn {
-        session: 1,
-        sends: b"a1 UID SEARCH UID 1990:*\r\n",
-        reply: b"* ESEARCH (TAG \"a1\") UID ALL 1990:1999\r\na1 OK done\r\n|",
-    },
-    Turn {
-        session: 1,
-        sends: b"a2 SEARCH UID 1990:*\r\n",
-        reply: b"* ESEARCH (TAG \"a2\") ALL 1987:1996\r\na2 OK done\r\n|",
-    },
-    Turn {
-        session: 1,
-        sends: b"a3 UID SEARCH UID 1:5 NOT 1\r\n",
-        reply: b"* ESEARCH (TAG \"a3\") UID ALL 5\r\na3 OK done\r\n|",
-    },
-    Turn {
-        session: 2,
-        sends: b"b1 SEARCH 1996,3:1 UID 6:*\r\n",
-        reply: b"* ESEARCH (TAG \"b1\") ALL 3,1996\r\nb1 OK done\r\n|",
-    },
-    Turn {
-        session: 2,
-        sends: b"b2 SEARCH 1:3 UID 7:9\r\n",
-        reply: b"* ESEARCH (TAG \"b2\")\r\nb2 OK done\r\n|",
-    },
-    Turn {
-        session: 2,
-        sends: b"b3 UID SEARCH UID 2000:2009\r\n",
-        reply: b"* ESEARCH (TAG \"b3\") UID\r\nb3 OK done\r\n|",
-    },
-    Turn {
-        session: 2,
-        sends: b"b4 UID SEARCH UID 2000:*\r\n",
-        reply: b"* ESEARCH (TAG \"b4\") UID ALL 1999\r\nb4 OK done\r\n|",
-    },
-    Turn {
-        session: 2,
-        sends: b"b5 UID SEARCH RETURN (MIN MAX ALL COUNT) FLAGGED\r\n",
-        reply: b"* ESEARCH (TAG \"b5\") UID MIN 5 MAX 1995 ALL 5,1000,1995 COUNT 3\r\nb5 OK done\r\n|",
-    },
-    Turn {
-        session: 2,
-        sends: b"b6 SEARCH RETURN (COUNT) OR UID 1000:* FLAGGED\r\n",
-        reply: b"* ESEARCH (TAG \"b6\") COUNT 1001\r\nb6 OK done\r\n|",
-    },
-    Turn {
-        session: 2,
-        sends: b"b7 SEARCH RETURN (COUNT) BODY x\r\n",
-        reply: b"* ESEARCH (TAG \"b7\") COUNT 0\r\nb7 OK done\r\n|",
-    },
-    Turn {
-        session: 2,
-        sends: b"b8 SEARCH RETURN (MAX) TEXT x\r\n",
-        reply: b"* ESEARCH (TAG \"b8\") MAX 1996\r\nb8 OK done\r\n|",
-    },
-];
-
-#[test]
-fn messages_are_found_among_many(rt: HostRuntime) {
-    expect(&rt, wrong_turn(rt.alloc(), &MANY, &AMONG_MANY), b"");
 }

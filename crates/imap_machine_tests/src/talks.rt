@@ -6,14 +6,6 @@ use imap_core::{Act, Core};
 use imap_print::Response;
 use std::alloc::{AllocError, Global};
 
-/// A command of one of the sessions, and the replies to it with `|` after them.
-#[derive(Clone, Copy)]
-pub(crate) struct Turn {
-    pub(crate) session: u32,
-    pub(crate) sends: &'static [u8],
-    pub(crate) reply: &'static [u8],
-}
-
 fn alone<T: Drop>(alloc: Global, item: Result<T, AllocError>) -> Result<Vec<T>, AllocError> {
     let mut items = Vec::with_capacity(alloc, 1)?;
     items.push(item?)?;
@@ -83,37 +75,4 @@ pub(crate) fn push_wrong(
         out.extend_from_slice(&said)?;
     }
     Ok(())
-}
-
-/// Returns the first reply that isn't as it is wanted, or nothing.
-fn wrong_reply(alloc: Global, core: &mut Core, turns: &[Turn]) -> Result<Vec<u8>, AllocError> {
-    for turn in turns {
-        let said = reply(alloc, core, turn.session, command(alloc, turn.sends))?;
-        if said.as_slice() != turn.reply {
-            return Ok(said);
-        }
-    }
-    Ok(Vec::new(alloc))
-}
-
-fn wrong_reply_after(
-    alloc: Global,
-    core: &mut Core,
-    commands: &[&[u8]],
-    turns: &[Turn],
-) -> Result<Vec<u8>, AllocError> {
-    begin(alloc, core, commands)?;
-    wrong_reply(alloc, core, turns)
-}
-
-/// The same of sessions of a new machine, of which the first one sent the commands before it selected INBOX.
-pub(crate) fn wrong_turn(
-    alloc: Global,
-    commands: &[&[u8]],
-    turns: &[Turn],
-) -> Result<Vec<u8>, AllocError> {
-    let mut core = machine(alloc, 0)?;
-    let wrong = wrong_reply_after(alloc, &mut core, commands, turns);
-    drop(core);
-    wrong
 }

@@ -1,7 +1,8 @@
 //! Names, users and effects for tests of worlds.
 
+use crate::machine::both;
 use imap_names::{Name, UserName, read_full};
-use imap_rights::{Acl, Identifier, read_rights};
+use imap_rights::{Acl, Groups, Identifier, SharedGroups, read_rights};
 use imap_world::{Effect, Limits, Site, World, WorldError};
 use std::alloc::{AllocError, Global};
 
@@ -22,9 +23,12 @@ pub(crate) fn name(alloc: Global, text: &str) -> Result<Name, AllocError> {
 
 /// A site whose administrator is root.
 pub(crate) fn site(alloc: Global) -> Result<Site, AllocError> {
+    let groups = SharedGroups::new(alloc, Groups::new(alloc));
+    let (administrator, groups) = both(user(alloc, "root"), groups)?;
     Ok(Site {
-        administrator: user(alloc, "root")?,
+        administrator,
         limits: LIMITS,
+        groups,
     })
 }
 
@@ -67,8 +71,8 @@ pub(crate) fn make(alloc: Global, world: &mut World, effect: Effect) -> Result<u
 }
 
 fn subscription(alloc: Global, who: &str, text: &str) -> Result<Effect, AllocError> {
-    let user = user(alloc, who)?;
-    Ok(Effect::Subscribe(user, name(alloc, text)?))
+    let (user, name) = both(user(alloc, who), name(alloc, text))?;
+    Ok(Effect::Subscribe(user, name))
 }
 
 /// A user subscribes to a name.

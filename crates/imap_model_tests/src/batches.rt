@@ -1,29 +1,32 @@
 //! Tests of batches.
 
+ghost use Rattle.imap_batch.specs.Written.{MayWrite};
+ghost use Rattle.imap_mailbox.specs.Held.{summary_in};
+
 use crate::flags::flags_of;
 use crate::mailbox::{add_more, date, many_words, message};
 use crate::shown::shown;
+use crate::wanted::expect_text;
 use imap_batch::{
-    Batch, BatchError, FlagUpdate, NewMessage, Planned, make_room, resolve, write_batch,
+    Batch, BatchError, BatchWrite, FlagUpdate, NewMessage, Planned, make_room, resolve, write_batch,
 };
 use imap_mailbox::{Mailbox, MailboxError, SharedFlags};
 use imap_names::UserName;
 use imap_syntax::Items;
 use std::alloc::{AllocError, Global};
-use std::test::Fail;
 
 fn bob(alloc: Global) -> Result<UserName, MailboxError> {
     UserName::read(alloc, "bob")?.ok_or(MailboxError::NoSuchUid)
 }
 
-/// A batch of bob that asks for nothing.
-fn empty(alloc: Global) -> Result<Batch, MailboxError> {
-    Ok(Batch {
-        user: bob(alloc)?,
-        added: Items::from_vec(Vec::new(alloc)),
-        marks: Items::from_vec(Vec::new(alloc)),
-        expunged: Items::from_vec(Vec::new(alloc)),
-    })
+/// Both values. It is generic, since the proof that a large value is dropped is long.
+fn both<A: Drop, B: Drop>(
+    one: Result<A, MailboxError>,
+    other: Result<B, MailboxError>,
+) -> Result<(A, B), MailboxError> {
+    let one = one?;
+    let other = other?;
+    Ok((one, other))
 }
 
 fn push<T: Drop>(items: &mut Vec<T>, item: T) -> Result<(), AllocError> {
@@ -31,13 +34,70 @@ fn push<T: Drop>(items: &mut Vec<T>, item: T) -> Result<(), AllocError> {
     Ok(())
 }
 
-fn new_message(alloc: Global, seen: bool) -> Result<NewMessage, MailboxError> {
+fn push_made<T: Drop>(
+    items: &mut Vec<T>,
+    item: Result<T, MailboxError>,
+) -> Result<(), MailboxError> {
+    Ok(push(items, item?)?)
+}
+
+/// The list of this item alone.
+fn alone<T: Drop>(alloc: Global, item: Result<T, MailboxError>) -> Result<Vec<T>, MailboxError> {
+    let mut items = Vec::new(alloc);
+    push_made(&mut items, item)?;
+    Ok(items)
+}
+
+/// A batch of bob.
+fn batch(
+    alloc: Global,
+    added: Result<Vec<NewMessage>, MailboxError>,
+    marks: Result<Vec<FlagUpdate>, MailboxError>,
+    expunged: &[u32],
+) -> Result<Batch, MailboxError> {
+    let (user, (added, (marks, expunged))) = both(
+        bob(alloc),
+        both(added, both(marks, copied(alloc, expunged))),
+    )?;
+    Ok(Batch {
+        user,
+        added: Items::from_vec(added),
+        marks: Items::from_vec(marks),
+        expunged: Items::from_vec(expunged),
+    })
+}
+
+fn copied(alloc: Global, uids: &[u32]) -> Result<Vec<u32>, MailboxError> {
+    Ok(Vec::from_slice(alloc, uids)?)
+}
+
+fn new_message(
+    alloc: Global,
+    flags: Result<SharedFlags, MailboxError>,
+    seen: bool,
+) -> Result<NewMessage, MailboxError> {
+    let (date, (octets, flags)) = both(date(), both(message(alloc), flags))?;
     Ok(NewMessage {
-        date: date()?,
-        octets: message(alloc)?,
-        flags: SharedFlags::new(alloc),
+        date,
+        octets,
+        flags,
         seen,
     })
+}
+
+fn plain_message(alloc: Global, seen: bool) -> Result<NewMessage, MailboxError> {
+    new_message(alloc, Ok(SharedFlags::new(alloc)), seen)
+}
+
+fn plain_messages(
+    alloc: Global,
+    added: &mut Vec<NewMessage>,
+    seen: &[bool],
+) -> Result<(), MailboxError> {
+    for one in seen {
+        push_made(added, plain_message(alloc, *one))?;
+    }
+    Ok(())
 }
 
 /// Why the batch was refused.
@@ -50,22 +110,42 @@ fn refusal(error: BatchError) -> MailboxError {
 }
 
 /// Makes the changes of a batch.
-fn apply(alloc: Global, mailbox: &mut Mailbox, batch: Batch) -> Result<(), MailboxError> {
-    let write = resolve(alloc, mailbox, &batch).map_err(refusal)?;
-    make_room(mailbox, alloc, &write)?;
-    write_batch(mailbox, write);
-    Ok(())
+fn apply(alloc: Global, mailbox: &mut Mailbox, batch: &Batch) -> Result<(), MailboxError> {
+    let write = resolve(alloc, mailbox, batch).map_err(refusal)?;
+    match make_room(mailbox, alloc, &write) {
+        Ok(()) => {
+            write_batch(mailbox, write);
+            Ok(())
+        }
+        Err(_) => {
+            drop(write);
+            Err(MailboxError::Memory)
+        }
+    }
+}
+
+/// Makes the changes of a batch that was made.
+fn apply_made(
+    alloc: Global,
+    mailbox: &mut Mailbox,
+    batch: Result<Batch, MailboxError>,
+) -> Result<(), MailboxError> {
+    let batch = batch?;
+    let applied = apply(alloc, mailbox, &batch);
+    drop(batch);
+    applied
 }
 
 /// Adds a message for each of `seen`, which says whether bob has seen it.
 fn add(alloc: Global, mailbox: &mut Mailbox, seen: &[bool]) -> Result<(), MailboxError> {
-    let mut batch = empty(alloc)?;
     let mut added = Vec::new(alloc);
-    for one in seen {
-        push(&mut added, new_message(alloc, *one)?)?;
-    }
-    batch.added = Items::from_vec(added);
-    apply(alloc, mailbox, batch)
+    let made = plain_messages(alloc, &mut added, seen);
+    let added = both(made, Ok(added)).map(|(_, added)| added);
+    apply_made(
+        alloc,
+        mailbox,
+        batch(alloc, added, Ok(Vec::new(alloc)), &[]),
+    )
 }
 
 fn one_mark(
@@ -81,25 +161,15 @@ fn one_mark(
     })
 }
 
-/// One message more, new flags of the first, and the second expunged.
+/// One message more, new flags of the first, and these messages expunged.
 pub(crate) fn changes(
     alloc: Global,
     mailbox: &mut Mailbox,
     uids: &[u32],
 ) -> Result<(), MailboxError> {
-    let mut batch = empty(alloc)?;
-    let mut added = Vec::new(alloc);
-    push(&mut added, new_message(alloc, true)?)?;
-    let mut marks = Vec::new(alloc);
-    push(&mut marks, one_mark(alloc, 1, &[b"a"], false)?)?;
-    let mut expunged = Vec::new(alloc);
-    for uid in uids {
-        push(&mut expunged, *uid)?;
-    }
-    batch.added = Items::from_vec(added);
-    batch.marks = Items::from_vec(marks);
-    batch.expunged = Items::from_vec(expunged);
-    apply(alloc, mailbox, batch)
+    let added = alone(alloc, plain_message(alloc, true));
+    let marks = alone(alloc, one_mark(alloc, 1, &[b"a"], false));
+    apply_made(alloc, mailbox, batch(alloc, added, marks, uids))
 }
 
 /// Adds three messages, and then changes all that a batch can change.
@@ -110,25 +180,21 @@ fn added_marked_expunged(alloc: Global, mailbox: &mut Mailbox) -> Result<String,
 }
 
 #[test]
-fn a_batch_adds_marks_and_expunges(rt: HostRuntime) -> Result<(), Fail> {
+fn a_batch_adds_marks_and_expunges(rt: HostRuntime) {
     let mut mailbox = Mailbox::new(rt.alloc());
     let text = added_marked_expunged(rt.alloc(), &mut mailbox);
     let falling = changes(rt.alloc(), &mut mailbox, &[3, 1]);
     let gone = changes(rt.alloc(), &mut mailbox, &[2]);
     let next = mailbox.next_uid();
     drop(mailbox);
-    assert_eq!(rt;
-        text?.as_str(),
-        "1=6 3=4 4=5 | 1=10 3=6* 4=8* | 2=11 | 7 11 5 6"
-    );
-    assert_eq!(rt; falling, Err(MailboxError::NoSuchUid));
-    assert_eq!(rt; gone, Err(MailboxError::NoSuchUid));
-    assert_eq!(rt; next, 5);
-    Ok(())
+    expect_text(&rt, text, "1=6 3=4 4=5 | 1=10 3=6* 4=8* | 2=11 | 7 11 5 6");
+    assert!(rt; falling == Err(MailboxError::NoSuchUid));
+    assert!(rt; gone == Err(MailboxError::NoSuchUid));
+    assert!(rt; next == 5, "{next}");
 }
 
 /// What a cursor tells of four messages, of which the third is to be marked.
-#[derive(Drop)]
+#[derive(Clone, Copy, Debug, PartialEq, Eq)]
 struct Runs {
     /// How many may be skipped by who was told all, and by who was told all but the last event.
     lens: [usize; 2],
@@ -139,15 +205,11 @@ struct Runs {
     marked: bool,
 }
 
-fn runs_beside_a_mark(alloc: Global, mailbox: &mut Mailbox) -> Result<Runs, MailboxError> {
-    add(alloc, mailbox, &[false, false, false, false])?;
-    let mut batch = empty(alloc)?;
-    let mut marks = Vec::new(alloc);
-    push(&mut marks, one_mark(alloc, 3, &[b"a"], true)?)?;
-    batch.marks = Items::from_vec(marks);
-    let write = resolve(alloc, mailbox, &batch).map_err(refusal)?;
+fn runs_of(mailbox: &Mailbox, write: &BatchWrite) -> Runs
+    requires { MayWrite write.now (summary_in mailbox.now) }
+{
     let highest = mailbox.highest("bob");
-    let mut rows = Planned::new(mailbox, &write);
+    let mut rows = Planned::new(mailbox, write);
     let lens = [
         rows.untouched_len(highest),
         rows.untouched_len(highest.saturating_sub(1)),
@@ -158,36 +220,64 @@ fn runs_beside_a_mark(alloc: Global, mailbox: &mut Mailbox) -> Result<Runs, Mail
     ];
     let next = rows.uid();
     let marked = rows.skip_untouched(1, 3, highest);
-    Ok(Runs {
+    Runs {
         lens,
         skipped,
         next,
         marked,
-    })
+    }
+}
+
+fn runs_of_batch(alloc: Global, mailbox: &Mailbox, batch: &Batch) -> Result<Runs, MailboxError> {
+    match resolve(alloc, mailbox, batch) {
+        Ok(write) => {
+            let runs = runs_of(mailbox, &write);
+            drop(write);
+            Ok(runs)
+        }
+        Err(error) => Err(refusal(error)),
+    }
+}
+
+fn runs_beside_a_mark(alloc: Global, mailbox: &mut Mailbox) -> Result<Runs, MailboxError> {
+    add(alloc, mailbox, &[false, false, false, false])?;
+    let marks = alone(alloc, one_mark(alloc, 3, &[b"a"], true));
+    let batch = batch(alloc, Ok(Vec::new(alloc)), marks, &[])?;
+    let runs = runs_of_batch(alloc, mailbox, &batch);
+    drop(batch);
+    runs
 }
 
 #[test]
-fn messages_that_a_batch_leaves_are_skipped_at_once(rt: HostRuntime) -> Result<(), Fail> {
+fn messages_that_a_batch_leaves_are_skipped_at_once(rt: HostRuntime) {
     let mut mailbox = Mailbox::new(rt.alloc());
     let runs = runs_beside_a_mark(rt.alloc(), &mut mailbox);
     drop(mailbox);
-    let runs = runs?;
-    assert_eq!(rt; runs.lens, [2, 0]);
-    assert_eq!(rt; runs.skipped, [false, true]);
-    assert_eq!(rt; runs.next, Some(3));
-    assert!(rt; !runs.marked);
-    Ok(())
+    const WANTED: Runs = Runs {
+        lens: [2, 0],
+        skipped: [false, true],
+        next: Some(3),
+        marked: false,
+    };
+    assert!(rt; runs == Ok(WANTED), "{runs:?}");
 }
 
 /// Adds a message with so many keywords.
 fn add_words(alloc: Global, mailbox: &mut Mailbox, words: u8) -> Result<(), MailboxError> {
-    let mut batch = empty(alloc)?;
-    let mut message = new_message(alloc, false)?;
-    message.flags = many_words(alloc, words)?;
-    let mut added = Vec::new(alloc);
-    push(&mut added, message)?;
-    batch.added = Items::from_vec(added);
-    apply(alloc, mailbox, batch)
+    let added = alone(alloc, new_message(alloc, many_words(alloc, words), false));
+    apply_made(
+        alloc,
+        mailbox,
+        batch(alloc, added, Ok(Vec::new(alloc)), &[]),
+    )
+}
+
+fn words_mark(alloc: Global, uid: u32, words: u8) -> Result<FlagUpdate, MailboxError> {
+    Ok(FlagUpdate {
+        uid,
+        flags: Some(many_words(alloc, words)?),
+        seen: None,
+    })
 }
 
 /// Gives a message so many keywords.
@@ -197,44 +287,47 @@ fn mark_words(
     uid: u32,
     words: u8,
 ) -> Result<(), MailboxError> {
-    let mut batch = empty(alloc)?;
-    let flags = Some(many_words(alloc, words)?);
-    let mut marks = Vec::new(alloc);
-    push(
-        &mut marks,
-        FlagUpdate {
-            uid,
-            flags,
-            seen: None,
-        },
-    )?;
-    batch.marks = Items::from_vec(marks);
-    apply(alloc, mailbox, batch)
+    let marks = alone(alloc, words_mark(alloc, uid, words));
+    apply_made(
+        alloc,
+        mailbox,
+        batch(alloc, Ok(Vec::new(alloc)), marks, &[]),
+    )
+}
+
+/// What is asked of a mailbox with one message: a message with so many keywords, or so many for the message with a
+/// UID; what comes of it; and how many shared events the mailbox has then.
+const KEYWORDS: [(Option<u32>, u8, Result<(), MailboxError>, u64); 6] = [
+    (None, 33, Err(MailboxError::Limit), 1),
+    (Some(1), 33, Err(MailboxError::Limit), 1),
+    (Some(2), 33, Err(MailboxError::Limit), 1),
+    (Some(2), 32, Err(MailboxError::NoSuchUid), 1),
+    (Some(1), 32, Ok(()), 2),
+    (None, 32, Ok(()), 3),
+];
+
+fn ask_words(
+    alloc: Global,
+    mailbox: &mut Mailbox,
+    uid: Option<u32>,
+    words: u8,
+) -> Result<(), MailboxError> {
+    match uid {
+        Some(uid) => mark_words(alloc, mailbox, uid, words),
+        None => add_words(alloc, mailbox, words),
+    }
 }
 
 /// A 33rd keyword is refused, before a message that isn't there.
 #[test]
-fn a_batch_of_too_many_keywords_is_refused(rt: HostRuntime) -> Result<(), Fail> {
+fn a_batch_of_too_many_keywords_is_refused(rt: HostRuntime) {
     let mut mailbox = Mailbox::new(rt.alloc());
-    let added = add_more(rt.alloc(), &mut mailbox, 1);
-    let refused = (
-        add_words(rt.alloc(), &mut mailbox, 33),
-        mark_words(rt.alloc(), &mut mailbox, 1, 33),
-        mark_words(rt.alloc(), &mut mailbox, 2, 33),
-        mark_words(rt.alloc(), &mut mailbox, 2, 32),
-    );
-    let before = mailbox.shared_len();
-    let made = mark_words(rt.alloc(), &mut mailbox, 1, 32);
-    let again = add_words(rt.alloc(), &mut mailbox, 32);
-    let after = mailbox.shared_len();
-    drop(mailbox);
-    added?;
-    let limit = Err(MailboxError::Limit);
-    assert_eq!(rt;
-        refused,
-        (limit, limit, limit, Err(MailboxError::NoSuchUid))
-    );
-    assert_eq!(rt; (made, again), (Ok(()), Ok(())));
-    assert_eq!(rt; (before, after), (1, 3));
-    Ok(())
+    assert!(rt; add_more(rt.alloc(), &mut mailbox, 1) == Ok(()));
+    for &(uid, words, wanted, events) in &KEYWORDS {
+        let made = ask_words(rt.alloc(), &mut mailbox, uid, words);
+        assert!(rt;
+            made == wanted && mailbox.shared_len() == events,
+            "{uid:?} {words}"
+        );
+    }
 }

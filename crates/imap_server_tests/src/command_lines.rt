@@ -1,10 +1,11 @@
 //! Command lines, and the statuses with which the program ends.
 
 use crate::wanted::{expect, expect_text};
+use imap_keeper::RowFault;
 use imap_script::ScriptError;
 use imap_service::{
-    CommandLineError, LogLevel, Service, ServiceError, StoreFault, Task, read_words, report_misuse,
-    report_script_error, report_service_error,
+    CommandLineError, LogLevel, Service, ServiceError, StoreFault, StoreTable, Task, read_words,
+    report_misuse, report_script_error, report_service_error,
 };
 use std::alloc::{AllocError, Global};
 use std::io::ErrorKind;
@@ -55,7 +56,7 @@ fn shown(alloc: Global, texts: &[&str]) -> Result<Vec<u8>, AllocError> {
 
 #[test]
 fn reads_command_lines(rt: HostRuntime) {
-    const ROWS: [(&[&str], &[u8]); 4] = [
+    const ROWS: [(&[&str], &[u8]); 5] = [
         (&["imapd", "script"], b"script"),
         (&["imapd", "--version"], b"version"),
         (
@@ -80,6 +81,22 @@ fn reads_command_lines(rt: HostRuntime) {
                 "--db=/x y",
             ],
             b"/x y root 1 1073741824 connections a=b=1 root=65535",
+        ),
+        (
+            &[
+                "imapd",
+                "serve",
+                "--db=x",
+                "--admin=root",
+                "--listen=ann=1143",
+                "--listen=a=b=1144",
+                "--member=staff=ann",
+                "--member=staff=ann",
+                "--member=staff=a=b",
+                "--member=x-y=root",
+                "--member=\u{e9}=root",
+            ],
+            b"x root 10000 33554432 ann=1143 a=b=1144",
         ),
     ];
     for &(texts, wanted) in &ROWS {
@@ -150,7 +167,7 @@ fn refuses_command_lines(rt: HostRuntime) {
 /// Options, of which each is refused beside `--admin root --listen ann=1143`.
 #[test]
 fn refuses_options(rt: HostRuntime) {
-    const ROWS: [&str; 13] = [
+    const ROWS: [&str; 21] = [
         "--log=all",
         "--log=",
         "--listen=bob",
@@ -164,6 +181,14 @@ fn refuses_options(rt: HostRuntime) {
         "--max-messages=1000001",
         "--max-octets=0",
         "--max-octets=1073741825",
+        "--member=staff",
+        "--member=staff=bob",
+        "--member=staff=",
+        "--member==ann",
+        "--member=anyone=ann",
+        "--member=a/b=ann",
+        "--member=-x=ann",
+        "--member=e\u{301}=ann",
     ];
     for &option in &ROWS {
         let texts = [
@@ -189,7 +214,7 @@ fn ends_with_a_status(rt: HostRuntime) {
         assert!(rt; report_script_error(&rt, error) == ExitCode::from(*status));
     }
     assert!(rt; report_misuse(&rt, &CommandLineError::Memory) == ExitCode::from(4));
-    const ENDS: [(ServiceError, u8); 6] = [
+    const ENDS: [(ServiceError, u8); 8] = [
         (ServiceError::Output, 3),
         (ServiceError::NoConnection, 3),
         (
@@ -208,6 +233,15 @@ fn ends_with_a_status(rt: HostRuntime) {
         ),
         (ServiceError::Memory, 4),
         (ServiceError::Store(StoreFault::InUse), 5),
+        (ServiceError::Store(StoreFault::OtherTables), 5),
+        (
+            ServiceError::Store(StoreFault::Row {
+                table: StoreTable::Message,
+                row: 3,
+                fault: RowFault::Value,
+            }),
+            5,
+        ),
     ];
     for &(error, status) in &ENDS {
         assert!(rt; report_service_error(&rt, error) == ExitCode::from(status));
@@ -226,7 +260,7 @@ fn said(alloc: Global, texts: &[&str]) -> Result<String, AllocError> {
 #[test]
 fn says_what_is_wrong(rt: HostRuntime) {
     const SERVE: [&str; 4] = ["imapd", "serve", "--db=x", "--admin=root"];
-    const ROWS: [(&str, &str); 3] = [
+    const ROWS: [(&str, &str); 5] = [
         (
             "--listen=ann=0",
             "imapd: bad command line\nimapd: --listen ann=0: NAME=PORT is wanted, PORT from 1 to 65535\n",
@@ -238,6 +272,14 @@ fn says_what_is_wrong(rt: HostRuntime) {
         (
             "--log=all",
             "imapd: bad command line\nimapd: --log all: off, errors or connections is wanted\n",
+        ),
+        (
+            "--member=staff=ann",
+            "imapd: bad command line\nimapd: --member ann: this is neither a user who is served nor the administrator\n",
+        ),
+        (
+            "--member=a b=bob",
+            "imapd: bad command line\nimapd: --member a b: this is no name of a group\n",
         ),
     ];
     for &(option, wanted) in &ROWS {

@@ -5,7 +5,7 @@ use imap_serve::{End, ServeError};
 use std::io::{self, Read, Write};
 
 /// What a client sends.
-#[derive(Debug, Drop)]
+#[derive(Drop)]
 pub(crate) struct Source {
     text: &'static [u8],
 }
@@ -20,7 +20,7 @@ impl Read for Source {
 }
 
 /// Takes what is written.
-#[derive(Debug, Drop)]
+#[derive(Drop)]
 pub(crate) struct Sink;
 
 impl Write for Sink {
@@ -34,7 +34,7 @@ impl Write for Sink {
 }
 
 /// A door through which this many clients come, one after the other, who send the same text.
-#[derive(Debug, Drop)]
+#[derive(Drop)]
 pub(crate) struct Clients {
     pub(crate) left: u32,
     pub(crate) text: &'static [u8],

@@ -4,6 +4,7 @@ ghost use Rattle.std.specs.Prelude.{◌≡◌, [], IfOk};
 ghost use Rattle.imap_hall.specs.Hall.{IsFresh};
 
 use crate::doors::Clients;
+use crate::owned::{both, push, push_beside};
 use imap_core::{Act, Moment, Step};
 use imap_grammar::parse;
 use imap_hall::{Hall, Receipt, Room};
@@ -12,7 +13,7 @@ use imap_keeper::{Keeper, ListKeeper};
 use imap_lex::Octets;
 use imap_names::{UserName, read_full};
 use imap_print::print;
-use imap_rights::{Acl, Identifier, read_rights};
+use imap_rights::{Acl, Groups, Identifier, read_rights};
 use imap_script::DEFAULT_LIMITS;
 use imap_world::{World, WorldError};
 use std::alloc::{AllocError, Global};
@@ -41,11 +42,20 @@ fn place(alloc: Global, world: &mut World, acl: Acl) -> Result<(), WorldError> {
     world.place(alloc, name, acl)
 }
 
-/// A world with Shared/News, where bob has `lr` and root all rights.
-fn world(alloc: Global) -> Result<World, AllocError> {
+/// The list by which bob has `lr` and root all rights.
+fn acl(alloc: Global) -> Result<Acl, AllocError> {
     let mut acl = Acl::new(alloc);
-    give(alloc, &mut acl, "bob", "lr")?;
-    give(alloc, &mut acl, "root", "lrswipkxtea")?;
+    let given = both(
+        give(alloc, &mut acl, "bob", "lr"),
+        give(alloc, &mut acl, "root", "lrswipkxtea"),
+    );
+    let (_, acl) = both(given, Ok(acl))?;
+    Ok(acl)
+}
+
+/// A world with Shared/News and that list.
+fn world(alloc: Global) -> Result<World, AllocError> {
+    let acl = acl(alloc)?;
     let mut world = World::new(alloc);
     match place(alloc, &mut world, acl) {
         Ok(()) => Ok(world),
@@ -57,16 +67,17 @@ fn world(alloc: Global) -> Result<World, AllocError> {
 pub(crate) fn hall(alloc: Global) -> Result<Hall<ListKeeper>, AllocError>
     ensures fresh { IfOk result IsFresh }
 {
-    let users = vec![in alloc;
-        user(alloc, "ann")?,
-        user(alloc, "bob")?,
-        user(alloc, "cat")?,
-    ]?;
-    let root = user(alloc, "root")?;
-    match world(alloc) {
-        Ok(world) => opened(alloc, world, root, users.as_slice()),
-        Err(error) => Err(error),
+    let users = users(alloc, &["ann", "bob", "cat"]);
+    let (users, (root, world)) = both(users, both(user(alloc, "root"), world(alloc)))?;
+    opened(alloc, world, root, users.as_slice())
+}
+
+fn users(alloc: Global, texts: &[&str]) -> Result<Vec<UserName>, AllocError> {
+    let mut users = Vec::new(alloc);
+    for text in texts {
+        push(&mut users, user(alloc, text))?;
     }
+    Ok(users)
 }
 
 fn opened(
@@ -82,6 +93,7 @@ fn opened(
         ListKeeper::new(world),
         administrator,
         users,
+        Groups::new(alloc),
         DEFAULT_LIMITS,
     ) {
         Ok(hall) => Ok(hall),
@@ -162,16 +174,33 @@ pub(crate) fn ask<K: Keeper, L: Ledger, R: Wait + AllocGlobal>(
     }
 }
 
-/// The seats of these posts.
-pub(crate) fn seats_of<L: Ledger>(
+/// A user, how many seats the user has, how many clients come through the door of each, and what these send.
+pub(crate) type Posts = (&'static str, u32, u32, &'static [u8]);
+
+/// Seats with doors through which clients come.
+pub(crate) fn posts<K: Keeper, L: Ledger>(
     alloc: Global,
-    posts: Vec<(Seat<L>, Clients)>,
-) -> Result<Vec<Seat<L>>, AllocError> {
-    let mut seats = Vec::new(alloc);
-    for (seat, _) in posts {
-        seats.push(seat)?;
+    host: &mut Host<K, L>,
+    rows: &[Posts],
+) -> Result<Vec<(Seat<L>, Clients)>, AllocError> {
+    let mut posts = Vec::new(alloc);
+    let pushed = push_posts(alloc, host, rows, &mut posts);
+    let (_, posts) = both(pushed, Ok(posts))?;
+    Ok(posts)
+}
+
+fn push_posts<K: Keeper, L: Ledger>(
+    alloc: Global,
+    host: &mut Host<K, L>,
+    rows: &[Posts],
+    posts: &mut Vec<(Seat<L>, Clients)>,
+) -> Result<(), AllocError> {
+    for &(user, seats, left, text) in rows {
+        for _ in 0..seats {
+            push_beside(posts, seat(alloc, host, user), Clients { left, text })?;
+        }
     }
-    Ok(seats)
+    Ok(())
 }
 
 /// Ends the host with these seats, and returns its hall.

@@ -1,6 +1,8 @@
 //! Reads that bring nothing, and wakes.
 
+use crate::owned::both;
 use imap_service::{IDLE_TICKS, IdleTicks, IdleWakers, TICKS_PER_SECOND, WakeableStream};
+use std::alloc::Global;
 use std::io::{self, ErrorKind, Read, Write};
 use std::net::{Net, TcpListener, TcpStream};
 use std::rt::Clock;
@@ -43,8 +45,8 @@ fn connection<R: Net<Listener = TcpListener, Stream = TcpStream>>(
     rt: &R,
 ) -> io::Result<(TcpStream, TcpStream)> {
     let listener = TcpListener::bind(rt, "127.0.0.1:0")?;
-    let client = TcpStream::connect(rt, listener.local_addr()?)?;
-    let (input, _) = listener.accept()?;
+    let client = TcpStream::connect(rt, listener.local_addr()?);
+    let (client, (input, _)) = both(client, listener.accept())?;
     Ok((input, client))
 }
 
@@ -111,6 +113,10 @@ fn times_of<R: Net<Listener = TcpListener, Stream = TcpStream> + Wait + Clock>(
     })
 }
 
+fn shared<T: Drop>(alloc: Global, value: T) -> io::Result<Arc<T>> {
+    Ok(Arc::new(alloc, value)?)
+}
+
 fn waited<R: Net<Listener = TcpListener, Stream = TcpStream> + Wait + Clock + AllocGlobal>(
     rt: &R,
     wakers: &IdleWakers,
@@ -118,8 +124,8 @@ fn waited<R: Net<Listener = TcpListener, Stream = TcpStream> + Wait + Clock + Al
     let [waker, ..] = wakers.as_slice() else {
         return Err(io::Error::from(ErrorKind::InvalidData));
     };
-    let (input, mut client) = connection(rt)?;
-    let input = Arc::new(rt.alloc(), input)?;
+    let (input, client) = connection(rt)?;
+    let (input, mut client) = both(shared(rt.alloc(), input), Ok(client))?;
     match WakeableStream::new(rt, rt.alloc(), wakers, waker, input) {
         Ok(mut input) => times_of(rt, wakers, &mut input, &mut client),
         Err(error) => Err(error),

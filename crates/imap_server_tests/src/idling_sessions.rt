@@ -3,6 +3,7 @@
 ghost use Rattle.std.specs.Prelude.{◌≡◌};
 
 use crate::hosts::{ask, hall, host, make, seat};
+use crate::owned::both;
 use crate::serving::{IDLE_TICKS, Standing};
 use imap_core::{Act, SessionId};
 use imap_hall::Room;
@@ -55,9 +56,8 @@ fn seats<K: Keeper, L: Ledger>(
     alloc: Global,
     host: &mut Host<K, L>,
 ) -> Result<(Seat<L>, Seat<L>), AllocError> {
-    let root = seat(alloc, host, "root")?;
-    let bob = seat(alloc, host, "bob")?;
-    Ok((root, bob))
+    let root = seat(alloc, host, "root");
+    both(root, seat(alloc, host, "bob"))
 }
 
 /// Serves the session of this room with what root does. How it ends.

@@ -28,7 +28,7 @@ mod lasting;
 #[cfg(test)]
 mod leaving;
 #[cfg(test)]
-mod lines;
+mod owned;
 #[cfg(test)]
 mod peers;
 #[cfg(test)]

@@ -3,8 +3,10 @@
 ghost use Rattle.std.specs.Prelude.{◌≡◌};
 
 use crate::hosts::{hall, host, user};
-use imap_host::{Door, Host, PARTS};
+use crate::owned::{both, push};
+use imap_host::{Door, Host, PARTS, Seat};
 use imap_keeper::{Keeper, ListKeeper};
+use imap_names::UserName;
 use imap_service::{
     ClientDoor, IdleWakers, LogLevel, Port, PortDoor, Reception, Receptionist, Report, SEATS,
     listen_at, posts,
@@ -33,9 +35,17 @@ fn connection<R: Net<Listener = TcpListener, Stream = TcpStream>>(
     rt: &R,
     listener: &TcpListener,
 ) -> io::Result<(TcpStream, TcpStream)> {
-    let client = TcpStream::connect(rt, listener.local_addr()?)?;
-    let (stream, _) = listener.accept()?;
+    let client = TcpStream::connect(rt, listener.local_addr()?);
+    let (client, (stream, _)) = both(client, listener.accept())?;
     Ok((client, stream))
+}
+
+fn named(alloc: Global, text: &str) -> io::Result<UserName> {
+    Ok(user(alloc, text)?)
+}
+
+fn reception(alloc: Global, listener: TcpListener) -> io::Result<Reception> {
+    Ok(Reception::new(alloc, listener)?)
 }
 
 /// What a client is told until the connection ends.
@@ -53,12 +63,47 @@ fn connections<R: Net<Listener = TcpListener, Stream = TcpStream> + AllocGlobal>
 ) -> io::Result<(Vec<TcpStream>, Vec<TcpStream>)> {
     let mut clients = Vec::new(rt.alloc());
     let mut streams = Vec::new(rt.alloc());
+    let connected = connect_all(rt, listener, count, &mut clients, &mut streams);
+    let (_, both) = both(connected, Ok((clients, streams)))?;
+    Ok(both)
+}
+
+fn connect_all<R: Net<Listener = TcpListener, Stream = TcpStream>>(
+    rt: &R,
+    listener: &TcpListener,
+    count: usize,
+    clients: &mut Vec<TcpStream>,
+    streams: &mut Vec<TcpStream>,
+) -> io::Result<()> {
     for _ in 0..count {
-        let (client, stream) = connection(rt, listener)?;
-        clients.push(client)?;
-        streams.push(stream)?;
+        push_both(clients, streams, connection(rt, listener))?;
     }
-    Ok((clients, streams))
+    Ok(())
+}
+
+fn push_both<A: Drop, B: Drop>(
+    ones: &mut Vec<A>,
+    others: &mut Vec<B>,
+    pair: io::Result<(A, B)>,
+) -> io::Result<()> {
+    let (one, other) = pair?;
+    ones.push(one)?;
+    others.push(other)?;
+    Ok(())
+}
+
+/// Lets all connections in as those of ann's clients.
+fn admit_all<R: Net<Listener = TcpListener, Stream = TcpStream> + Wait + Eprint + AllocGlobal>(
+    rt: &R,
+    reception: &Reception,
+    streams: Vec<TcpStream>,
+) -> io::Result<()> {
+    let (user, streams) = both(named(rt.alloc(), "ann"), Ok(streams))?;
+    let report = Report::new(rt, LogLevel::Off);
+    for stream in streams {
+        reception.admit(rt, &user, &report, stream);
+    }
+    Ok(())
 }
 
 /// What the last of seventeen clients is told.
@@ -66,15 +111,17 @@ fn last_of_seventeen<
     R: Net<Listener = TcpListener, Stream = TcpStream> + Wait + Eprint + AllocGlobal,
 >(rt: &R) -> io::Result<Vec<u8>> {
     let listener = listener(rt)?;
-    let (mut clients, streams) = connections(rt, &listener, SEATS + 1)?;
-    let reception = Reception::new(rt.alloc(), listener)?;
-    let user = user(rt.alloc(), "ann")?;
-    let report = Report::new(rt, LogLevel::Off);
-    for stream in streams {
-        reception.admit(rt, &user, &report, stream);
-    }
-    match clients.pop() {
-        Some(mut client) => told(rt.alloc(), &mut client),
+    let connected = connections(rt, &listener, SEATS + 1);
+    let (reception, (clients, streams)) = both(reception(rt.alloc(), listener), connected)?;
+    let admitted = admit_all(rt, &reception, streams);
+    drop(reception);
+    let (_, clients) = both(admitted, Ok(clients))?;
+    told_last(rt.alloc(), clients)
+}
+
+fn told_last(alloc: Global, mut clients: Vec<TcpStream>) -> io::Result<Vec<u8>> {
+    match clients.last_mut() {
+        Some(client) => told(alloc, client),
         None => Err(io::Error::from(io::ErrorKind::NotFound)),
     }
 }
@@ -149,30 +196,48 @@ fn done<
     R: Net<Listener = TcpListener, Stream = TcpStream> + Wait + Clock + Eprint + Sync + AllocGlobal,
 >(rt: &R, deed: &D) -> io::Result<bool> {
     let listener = listener(rt)?;
-    let (mut client, stream) = connection(rt, &listener)?;
-    let reception = Reception::new(rt.alloc(), listener)?;
-    let user = user(rt.alloc(), "ann")?;
-    let report = Report::new(rt, LogLevel::Off);
-    reception.admit(rt, &user, &report, stream);
+    let connected = both(named(rt.alloc(), "ann"), connection(rt, &listener));
+    let made = both(reception(rt.alloc(), listener), connected);
+    let (reception, (user, (mut client, stream))) = made?;
+    reception.admit(rt, &user, &Report::new(rt, LogLevel::Off), stream);
+    let done = done_at(rt, deed, &reception, &user, &mut client);
+    drop(reception);
+    drop(user);
+    drop(client);
+    done
+}
+
+/// Does it with the client who was admitted.
+fn done_at<
+    D: Deed,
+    R: Net<Listener = TcpListener, Stream = TcpStream> + Wait + Clock + Eprint + Sync + AllocGlobal,
+>(
+    rt: &R,
+    deed: &D,
+    reception: &Reception,
+    user: &UserName,
+    client: &mut TcpStream,
+) -> io::Result<bool> {
     let wakers = IdleWakers::new(rt.alloc(), 1)?;
+    let report = Report::new(rt, LogLevel::Off);
     let [waker, ..] = wakers.as_slice() else {
         return Ok(false);
     };
     let mut door = ClientDoor {
         rt,
         alloc: rt.alloc(),
-        reception: &reception,
+        reception,
         wakers: &wakers,
         waker,
         report: &report,
-        user: &user,
+        user,
         number: 1,
         write_timeout: Duration::from_millis(100),
         has_client: false,
     };
     match door.next() {
         Some((mut input, mut output)) => {
-            deed.is_done(rt.alloc(), &mut client, &mut input, &mut output)
+            deed.is_done(rt.alloc(), client, &mut input, &mut output)
         }
         None => Ok(false),
     }
@@ -200,15 +265,15 @@ fn listens_at_this_machine_alone(rt: HostRuntime) {
 
 /// The ports of ann and of bob.
 fn ports(alloc: Global) -> Result<Vec<Port>, AllocError> {
-    let ann = Port {
-        user: user(alloc, "ann")?,
-        number: 1143,
-    };
-    let bob = Port {
-        user: user(alloc, "bob")?,
-        number: 1144,
-    };
-    Ok(vec![in alloc; ann, bob]?)
+    let mut ports = Vec::new(alloc);
+    push(&mut ports, port(alloc, "ann", 1143))?;
+    push(&mut ports, port(alloc, "bob", 1144))?;
+    Ok(ports)
+}
+
+fn port(alloc: Global, text: &str, number: u16) -> Result<Port, AllocError> {
+    let user = user(alloc, text)?;
+    Ok(Port { user, number })
 }
 
 /// Two receptions, and their ports.
@@ -217,7 +282,7 @@ fn receptions<R: Net<Listener = TcpListener, Stream = TcpStream> + AllocGlobal>(
 ) -> io::Result<Vec<Reception>> {
     let mut receptions = Vec::new(rt.alloc());
     for _ in 0..2 {
-        receptions.push(Reception::new(rt.alloc(), listener(rt)?)?)?;
+        push(&mut receptions, Reception::new(rt.alloc(), listener(rt)?))?;
     }
     Ok(receptions)
 }
@@ -236,26 +301,53 @@ fn are_seated<
     L: Ledger,
     R: Net<Listener = TcpListener, Stream = TcpStream> + Wait + Clock + Eprint + AllocGlobal,
 >(rt: &R, host: &mut Host<K, L>) -> io::Result<bool> {
-    let ports = ports(rt.alloc())?;
-    let receptions = receptions(rt)?;
+    let (ports, receptions) = both(two_ports(rt.alloc()), receptions(rt))?;
+    let are_seated = are_seated_at(rt, host, &ports, &receptions);
+    drop(ports);
+    drop(receptions);
+    are_seated
+}
+
+fn two_ports(alloc: Global) -> io::Result<Vec<Port>> {
+    Ok(ports(alloc)?)
+}
+
+/// The same at these ports.
+fn are_seated_at<
+    K: Keeper,
+    L: Ledger,
+    R: Net<Listener = TcpListener, Stream = TcpStream> + Wait + Clock + Eprint + AllocGlobal,
+>(rt: &R, host: &mut Host<K, L>, ports: &[Port], receptions: &[Reception]) -> io::Result<bool> {
     let wakers = IdleWakers::new(rt.alloc(), 2 * SEATS)?;
     let report = Report::new(rt, LogLevel::Off);
-    let Ok(posts) = posts(rt, &report, host, &ports, &receptions, &wakers) else {
-        return Ok(false);
-    };
+    match posts(rt, &report, host, ports, receptions, &wakers) {
+        Ok(posts) => {
+            let are_seated = are_posts(posts.as_slice(), receptions);
+            drop(posts);
+            Ok(are_seated)
+        }
+        Err(_) => Ok(false),
+    }
+}
+
+/// Whether the posts are those seats with these doors.
+fn are_posts<L: Ledger, R: Net<Listener = TcpListener, Stream = TcpStream> + Wait + Clock + Eprint>(
+    posts: &[(Seat<L>, PortDoor<'_, R>)],
+    receptions: &[Reception],
+) -> bool {
     let mut count: usize = 0;
-    for (seat, door) in &posts {
+    for (seat, door) in posts {
         let name = seat.who.user.as_str();
         let is_seated = match door {
-            PortDoor::Serving(door) => is_served(door, name, count, &receptions),
-            PortDoor::Receiving(door) => is_received(door, name, count, &receptions),
+            PortDoor::Serving(door) => is_served(door, name, count, receptions),
+            PortDoor::Receiving(door) => is_received(door, name, count, receptions),
         };
         if !is_seated {
-            return Ok(false);
+            return false;
         }
         count = count.saturating_add(1);
     }
-    Ok(count == 2 * SEATS + 2)
+    count == 2 * SEATS + 2
 }
 
 /// Whether the seat at this index is of the user whose it should be, and its door at the user's port.

@@ -6,6 +6,7 @@ use imap_core::{Act, Moment, SessionId, SessionNumber, Step};
 use imap_hall::{Entry, Hall, Room};
 use imap_keeper::{Keeper, ListKeeper};
 use imap_names::UserName;
+use imap_rights::Groups;
 use imap_script::DEFAULT_LIMITS;
 use imap_serve::{End, Gate, Moments, OpenGate, ServeError, Watched, serve};
 use imap_world::World;
@@ -40,7 +41,7 @@ fn session(alloc: Global, number: u32) -> Result<SessionId, AllocError> {
 }
 
 /// What became of a session.
-#[derive(Debug, Drop)]
+#[derive(Drop)]
 pub(crate) struct Served {
     pub(crate) written: Vec<u8>,
     pub(crate) end: Result<End, ServeError>,
@@ -93,7 +94,8 @@ pub(crate) fn serve_in<W: Wait + AllocGlobal, R: Room, G: Gate>(
 pub(crate) fn new_hall(alloc: Global) -> Result<Hall<ListKeeper>, AllocError> {
     let administrator = ann(alloc)?;
     let keeper = ListKeeper::new(World::new(alloc));
-    match Hall::open(alloc, keeper, administrator, &[], DEFAULT_LIMITS) {
+    let groups = Groups::new(alloc);
+    match Hall::open(alloc, keeper, administrator, &[], groups, DEFAULT_LIMITS) {
         Ok(hall) => Ok(hall),
         Err(_) => Err(AllocError),
     }

@@ -2,8 +2,8 @@
 
 ghost use Rattle.std.specs.Prelude.{◌≡◌};
 
-use crate::doors::Clients;
-use crate::hosts::{ask, hall, host, make, seat, seats_of, settled};
+use crate::hosts::{Posts, ask, hall, host, make, posts, settled};
+use crate::owned::firsts;
 use crate::serving::{IDLE_TICKS, Standing};
 use imap_core::Act;
 use imap_hall::Hall;
@@ -58,30 +58,19 @@ struct Ending {
 }
 
 /// Four seats, through whose doors five clients come.
-fn posts<K: Keeper, L: Ledger>(
-    alloc: Global,
-    host: &mut Host<K, L>,
-) -> Result<Vec<(Seat<L>, Clients)>, AllocError> {
-    let mut posts = Vec::new(alloc);
-    for text in ["root", "bob", "root", "bob"] {
-        let seat = seat(alloc, host, text)?;
-        posts.push((
-            seat,
-            Clients {
-                left: 5,
-                text: SENT,
-            },
-        ))?;
-    }
-    Ok(posts)
-}
+const POSTS: [Posts; 4] = [
+    ("root", 1, 5, SENT),
+    ("bob", 1, 5, SENT),
+    ("root", 1, 5, SENT),
+    ("bob", 1, 5, SENT),
+];
 
 /// The seats after their clients were served.
 fn served<K: Keeper + Send, L: Ledger + Send + Sync, R: Threads + Wait + AllocGlobal + Sync>(
     rt: &R,
     host: &mut Host<K, L>,
 ) -> Result<Vec<Seat<L>>, AllocError> {
-    let mut posts = posts(rt.alloc(), host)?;
+    let mut posts = posts(rt.alloc(), host, &POSTS)?;
     let slice = posts.as_mut_slice();
     let _ran = crew(
         rt,
@@ -93,7 +82,7 @@ fn served<K: Keeper + Send, L: Ledger + Send + Sync, R: Threads + Wait + AllocGl
         DEFAULT_LIMITS.max_octets,
         IDLE_TICKS,
     );
-    seats_of(rt.alloc(), posts)
+    firsts(rt.alloc(), posts)
 }
 
 /// Has the first seat begin the journal anew, and each seat make two calls after that. Returns how

@@ -2,8 +2,8 @@
 
 ghost use Rattle.std.specs.Prelude.{◌≡◌};
 
-use crate::doors::Clients;
-use crate::hosts::{hall, host, seat, seats_of, settled};
+use crate::hosts::{Posts, hall, host, posts, settled};
+use crate::owned::firsts;
 use crate::serving::{IDLE_TICKS, Standing};
 use imap_core::SessionId;
 use imap_hall::Entry;
@@ -11,7 +11,6 @@ use imap_host::{Host, PARTS, Seat, SettleError, crew};
 use imap_keeper::{Keeper, ListKeeper};
 use imap_script::DEFAULT_LIMITS;
 use imap_serve::{Gate, OpenGate};
-use std::alloc::{AllocError, Global};
 use std::marker::Brand;
 use std::rt::Clock;
 use std::sync::Wait;
@@ -66,21 +65,10 @@ impl<'a, R: Clock> Gate for Waiting<'a, R> {
 }
 
 /// One client for root, who sends one request, and one for bob, who sends two.
-fn two_posts<K: Keeper, L: Ledger>(
-    alloc: Global,
-    host: &mut Host<K, L>,
-) -> Result<Vec<(Seat<L>, Clients)>, AllocError> {
-    let mut posts = Vec::new(alloc);
-    for (user, text) in [("root", ONE), ("bob", TWO)] {
-        let seat = seat(alloc, host, user)?;
-        posts.push((seat, Clients { left: 1, text }))?;
-    }
-    Ok(posts)
-}
-
-const ONE: &[u8] = b"a1 NOOP\r\n";
-
-const TWO: &[u8] = b"b1 NOOP\r\nb2 NOOP\r\n";
+const TWO_POSTS: [Posts; 2] = [
+    ("root", 1, 1, b"a1 NOOP\r\n"),
+    ("bob", 1, 1, b"b1 NOOP\r\nb2 NOOP\r\n"),
+];
 
 /// Whether root's first request was held back, and then let through by the answer to bob's second.
 fn waits<K: Keeper + Send, L: Ledger + Send + Sync, R: Threads + Wait + Clock + AllocGlobal + Sync>(
@@ -93,7 +81,7 @@ fn waits<K: Keeper + Send, L: Ledger + Send + Sync, R: Threads + Wait + Clock + 
         is_held: AtomicBool::new(false),
         is_open: AtomicBool::new(false),
     };
-    let Ok(mut posts) = two_posts(rt.alloc(), host) else {
+    let Ok(mut posts) = posts(rt.alloc(), host, &TWO_POSTS) else {
         return false;
     };
     let posts = posts.as_mut_slice();
@@ -159,32 +147,19 @@ n NOOP\r\nn NOOP\r\nn NOOP\r\nn NOOP\r\nn NOOP\r\nn NOOP\r\n";
 
 /// Four users with 16 seats each, as many as may be open at once, through whose doors one client
 /// each comes.
-fn many_posts<K: Keeper, L: Ledger>(
-    alloc: Global,
-    host: &mut Host<K, L>,
-) -> Result<Vec<(Seat<L>, Clients)>, AllocError> {
-    let mut posts = Vec::new(alloc);
-    for text in ["ann", "bob", "cat", "root"] {
-        for _ in 0..16 {
-            let seat = seat(alloc, host, text)?;
-            posts.push((
-                seat,
-                Clients {
-                    left: 1,
-                    text: TWENTY,
-                },
-            ))?;
-        }
-    }
-    Ok(posts)
-}
+const MANY_POSTS: [Posts; 4] = [
+    ("ann", 16, 1, TWENTY),
+    ("bob", 16, 1, TWENTY),
+    ("cat", 16, 1, TWENTY),
+    ("root", 16, 1, TWENTY),
+];
 
 /// The seats after their clients were served, or `None` if not all workers ran.
 fn serves<K: Keeper + Send, L: Ledger + Send + Sync, R: Threads + Wait + AllocGlobal + Sync>(
     rt: &R,
     host: &mut Host<K, L>,
 ) -> Option<Vec<Seat<L>>> {
-    let Ok(mut posts) = many_posts(rt.alloc(), host) else {
+    let Ok(mut posts) = posts(rt.alloc(), host, &MANY_POSTS) else {
         return None;
     };
     let slice = posts.as_mut_slice();
@@ -201,7 +176,7 @@ fn serves<K: Keeper + Send, L: Ledger + Send + Sync, R: Threads + Wait + AllocGl
     if ran.is_err() {
         return None;
     }
-    seats_of(rt.alloc(), posts).ok()
+    firsts(rt.alloc(), posts).ok()
 }
 
 /// Ends the host with these seats, and returns how many steps were made.

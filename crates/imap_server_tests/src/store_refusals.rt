@@ -4,6 +4,7 @@ use crate::connection::WHOLE;
 use crate::serving::{ann, ends_with_leave, expect_after_greeting, serve_in, shown, with_entries};
 use imap_hall::{Hall, OpenError};
 use imap_keeper::{Keeper, ListKeeper, Refuser};
+use imap_rights::Groups;
 use imap_script::DEFAULT_LIMITS;
 use imap_serve::OpenGate;
 use imap_world::World;
@@ -14,7 +15,8 @@ use std::sync::Wait;
 fn hall(alloc: Global, saves: u64) -> Result<Hall<Refuser<ListKeeper>>, OpenError> {
     let administrator = ann(alloc)?;
     let keeper = Refuser::new(ListKeeper::new(World::new(alloc)), saves);
-    match Hall::open(alloc, keeper, administrator, &[], DEFAULT_LIMITS) {
+    let groups = Groups::new(alloc);
+    match Hall::open(alloc, keeper, administrator, &[], groups, DEFAULT_LIMITS) {
         Ok(hall) => Ok(hall),
         Err((error, keeper)) => {
             drop(keeper.release());

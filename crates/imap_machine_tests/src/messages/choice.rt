@@ -1,5 +1,6 @@
 //! Effects that look random, by the rights of those who ask for them.
 
+use crate::machine::{both, push};
 use crate::messages::mailboxes::{PATHS, PlainWorld, USERS};
 use crate::messages::plain::{Folded, PlainRow, fold};
 use crate::world::{name, user};
@@ -8,11 +9,10 @@ use imap_batch::{Batch, FlagUpdate, NewMessage};
 use imap_lex::Octets;
 use imap_mailbox::SharedFlags;
 use imap_names::{Name, UserName};
-use imap_rights::{Identifier, Rights, RightsChange, read_rights};
+use imap_rights::{Groups, Identifier, Rights, RightsChange, SharedGroups, read_rights};
 use imap_syntax::{DateTime, Items};
 use imap_world::{Effect, Limits, NamedBatch, Site};
 use std::alloc::{AllocError, Global};
-use std::test::Fail;
 
 /// The most messages of a mailbox.
 pub(crate) const MAX_MESSAGES: usize = 30;
@@ -53,36 +53,45 @@ pub(crate) struct Setting {
     pub names: Vec<Name>,
 }
 
-fn identifiers(alloc: Global) -> Result<Vec<Identifier>, Fail> {
+fn identifier(alloc: Global, text: &str) -> Result<Identifier, AllocError> {
+    Identifier::read(alloc, text.as_bytes()).map_err(|_| AllocError)
+}
+
+fn identifiers(alloc: Global) -> Result<Vec<Identifier>, AllocError> {
     let mut all = Vec::new(alloc);
     for text in &USERS {
-        all.push(Identifier::read(alloc, text.as_bytes())?)?;
+        push(&mut all, identifier(alloc, text))?;
     }
     Ok(all)
 }
 
-fn users(alloc: Global) -> Result<Vec<UserName>, Fail> {
+fn users(alloc: Global) -> Result<Vec<UserName>, AllocError> {
     let mut all = Vec::new(alloc);
     for text in &USERS {
-        all.push(user(alloc, text)?)?;
+        push(&mut all, user(alloc, text))?;
     }
     Ok(all)
 }
 
-fn names(alloc: Global) -> Result<Vec<Name>, Fail> {
+fn shared_name(alloc: Global, path: &str) -> Result<Name, AllocError> {
+    let text = format!(in alloc; "Shared/{path}")?;
+    name(alloc, text.as_str())
+}
+
+fn names(alloc: Global) -> Result<Vec<Name>, AllocError> {
     let mut all = Vec::new(alloc);
     for path in &PATHS {
-        let text = format!(in alloc; "Shared/{path}")?;
-        all.push(name(alloc, text.as_str())?)?;
+        push(&mut all, shared_name(alloc, path))?;
     }
     Ok(all)
 }
 
-pub(crate) fn make_setting(alloc: Global) -> Result<Setting, Fail> {
-    let users = users(alloc)?;
-    let identifiers = identifiers(alloc)?;
-    let names = names(alloc)?;
-    let administrator = user(alloc, "ann")?;
+pub(crate) fn make_setting(alloc: Global) -> Result<Setting, AllocError> {
+    let groups = SharedGroups::new(alloc, Groups::new(alloc));
+    let ((users, identifiers), (names, (administrator, groups))) = both(
+        both(users(alloc), identifiers(alloc)),
+        both(names(alloc), both(user(alloc, "ann"), groups)),
+    )?;
     let limits = Limits {
         max_messages: MAX_MESSAGES as u64,
         max_octets: 1_000,
@@ -91,6 +100,7 @@ pub(crate) fn make_setting(alloc: Global) -> Result<Setting, Fail> {
         site: Site {
             administrator,
             limits,
+            groups,
         },
         users,
         identifiers,
@@ -158,15 +168,26 @@ impl Asker {
     }
 
     /// Up to `most` messages, of which the user has seen some.
-    fn messages(self, alloc: Global, most: usize) -> Result<Items<NewMessage>, AllocError> {
+    fn messages(self, alloc: Global, most: usize) -> Result<Vec<NewMessage>, AllocError> {
         let mut added = Vec::new(alloc);
+        let pushed = self.push_messages(alloc, &mut added, most);
+        let ((), added) = both(pushed, Ok(added))?;
+        Ok(added)
+    }
+
+    fn push_messages(
+        self,
+        alloc: Global,
+        added: &mut Vec<NewMessage>,
+        most: usize,
+    ) -> Result<(), AllocError> {
         let mut salt: u32 = 60;
         for _ in 0..most {
             let seen = self.holds(Rights::SEEN) && is_chosen(self.step, salt, 3);
-            added.push(new_message(alloc, seen)?)?;
+            push(added, new_message(alloc, seen))?;
             salt = salt.wrapping_add(1);
         }
-        Ok(Items::from_vec(added))
+        Ok(())
     }
 
     fn mark(self, alloc: Global, row: PlainRow) -> FlagUpdate {
@@ -180,18 +201,29 @@ impl Asker {
     }
 
     /// Flags that change of some of the rows.
-    fn marks(self, alloc: Global, rows: &[PlainRow]) -> Result<Items<FlagUpdate>, AllocError> {
+    fn marks(self, alloc: Global, rows: &[PlainRow]) -> Result<Vec<FlagUpdate>, AllocError> {
         let mut marks = Vec::new(alloc);
+        let pushed = self.push_marks(alloc, &mut marks, rows);
+        let ((), marks) = both(pushed, Ok(marks))?;
+        Ok(marks)
+    }
+
+    fn push_marks(
+        self,
+        alloc: Global,
+        marks: &mut Vec<FlagUpdate>,
+        rows: &[PlainRow],
+    ) -> Result<(), AllocError> {
         for row in rows {
             if self.may_read() && is_chosen(self.step, row.uid.wrapping_add(2000), 3) {
-                marks.push(self.mark(alloc, *row))?;
+                push(marks, Ok(self.mark(alloc, *row)))?;
             }
         }
-        Ok(Items::from_vec(marks))
+        Ok(())
     }
 
     /// The UIDs of some of the rows.
-    fn uids(self, alloc: Global, rows: &[PlainRow]) -> Result<Items<u32>, AllocError> {
+    fn uids(self, alloc: Global, rows: &[PlainRow]) -> Result<Vec<u32>, AllocError> {
         let may_expunge = self.may_read() && self.holds(Rights::EXPUNGE);
         let mut uids = Vec::new(alloc);
         for row in rows {
@@ -199,7 +231,7 @@ impl Asker {
                 uids.push(row.uid)?;
             }
         }
-        Ok(Items::from_vec(uids))
+        Ok(uids)
     }
 
     /// How many messages are added, if `wanted` are, and at most as many as there is room for.
@@ -219,14 +251,15 @@ impl Asker {
         wanted: usize,
         known: &Folded,
     ) -> Result<Batch, AllocError> {
-        let added = self.messages(alloc, self.most_added(wanted, known))?;
-        let marks = self.marks(alloc, known.rows.as_slice())?;
-        let expunged = self.uids(alloc, known.rows.as_slice())?;
+        let rows = known.rows.as_slice();
+        let added = self.messages(alloc, self.most_added(wanted, known));
+        let changes = both(self.marks(alloc, rows), self.uids(alloc, rows));
+        let (user, (added, (marks, expunged))) = both(Ok(user), both(added, changes))?;
         Ok(Batch {
             user,
-            added,
-            marks,
-            expunged,
+            added: Items::from_vec(added),
+            marks: Items::from_vec(marks),
+            expunged: Items::from_vec(expunged),
         })
     }
 }
@@ -274,22 +307,25 @@ impl Chooser<'_> {
 
     /// A batch of the user's, which adds up to `wanted` messages.
     fn part(self, place: usize, user: usize, wanted: usize) -> Result<NamedBatch, AllocError> {
-        let name = self.setting.name(place)?;
-        let owner = self.setting.user(user)?;
-        let known = self.known(place, user)?;
-        let asker = self.asker(place, user);
-        let batch = asker.batch(self.model.alloc, owner, wanted, &known)?;
+        let batch = self.batch(place, user, wanted);
+        let (name, batch) = both(self.setting.name(place), batch)?;
         Ok(NamedBatch { name, batch })
+    }
+
+    fn batch(self, place: usize, user: usize, wanted: usize) -> Result<Batch, AllocError> {
+        let (owner, known) = both(self.setting.user(user), self.known(place, user))?;
+        let asker = self.asker(place, user);
+        let batch = asker.batch(self.model.alloc, owner, wanted, &known);
+        drop(known);
+        batch
     }
 
     /// Two batches: the other mailbox gets as many messages as are expunged, as by MOVE, or some.
     fn two_parts(self, part: NamedBatch, other: usize, user: usize) -> Result<Effect, AllocError> {
         let moved = part.batch.expunged.as_slice().len();
         let wanted = if moved == 0 { self.pick(8, 3) } else { moved };
-        match self.part(other, user, wanted) {
-            Ok(other) => Ok(Effect::Messages(part, Some(other))),
-            Err(error) => Err(error),
-        }
+        let (part, other) = both(Ok(part), self.part(other, user, wanted))?;
+        Ok(Effect::Messages(part, Some(other)))
     }
 
     fn messages(self, place: usize, user: usize) -> Result<Effect, AllocError> {
@@ -303,8 +339,8 @@ impl Chooser<'_> {
 
     /// The tree is ann's.
     fn creation(self, place: usize) -> Result<Effect, AllocError> {
-        let owner = self.setting.user(0)?;
-        Ok(Effect::Create(owner, self.setting.name(place)?))
+        let (owner, name) = both(self.setting.user(0), self.setting.name(place))?;
+        Ok(Effect::Create(owner, name))
     }
 
     fn deletion(self, place: usize) -> Result<Effect, AllocError> {
@@ -312,14 +348,14 @@ impl Chooser<'_> {
     }
 
     fn renaming(self, old: usize, new: usize) -> Result<Effect, AllocError> {
-        let owner = self.setting.user(0)?;
-        let old = self.setting.name(old)?;
-        Ok(Effect::Rename(owner, old, self.setting.name(new)?))
+        let names = both(self.setting.name(old), self.setting.name(new));
+        let (owner, (old, new)) = both(self.setting.user(0), names)?;
+        Ok(Effect::Rename(owner, old, new))
     }
 
     fn giving(self, place: usize, user: usize, letters: usize) -> Result<Effect, AllocError> {
-        let name = self.setting.name(place)?;
-        let identifier = self.setting.identifier(self.model.alloc, user)?;
+        let identifier = self.setting.identifier(self.model.alloc, user);
+        let (name, identifier) = both(self.setting.name(place), identifier)?;
         let change = LETTERS.get(letters).and_then(|text| read_rights(text));
         let none = RightsChange::Replace(Rights::empty());
         Ok(Effect::SetRights(name, identifier, change.unwrap_or(none)))

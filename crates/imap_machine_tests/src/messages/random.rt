@@ -3,6 +3,7 @@
 ghost use Rattle.imap_batch.specs.Written.{MayWrite};
 ghost use Rattle.imap_mailbox.specs.Held.{summary_in};
 
+use crate::machine::both;
 use crate::messages::choice::{MAX_MESSAGES, Setting, chosen_effect, make_setting};
 use crate::messages::mailboxes::{PATHS, PlainWorld, USERS};
 use crate::messages::plain::{Folded, PlainRow};
@@ -13,7 +14,6 @@ use imap_rights::Rights;
 use imap_view::{Seen, View};
 use imap_world::{Effect, NamedBatch, World, WorldError};
 use std::alloc::{AllocError, Global};
-use std::test::Fail;
 
 // ---- what a user sees of a mailbox
 
@@ -230,20 +230,22 @@ fn count_steps(
     Ok((made, refused))
 }
 
-fn random_effects(alloc: Global, world: &mut World) -> Result<(u32, u32), Fail> {
-    let setting = make_setting(alloc)?;
-    let mut model = PlainWorld::new(alloc)?;
-    Ok(count_steps(&setting, world, &mut model)?)
+fn random_effects(alloc: Global, world: &mut World) -> Result<(u32, u32), WorldError> {
+    let (setting, mut model) = both(make_setting(alloc), PlainWorld::new(alloc))?;
+    count_steps(&setting, world, &mut model)
 }
 
 /// Rows, numbers, UIDs that are gone, room and UIDNEXT of each user are those that the events give.
 #[test]
-fn random_effects_are_their_events(rt: HostRuntime) -> Result<(), Fail> {
+fn random_effects_are_their_events(rt: HostRuntime) {
     let mut world = World::new(rt.alloc());
     let counts = random_effects(rt.alloc(), &mut world);
     drop(world);
-    let (made, refused) = counts?;
-    assert_eq!(rt; made.saturating_add(refused), 500);
-    assert!(rt; made > 300 && refused > 100, "{made} {refused}");
-    Ok(())
+    match counts {
+        Ok((made, refused)) => assert!(rt;
+            made.saturating_add(refused) == 500 && made > 300 && refused > 100,
+            "{made} {refused}"
+        ),
+        Err(error) => panic!(rt; "{error:?}"),
+    }
 }

@@ -1,11 +1,11 @@
 //! Copies that share mailboxes, beside a world that shares none.
 
+use crate::machine::both;
 use crate::messages::choice::{Setting, chosen_effect, make_setting};
 use crate::messages::mailboxes::PlainWorld;
 use crate::world::make;
 use imap_world::{World, WorldError};
 use std::alloc::{AllocError, Global};
-use std::test::Fail;
 
 /// A world, and one with the same mailboxes that it shares with nobody.
 #[derive(Drop)]
@@ -58,9 +58,8 @@ fn take_step(
 }
 
 /// How many effects are made, up to the first that a copy isn't apart from.
-fn count_steps(alloc: Global, worlds: &mut Worlds) -> Result<u32, Fail> {
-    let setting = make_setting(alloc)?;
-    let mut model = PlainWorld::new(alloc)?;
+fn count_steps(alloc: Global, worlds: &mut Worlds) -> Result<u32, AllocError> {
+    let (setting, mut model) = both(make_setting(alloc), PlainWorld::new(alloc))?;
     for step in 0..200 {
         if !take_step(step, &setting, worlds, &mut model)? {
             return Ok(step);
@@ -71,13 +70,12 @@ fn count_steps(alloc: Global, worlds: &mut Worlds) -> Result<u32, Fail> {
 
 /// A copy that shares mailboxes, and the world that was copied, change apart.
 #[test]
-fn copies_share_mailboxes_until_they_change(rt: HostRuntime) -> Result<(), Fail> {
+fn copies_share_mailboxes_until_they_change(rt: HostRuntime) {
     let mut worlds = Worlds {
         shared: World::new(rt.alloc()),
         alone: World::new(rt.alloc()),
     };
     let count = count_steps(rt.alloc(), &mut worlds);
     drop(worlds);
-    assert_eq!(rt; count?, 200);
-    Ok(())
+    assert!(rt; count == Ok(200), "{count:?}");
 }
