@@ -17,11 +17,21 @@ import tempfile
 SIZES = (200, 2_000, 20_000)
 MESSAGE = "x" * 2_046
 RUNS = 7
+# Bodies of about 2 KB, in lines of up to 76 characters.
+WORDS = "The quick brown fox jumps over the lazy dog and runs into the woods beside Riga"
+RUSSIAN = "Съешь ещё этих мягких французских булок, да выпей чаю у моря"
+PAIRS = [left + right for left in "abcdefghijklmnopqrstuvwxyz0123456789" for right in "abcdefghijklmnopqrstuvwxyz01"][:1_000]
+BODIES = {
+    "ASCII": [WORDS[:76]] * 26,
+    "a letter of another script in each line": [WORDS[:75] + "ā"] * 26,
+    "Cyrillic": [RUSSIAN] * 18,
+    "a thousand texts of two letters": ["".join(PAIRS[place:place + 38]) for place in range(0, 1_000, 38)],
+}
 
 
 def seconds(program, lines):
     """The least processor time of the program over some runs of this script."""
-    with tempfile.NamedTemporaryFile("w", encoding="ascii") as file:
+    with tempfile.NamedTemporaryFile("w", encoding="utf-8") as file:
         file.write("\n".join(lines) + "\n")
         file.flush()
         best = float("inf")
@@ -91,6 +101,34 @@ def once(program, count):
     yield "MOVE 1:*", (seconds(program, [*head(count), "ann.1 < x MOVE 1:* Box"]) - seconds(program, head(count))) * 1e6
 
 
+def mail(count, body):
+    """An INBOX of so many messages with a header and this body, selected."""
+    lines = ["admin root", "user ann", "limit max_messages 100000", "ann.1 open"]
+    for number in range(count):
+        message = [
+            "From: Ann <ann@example.org>", "To: Bob <bob@example.org>", "Date: Fri, 27 Nov 2026 12:00:00 +0000",
+            f"Subject: Report {number}", f"Message-ID: <{number}.report@example.org>", "", *body,
+        ]
+        octets = len("\r\n".join(message).encode())
+        lines += [f"ann.1 < p{number} APPEND INBOX {{{octets}+}}", *(f"ann.1 < {line}" for line in message)]
+    return [*lines, "ann.1 < s SELECT INBOX"]
+
+
+def searches(program, count):
+    """What SEARCH takes in messages with headers: microseconds of one command."""
+    heads = {name: mail(count, body) for name, body in BODIES.items()}
+    for name in list(BODIES)[:3]:
+        yield f"SEARCH BODY hello, {name}", microseconds(program, heads[name], lambda n: [f"a{n} SEARCH BODY hello"], 10)
+    head = heads["ASCII"]
+    for name, keys in {"SEARCH SUBJECT hello": "SUBJECT hello", "100 keys SUBJECT": " ".join(["SUBJECT report"] * 100)}.items():
+        yield name, microseconds(program, head, lambda n, keys=keys: [f"a{n} SEARCH {keys}"], 10)
+    ranges = "1," * 3_999 + "*"
+    yield "SEARCH of a set of 4,000 ranges", microseconds(program, head, lambda n: [f"a{n} SEARCH {ranges}"], 4)
+    if count <= 2_000:
+        pairs, keys = heads["a thousand texts of two letters"], " ".join(f"BODY {pair}" for pair in PAIRS)
+        yield "1,000 keys BODY, all found", microseconds(program, pairs, lambda n: [f"a{n} SEARCH {keys}"], 2)
+
+
 def told(program, count):
     """One flag is changed by one of 16 sessions, and each of the other 15 is told of it by NOOP."""
     others = [f"ann.{number}" for number in range(2, 17)]
@@ -116,6 +154,9 @@ def main():
             _, lines, repeated = commands(count)[place]
             times.append(microseconds(program, heads[count], lines, repeated))
         print(f"| `{name}` | " + " | ".join(f"{it:,.1f}" for it in times) + " |", flush=True)
+    found = [dict(searches(program, count)) for count in SIZES]
+    for name in found[0]:
+        print(f"| `{name}` | " + " | ".join(f"{row[name]:,.0f}" if name in row else "" for row in found) + " |", flush=True)
     made = [dict(once(program, count)) for count in SIZES]
     for name in made[0]:
         print(f"| `{name}` | " + " | ".join(f"{row[name]:,.0f}" for row in made) + " |", flush=True)
