@@ -194,9 +194,9 @@ impl Acl {
         take_entry(&mut self.entries, identifier.as_bytes());
     }
 
-    /// The rights that `user` holds on a mailbox of `owner` with this list (RFC 4314, section 2): those of
-    /// the entries of the user, of `anyone` and of the user's groups, less those of their entries with a
-    /// leading `-`. The owner always has l and a. It takes no memory.
+    /// The rights that `user` holds on a mailbox of `owner` with this list (RFC 4314, section 2). An entry
+    /// counts if its identifier is the user's name, `anyone` or `group:` and a group that the user is in;
+    /// with a leading `-` it takes its rights away. The owner always has l and a. It takes no memory.
     pub fn effective(&self, user: &str, owner: &str, groups: &Groups) -> Rights
         ensures { bits result ≡ effective user.now owner.now groups.now self.now }
     {

@@ -85,7 +85,8 @@ fn add_member(
     group: String,
     user: &str,
 ) -> Result<(), AllocError>
-    ensures ok { OnOk result (members_of members.new ≡ with_member (members_of members.old) (string_bytes group) user.now) }
+    ensures ok { OnOk result
+        (members_of members.new ≡ with_member (members_of members.old) (string_bytes group) user.now) }
     ensures err { OnErr result (members_of members.new ≡ members_of members.old) }
 {
     if members.contains(user) {
@@ -102,7 +103,8 @@ fn add_group(
     user: &str,
 ) -> Result<(), AllocError>
     requires { is_some (map.get members.old.map user.now) ≡ true }
-    ensures ok { OnOk result (members_of members.new ≡ with_member (members_of members.old) (string_bytes group) user.now) }
+    ensures ok { OnOk result
+        (members_of members.new ≡ with_member (members_of members.old) (string_bytes group) user.now) }
     ensures err { OnErr result (members_of members.new ≡ members_of members.old) }
 {
     match members.get_mut(user) {
@@ -119,7 +121,8 @@ fn add_user(
     user: &str,
 ) -> Result<(), AllocError>
     requires { is_some (map.get members.old.map user.now) ≡ false }
-    ensures ok { OnOk result (members_of members.new ≡ with_member (members_of members.old) (string_bytes group) user.now) }
+    ensures ok { OnOk result
+        (members_of members.new ≡ with_member (members_of members.old) (string_bytes group) user.now) }
     ensures err { OnErr result (members_of members.new ≡ members_of members.old) }
 {
     let mut groups = UserMap::new(alloc);

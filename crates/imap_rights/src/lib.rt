@@ -1,5 +1,5 @@
-//! Access rights of mailboxes (RFC 4314): sets of rights, identifiers, access control lists and effective
-//! rights.
+//! Access rights of mailboxes (RFC 4314): sets of rights, identifiers, groups of users, access control lists
+//! and effective rights.
 #![tactic(auto)]
 
 mod acl;

@@ -23,6 +23,7 @@ impl Model for SharedGroups {
 }
 
 impl SharedGroups {
+    /// Moves `groups` to where copies can share them. Fails if memory runs out.
     pub fn new(alloc: Global, groups: Groups) -> Result<SharedGroups, AllocError>
         ensures { IfOk result (λ shared. shared ≡ groups) }
     {
