@@ -48,6 +48,13 @@ goes_on-append {a = a} {b = b} {d = d} {words = words} {more = more} g h = recor
   any = h.any ∙ ap (λ (n : Bool). any_by n more) g.any ∙ any_by-append b words more;
 }
 
+-- after other octets
+pub goes_on_after : (front : List ℕ) {a c : List ℕ} {b d : Bool} {words : List (List ℕ)} → GoesOn a b words c d → GoesOn (front ++ a) b words (front ++ c) d
+goes_on_after front {a = a} {b = b} {words = words} g = record {
+  printed = ap (λ (t : List ℕ). front ++ t) g.printed ∙ sym (append_assoc front a (further b 32 words));
+  any = g.any;
+}
+
 -- what stands between parentheses
 pub enclosed : (out opened closed : List ℕ) (words : List (List ℕ)) (now : Bool) (done : List ℕ) → opened ≡ out ++ 40 ∷ [] → GoesOn opened false words closed now → done ≡ closed ++ 41 ∷ [] → done ≡ out ++ (40 ∷ joined 32 words ++ 41 ∷ [])
 enclosed out opened closed words now done o g d =

@@ -43,15 +43,18 @@ date_words date = given_by (λ time. codes "INTERNALDATE " ++ date_time.text tim
 abbrev pub mod_seq_words : Option ℕ → List (List ℕ)
 mod_seq_words mod_seq = given_by (λ n. codes "MODSEQ (" ++ decimal n ++ codes ")") mod_seq
 
--- the words of a message, in this order
-abbrev pub fetched_words : FetchedItems → List (List ℕ)
-fetched_words items =
+-- the words of a message but its sections, in this order
+abbrev pub item_words : FetchedItems → List (List ℕ)
+item_words items =
     given_by (λ uid. codes "UID " ++ decimal uid) items.uid
     ++ flags_words items.flags
     ++ date_words items.internal_date
     ++ given_by (λ size. codes "RFC822.SIZE " ++ decimal size) items.size
     ++ mod_seq_words items.mod_seq
-    ++ map body_text items.sections
+
+-- the words of a message, in this order
+abbrev pub fetched_words : FetchedItems → List (List ℕ)
+fetched_words items = item_words items ++ map body_text items.sections
 
 abbrev pub fetched_text : FetchedItems → List ℕ
 fetched_text items = in_parentheses (fetched_words items)

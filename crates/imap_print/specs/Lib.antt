@@ -10,3 +10,4 @@ pub mod Printed
 pub mod Ranges
 pub mod ReadBack
 pub mod Lines
+pub mod Pieces

@@ -1,8 +1,8 @@
 //! Every line that the server sends.
 //!
 //! [`Response`] has a variant for each line of RFC 9051, section 7, and of its extensions that the server may
-//! send, and [`print`] gives the octets of a list of these. `specs/Printed.antt` says which octets they are,
-//! and [`laws`] what a client reads in them.
+//! send, and [`print`] and [`print_pieces`] give the octets of a list of these. `specs/Printed.antt` says which
+//! octets they are, and [`laws`] what a client reads in them.
 #![tactic(auto)]
 
 mod acl;
@@ -31,7 +31,7 @@ pub use list::{Children, ListAttributes};
 pub use literal_parts::LiteralParts;
 pub use numbering::NumberSet;
 pub use printable::{fetch_is_printable, flags_are_printable, permanent_flags_are_printable};
-pub use printing::print;
+pub use printing::{print, print_pieces};
 pub use response::{Code, Farewell, Refusal, Response};
 pub use search::SearchResults;
 pub use status::StatusValue;

@@ -1,9 +1,10 @@
 //! The octets in which responses are sent (RFC 9051, section 7).
 
-ghost use Rattle.std.specs.Prelude.{◌≡◌, ◌++◌, OnOk, IfOk, map};
-ghost use Rattle.std.specs.List.{AllByRecursion};
+ghost use Rattle.std.specs.Prelude.{◌≡◌, ◌++◌, false, OnOk, IfOk, map};
+ghost use Rattle.std.specs.List.{AllByRecursion, concat};
 ghost use Rattle.imap_print.specs.Lines.{IsPrintable, AreReadFrom};
 ghost use Rattle.imap_print.specs.declared.response.Response.TheVariants as response;
+ghost use Rattle.imap_print.specs.Pieces.{is_fetch, octets_of};
 ghost use Rattle.imap_print.specs.Printed.{earlier_text, line_text, line, printed};
 
 mod codes;
@@ -11,6 +12,7 @@ mod fetched;
 mod flags;
 mod mailboxes;
 mod numbers;
+mod pieces;
 mod searched;
 mod strings;
 mod words;
@@ -23,9 +25,11 @@ use crate::response::Response;
 use codes::{push_bye, push_capability, push_done, push_greeting, push_moved, push_refused};
 use fetched::push_fetched;
 use flags::{push_all_flags, push_permanent};
-use imap_syntax::{Atom, push_between, push_number};
+use imap_lex::Octets;
+use imap_syntax::{Atom, Items, push_between};
 use mailboxes::{push_acl, push_list, push_list_rights, push_my_rights, push_status};
 use numbers::push_set;
+use pieces::Pieces;
 use searched::push_search;
 use std::alloc::{AllocError, Global};
 use words::push_given;
@@ -37,21 +41,46 @@ pub fn print(alloc: Global, responses: &[Response]) -> Result<Vec<u8>, AllocErro
     ensures lines { IfOk result (λ out.
         AllByRecursion IsPrintable responses.now → AreReadFrom (map line responses.now) out.items) }
 {
-    let mut out = Vec::new(alloc);
+    print_all(alloc, responses)?.into_octets()
+}
+
+/// The octets of the responses, as `print` returns them, in pieces. A long part of a message is a piece that
+/// shares its octets.
+pub fn print_pieces(alloc: Global, responses: &[Response]) -> Result<Items<Octets>, AllocError>
+    ensures { IfOk result (λ pieces. concat pieces ≡ printed responses.now) }
+{
+    print_all(alloc, responses)?.into_pieces()
+}
+
+fn print_all(alloc: Global, responses: &[Response]) -> Result<Pieces, AllocError>
+    ensures { IfOk result (λ out. octets_of out ≡ printed responses.now) }
+{
+    let mut out = Pieces::new(alloc);
     for response in responses {
         push_line(&mut out, response)?;
     }
     Ok(out)
 }
 
-fn push_line(out: &mut Vec<u8>, response: &Response) -> Result<(), AllocError>
-    ensures { OnOk result (out.new.items ≡ out.old.items ++ line response.now) }
+fn push_line(out: &mut Pieces, response: &Response) -> Result<(), AllocError>
+    ensures { OnOk result (octets_of out.new ≡ octets_of out.old ++ line response.now) }
 {
     push_text(out, response)?;
-    out.extend_from_slice(b"\r\n")
+    out.text.extend_from_slice(b"\r\n")
 }
 
-fn push_text(out: &mut Vec<u8>, response: &Response) -> Result<(), AllocError>
+fn push_text(out: &mut Pieces, response: &Response) -> Result<(), AllocError>
+    ensures { OnOk result (octets_of out.new ≡ octets_of out.old ++ line_text response.now) }
+{
+    match response {
+        Response::Fetch { number, items } => push_fetch(out, *number, items),
+        _ => push_short_text(&mut out.text, response),
+    }
+}
+
+/// Appends the text of a line without literals.
+fn push_short_text(out: &mut Vec<u8>, response: &Response) -> Result<(), AllocError>
+    requires { is_fetch response.now ≡ false }
     ensures { OnOk result (out.new.items ≡ out.old.items ++ line_text response.now) }
 {
     match response {
@@ -87,7 +116,7 @@ fn push_text(out: &mut Vec<u8>, response: &Response) -> Result<(), AllocError>
         Response::UidNext(n) => push_between(out, b"* OK [UIDNEXT ", u64::from(*n), b"] next"),
         Response::HighestModSeq(n) => push_between(out, b"* OK [HIGHESTMODSEQ ", *n, b"] highest"),
         Response::Moved(copied) => push_moved(out, copied),
-        Response::Fetch { number, items } => push_fetch(out, *number, items),
+        Response::Fetch { .. } => unreachable!(),
         Response::Search { tag, uid, results } => push_search(out, tag, *uid, results),
     }
 }
@@ -157,12 +186,10 @@ fn push_vanished(out: &mut Vec<u8>, earlier: bool, uids: &NumberSet) -> Result<(
     Ok(())
 }
 
-fn push_fetch(out: &mut Vec<u8>, number: u32, items: &FetchedItems) -> Result<(), AllocError>
-    ensures { OnOk result (out.new.items ≡ out.old.items ++ line_text (response.Fetch number items.now)) }
+fn push_fetch(out: &mut Pieces, number: u32, items: &FetchedItems) -> Result<(), AllocError>
+    ensures { OnOk result (octets_of out.new ≡ octets_of out.old
+        ++ line_text (response.Fetch number items.now)) }
 {
-    out.extend_from_slice(b"* ")?;
-    push_number(out, u64::from(number))?;
-    out.extend_from_slice(b" FETCH ")?;
-    push_fetched(out, items)?;
-    Ok(())
+    push_between(&mut out.text, b"* ", u64::from(number), b" FETCH ")?;
+    push_fetched(out, items)
 }

@@ -2,19 +2,18 @@
 
 ghost use Rattle.std.specs.Prelude.{◌≡◌, ◌++◌, IfOk, OnOk, map, false};
 ghost use Rattle.std.specs.List.{concat};
-ghost use Rattle.imap_syntax.specs.Written.{literal_text};
 ghost use Rattle.imap_print.specs.Words.{GoesOn};
 ghost use Rattle.imap_print.specs.Fetched.{section_text, origin_text, body_text};
 ghost use Rattle.imap_print.specs.Fetched.{flags_words, date_words, mod_seq_words};
-ghost use Rattle.imap_print.specs.Fetched.{fetched_words, fetched_text};
+ghost use Rattle.imap_print.specs.Fetched.{fetched_words, fetched_text, item_words};
+ghost use Rattle.imap_print.specs.Pieces.{octets_of};
 
 use super::flags::push_flags;
+use super::pieces::Pieces;
 use super::strings::push_names;
 use super::words::{push_named, push_space, widened};
 use crate::fetch::{FetchedItems, FetchedSection};
 use crate::flag::FlagSet;
-use crate::literal_parts::LiteralParts;
-use imap_lex::Octets;
 use imap_query::Section;
 use imap_syntax::{DateTime, push_date_time, push_number};
 use std::alloc::AllocError;
@@ -48,37 +47,25 @@ fn push_origin(out: &mut Vec<u8>, origin: Option<u64>) -> Result<(), AllocError>
     Ok(())
 }
 
-fn push_body(out: &mut Vec<u8>, body: &FetchedSection) -> Result<(), AllocError>
-    ensures { OnOk result (out.new.items ≡ out.old.items ++ body_text body.now) }
+/// Appends all of the section but its octets, which are to follow.
+fn push_body_front(out: &mut Vec<u8>, body: &FetchedSection) -> Result<(), AllocError>
+    ensures { OnOk result (out.new.items ++ concat body.now.octets ≡ out.old.items ++ body_text body.now) }
 {
     out.extend_from_slice(b"BODY[")?;
     push_section(out, &body.section)?;
     out.push(b']')?;
     push_origin(out, body.origin)?;
-    out.push(b' ')?;
-    push_parts_literal(out, &body.octets)?;
-    Ok(())
-}
-
-/// Appends the octets of all parts as one literal.
-fn push_parts_literal(out: &mut Vec<u8>, octets: &LiteralParts) -> Result<(), AllocError>
-    ensures { OnOk result (out.new.items ≡ out.old.items ++ literal_text (concat octets.now)) }
-{
-    out.push(b'{')?;
-    push_number(out, octets.len())?;
+    out.extend_from_slice(b" {")?;
+    push_number(out, body.octets.len())?;
     out.extend_from_slice(b"}\r\n")?;
-    push_parts(out, octets.as_slice())?;
     Ok(())
 }
 
-/// Appends the parts one after another.
-fn push_parts(out: &mut Vec<u8>, parts: &[Octets]) -> Result<(), AllocError>
-    ensures { OnOk result (out.new.items ≡ out.old.items ++ concat parts.now) }
+fn push_body(out: &mut Pieces, body: &FetchedSection) -> Result<(), AllocError>
+    ensures { OnOk result (octets_of out.new ≡ octets_of out.old ++ body_text body.now) }
 {
-    for part in parts {
-        out.extend_from_slice(part.as_slice())?;
-    }
-    Ok(())
+    push_body_front(&mut out.text, body)?;
+    out.push_parts(body.octets.as_slice())
 }
 
 fn push_fetched_flags(
@@ -132,38 +119,43 @@ fn push_mod_seq(out: &mut Vec<u8>, begun: bool, mod_seq: Option<u64>) -> Result<
     }
 }
 
-fn push_bodies(
-    out: &mut Vec<u8>,
-    begun: bool,
-    bodies: &[FetchedSection],
-) -> Result<bool, AllocError>
-    ensures { IfOk result (λ now. GoesOn out.old.items begun (map body_text bodies.now) out.new.items now) }
+fn push_bodies(out: &mut Pieces, begun: bool, bodies: &[FetchedSection]) -> Result<bool, AllocError>
+    ensures { IfOk result (λ now.
+        GoesOn (octets_of out.old) begun (map body_text bodies.now) (octets_of out.new) now) }
 {
     let mut begun = begun;
     for body in bodies {
-        push_space(out, begun)?;
+        push_space(&mut out.text, begun)?;
         push_body(out, body)?;
         begun = true;
     }
     Ok(begun)
 }
 
-fn push_fetched_words(out: &mut Vec<u8>, items: &FetchedItems) -> Result<bool, AllocError>
-    ensures { IfOk result (λ now. GoesOn out.old.items false (fetched_words items.now) out.new.items now) }
+/// Appends the items but the sections. Returns whether there is a word by now.
+fn push_item_words(out: &mut Vec<u8>, items: &FetchedItems) -> Result<bool, AllocError>
+    ensures { IfOk result (λ now. GoesOn out.old.items false (item_words items.now) out.new.items now) }
 {
     let begun = push_named(out, false, b"UID ", widened(items.uid))?;
     let begun = push_fetched_flags(out, begun, &items.flags)?;
     let begun = push_internal_date(out, begun, items.internal_date)?;
     let begun = push_named(out, begun, b"RFC822.SIZE ", items.size)?;
-    let begun = push_mod_seq(out, begun, items.mod_seq)?;
+    push_mod_seq(out, begun, items.mod_seq)
+}
+
+fn push_fetched_words(out: &mut Pieces, items: &FetchedItems) -> Result<bool, AllocError>
+    ensures { IfOk result (λ now.
+        GoesOn (octets_of out.old) false (fetched_words items.now) (octets_of out.new) now) }
+{
+    let begun = push_item_words(&mut out.text, items)?;
     push_bodies(out, begun, items.sections.as_slice())
 }
 
-pub(super) fn push_fetched(out: &mut Vec<u8>, items: &FetchedItems) -> Result<(), AllocError>
-    ensures { OnOk result (out.new.items ≡ out.old.items ++ fetched_text items.now) }
+pub(super) fn push_fetched(out: &mut Pieces, items: &FetchedItems) -> Result<(), AllocError>
+    ensures { OnOk result (octets_of out.new ≡ octets_of out.old ++ fetched_text items.now) }
 {
-    out.push(b'(')?;
+    out.text.push(b'(')?;
     push_fetched_words(out, items)?;
-    out.push(b')')?;
+    out.text.push(b')')?;
     Ok(())
 }

@@ -1,10 +1,10 @@
+use Rattle.std.specs.List.{concat}
 use Rattle.std.proofs.lemmas.Result.{IfOk-weaker}
-use Rattle.imap_print.proofs.Wording.{goes_on-append}
+use Rattle.imap_print.proofs.Wording.{goes_on-append, goes_on_after}
 use Rattle.imap_print.proofs.printing.fetched.push_fetched_words.Goals as goal
 
 pub returns : goal.returns
 returns c =
-    let uid = rw c.widened.ensures at c.in_ok-begun.ensures in
+    let words = goes_on_after (concat c.args.out.now.done.items) c.in_ok-begun.ensures in
     let bodies = rw c.as_slice.ensures at c.push_bodies.ensures in
-    IfOk-weaker c.push_bodies.result _ _
-    (λ now last. goes_on-append (goes_on-append (goes_on-append (goes_on-append (goes_on-append uid c.in_ok-begun-2.ensures) c.in_ok-begun-3.ensures) c.in_ok-begun-4.ensures) c.in_ok-begun-5.ensures) last) bodies
+    IfOk-weaker c.push_bodies.result _ _ (λ now last. goes_on-append words last) bodies

@@ -1,6 +1,0 @@
-use Rattle.std.proofs.Common.{◌≡◌, ◌++◌, drop}
-use Rattle.imap_print.specs.Printed.{printed}
-use Rattle.imap_print.proofs.printing.print.Given as goal
-
-abbrev pub invariant-loop-response : goal.invariant-loop-response
-invariant-loop-response l = l.out.items ++ printed (drop l.response-index l.responses) ≡ printed l.responses
