@@ -33,7 +33,7 @@ tokens_find s keys = ap (list_all is_true) (found-all s keys) ∙ all-map s keys
 
 -- ---- keys in a row
 
-each-all : (s : Candidate) (keys : List Key) → finds_each s (keys_of keys) ≡ list_all (finds s) keys
+pub each-all : (s : Candidate) (keys : List Key) → finds_each s (keys_of keys) ≡ list_all (finds s) keys
 each-all s [] = refl
 each-all s (k ∷ keys) = ap (λ b. finds s k && b) (each-all s keys)
 

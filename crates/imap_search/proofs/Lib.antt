@@ -5,3 +5,5 @@ pub mod Fitting
 pub mod KeptFolds
 pub mod Looked
 pub mod Spanned
+pub mod Reaching
+pub mod Readied

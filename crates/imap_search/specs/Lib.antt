@@ -8,3 +8,5 @@ pub mod Results
 pub mod Folded
 pub mod Shown
 pub mod Span
+pub mod Ranges
+pub mod Ready

@@ -2,18 +2,19 @@
 //!
 //! Keys call themselves for the keys within them. A command that was read has keys of at most 65 levels.
 
-ghost use Rattle.std.specs.Prelude.{◌≡◌, IfOk, map};
-ghost use Rattle.imap_query.specs.Keys.{key_of, keys_of};
-ghost use Rattle.imap_search.specs.Finds.{finds, finds_each};
+ghost use Rattle.std.specs.Prelude.{◌≡◌, IfOk};
+ghost use Rattle.std.specs.List.{list_all};
+ghost use Rattle.imap_query.specs.Keys.{key_of};
+ghost use Rattle.imap_search.specs.Ready.{finds_if_plain, finds_ready};
 ghost use Rattle.imap_search.specs.Shown.{candidate_shown};
-ghost use Rattle.imap_search.specs.Tokens as tokens;
 
 use crate::flags::{has_flag, is_as, is_dated};
 use crate::message_texts::MessageTexts;
 use crate::needles::Needles;
+use crate::ready_key::ReadyKey;
 use crate::texts::has_text_in;
 use imap_mailbox::Row;
-use imap_query::{SearchKey, SearchKeys};
+use imap_query::SearchKey;
 use imap_targets::{in_set, ranges_of};
 use std::alloc::{AllocError, Global};
 
@@ -34,12 +35,13 @@ pub(crate) fn finds_all(
     alloc: Global,
     needles: &mut Needles,
     candidate: &Candidate<'_>,
-    keys: &SearchKeys,
+    keys: &[ReadyKey<'_>],
 ) -> Result<bool, AllocError>
-    ensures { IfOk result (λ found. found ≡ tokens.finds_all (candidate_shown candidate.now) keys.now) }
+    ensures { let meant = list_all (finds_ready (candidate_shown candidate.now)) keys.now in
+        IfOk result (λ found. found ≡ meant) }
 {
     let mut texts = MessageTexts::new(alloc, candidate.row.octets.as_slice());
-    finds_each(alloc, needles, candidate, &mut texts, keys.as_slice())
+    finds_each(alloc, needles, candidate, &mut texts, keys)
 }
 
 /// Whether each of the keys finds the message. Later keys aren't tried after one that doesn't.
@@ -49,11 +51,11 @@ fn finds_each(
     needles: &mut Needles,
     candidate: &Candidate<'_>,
     texts: &mut MessageTexts<'_>,
-    keys: &[SearchKey],
+    keys: &[ReadyKey<'_>],
 ) -> Result<bool, AllocError>
     requires { texts.old ≡ candidate.now.row.now.octets.now }
     ensures octets { texts.new ≡ texts.old }
-    ensures found { let meant = finds_each (candidate_shown candidate.now) (keys_of (map key_of keys.now)) in
+    ensures found { let meant = list_all (finds_ready (candidate_shown candidate.now)) keys.now in
         IfOk result (λ found. found ≡ meant) }
 {
     for key in keys {
@@ -71,11 +73,40 @@ fn finds(
     needles: &mut Needles,
     candidate: &Candidate<'_>,
     texts: &mut MessageTexts<'_>,
+    key: &ReadyKey<'_>,
+) -> Result<bool, AllocError>
+    requires { texts.old ≡ candidate.now.row.now.octets.now }
+    ensures octets { texts.new ≡ texts.old }
+    ensures found { IfOk result (λ found. found ≡ finds_ready (candidate_shown candidate.now) key.now) }
+{
+    match key {
+        ReadyKey::Plain(key) => finds_plain(alloc, needles, candidate, texts, key),
+        ReadyKey::Numbers(set) => Ok(set.has(candidate.number)),
+        ReadyKey::Uids(set) => Ok(set.has(candidate.row.uid)),
+        ReadyKey::Not(key) => Ok(!finds(alloc, needles, candidate, texts, key)?),
+        ReadyKey::Or(left, right) => {
+            if finds(alloc, needles, candidate, texts, left)? {
+                Ok(true)
+            } else {
+                finds(alloc, needles, candidate, texts, right)
+            }
+        }
+        ReadyKey::Group(keys) => finds_each(alloc, needles, candidate, texts, keys),
+    }
+}
+
+/// Whether the key finds the message, if it has no other key within it.
+fn finds_plain(
+    alloc: Global,
+    needles: &mut Needles,
+    candidate: &Candidate<'_>,
+    texts: &mut MessageTexts<'_>,
     key: &SearchKey,
 ) -> Result<bool, AllocError>
     requires { texts.old ≡ candidate.now.row.now.octets.now }
     ensures octets { texts.new ≡ texts.old }
-    ensures found { IfOk result (λ found. found ≡ finds (candidate_shown candidate.now) (key_of key.now)) }
+    ensures found { let meant = finds_if_plain (candidate_shown candidate.now) (key_of key.now) in
+        IfOk result (λ found. found ≡ meant) }
 {
     match key {
         SearchKey::All => Ok(true),
@@ -98,15 +129,8 @@ fn finds(
         SearchKey::Uids(messages) => {
             Ok(in_set(candidate.last_uid, ranges_of(messages), candidate.row.uid))
         }
-        SearchKey::Not(key) => Ok(!finds(alloc, needles, candidate, texts, key)?),
-        SearchKey::Or(left, right) => {
-            if finds(alloc, needles, candidate, texts, left)? {
-                Ok(true)
-            } else {
-                finds(alloc, needles, candidate, texts, right)
-            }
-        }
-        SearchKey::Group(keys) => finds_each(alloc, needles, candidate, texts, keys),
+        // Each has a `ReadyKey` of its own kind.
+        SearchKey::Not(_) | SearchKey::Or(_, _) | SearchKey::Group(_) => Ok(false),
         SearchKey::Unserved => Ok(false),
     }
 }

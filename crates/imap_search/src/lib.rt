@@ -11,6 +11,8 @@ mod key_facts;
 pub mod laws;
 mod message_texts;
 mod needles;
+mod ranges;
+mod ready_key;
 mod results;
 mod search;
 mod span;

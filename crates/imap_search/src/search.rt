@@ -7,13 +7,16 @@ ghost use Rattle.imap_mailbox.specs.Summary.{AreRising};
 ghost use Rattle.imap_mailbox.specs.Order.{AreRowsInOrder};
 ghost use Rattle.imap_print.specs.declared.response.Response.TheVariants as response;
 ghost use Rattle.imap_print.specs.Lines.{IsPrintable};
+ghost use Rattle.imap_search.specs.Ready.{AreReadyFor};
 ghost use Rattle.imap_search.specs.Search as specs;
 ghost use Rattle.imap_search.specs.Span.{FindsAmong};
+ghost use Rattle.imap_search.specs.Tokens as tokens;
 ghost use Rattle.imap_session.specs.State.{selection_of, state_of};
 
 use crate::key::{Candidate, finds_all};
 use crate::key_facts::facts_of;
 use crate::needles::Needles;
+use crate::ready_key::{ReadyKey, ready_keys};
 use crate::results::{FoundMessage, results_of};
 use crate::span::span_of_all;
 use imap_answer::{Answer, CommandContext};
@@ -186,6 +189,8 @@ fn search_line(
 #[derive(Drop)]
 struct Criteria<'a> {
     arguments: &'a SearchArguments<'a>,
+    /// The keys of the arguments.
+    keys: Vec<ReadyKey<'a>>,
     /// In a set of numbers.
     last: u32,
     /// In a set of UIDs.
@@ -214,10 +219,14 @@ fn find(
     ensures { let meant = specs.found_in arguments.now mailbox.now.next_uid mailbox.now.rows in
         IfOk result (λ found. found.items ≡ meant known.now.list) }
 {
+    let last = known_count(known);
+    let last_uid = last_of(Numbering::Uid, mailbox.next_uid, known);
+    let keys = ready_keys(alloc, last, last_uid, arguments.keys.as_slice())?;
     let criteria = Criteria {
         arguments,
-        last: known_count(known),
-        last_uid: last_of(Numbering::Uid, mailbox.next_uid, known),
+        keys,
+        last,
+        last_uid,
     };
     let mut found = Vec::new(alloc);
     let mut needles = Needles::new(alloc);
@@ -251,6 +260,7 @@ fn look_at(
 ) -> Result<(), AllocError>
     requires within { place < length known.now.list }
     requires rise { AreRising (row_uids rows.now) }
+    requires ready { let c = criteria.now in AreReadyFor c.arguments.now.keys c.last c.last_uid c.keys.items }
     ensures { let c = criteria.now in
         let from = specs.found_from c.arguments.now c.last c.last_uid rows.now in
         OnOk result (found.new.items ++ from (place + 1 + 1) (drop (place + 1) known.now.list)
@@ -271,6 +281,7 @@ fn add_if_found(
     number: u32,
     row: &Option<Row<'_>>,
 ) -> Result<(), AllocError>
+    requires ready { let c = criteria.now in AreReadyFor c.arguments.now.keys c.last c.last_uid c.keys.items }
     ensures { let c = criteria.now in
         let from = specs.found_if_there c.arguments.now c.last c.last_uid number in
         OnOk result (found.new.items ≡ found.old.items ++ from (option_map row_shown row.now)) }
@@ -290,21 +301,38 @@ fn add(
     number: u32,
     row: &Row<'_>,
 ) -> Result<(), AllocError>
+    requires ready { let c = criteria.now in AreReadyFor c.arguments.now.keys c.last c.last_uid c.keys.items }
     ensures { let c = criteria.now in
         let from = specs.found_if_there c.arguments.now c.last c.last_uid number in
         OnOk result (found.new.items ≡ found.old.items ++ from (Some (row_shown row.now))) }
 {
-    let arguments = criteria.arguments;
+    if is_found(needles, alloc, criteria, number, row)? {
+        let arguments = criteria.arguments;
+        found.push(found_of(arguments.numbering, number, row))?;
+    }
+    Ok(())
+}
+
+/// Whether all keys find the message.
+fn is_found(
+    needles: &mut Needles,
+    alloc: Global,
+    criteria: &Criteria<'_>,
+    number: u32,
+    row: &Row<'_>,
+) -> Result<bool, AllocError>
+    requires ready { let c = criteria.now in AreReadyFor c.arguments.now.keys c.last c.last_uid c.keys.items }
+    ensures { let c = criteria.now in
+        let candidate = specs.candidate_of c.last c.last_uid number (row_shown row.now) in
+        IfOk result (λ found. found ≡ tokens.finds_all candidate c.arguments.now.keys) }
+{
     let candidate = Candidate {
         row,
         number,
         last: criteria.last,
         last_uid: criteria.last_uid,
     };
-    if finds_all(alloc, needles, &candidate, arguments.keys)? {
-        found.push(found_of(arguments.numbering, number, row))?;
-    }
-    Ok(())
+    finds_all(alloc, needles, &candidate, criteria.keys.as_slice())
 }
 
 /// The message as the answer tells it.

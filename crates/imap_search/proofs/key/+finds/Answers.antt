@@ -1,12 +1,13 @@
-use Rattle.std.proofs.Common.{◌≡◌, ◌∙◌, ap, sym, map, subst, IfOk}
-use Rattle.imap_query.specs.Keys.{Key, key_of, keys_of, group}
-use Rattle.imap_query.proofs.WrittenKeys.{key_of-Group}
-use Rattle.imap_search.specs.Finds.{finds}
+use Rattle.std.proofs.Common.{◌≡◌, ◌∙◌, Bool, IfOk, ap, sym, subst}
+use Rattle.std.specs.List.{list_all}
+use Rattle.imap_search.specs.Ready.{finds_ready}
 use Rattle.imap_search.specs.Shown.{candidate_shown}
+use Rattle.imap_search.proofs.Readied.{group_all}
 use Rattle.imap_search.proofs.key.+finds.Goals as goal
 
 pub finds-returns-in-Group-clause-found : goal.finds-returns-in-Group-clause-found
 finds-returns-in-Group-clause-found t c =
-    let same = ap key_of c.in-Group.is ∙ key_of-Group c.in-Group.keys in
-    let keys = ap (λ ks. group (keys_of (map key_of ks))) c.deref-in-Group.ensures.value in
-    subst (λ (k : Key). IfOk c.finds_each.result (λ found. found ≡ finds (candidate_shown c.args.candidate.now) k)) (keys ∙ sym same) c.finds_each.ensures.found
+    let s = candidate_shown c.args.candidate.now in
+    let keys = ap (list_all (finds_ready s)) c.deref-in-Group.ensures.value in
+    let same = sym (group_all s c.in-Group.keys) ∙ ap (finds_ready s) (sym c.in-Group.is) in
+    subst (λ (b : Bool). IfOk c.finds_each.result (λ found. found ≡ b)) (keys ∙ same) c.finds_each.ensures.found
