@@ -29,24 +29,24 @@ module _ (state : State) (step : Step) (change : List Write) (found : writes_of 
   unwritten = (λ is. cc, λ is. found ∙ ap (λ c. Ok c) is)
 
 module _ (old new : State) (before after : Counts) (failed fails : ℕ) (step : Step) (replies : Replies) (done : Performs old failed step replies new fails) where
-  pub stepped : (r : Receipt) → r.replies.items ≡ replies.receipt.items → IsStepped (point old before) failed (entry_of step r) (point new after) fails
+  pub stepped : (r : Receipt) → r.replies ≡ replies.receipt → IsStepped (point old before) failed (entry_of step r) (point new after) fails
   stepped r is = by done
     where
       by : Performs old failed step replies new fails → IsStepped (point old before) failed (entry_of step r) (point new after) fails
       by (inl h) = inl (record { replies = is ∙ h.0.receipt; state = h.1 })
       by (inr h) = inr (record { replies = is ∙ h.0.receipt; state = h.1 }, h.2)
 
-  pub entry_is : replies.entry.items ≡ replies.receipt.items
+  pub entry_is : replies.entry ≡ replies.receipt
   entry_is = by done
     where
-      by : Performs old failed step replies new fails → replies.entry.items ≡ replies.receipt.items
+      by : Performs old failed step replies new fails → replies.entry ≡ replies.receipt
       by (inl h) = h.0.entry ∙ sym h.0.receipt
       by (inr h) = h.0.entry ∙ sym h.0.receipt
 
-  pub second_is : replies.second.items ≡ replies.receipt.items
+  pub second_is : replies.second ≡ replies.receipt
   second_is = by done
     where
-      by : Performs old failed step replies new fails → replies.second.items ≡ replies.receipt.items
+      by : Performs old failed step replies new fails → replies.second ≡ replies.receipt
       by (inl h) = h.0.second ∙ sym h.0.receipt
       by (inr h) = h.0.second ∙ sym h.0.receipt
 

@@ -39,7 +39,7 @@ hall_code {K} step_code response_code keeper_code =
 
 -- the entry as contracts see it
 abbrev pub journal_entry : Entry → JournalEntry
-journal_entry e = record { step = e.step; own = e.own; replies = e.replies.items }
+journal_entry e = record { step = e.step; own = e.own; replies = e.replies }
 
 abbrev pub hall_state :
     {K : Type 0} → Machine → Counts → Machine → Counts → ℕ → List Entry → K → HallState K
@@ -76,7 +76,7 @@ IsStepped old failed e new fails = IsMade old e new ⊎ (IsRefused old e new × 
 
 -- the entry of a receipt
 abbrev pub entry_of : Step → Receipt → JournalEntry
-entry_of step r = record { step = step; own = r.own; replies = r.replies.items }
+entry_of step r = record { step = step; own = r.own; replies = r.replies }
 
 module _ {K : Type 0} where
   -- There is one entry more, of which this is the receipt.

@@ -9,9 +9,9 @@ use Rattle.imap_hall.specs.Journal.{unavailable}
 
 -- all three are these
 pub record AreReplies (replies : Replies) (meant : List Response) : Type 0 where
-  pub entry : replies.entry.items ≡ meant
-  pub receipt : replies.receipt.items ≡ meant
-  pub second : replies.second.items ≡ meant
+  pub entry : replies.entry ≡ meant
+  pub receipt : replies.receipt ≡ meant
+  pub second : replies.second ≡ meant
 
 -- the step was made, or the store refused its change
 abbrev pub Performs : (old : State) → (failed : ℕ) → Step → Replies → (new : State) → (fails : ℕ) → Type 0

@@ -25,4 +25,4 @@ pub record IsNewest (step : Step) (receipt : Receipt) (entries : List JournalEnt
 pub record IsSameReceipt (r s : Receipt) : Type 0 where
   pub place : s.place ≡ r.place
   pub own : s.own ≡ r.own
-  pub replies : s.replies.items ≡ r.replies.items
+  pub replies : s.replies ≡ r.replies

@@ -54,7 +54,7 @@ pub(crate) fn advance<K: Keeper>(
     ensures saved { IsSaved K.content K.is_honest K.leaves K.stands
         core.old.state keeper.old step.now core.new.state keeper.new }
     ensures alone { IfOk result (λ r. IsAlone K.failed K.is_honest K.leaves K.stands
-        core.old.state keeper.old step.now r.0.replies.items core.new.state keeper.new) }
+        core.old.state keeper.old step.now r.0.replies core.new.state keeper.new) }
 {
     make_room(counts, journal, alloc, step)?;
     let own = count_of(counts, &step.who) + 1;
@@ -88,11 +88,11 @@ fn append_entry(
     requires { vec_len journal.old < vec_capacity journal.old }
     ensures items { map journal_entry journal.new.items
         ≡ map journal_entry journal.old.items
-        ++ record { step = step; own = own; replies = replies.entry.items } ∷ [] }
+        ++ record { step = step; own = own; replies = replies.entry } ∷ [] }
     ensures first { (result.0.place ≡ place) × (result.0.own ≡ own)
-        × (result.0.replies.items ≡ replies.receipt.items) }
+        × (result.0.replies ≡ replies.receipt) }
     ensures second { (result.1.place ≡ place) × (result.1.own ≡ own)
-        × (result.1.replies.items ≡ replies.second.items) }
+        × (result.1.replies ≡ replies.second) }
 {
     let Replies {
         entry,

@@ -121,7 +121,7 @@ impl<K: Keeper> Hall<K> {
         ensures saved { IsSaved K.content K.is_honest K.leaves K.stands
             self.old.now.state self.old.keeper step.now self.new.now.state self.new.keeper }
         ensures alone { IfOk result (λ r. IsAlone K.failed K.is_honest K.leaves K.stands self.old.now.state
-            self.old.keeper step.now r.replies.items self.new.now.state self.new.keeper) }
+            self.old.keeper step.now r.replies self.new.now.state self.new.keeper) }
     {
         let (first, _second) = self.step_pair(alloc, step)?;
         Ok(first)
@@ -137,7 +137,7 @@ impl<K: Keeper> Hall<K> {
         ensures saved { IsSaved K.content K.is_honest K.leaves K.stands
             self.old.now.state self.old.keeper step.now self.new.now.state self.new.keeper }
         ensures alone { IfOk result (λ r. IsAlone K.failed K.is_honest K.leaves K.stands self.old.now.state
-            self.old.keeper step.now r.0.replies.items self.new.now.state self.new.keeper) }
+            self.old.keeper step.now r.0.replies self.new.now.state self.new.keeper) }
     {
         let count = self.before + self.journal.len() as u64;
         if count >= MAX_ENTRIES {

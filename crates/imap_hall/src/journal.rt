@@ -4,8 +4,8 @@
 //! no difference.
 
 use crate::own_counts::OwnCounts;
+use crate::shared_replies::SharedReplies;
 use imap_core::{Core, Step};
-use imap_print::Response;
 use imap_user_map::UserMap;
 
 /// An entry of the journal.
@@ -14,7 +14,7 @@ pub struct Entry {
     pub step: Step,
     /// The number of the step among those of its session, from 1.
     pub own: u64,
-    pub replies: Vec<Response>,
+    pub replies: SharedReplies,
 }
 
 /// What the session of a step is given of its entry.
@@ -24,7 +24,7 @@ pub struct Receipt {
     pub place: u64,
     /// The number of the step among those of its session, from 1.
     pub own: u64,
-    pub replies: Vec<Response>,
+    pub replies: SharedReplies,
 }
 
 /// An earlier base of the journal.

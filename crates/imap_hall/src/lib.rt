@@ -17,9 +17,11 @@ mod ready;
 mod replies;
 mod room;
 mod saving;
+mod shared_replies;
 
 pub use error::{HallError, OpenError};
 pub use hall::Hall;
 pub use journal::{Entry, OldBase, Receipt};
 pub use memory::{entry_octets, reply_octets};
 pub use room::Room;
+pub use shared_replies::SharedReplies;

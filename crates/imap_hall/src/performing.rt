@@ -2,7 +2,7 @@
 
 ghost use Rattle.std.specs.Prelude.{◌≡◌, ◌⊎◌, [], IfErr, IfOk, OnErr};
 ghost use Rattle.imap_core.specs.Machine.{answer, next};
-ghost use Rattle.imap_core.specs.Planned.{IsReady, change_of, replies_of, state_after};
+ghost use Rattle.imap_core.specs.Planned.{IsReady, change_of, state_after};
 ghost use Rattle.imap_keeper.specs.Keeping.{LeavesOnly, LeavesOr};
 ghost use Rattle.imap_world.specs.Ready.{IsCurrent};
 ghost use Rattle.imap_hall.specs.declared.error.HallError.TheVariants as error;
@@ -30,9 +30,7 @@ pub(crate) fn perform<K: Keeper>(
     requires current { IsCurrent (change_of ready.prepared) core.old.state.world }
     requires ready { IsReady ready.prepared core.old }
     requires next { state_after ready.prepared core.old.state ≡ next core.old.state step.now }
-    requires replies { replies_of ready.prepared ≡ answer core.old.state step.now }
-    requires entry { ready.entry.items ≡ answer core.old.state step.now }
-    requires second { ready.second.items ≡ answer core.old.state step.now }
+    requires answered { AreReplies ready.answered (answer core.old.state step.now) }
     requires refusal { AreReplies ready.refusal (unavailable step.now) }
     ensures ok { IfOk result (λ replies. Performs core.old.state (K.failed keeper.old) step.now replies
         core.new.state (K.failed keeper.new)) }
@@ -46,21 +44,19 @@ pub(crate) fn perform<K: Keeper>(
         (λ image. K.stands image (next core.old.state step.now).world) }
     ensures alone { IfOk result (λ replies. K.is_honest keeper.new → (change_of ready.prepared ≡ [] → ⊥)
         → LeavesOnly (K.leaves keeper.new) (λ image. K.stands image core.new.state.world)
-        ⊎ ((replies.receipt.items ≡ unavailable step.now)
+        ⊎ ((replies.receipt ≡ unavailable step.now)
         × HasRisen (K.failed keeper.old) (K.failed keeper.new))) }
 {
     let Ready {
         prepared,
-        entry,
-        second,
+        answered,
         refusal,
     } = ready;
     match save_step(keeper, alloc, core, prepared.change()) {
-        Ok(()) => Ok(Replies {
-            entry,
-            receipt: core.commit(prepared),
-            second,
-        }),
+        Ok(()) => {
+            drop(core.commit(prepared));
+            Ok(answered)
+        }
         Err(KeepError::Refused) => {
             drop(prepared);
             Ok(refusal)

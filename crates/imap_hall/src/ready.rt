@@ -3,7 +3,7 @@
 ghost use Rattle.std.specs.Prelude.{◌≡◌, ◌<◌, ◌↔◌, [], IfOk, OnOk, vec_len};
 ghost use Rattle.std.specs.Vec.{vec_capacity};
 ghost use Rattle.imap_core.specs.Machine.{answer, next};
-ghost use Rattle.imap_core.specs.Planned.{IsReady, change_of, replies_of, state_after};
+ghost use Rattle.imap_core.specs.Planned.{IsReady, change_of, state_after};
 ghost use Rattle.imap_world.specs.Ready.{IsCurrent};
 ghost use Rattle.imap_hall.specs.Counts.{AreSameCounts, HasSession, count_of};
 ghost use Rattle.imap_hall.specs.Hall.{IsUnwritten};
@@ -13,7 +13,7 @@ ghost use Rattle.imap_hall.specs.Performing.{AreReplies};
 use crate::counts::{count_of, reserve_count};
 use crate::journal::Entry;
 use crate::own_counts::OwnCounts;
-use crate::replies::{Replies, copy_replies, refusal};
+use crate::replies::{Replies, refusal};
 use imap_core::{Core, Prepared, Step};
 use imap_print::Response;
 use imap_user_map::UserMap;
@@ -24,9 +24,8 @@ use std::alloc::{AllocError, Global};
 #[derive(Drop)]
 pub(crate) struct Ready {
     pub(crate) prepared: Prepared,
-    /// The replies, for the entry of the journal and for a second receipt.
-    pub(crate) entry: Vec<Response>,
-    pub(crate) second: Vec<Response>,
+    /// The replies if the store takes the change.
+    pub(crate) answered: Replies,
     /// The replies if the store refuses the change.
     pub(crate) refusal: Replies,
 }
@@ -40,9 +39,7 @@ pub(crate) fn make_ready(core: &mut Core, alloc: Global, step: &Step) -> Result<
     ensures current { IfOk result (λ r. IsCurrent (change_of r.prepared) core.old.state.world) }
     ensures unwritten { IfOk result
         (λ r. IsUnwritten core.old.state step.now ↔ (change_of r.prepared ≡ [])) }
-    ensures replies { IfOk result (λ r. replies_of r.prepared ≡ answer core.old.state step.now) }
-    ensures entry { IfOk result (λ r. r.entry.items ≡ answer core.old.state step.now) }
-    ensures second { IfOk result (λ r. r.second.items ≡ answer core.old.state step.now) }
+    ensures answered { IfOk result (λ r. AreReplies r.answered (answer core.old.state step.now)) }
     ensures refusal { IfOk result (λ r. AreReplies r.refusal (unavailable step.now)) }
 {
     let prepared = core.prepare(alloc, step)?;
@@ -50,33 +47,25 @@ pub(crate) fn make_ready(core: &mut Core, alloc: Global, step: &Step) -> Result<
     let (copies, prepared) = beside(copies, prepared)?;
     Ok(Ready {
         prepared,
-        entry: copies.entry,
-        second: copies.second,
+        answered: copies.answered,
         refusal: copies.refusal,
     })
 }
 
-/// The replies of a step twice, and those to its refusal by the store.
+/// The replies to a step, and those to its refusal by the store.
 #[derive(Drop)]
 struct Copies {
-    entry: Vec<Response>,
-    second: Vec<Response>,
+    answered: Replies,
     refusal: Replies,
 }
 
 fn make_copies(alloc: Global, step: &Step, replies: &[Response]) -> Result<Copies, AllocError>
-    ensures entry { IfOk result (λ copies. copies.entry.items ≡ replies.now) }
-    ensures second { IfOk result (λ copies. copies.second.items ≡ replies.now) }
+    ensures answered { IfOk result (λ copies. AreReplies copies.answered replies.now) }
     ensures refusal { IfOk result (λ copies. AreReplies copies.refusal (unavailable step.now)) }
 {
-    let entry = copy_replies(alloc, replies)?;
-    let (second, entry) = beside(copy_replies(alloc, replies), entry)?;
-    let (refusal, (entry, second)) = beside(refusal(alloc, step), (entry, second))?;
-    Ok(Copies {
-        entry,
-        second,
-        refusal,
-    })
+    let answered = Replies::copied(alloc, replies)?;
+    let (refusal, answered) = beside(refusal(alloc, step), answered)?;
+    Ok(Copies { answered, refusal })
 }
 
 /// Makes room for an entry of the session.

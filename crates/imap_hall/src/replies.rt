@@ -4,6 +4,7 @@ ghost use Rattle.std.specs.Prelude.{◌≡◌, IfOk};
 ghost use Rattle.imap_hall.specs.Journal.{tag_in, tag_of, unavailable};
 ghost use Rattle.imap_hall.specs.Performing.{AreReplies};
 
+use crate::shared_replies::SharedReplies;
 use imap_core::{Act, Step};
 use imap_grammar::Request;
 use imap_lex::Tag;
@@ -14,13 +15,35 @@ use std::alloc::{AllocError, Global};
 /// The replies to one step, for the entry of the journal and for two receipts.
 #[derive(Drop)]
 pub(crate) struct Replies {
-    pub(crate) entry: Vec<Response>,
-    pub(crate) receipt: Vec<Response>,
-    pub(crate) second: Vec<Response>,
+    pub(crate) entry: SharedReplies,
+    pub(crate) receipt: SharedReplies,
+    pub(crate) second: SharedReplies,
+}
+
+impl Replies {
+    /// Returns a copy of the replies, which all three share.
+    pub(crate) fn copied(alloc: Global, replies: &[Response]) -> Result<Replies, AllocError>
+        ensures { IfOk result (λ made. AreReplies made replies.now) }
+    {
+        Replies::shared(alloc, copy_replies(alloc, replies)?)
+    }
+
+    fn shared(alloc: Global, replies: Vec<Response>) -> Result<Replies, AllocError>
+        ensures { IfOk result (λ made. AreReplies made replies.items) }
+    {
+        let entry = SharedReplies::new(alloc, replies)?;
+        let (receipt, entry) = beside(entry.try_copy(), entry)?;
+        let (second, (entry, receipt)) = beside(entry.try_copy(), (entry, receipt))?;
+        Ok(Replies {
+            entry,
+            receipt,
+            second,
+        })
+    }
 }
 
 /// Returns equal copies. They share octets.
-pub(crate) fn copy_replies(alloc: Global, replies: &[Response]) -> Result<Vec<Response>, AllocError>
+fn copy_replies(alloc: Global, replies: &[Response]) -> Result<Vec<Response>, AllocError>
     ensures { IfOk result (λ copy. copy.items ≡ replies.now) }
 {
     let mut copy = Vec::with_capacity(alloc, replies.len())?;
@@ -34,14 +57,7 @@ pub(crate) fn copy_replies(alloc: Global, replies: &[Response]) -> Result<Vec<Re
 pub(crate) fn refusal(alloc: Global, step: &Step) -> Result<Replies, AllocError>
     ensures { IfOk result (λ replies. AreReplies replies (unavailable step.now)) }
 {
-    let entry = unavailable(alloc, step)?;
-    let (receipt, entry) = beside(unavailable(alloc, step), entry)?;
-    let (second, (entry, receipt)) = beside(unavailable(alloc, step), (entry, receipt))?;
-    Ok(Replies {
-        entry,
-        receipt,
-        second,
-    })
+    Replies::shared(alloc, unavailable(alloc, step)?)
 }
 
 fn unavailable(alloc: Global, step: &Step) -> Result<Vec<Response>, AllocError>

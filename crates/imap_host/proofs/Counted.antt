@@ -1,12 +1,12 @@
 -- Receipts that are compared one after the other.
 use mathlib.Core.Logic.{inl, inr}
-use Rattle.std.proofs.Common.{◌≡◌, ◌∙◌, ◌↔◌, ◌⊎◌, ℕ, ◌+◌, ◌-◌, ◌<◌, ◌≤◌, Bool, true, false, true≢false, List, [], ◌∷◌, sym, ap, refl, subst, length, nat_le, if◌then◌else◌, arith}
+use Rattle.std.proofs.Common.{◌≡◌, ◌∙◌, ◌↔◌, ◌⊎◌, ℕ, ◌+◌, ◌<◌, ◌≤◌, true, false, List, [], ◌∷◌, ap, refl, subst, length, nat_le, if◌then◌else◌, arith}
 use Rattle.std.proofs.lemmas.Bool.{le-leb}
 use Rattle.std.proofs.lemmas.Bool.Decides.{leb_tells}
 use Rattle.imap_host.specs.declared.seat.Kept.{Kept}
 use Rattle.imap_core.specs.declared.session_id.SessionId.{SessionId}
 use Rattle.imap_hall.specs.Journal.{JournalEntry}
-use Rattle.imap_host.specs.Settling.{AreOfEntries, IsOfEntry, IsSettled, Rise, since}
+use Rattle.imap_host.specs.Settling.{AreOfEntries, IsOfEntry, Rise, since}
 
 -- of all receipts since the base these are left, after one at this place and so many
 pub record IsCounted (before : ℕ) (journal : List JournalEntry) (session : SessionId) (all left : List Kept) (last count : ℕ) : Type 0 where

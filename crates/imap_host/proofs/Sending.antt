@@ -51,13 +51,13 @@ use Rattle.imap_keeper.specs.declared.keeper.Keeper as keeper
 use Rattle.imap_hall.specs.contracts.hall.Hall.{the_row as hall_row}
 use Rattle.imap_hall.specs.contracts.journal.Entry.{the_row as entry_row, the_type as entry_type}
 use Rattle.imap_hall.proofs.journal.Receipt.TheSendSync.{the_send as receipt_send}
+use Rattle.imap_hall.proofs.shared_replies.SharedReplies.TheSendSync.{the_send as shared_replies_send}
 use Rattle.imap_host.specs.contracts.host_state.HostState.{the_row as host_state_row, the_type as host_state_type}
 use Rattle.imap_host.specs.contracts.host.Host.{the_row as host_row}
 use Rattle.imap_host.specs.contracts.seat.Kept.{the_row as kept_row, the_type as kept_type}
 use Rattle.imap_host.specs.contracts.seat.Seat.{the_row as seat_row, the_type as seat_type}
 use Rattle.std.specs.contracts.alloc.Global.{the_row as global_row}
 use Rattle.std.specs.declared.sync.ledger.Ledger as ledger
-use Rattle.imap_print.proofs.response.Response.TheSendSync.{the_send as response_send}
 use Rattle.imap_user_map.proofs.user_map.UserMap.TheSendSync.{the_send as user_map_send, the_sync as user_map_sync}
 
 pub ruleset parts_cross = (sendable, crosses, as_row_send, octets_send, date_send, field_name_send, flag_send, set_send, search_date_send, search_in_send)
@@ -94,10 +94,10 @@ pub step_send : IsSend step_row
 step_send = declared_send step_type (session_send, (moment_send, (act_send, tt)))
 
 pub entry_send : IsSend entry_row
-entry_send = declared_send entry_type (step_send, (search (sendable, as_row_send) depth 60, (search (sendable, crosses, as_row_send, response_send) depth 60, tt)))
+entry_send = declared_send entry_type (step_send, (search (sendable, as_row_send) depth 60, (search (sendable, as_row_send, shared_replies_send) depth 60, tt)))
 
 pub hall_send : (K : RattleType) (g : keeper.Ghosts K.Denot) → IsSend K → IsSend (hall_row K g)
-hall_send K g send = search (sendable, crosses, as_row_send, core_send, user_map_send, own_counts_send, entry_send) depth 60 fits 20000
+hall_send K g send = search (sendable, crosses, core_send, user_map_send, own_counts_send, entry_send) depth 60 fits 20000
 
 pub kept_send : IsSend kept_row
 kept_send = declared_send kept_type (step_send, (receipt_send, tt))

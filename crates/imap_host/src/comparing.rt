@@ -80,5 +80,5 @@ fn is_noted(entry: &Entry, kept: &Kept) -> bool
 {
     entry.own == kept.receipt.own
         && entry.step.is_same(&kept.step)
-        && are_same(&entry.replies, &kept.receipt.replies)
+        && are_same(entry.replies.as_slice(), kept.receipt.replies.as_slice())
 }

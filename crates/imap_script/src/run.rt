@@ -7,7 +7,7 @@ use crate::error::ScriptError;
 use crate::step::{Event, ScriptStep};
 use crate::transcript::Transcript;
 use imap_core::{Act, Step};
-use imap_hall::{Hall, HallError, Receipt};
+use imap_hall::{Hall, HallError, Receipt, SharedReplies};
 use imap_keeper::Keeper;
 use imap_lex::{Frame, Framer, LexError};
 use imap_print::{Farewell, Response};
@@ -179,7 +179,7 @@ impl<K: Keeper, O: Write + Drop> Run<K, O> {
         alloc: Global,
         step: &ScriptStep,
         act: Act,
-    ) -> Result<Vec<Response>, ScriptError> {
+    ) -> Result<SharedReplies, ScriptError> {
         let (who, act) = beside(step.who.try_copy(), act)?;
         let step = Step {
             who,
@@ -192,7 +192,7 @@ impl<K: Keeper, O: Write + Drop> Run<K, O> {
     }
 
     /// Makes the step in the hall, and returns its replies.
-    fn replies_to(&mut self, alloc: Global, step: &Step) -> Result<Vec<Response>, ScriptError> {
+    fn replies_to(&mut self, alloc: Global, step: &Step) -> Result<SharedReplies, ScriptError> {
         match self.hall.step(alloc, step) {
             Ok(
                 Receipt {

@@ -1,8 +1,10 @@
 -- Replies that are printed and written in pieces.
-use Rattle.std.proofs.Common.{◌≡◌, ◌∙◌, ◌+◌, length, sym, ap, refl, ℕ, List, [], ◌∷◌, ◌++◌, take, drop, Option, append_assoc, subst}
-use Rattle.std.proofs.lemmas.List.{take-append-drop}
+use Rattle.std.proofs.Common.{◌≡◌, ◌∙◌, ◌+◌, ◌<◌, get_or, length, sym, ap, refl, ℕ, List, [], ◌∷◌, ◌++◌, take, drop, Option, append_assoc, append-nil, subst}
+use Rattle.std.proofs.lemmas.List.{take-append-drop, take_more}
+use Rattle.std.proofs.lemmas.List.Folds.{concat-append}
 use Rattle.std.proofs.Math.Seq.{take-add}
 use Rattle.std.specs.Io.KnownBytes.{Appends}
+use Rattle.std.specs.List.{concat}
 use Rattle.imap_print.specs.declared.response.Response.{Response}
 use Rattle.imap_print.specs.Printed.{line, printed}
 use Rattle.imap_serve.specs.Reading.{AppendsPart}
@@ -39,3 +41,29 @@ module _ (a b c : Option (List ℕ)) (done : ℕ) (xs : List Response) (h : Appe
   pieces_part k = part_of a c (printed (take done xs) ++ take k.0 (printed (drop done xs))) (drop k.0 (printed (drop done xs))) (printed xs)
       (appends_more a b c (printed (take done xs)) (take k.0 (printed (drop done xs))) h k.1)
       (append_assoc (printed (take done xs)) (take k.0 (printed (drop done xs))) (drop k.0 (printed (drop done xs))) ∙ (ap (λ l. printed (take done xs) ++ l) (take-append-drop k.0 (printed (drop done xs))) ∙ printed_parts done xs))
+
+-- ---- pieces of octets
+
+concat_one : (i : ℕ) (xs : List (List ℕ)) (d : List ℕ) → i < length xs → concat (take (i + 1) xs) ≡ concat (take i xs) ++ get_or xs i d
+concat_one i xs d lt =
+    ap concat (take_more xs i d lt) ∙ concat-append (take i xs) (get_or xs i d ∷ [])
+    ∙ ap (λ (t : List ℕ). concat (take i xs) ++ t) (append-nil (get_or xs i d))
+
+concat_parts : (n : ℕ) (xs : List (List ℕ)) → concat (take n xs) ++ concat (drop n xs) ≡ concat xs
+concat_parts n xs = sym (concat-append (take n xs) (drop n xs)) ∙ ap concat (take-append-drop n xs)
+
+-- one more piece was written
+pub octets_more : (a b c : Option (List ℕ)) (i : ℕ) (xs : List (List ℕ)) (d : List ℕ) → i < length xs → Appends a b (concat (take i xs)) → Appends b c (get_or xs i d) → Appends a c (concat (take (i + 1) xs))
+octets_more a b c i xs d lt h k = subst (Appends a c) (sym (concat_one i xs d lt)) (appends_more a b c (concat (take i xs)) (get_or xs i d) h k)
+
+-- a part of one more piece was written
+pub octets_part : (a b c : Option (List ℕ)) (i : ℕ) (xs : List (List ℕ)) (d : List ℕ) → i < length xs → Appends a b (concat (take i xs)) → AppendsPart b c (get_or xs i d) → AppendsPart a c (concat xs)
+octets_part a b c i xs d lt h k =
+    let x = get_or xs i d in
+    let front = concat (take i xs) in
+    let rest = concat (drop (i + 1) xs) in
+    part_of a c (front ++ take k.0 x) (drop k.0 x ++ rest) (concat xs)
+    (appends_more a b c front (take k.0 x) h k.1)
+    (sym (append_assoc (front ++ take k.0 x) (drop k.0 x) rest)
+    ∙ ap (λ (l : List ℕ). l ++ rest) (append_assoc front (take k.0 x) (drop k.0 x) ∙ ap (λ (l : List ℕ). front ++ l) (take-append-drop k.0 x) ∙ sym (concat_one i xs d lt))
+    ∙ concat_parts (i + 1) xs)

@@ -201,12 +201,12 @@ not_polled i is = absurd (true≢false (sym is))
 -- ---- a step
 
 module _ (keeps_all i : Bool) (t : Step) (r : Receipt) (old new : List JournalEntry) (before after : Option (List ℕ)) (added : AreLast keeps_all (old ++ entry_of t r ∷ []) new) (polled : is_poll t.act ≡ true → i ≡ true) where
-  pub made_all : (closed j : Bool) → Appends before after (printed r.replies.items) → closed ≡ close r.replies.items → j ≡ (is_poll t.act && i) || begin_idle r.replies.items
+  pub made_all : (closed j : Bool) → Appends before after (printed r.replies) → closed ≡ close r.replies → j ≡ (is_poll t.act && i) || begin_idle r.replies
       → GoesOrCloses closed (site t.who keeps_all) i j (scene old before) (scene new after) (asks_of_act t.act)
   made_all true j shown is idles = one_closes (site t.who keeps_all) i (scene old before) (scene new after) (asks_of_act t.act) (Event.made (entry_of t r)) added refl refl polled shown (ap (λ b. if b then Some End.Closed else None) (sym is))
   made_all false j shown is idles = one_goes (site t.who keeps_all) i (scene old before) (scene new after) (asks_of_act t.act) (Event.made (entry_of t r)) added refl refl polled j idles shown (ap (λ b. if b then Some End.Closed else None) (sym is))
 
-  pub made_part : AppendsPart before after (printed r.replies.items) → Breaks (site t.who keeps_all) i (scene old before) (scene new after) (asks_of_act t.act)
+  pub made_part : AppendsPart before after (printed r.replies) → Breaks (site t.who keeps_all) i (scene old before) (scene new after) (asks_of_act t.act)
   made_part part = one_breaks (site t.who keeps_all) i (scene old before) (scene new after) (asks_of_act t.act) (Event.made (entry_of t r)) added refl refl polled part.0 part.1
 
 pub not_made : (s : Site) (i : Bool) (old new : List JournalEntry) (written : Option (List ℕ)) (ws : List Asked) → new ≡ old → Breaks s i (scene old written) (scene new written) ws

@@ -2,21 +2,23 @@
 
 ghost use Rattle.std.specs.Prelude.{◌≡◌, ◌&&◌, ◌||◌, ◌<◌, ◌≤◌, length, take, IfErr, IfOk, OnErr, OnOk};
 ghost use Rattle.std.specs.Io.KnownBytes.{Appends};
+ghost use Rattle.std.specs.List.{concat};
 ghost use Rattle.imap_print.specs.Printed.{printed};
 ghost use Rattle.imap_serve.specs.Events.{begin_idle, close, is_bye, is_idling, is_poll};
-ghost use Rattle.imap_serve.specs.Reading.{AppendsPart};
+ghost use Rattle.imap_serve.specs.Reading.{AppendsPart, HasNotWritten};
 ghost use Rattle.imap_serve.specs.Served.{IsCausedWriting};
 
 use crate::error::ServeError;
-use crate::watched::Watched;
+use crate::watched::{Failed, Watched};
 use imap_core::Act;
 use imap_hall::{Receipt, reply_octets};
-use imap_print::{Response, print};
+use imap_lex::Octets;
+use imap_print::{Response, print_pieces};
 use std::alloc::Global;
 use std::io::Write;
 
-/// Replies are printed and written in pieces that take about this much memory.
-const PIECE_OCTETS: u64 = 65_536;
+/// Replies are printed and written some at a time, as many as take about this much memory together.
+const OCTETS_AT_ONCE: u64 = 65_536;
 
 /// The state of a session.
 #[derive(Clone, Copy, Debug, PartialEq, Eq)]
@@ -56,7 +58,7 @@ pub(crate) fn say<O: Write>(
 {
     let mut done = 0;
     while done < replies.len() {
-        match say_piece(alloc, output, &replies[done..]) {
+        match say_first(alloc, output, &replies[done..]) {
             Ok(count) => done += count,
             Err(error) => return Err(error),
         }
@@ -65,7 +67,7 @@ pub(crate) fn say<O: Write>(
 }
 
 /// Prints and writes the first of the replies, and returns how many.
-fn say_piece<O: Write>(
+fn say_first<O: Write>(
     alloc: Global,
     output: &mut Watched<O>,
     replies: &[Response],
@@ -78,9 +80,9 @@ fn say_piece<O: Write>(
         (AppendsPart (O.contents output.old.inner) (O.contents output.new.inner) (printed replies.now)) }
     ensures cause { IfErr result (λ e. IsCausedWriting e output.new.log) }
 {
-    let count = piece_len(replies);
-    match print(alloc, &replies[..count]) {
-        Ok(text) => match output.write_whole(text.as_slice()) {
+    let count = count_at_once(replies);
+    match print_pieces(alloc, &replies[..count]) {
+        Ok(pieces) => match write_pieces(output, pieces.as_slice()) {
             Ok(()) => Ok(count),
             Err(_) => Err(ServeError::Write),
         },
@@ -88,8 +90,22 @@ fn say_piece<O: Write>(
     }
 }
 
-/// Returns how many of the replies are printed at once: as many as take [`PIECE_OCTETS`] together.
-fn piece_len(replies: &[Response]) -> usize
+/// Writes the pieces one after another. After a write that failed nothing more is written.
+fn write_pieces<O: Write>(output: &mut Watched<O>, pieces: &[Octets]) -> Result<(), Failed>
+    ensures ok { OnOk result
+        (Appends (O.contents output.old.inner) (O.contents output.new.inner) (concat pieces.now)) }
+    ensures err { OnErr result
+        (AppendsPart (O.contents output.old.inner) (O.contents output.new.inner) (concat pieces.now)) }
+    ensures fault { OnErr result (HasNotWritten output.new.log) }
+{
+    for piece in pieces {
+        output.write_whole(piece.as_slice())?;
+    }
+    Ok(())
+}
+
+/// Returns how many of the replies are printed at once: as many as take [`OCTETS_AT_ONCE`] together.
+fn count_at_once(replies: &[Response]) -> usize
     requires { 0 < length replies.now }
     ensures { (0 < result) × (result ≤ length replies.now) }
 {
@@ -98,7 +114,7 @@ fn piece_len(replies: &[Response]) -> usize
     for reply in replies {
         octets = octets.saturating_add(reply_octets(reply));
         count += 1;
-        if octets >= PIECE_OCTETS {
+        if octets >= OCTETS_AT_ONCE {
             return count;
         }
     }
@@ -113,11 +129,11 @@ pub(crate) fn tell<O: Write>(
     output: &mut Watched<O>,
 ) -> Result<Flow, ServeError>
     ensures ok { OnOk result (Appends (O.contents output.old.inner) (O.contents output.new.inner)
-        (printed receipt.now.replies.items)) }
-    ensures closed { IfOk result (λ next. next.closed ≡ close receipt.now.replies.items) }
-    ensures idles { IfOk result (λ next. next.idles ≡ flow.idles || begin_idle receipt.now.replies.items) }
+        (printed receipt.now.replies)) }
+    ensures closed { IfOk result (λ next. next.closed ≡ close receipt.now.replies) }
+    ensures idles { IfOk result (λ next. next.idles ≡ flow.idles || begin_idle receipt.now.replies) }
     ensures err { OnErr result (AppendsPart (O.contents output.old.inner) (O.contents output.new.inner)
-        (printed receipt.now.replies.items)) }
+        (printed receipt.now.replies)) }
     ensures cause { IfErr result (λ e. IsCausedWriting e output.new.log) }
 {
     let replies = receipt.replies.as_slice();

@@ -13,7 +13,7 @@ loop-done-preserved g c =
     let xs = c.args.replies.now in
     let old = g.O.Write.contents c.args.output.now.inner in
     let mid = g.O.Write.contents c.loop-done.output.inner in
-    let new = g.O.Write.contents c.say_piece.new.output.inner in (
+    let new = g.O.Write.contents c.say_first.new.output.inner in (
       search (rules, length-drop),
       pieces_more old mid new done xs c.loop-done.invariant.1 count
           (subst (λ l. Appends mid new (printed (take count l))) (take_all (length xs - done) (drop done xs) (search (rules, length-drop))) c.in-Ok.ensures.ok.0),
@@ -25,6 +25,6 @@ returns-in-Err-clause-err g c =
     let xs = c.args.replies.now in
     let old = g.O.Write.contents c.args.output.now.inner in
     let mid = g.O.Write.contents c.loop-done.output.inner in
-    let new = g.O.Write.contents c.say_piece.new.output.inner in
+    let new = g.O.Write.contents c.say_first.new.output.inner in
     pieces_part old mid new done xs c.loop-done.invariant.1
     (subst (λ l. AppendsPart mid new (printed l)) (take_all (length xs - done) (drop done xs) (search (rules, length-drop))) c.in-Err.ensures.err)

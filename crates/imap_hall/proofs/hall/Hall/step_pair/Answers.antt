@@ -18,5 +18,5 @@ returns-clause-err g c =
 
 pub returns-clause-alone : goal.returns-clause-alone
 returns-clause-alone g c =
-    subst (λ (h : HallState g.row.K.Denot). IfOk c.advance.result (λ r. IsAlone g.K.Keeper.failed g.K.Keeper.is_honest g.K.Keeper.leaves g.K.Keeper.stands h.now.state h.keeper c.args.step.now r.0.replies.items c.advance.new.core.state c.advance.new.keeper)) c.self.view_is
+    subst (λ (h : HallState g.row.K.Denot). IfOk c.advance.result (λ r. IsAlone g.K.Keeper.failed g.K.Keeper.is_honest g.K.Keeper.leaves g.K.Keeper.stands h.now.state h.keeper c.args.step.now r.0.replies c.advance.new.core.state c.advance.new.keeper)) c.self.view_is
     c.advance.ensures.alone
