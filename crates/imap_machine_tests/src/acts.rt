@@ -134,7 +134,11 @@ fn used(alloc: Global, world: &World, text: &str) -> Result<String, WorldError> 
 }
 
 fn subscribed(alloc: Global, world: &World, who: &str) -> Result<String, WorldError> {
-    told(alloc, world.subscriptions(who).map(|names| names.len()))
+    let count = match world.subscriptions(who) {
+        Some(names) => Some(names.len()),
+        None => None,
+    };
+    told(alloc, count)
 }
 
 fn movable(alloc: Global, old: &str, new: &str) -> Result<bool, WorldError> {

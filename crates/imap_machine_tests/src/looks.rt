@@ -15,8 +15,14 @@ fn letters(alloc: Global, rights: Rights) -> Result<String, AllocError> {
 
 /// UIDVALIDITY, UIDNEXT, HIGHESTMODSEQ, the numbers of messages and of those that are gone, and the room.
 fn shown(alloc: Global, seen: &Seen<'_>) -> Result<String, AllocError> {
-    let rows = seen.rows().map(|rows| rows.len());
-    let gone = seen.gone().map(|gone| gone.len());
+    let rows = match seen.rows() {
+        Some(rows) => Some(rows.len()),
+        None => None,
+    };
+    let gone = match seen.gone() {
+        Some(gone) => Some(gone.len()),
+        None => None,
+    };
     format!(in alloc;
         " {:?} {:?} {:?} {rows:?} {gone:?} {:?}",
         seen.validity(),
@@ -30,7 +36,10 @@ fn shown(alloc: Global, seen: &Seen<'_>) -> Result<String, AllocError> {
 fn seen(alloc: Global, view: &View<'_>, name: &Name) -> Result<String, AllocError> {
     let name = name.as_ref();
     let letters = letters(alloc, view.rights(&name))?;
-    let list = view.acl(&name).map(|acl| acl.len());
+    let list = match view.acl(&name) {
+        Some(acl) => Some(acl.len()),
+        None => None,
+    };
     let shown = match view.seen(&name) {
         Some(seen) => shown(alloc, &seen)?,
         None => String::new(alloc),
@@ -126,6 +135,8 @@ fn room_in(
 ) -> Result<Option<u64>, AllocError> {
     let bob = user(alloc, "bob")?;
     let name = name(alloc, text)?;
-    let seen = View::new(world, site, &bob).seen(&name.as_ref());
-    Ok(seen.and_then(|seen| seen.room()))
+    match View::new(world, site, &bob).seen(&name.as_ref()) {
+        Some(seen) => Ok(seen.room()),
+        None => Ok(None),
+    }
 }

@@ -170,7 +170,7 @@ fn answered(alloc: Global, count: u32, doings: &[Doing]) -> Result<Vec<u8>, Allo
 }
 
 /// How many names root subscribed to before, what root's session does, and what it is answered.
-const RUNS: [(u32, &[Doing], &[u8]); 4] = [
+const RUNS: &[(u32, &[Doing], &[u8])] = &[
     (
         0,
         &[
@@ -187,18 +187,18 @@ const RUNS: [(u32, &[Doing], &[u8]); 4] = [
     ),
     (
         998,
-        &SUBSCRIBING,
+        SUBSCRIBING,
         b"a1 OK done\r\n|a2 OK done\r\n|a3 OK done\r\n|a4 OK done\r\n|a5 OK done\r\n|",
     ),
     (
         999,
-        &SUBSCRIBING,
+        SUBSCRIBING,
         b"a1 OK done\r\n|a2 OK done\r\n|a3 NO [LIMIT] limit reached\r\n|a4 OK done\r\n|a5 OK done\r\n|",
     ),
 ];
 
 /// A user subscribes to a thousand names at most.
-const SUBSCRIBING: [Doing; 5] = [
+const SUBSCRIBING: &[Doing] = &[
     Doing::Sends(b"a1 SUBSCRIBE Shared/News\r\n"),
     Doing::Sends(b"a2 SUBSCRIBE Shared/News\r\n"),
     Doing::Sends(b"a3 SUBSCRIBE INBOX\r\n"),
@@ -208,7 +208,7 @@ const SUBSCRIBING: [Doing; 5] = [
 
 #[test]
 fn a_machine_answers(rt: HostRuntime) {
-    for &(count, doings, wanted) in &RUNS {
+    for &(count, doings, wanted) in RUNS {
         expect(&rt, answered(rt.alloc(), count, doings), wanted);
     }
 }

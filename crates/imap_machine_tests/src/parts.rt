@@ -1,5 +1,6 @@
 //! Tests of worlds from what a store keeps of them. A row has the parts of a world, and what the world shows.
 
+use crate::machine::{both, push};
 use crate::wanted::expect_text;
 use crate::world::{name, user};
 use bitflags::Flags;
@@ -24,11 +25,6 @@ struct Rows {
     subscriptions: &'static [(&'static str, &'static str)],
 }
 
-fn push<T: Drop>(list: &mut Vec<T>, item: T) -> Result<(), AllocError> {
-    list.push(item)?;
-    Ok(())
-}
-
 fn entry_of(alloc: Global, identifier: &str, letters: &str) -> Result<Entry, AllocError> {
     let Ok(identifier) = Identifier::read(alloc, identifier.as_bytes()) else {
         return Err(AllocError);
@@ -45,8 +41,7 @@ fn entry_of(alloc: Global, identifier: &str, letters: &str) -> Result<Entry, All
 fn acl_of(alloc: Global, rows: &[(&'static str, &'static str)]) -> Result<Vec<Entry>, AllocError> {
     let mut acl = Vec::new(alloc);
     for &(identifier, letters) in rows {
-        let entry = entry_of(alloc, identifier, letters)?;
-        push(&mut acl, entry)?;
+        push(&mut acl, entry_of(alloc, identifier, letters))?;
     }
     Ok(acl)
 }
@@ -58,8 +53,7 @@ fn row_of(
     acl: &[(&'static str, &'static str)],
     next: u32,
 ) -> Result<MailboxRow, AllocError> {
-    let name = name(alloc, text)?;
-    let acl = acl_of(alloc, acl)?;
+    let (name, acl) = both(name(alloc, text), acl_of(alloc, acl))?;
     let messages = MailboxParts {
         next,
         shared: 0,
@@ -86,24 +80,25 @@ fn mailboxes_of(
 ) -> Result<Vec<MailboxRow>, AllocError> {
     let mut mailboxes = Vec::new(alloc);
     for &(text, validity, acl, next) in rows {
-        let row = row_of(alloc, text, validity, acl, next)?;
-        push(&mut mailboxes, row)?;
+        push(&mut mailboxes, row_of(alloc, text, validity, acl, next))?;
     }
     Ok(mailboxes)
 }
 
-fn parts_of(alloc: Global, rows: Rows) -> Result<WorldParts, AllocError> {
+fn subscription(alloc: Global, who: &str, text: &str) -> Result<Subscription, AllocError> {
+    let (who, name) = both(String::from_str(alloc, who), name(alloc, text))?;
+    Ok(Subscription::new(who, name))
+}
+
+fn parts_of(alloc: Global, rows: &Rows) -> Result<WorldParts, AllocError> {
     let mailboxes = mailboxes_of(alloc, rows.mailboxes)?;
     let mut epochs = Vec::new(alloc);
     for &(text, validity) in rows.epochs {
-        let name = name(alloc, text)?;
-        push(&mut epochs, (name, validity))?;
+        push(&mut epochs, both(name(alloc, text), Ok(validity)))?;
     }
     let mut subscriptions = Vec::new(alloc);
     for &(who, text) in rows.subscriptions {
-        let who = String::from_str(alloc, who)?;
-        let name = name(alloc, text)?;
-        push(&mut subscriptions, Subscription::new(who, name))?;
+        push(&mut subscriptions, subscription(alloc, who, text))?;
     }
     Ok(WorldParts {
         mailboxes,
@@ -148,7 +143,7 @@ fn shown(alloc: Global, world: &World) -> Result<String, AllocError> {
     Ok(text)
 }
 
-fn restored(alloc: Global, rows: Rows) -> Result<String, AllocError> {
+fn restored(alloc: Global, rows: &Rows) -> Result<String, AllocError> {
     let parts = parts_of(alloc, rows)?;
     match World::from_parts(alloc, parts) {
         Ok(world) => {
@@ -174,7 +169,7 @@ const GOOD: Rows = Rows {
     ],
 };
 
-const RESTORED: [(Rows, &str); 14] = [
+const RESTORED: &[(Rows, &str)] = &[
     (GOOD, "Shared/a 3 0 3; Shared/a/b 2 2 7; +Shared/a+Shared/z"),
     (
         Rows {
@@ -282,7 +277,7 @@ const RESTORED: [(Rows, &str); 14] = [
 
 #[test]
 fn parts_stand_for_a_world_or_for_none(rt: HostRuntime) {
-    for &(rows, wanted) in &RESTORED {
+    for (rows, wanted) in RESTORED {
         expect_text(&rt, restored(rt.alloc(), rows), wanted);
     }
 }

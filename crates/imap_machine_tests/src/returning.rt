@@ -50,7 +50,12 @@ fn bits(flags: &FlagSet) -> u8 {
 }
 
 fn is_among(uid: u32, uids: &[u32]) -> bool {
-    uids.iter().any(|other| *other == uid)
+    for other in uids {
+        if *other == uid {
+            return true;
+        }
+    }
+    false
 }
 
 /// Puts the flags of a message that is held, or adds the message.

@@ -18,7 +18,10 @@ pub(crate) fn user(alloc: Global, text: &str) -> Result<UserName, AllocError> {
 
 /// A mailbox's name that is valid.
 pub(crate) fn name(alloc: Global, text: &str) -> Result<Name, AllocError> {
-    read_full(alloc, text.as_bytes()).map_err(|_| AllocError)
+    match read_full(alloc, text.as_bytes()) {
+        Ok(name) => Ok(name),
+        Err(_) => Err(AllocError),
+    }
 }
 
 /// A site whose administrator is root.

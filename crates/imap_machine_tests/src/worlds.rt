@@ -42,7 +42,7 @@ const SUBSCRIBED: WorldRow = WorldRow {
 };
 
 /// Acts, before each of which the world is copied. A set of names that is empty again is as none.
-const COPIED: [Act; 8] = [
+const COPIED: &[Act] = &[
     Act::Show,
     Act::Place("Shared/News"),
     Act::Give("Shared/News", "bob", "r"),
@@ -211,13 +211,13 @@ const ROOM: WorldRow = WorldRow {
         Ok(Some(0))\nOk(1)\nErr(NoSuch)\nOk(1)\nOk(Some(1))\n",
 };
 
-const ROWS: [WorldRow; 9] = [
+const ROWS: &[WorldRow] = &[
     PLACED, SUBSCRIBED, MADE_AGAIN, MOVED, MOVABLE, LOOKED_AT, SHOWN, KEYWORDS, ROOM,
 ];
 
 #[test]
 fn worlds_are_as_told(rt: HostRuntime) {
-    for row in &ROWS {
+    for row in ROWS {
         let mut world = World::new(rt.alloc());
         let told = run(rt.alloc(), &mut world, row.acts);
         drop(world);
@@ -229,7 +229,7 @@ fn worlds_are_as_told(rt: HostRuntime) {
 #[test]
 fn copies_are_the_same(rt: HostRuntime) {
     let mut world = World::new(rt.alloc());
-    let told = run_compared(rt.alloc(), &mut world, &COPIED);
+    let told = run_compared(rt.alloc(), &mut world, COPIED);
     drop(world);
     expect_text(&rt, told, COMPARED);
 }

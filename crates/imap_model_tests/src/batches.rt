@@ -5,6 +5,7 @@ ghost use Rattle.imap_mailbox.specs.Held.{summary_in};
 
 use crate::flags::flags_of;
 use crate::mailbox::{add_more, date, many_words, message};
+use crate::owned::{both, push};
 use crate::shown::shown;
 use crate::wanted::expect_text;
 use imap_batch::{
@@ -13,25 +14,10 @@ use imap_batch::{
 use imap_mailbox::{Mailbox, MailboxError, SharedFlags};
 use imap_names::UserName;
 use imap_syntax::Items;
-use std::alloc::{AllocError, Global};
+use std::alloc::Global;
 
 fn bob(alloc: Global) -> Result<UserName, MailboxError> {
     UserName::read(alloc, "bob")?.ok_or(MailboxError::NoSuchUid)
-}
-
-/// Both values. It is generic, since the proof that a large value is dropped is long.
-fn both<A: Drop, B: Drop>(
-    one: Result<A, MailboxError>,
-    other: Result<B, MailboxError>,
-) -> Result<(A, B), MailboxError> {
-    let one = one?;
-    let other = other?;
-    Ok((one, other))
-}
-
-fn push<T: Drop>(items: &mut Vec<T>, item: T) -> Result<(), AllocError> {
-    items.push(item)?;
-    Ok(())
 }
 
 fn push_made<T: Drop>(
@@ -140,11 +126,11 @@ fn apply_made(
 fn add(alloc: Global, mailbox: &mut Mailbox, seen: &[bool]) -> Result<(), MailboxError> {
     let mut added = Vec::new(alloc);
     let made = plain_messages(alloc, &mut added, seen);
-    let added = both(made, Ok(added)).map(|(_, added)| added);
+    let ((), added) = both(made, Ok(added))?;
     apply_made(
         alloc,
         mailbox,
-        batch(alloc, added, Ok(Vec::new(alloc)), &[]),
+        batch(alloc, Ok(added), Ok(Vec::new(alloc)), &[]),
     )
 }
 

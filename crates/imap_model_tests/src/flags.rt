@@ -92,7 +92,7 @@ fn changed_words(alloc: Global, row: &Words) -> Result<Vec<u8>, MailboxError> {
 /// Keywords are a set without case.
 #[test]
 fn keywords_are_sets(rt: HostRuntime) {
-    const ROWS: [Words; 7] = [
+    const ROWS: &[Words] = &[
         (
             &[b"Work", b"$Junk", b"WORK", b"a", b"wo"],
             &[],
@@ -106,7 +106,7 @@ fn keywords_are_sets(rt: HostRuntime) {
         (&[], &[b"B", b"a"], &[], b"a b "),
         (&[b"a"], &[], &[], b"a "),
     ];
-    for row in &ROWS {
+    for row in ROWS {
         expect(&rt, changed_words(rt.alloc(), row), row.3);
     }
 }

@@ -24,6 +24,8 @@ mod name_map;
 #[cfg(test)]
 mod names;
 #[cfg(test)]
+mod owned;
+#[cfg(test)]
 mod parts;
 #[cfg(test)]
 mod patterns;

@@ -76,7 +76,8 @@ fn add_flagged(
 ) -> Result<(), MailboxError> {
     let date = date()?;
     let octets = message(alloc)?;
-    mailbox.add(max_messages, date, octets, flags).map(|_| ())
+    mailbox.add(max_messages, date, octets, flags)?;
+    Ok(())
 }
 
 /// Adds messages without flags.
@@ -196,7 +197,7 @@ fn run(alloc: Global, acts: &[Act]) -> Result<String, MailboxError> {
     Ok(text)
 }
 
-const MAILBOXES: [(&[Act], &str); 12] = [
+const MAILBOXES: &[(&[Act], &str)] = &[
     // bob's own changes come after the second and the fourth shared event.
     (
         &[
@@ -344,7 +345,7 @@ const MAILBOXES: [(&[Act], &str); 12] = [
 
 #[test]
 fn mailboxes(rt: HostRuntime) {
-    for (acts, wanted) in &MAILBOXES {
+    for (acts, wanted) in MAILBOXES {
         expect_text(&rt, run(rt.alloc(), acts), wanted);
     }
     let memory = MailboxError::Memory.to_string(rt.alloc());
@@ -354,7 +355,7 @@ fn mailboxes(rt: HostRuntime) {
 /// What is decided already is committed without memory. Of a UID that is gone a commit changes nothing.
 #[test]
 fn commits_in_room_that_is_there(rt: HostRuntime) {
-    const ROWS: [(&[Act], &str); 2] = [
+    const ROWS: &[(&[Act], &str)] = &[
         (
             &[
                 Act::AddInRoom,
@@ -376,7 +377,7 @@ fn commits_in_room_that_is_there(rt: HostRuntime) {
             "2=3 4=5 | 2=7* 4=6* | 1=8 3=9 | 7 9 5 6",
         ),
     ];
-    for (acts, wanted) in &ROWS {
+    for (acts, wanted) in ROWS {
         expect_text(&rt, run(rt.alloc(), acts), wanted);
     }
 }

@@ -2,13 +2,14 @@
 //! shows.
 
 use crate::mailbox::{Act, date, make_all, many_words, message};
+use crate::owned::push;
 use crate::shown::shown;
 use crate::wanted::expect_text;
 use imap_mailbox::{
     GoneMessage, Mailbox, MailboxError, MailboxParts, Message, PartsError, SeenChange, SharedFlags,
     UserChange,
 };
-use std::alloc::{AllocError, Global};
+use std::alloc::Global;
 
 /// What a store keeps of a mailbox.
 #[derive(Clone, Copy)]
@@ -21,11 +22,6 @@ struct Parts {
     gone: &'static [(u32, u64)],
     /// For each own change its user, its place, the shared events before it, and its UID, which is seen.
     own: &'static [(&'static str, u64, u64, u32)],
-}
-
-fn push<T: Drop>(list: &mut Vec<T>, item: T) -> Result<(), AllocError> {
-    list.push(item)?;
-    Ok(())
 }
 
 fn message_of(alloc: Global, uid: u32, place: u64, words: u8) -> Result<Message, MailboxError> {
@@ -75,7 +71,7 @@ fn own_of(
     Ok(own)
 }
 
-fn parts_of(alloc: Global, row: Parts) -> Result<MailboxParts, MailboxError> {
+fn parts_of(alloc: Global, row: &Parts) -> Result<MailboxParts, MailboxError> {
     let gone = gone_of(alloc, row.gone)?;
     let own = own_of(alloc, row.own)?;
     let messages = messages_of(alloc, row.messages)?;
@@ -100,7 +96,7 @@ fn shown_of(alloc: Global, restored: Result<Mailbox, PartsError>) -> Result<Stri
     }
 }
 
-fn restored(alloc: Global, row: Parts) -> Result<String, MailboxError> {
+fn restored(alloc: Global, row: &Parts) -> Result<String, MailboxError> {
     match parts_of(alloc, row) {
         Ok(parts) => shown_of(alloc, Mailbox::from_parts(alloc, parts)),
         Err(error) => Err(error),
@@ -127,7 +123,7 @@ fn unseen_of(alloc: Global, restored: Result<Mailbox, PartsError>) -> Result<Str
     }
 }
 
-fn unseen_restored(alloc: Global, row: Parts) -> Result<String, MailboxError> {
+fn unseen_restored(alloc: Global, row: &Parts) -> Result<String, MailboxError> {
     match parts_of(alloc, row) {
         Ok(parts) => unseen_of(alloc, Mailbox::from_parts(alloc, parts)),
         Err(error) => Err(error),
@@ -144,7 +140,7 @@ const GOOD: Parts = Parts {
     own: &[("bob", 1, 5, 2), ("ann", 0, 3, 1), ("bob", 0, 4, 3)],
 };
 
-const RESTORED: [(Parts, &str); 21] = [
+const RESTORED: &[(Parts, &str)] = &[
     (GOOD, "2=6 3=4 | 2=8* 3=6* | 1=7 | 7 8 4 5"),
     (
         Parts {
@@ -295,11 +291,11 @@ const RESTORED: [(Parts, &str); 21] = [
 
 #[test]
 fn parts_stand_for_a_mailbox_or_for_none(rt: HostRuntime) {
-    for &(row, wanted) in &RESTORED {
+    for (row, wanted) in RESTORED {
         expect_text(&rt, restored(rt.alloc(), row), wanted);
     }
     // What ann saw is gone.
-    expect_text(&rt, unseen_restored(rt.alloc(), GOOD), "2 0");
+    expect_text(&rt, unseen_restored(rt.alloc(), &GOOD), "2 0");
     let memory = PartsError::Memory.to_string(rt.alloc());
     expect_text(&rt, memory, "out of memory");
 }
@@ -315,7 +311,7 @@ struct Last {
     wanted: &'static str,
 }
 
-const LAST: [Last; 3] = [
+const LAST: &[Last] = &[
     // Own changes, and flags that stay, need no shared event.
     Last {
         shared: 4_611_686_018_427_387_902,
@@ -380,7 +376,10 @@ fn after_acts(
             let mut text = String::new(alloc);
             let made = make_all(alloc, &mut text, &mut mailbox, acts);
             drop(mailbox);
-            made.map(|()| text)
+            match made {
+                Ok(()) => Ok(text),
+                Err(error) => Err(error),
+            }
         }
         Err(_) => Err(MailboxError::Limit),
     }
@@ -388,7 +387,7 @@ fn after_acts(
 
 #[test]
 fn shared_events_end(rt: HostRuntime) {
-    for row in &LAST {
+    for row in LAST {
         let made = match one_message(rt.alloc(), row) {
             Ok(parts) => after_acts(rt.alloc(), Mailbox::from_parts(rt.alloc(), parts), row.acts),
             Err(error) => Err(error),

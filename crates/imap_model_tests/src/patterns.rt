@@ -27,8 +27,10 @@ fn matches(
 ) -> Result<Option<bool>, AllocError> {
     let pattern = pattern?;
     let shown = shown?;
-    let read = Pattern::read(alloc, b"", pattern.as_bytes())?;
-    Ok(read.map(|pattern| pattern.matches(shown.as_str())))
+    match Pattern::read(alloc, b"", pattern.as_bytes())? {
+        Some(pattern) => Ok(Some(pattern.matches(shown.as_str()))),
+        None => Ok(None),
+    }
 }
 
 // Patterns that a search by trial of every cut takes far too long for.

@@ -3,6 +3,7 @@
 mod mailboxes;
 mod messages;
 
+use crate::owned::both;
 use crate::wanted::expect;
 use imap_lex::{Octets, Tag};
 use imap_print::*;
@@ -23,27 +24,18 @@ fn numbers(alloc: Global, numbers: &[u32]) -> Result<NumberSet, AllocError> {
     NumberSet::from_rising(Vec::from_slice(alloc, numbers)?).ok_or(AllocError)
 }
 
-/// Both values. It is generic, since the proof that a large value is dropped is long.
-fn both<A: Drop, B: Drop>(
-    one: Result<A, AllocError>,
-    other: Result<B, AllocError>,
-) -> Result<(A, B), AllocError> {
-    let one = one?;
-    let other = other?;
-    Ok((one, other))
-}
-
-/// Prints the copy of a response, if it is the same.
+/// Prints the copies of a response, if they are the same.
 fn print_same(
     alloc: Global,
     response: &Response,
-    copy: &[Response],
+    copies: &[Response],
 ) -> Result<Vec<u8>, AllocError> {
-    if copy.iter().all(|copy| copy.is_same(response)) {
-        print(alloc, copy)
-    } else {
-        Vec::from_slice(alloc, b"another response")
+    for copy in copies {
+        if !copy.is_same(response) {
+            return Vec::from_slice(alloc, b"another response");
+        }
     }
+    print(alloc, copies)
 }
 
 /// Prints a copy of the response. What is large is handed to `drop`, which is generic.
@@ -298,7 +290,7 @@ fn searches(rt: HostRuntime) {
         count: None,
         mod_seq: None,
     };
-    const ROWS: [(Found, &[u8]); 5] = [
+    const ROWS: &[(Found, &[u8])] = &[
         (NOTHING, b"* ESEARCH (TAG \"a5\")\r\n"),
         (
             Found {
@@ -335,7 +327,7 @@ fn searches(rt: HostRuntime) {
             b"* ESEARCH (TAG \"a5\") UID MIN 2 MAX 11 ALL 2,10:11 COUNT 3 MODSEQ 1236715319000\r\n",
         ),
     ];
-    for (found, line) in &ROWS {
+    for (found, line) in ROWS {
         check(&rt, rt.alloc(), search(rt.alloc(), found), line);
     }
 }

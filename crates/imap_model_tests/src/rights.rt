@@ -90,8 +90,13 @@ fn add_all(alloc: Global, groups: &mut Groups, members: Members) -> Result<(), A
 }
 
 fn set(alloc: Global, acl: &mut Acl, identifier: &str, letters: &str) -> Result<(), AllocError> {
-    let identifier = Identifier::read(alloc, identifier.as_bytes()).map_err(|_| AllocError)?;
-    acl.set(identifier, rights(letters)).map_err(|_| AllocError)
+    let Ok(identifier) = Identifier::read(alloc, identifier.as_bytes()) else {
+        return Err(AllocError);
+    };
+    match acl.set(identifier, rights(letters)) {
+        Ok(()) => Ok(()),
+        Err(_) => Err(AllocError),
+    }
 }
 
 fn acl_of(alloc: Global, entries: Entries) -> Result<Acl, AllocError> {
@@ -122,7 +127,7 @@ fn held(
 }
 
 /// Members of groups, entries of a list, the owner, and the rights that bob holds.
-const HELD: [(Members, Entries, &str, &str); 20] = [
+const HELD: &[(Members, Entries, &str, &str)] = &[
     (&[], &[("group:team", "lrs")], "root", ""),
     (&[("team", "bob")], &[("group:team", "lrs")], "root", "lrs"),
     (&[("team", "cy")], &[("group:team", "lrs")], "root", ""),
@@ -229,7 +234,7 @@ const HELD: [(Members, Entries, &str, &str); 20] = [
 
 #[test]
 fn groups_give_and_take_rights(rt: HostRuntime) {
-    for &(members, entries, owner, wanted) in &HELD {
+    for &(members, entries, owner, wanted) in HELD {
         expect_text(&rt, held(rt.alloc(), members, entries, owner), wanted);
     }
 }

@@ -120,7 +120,7 @@ fn fields_of(
 }
 
 /// Messages, names of fields, and the parts in which the fields of these names come.
-const FIELDS: [(&[u8], &[&str], &[u8]); 15] = [
+const FIELDS: &[(&[u8], &[&str], &[u8])] = &[
     (
         SUMMARY,
         &["DATE", "FROM"],
@@ -166,14 +166,14 @@ const FIELDS: [(&[u8], &[&str], &[u8]); 15] = [
 
 #[test]
 fn fields_by_name(rt: HostRuntime) {
-    for &(message, names, wanted) in &FIELDS {
+    for &(message, names, wanted) in FIELDS {
         expect(&rt, fields_of(rt.alloc(), message, names, false), wanted);
     }
 }
 
 #[test]
 fn other_fields(rt: HostRuntime) {
-    const ROWS: [(&[u8], &[&str], &[u8]); 7] = [
+    const ROWS: &[(&[u8], &[&str], &[u8])] = &[
         (
             SUMMARY,
             &[
@@ -206,7 +206,7 @@ fn other_fields(rt: HostRuntime) {
                 no name\r\n but: this\r\n|:empty\r\nsubject:four\r\n\r\n|",
         ),
     ];
-    for &(message, names, wanted) in &ROWS {
+    for &(message, names, wanted) in ROWS {
         expect(&rt, fields_of(rt.alloc(), message, names, true), wanted);
     }
 }

@@ -12,10 +12,11 @@ use std::io::ErrorKind;
 use std::process::{Abort, ExitCode};
 
 fn words(alloc: Global, texts: &[&str]) -> Result<Vec<String>, AllocError> {
-    texts
-        .iter()
-        .map(|text| String::from_str(alloc, text))
-        .try_collect(alloc)
+    let mut words = Vec::new(alloc);
+    for text in texts {
+        words.push(String::from_str(alloc, text)?)?;
+    }
+    Ok(words)
 }
 
 /// What these words ask for.
@@ -56,7 +57,7 @@ fn shown(alloc: Global, texts: &[&str]) -> Result<Vec<u8>, AllocError> {
 
 #[test]
 fn reads_command_lines(rt: HostRuntime) {
-    const ROWS: [(&[&str], &[u8]); 5] = [
+    const ROWS: &[(&[&str], &[u8])] = &[
         (&["imapd", "script"], b"script"),
         (&["imapd", "--version"], b"version"),
         (
@@ -99,7 +100,7 @@ fn reads_command_lines(rt: HostRuntime) {
             b"x root 10000 33554432 ann=1143 a=b=1144",
         ),
     ];
-    for &(texts, wanted) in &ROWS {
+    for &(texts, wanted) in ROWS {
         expect(&rt, shown(rt.alloc(), texts), wanted);
     }
 }
@@ -121,7 +122,7 @@ fn check_refused(rt: &(impl Abort + Eprint), alloc: Global, texts: &[&str], by_p
 
 #[test]
 fn refuses_command_lines(rt: HostRuntime) {
-    const ROWS: [(&[&str], bool); 11] = [
+    const ROWS: &[(&[&str], bool)] = &[
         (&["imapd", "frob"], true),
         (&["imapd", "script", "x"], true),
         (&["imapd", "--help"], true),
@@ -159,7 +160,7 @@ fn refuses_command_lines(rt: HostRuntime) {
             false,
         ),
     ];
-    for &(texts, by_parser) in &ROWS {
+    for &(texts, by_parser) in ROWS {
         check_refused(&rt, rt.alloc(), texts, by_parser);
     }
 }

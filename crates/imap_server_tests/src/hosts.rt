@@ -32,7 +32,10 @@ fn give(alloc: Global, acl: &mut Acl, identifier: &str, letters: &str) -> Result
         return Err(AllocError);
     };
     let rights = change.applied(acl.rights_of(&identifier));
-    acl.set(identifier, rights).map_err(|_| AllocError)
+    match acl.set(identifier, rights) {
+        Ok(()) => Ok(()),
+        Err(_) => Err(AllocError),
+    }
 }
 
 fn place(alloc: Global, world: &mut World, acl: Acl) -> Result<(), WorldError> {
@@ -116,7 +119,10 @@ pub(crate) fn seat<K: Keeper, L: Ledger>(
     text: &str,
 ) -> Result<Seat<L>, AllocError> {
     let user = user(alloc, text)?;
-    host.seat(alloc, user).map_err(|_| AllocError)
+    match host.seat(alloc, user) {
+        Ok(seat) => Ok(seat),
+        Err(_) => Err(AllocError),
+    }
 }
 
 fn act(alloc: Global, text: &[u8]) -> Result<Act, AllocError> {

@@ -253,10 +253,15 @@ fn a_client_that_reads_nothing_is_let_go(rt: HostRuntime) {
     assert!(rt; matches!(done(&rt, &Unread), Ok(true)));
 }
 
+fn address<R: Net<Listener = TcpListener, Stream = TcpStream>>(rt: &R) -> io::Result<SocketAddr> {
+    let listener = listener(rt)?;
+    listener.local_addr()
+}
+
 /// A listener stands at 127.0.0.1 alone.
 #[test]
 fn listens_at_this_machine_alone(rt: HostRuntime) {
-    match listener(&rt).and_then(|listener| listener.local_addr()) {
+    match address(&rt) {
         Ok(SocketAddr::V4(address)) => assert!(rt; *address.ip() == Ipv4Addr::LOCALHOST),
         Ok(SocketAddr::V6(_)) => panic!(rt; "another address"),
         Err(error) => panic!(rt; "{error:?}"),

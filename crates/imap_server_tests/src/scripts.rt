@@ -1,10 +1,11 @@
 //! Scripts that are no text, and inputs and outputs of scripts that fail. What scripts do is shown by the crate
 //! `imap_transcripts`.
 
+use crate::connection::{Behaviour, Sink, Source, WHOLE};
 use crate::wanted::expect;
 use imap_script::{ScriptError, read_input, script};
 use std::alloc::{AllocError, Global};
-use std::io::{self, ErrorKind, Read, Write};
+use std::io::{ErrorKind, Read};
 
 /// What the program writes for the script, and why the script isn't run to its end if it isn't.
 fn outcome<R: AllocGlobal, I: Read + Drop>(rt: &R, input: I) -> Result<Vec<u8>, AllocError> {
@@ -54,77 +55,25 @@ ann.1 > * BYE logging out
 ann.1 > a2 OK done
 ";
 
-/// Gives a text in pieces of at most 16 octets. The read after the first `reads` fails with `error`, and
-/// all later ones too if `is_lasting`.
-#[derive(Drop)]
-struct Source<'a> {
-    text: &'a [u8],
-    reads: u32,
-    error: ErrorKind,
-    is_lasting: bool,
-}
+/// Octets come and go in pieces of at most 16.
+const PIECES: Behaviour = Behaviour {
+    first: 16,
+    most: 16,
+    ..WHOLE
+};
 
-impl<'a> Read for Source<'a> {
-    fn read(&mut self, buf: &mut [u8]) -> io::Result<usize> {
-        if self.reads == 0 {
-            if !self.is_lasting {
-                self.reads = u32::MAX;
-            }
-            return Err(io::Error::from(self.error));
-        }
-        self.reads -= 1;
-        let count = self.text.len().min(buf.len()).min(16);
-        buf[..count].copy_from_slice(&self.text[..count]);
-        self.text = &self.text[count..];
-        Ok(count)
-    }
-}
-
-/// What a sink does after its last good write.
-#[derive(Clone, Copy, Debug, PartialEq, Eq)]
-enum Trouble {
-    Fails,
-    TakesNothing,
-    FailsToFlush,
-}
-
-/// Takes at most 16 octets of each of its first `writes` writes.
-#[derive(Drop)]
-struct Sink {
-    taken: Vec<u8>,
-    writes: u32,
-    trouble: Trouble,
-}
-
-impl Write for Sink {
-    fn write(&mut self, buf: &[u8]) -> io::Result<usize> {
-        if self.writes == 0 {
-            return match self.trouble {
-                Trouble::TakesNothing => Ok(0),
-                _ => Err(io::Error::from(ErrorKind::BrokenPipe)),
-            };
-        }
-        self.writes -= 1;
-        let count = buf.len().min(16);
-        self.taken.extend_from_slice(&buf[..count])?;
-        Ok(count)
-    }
-
-    fn flush(&mut self) -> io::Result<()> {
-        match self.trouble {
-            Trouble::FailsToFlush => Err(io::Error::from(ErrorKind::BrokenPipe)),
-            _ => Ok(()),
-        }
-    }
-}
-
-fn stored(reads: u32, error: ErrorKind, is_lasting: bool) -> Source<'static> {
-    Source {
-        text: SCRIPT,
-        reads,
-        error,
-        is_lasting,
-    }
+/// The script, of which the read after the first `reads` fails with `read_error`, and all later ones too if
+/// `is_lasting`.
+fn stored(reads: u32, read_error: ErrorKind, is_lasting: bool) -> Source<'static> {
+    Source::new(
+        SCRIPT,
+        Behaviour {
+            reads,
+            read_error,
+            is_lasting,
+            ..PIECES
+        },
+    )
 }
 
 /// The stored script has 75 octets, so that six reads come to its end. A read that is interrupted is made
@@ -172,30 +121,36 @@ fn reads_are_counted(rt: HostRuntime) {
 }
 
 /// Whether the sink took the transcript up to its last good write, and the run ended as it is to.
-fn is_written<R: AllocGlobal>(rt: &R, writes: u32, trouble: Trouble) -> bool {
-    let mut output = Sink {
-        taken: Vec::new(rt.alloc()),
-        writes,
-        trouble,
-    };
+fn is_written<R: AllocGlobal>(rt: &R, behaviour: Behaviour) -> bool {
+    let mut output = Sink::new(rt.alloc(), behaviour);
     let ran = script(rt, SCRIPT, &mut output);
     let is_whole = output.taken.len() == TRANSCRIPT.len();
     let is_right = match ran {
-        Ok(()) => is_whole && trouble != Trouble::FailsToFlush,
-        Err(ScriptError::Io) => !is_whole || trouble == Trouble::FailsToFlush,
+        Ok(()) => is_whole && !behaviour.fails_to_flush,
+        Err(ScriptError::Io) => !is_whole || behaviour.fails_to_flush,
         Err(_) => false,
     };
-    is_right && is_whole == (writes == 14) && TRANSCRIPT.starts_with(output.taken.as_slice())
+    is_right
+        && is_whole == (behaviour.writes == 14)
+        && TRANSCRIPT.starts_with(output.taken.as_slice())
 }
 
-/// The stored transcript has 217 octets, which are 14 writes.
+/// The stored transcript has 217 octets, which are 14 writes. After the last good one a write fails or takes nothing,
+/// or the flush fails too.
 #[test]
 fn a_write_fails(rt: HostRuntime) {
+    const TROUBLES: [(bool, bool); 3] = [(false, false), (true, false), (false, true)];
     for writes in 0..15 {
-        for trouble in [Trouble::Fails, Trouble::TakesNothing, Trouble::FailsToFlush] {
+        for &(takes_nothing, fails_to_flush) in &TROUBLES {
+            let behaviour = Behaviour {
+                writes,
+                takes_nothing,
+                fails_to_flush,
+                ..PIECES
+            };
             assert!(rt;
-                is_written(&rt, writes, trouble),
-                "write {writes}, {trouble:?}"
+                is_written(&rt, behaviour),
+                "write {writes}, {takes_nothing} {fails_to_flush}"
             );
         }
     }

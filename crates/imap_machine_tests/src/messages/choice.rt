@@ -54,7 +54,10 @@ pub(crate) struct Setting {
 }
 
 fn identifier(alloc: Global, text: &str) -> Result<Identifier, AllocError> {
-    Identifier::read(alloc, text.as_bytes()).map_err(|_| AllocError)
+    match Identifier::read(alloc, text.as_bytes()) {
+        Ok(identifier) => Ok(identifier),
+        Err(_) => Err(AllocError),
+    }
 }
 
 fn identifiers(alloc: Global) -> Result<Vec<Identifier>, AllocError> {
@@ -193,9 +196,14 @@ impl Asker {
     fn mark(self, alloc: Global, row: PlainRow) -> FlagUpdate {
         let sets = self.holds(Rights::WRITE) && is_chosen(self.step, row.uid, 4);
         let sees = self.holds(Rights::SEEN) && is_chosen(self.step, row.uid.wrapping_add(1000), 3);
+        let flags = if sets {
+            Some(only_flagged(alloc, !row.flagged))
+        } else {
+            None
+        };
         FlagUpdate {
             uid: row.uid,
-            flags: sets.then(|| only_flagged(alloc, !row.flagged)),
+            flags,
             seen: sees.then_some(!row.seen),
         }
     }
@@ -356,9 +364,7 @@ impl Chooser<'_> {
     fn giving(self, place: usize, user: usize, letters: usize) -> Result<Effect, AllocError> {
         let identifier = self.setting.identifier(self.model.alloc, user);
         let (name, identifier) = both(self.setting.name(place), identifier)?;
-        let change = LETTERS.get(letters).and_then(|text| read_rights(text));
-        let none = RightsChange::Replace(Rights::empty());
-        Ok(Effect::SetRights(name, identifier, change.unwrap_or(none)))
+        Ok(Effect::SetRights(name, identifier, rights_change(letters)))
     }
 
     /// Whether the user may create the name: by `k` on its superior, or as the owner of the tree.
@@ -398,10 +404,12 @@ impl Chooser<'_> {
 
     /// A name of the same level, which is free if one is.
     fn other_name(self, place: usize) -> usize {
-        let any = self.pick(5, 6) & 6 | place & 1;
-        (0..PATHS.len())
-            .find(|other| other & 1 == place & 1 && self.model.at(*other).is_none())
-            .unwrap_or(any)
+        for other in 0..PATHS.len() {
+            if other & 1 == place & 1 && self.model.at(other).is_none() {
+                return other;
+            }
+        }
+        self.pick(5, 6) & 6 | place & 1
     }
 
     fn effect_of(self, place: usize, user: usize) -> Result<Effect, AllocError> {
@@ -415,6 +423,15 @@ impl Chooser<'_> {
             7..=10 if self.model.at(place).is_none() => self.creation(place),
             _ => self.messages(place, user),
         }
+    }
+}
+
+/// What letters at this place give.
+fn rights_change(letters: usize) -> RightsChange {
+    let none = RightsChange::Replace(Rights::empty());
+    match LETTERS.get(letters) {
+        Some(text) => read_rights(text).unwrap_or(none),
+        None => none,
     }
 }
 

@@ -42,19 +42,23 @@ pub(crate) struct PlainName {
     pub mailbox: Option<PlainMailbox>,
 }
 
+/// The place of a text in a list, or the length of the list. It has a loop, since a closure costs a proof more time.
+fn place_in(texts: &[&str], wanted: &[u8]) -> usize {
+    for (place, text) in texts.iter().enumerate() {
+        if text.as_bytes() == wanted {
+            return place;
+        }
+    }
+    texts.len()
+}
+
 /// The place of a name.
 fn place_of(name: &Name) -> usize {
-    PATHS
-        .iter()
-        .position(|path| *path == name.path())
-        .unwrap_or(PATHS.len())
+    place_in(&PATHS, name.path().as_bytes())
 }
 
 fn place_of_user(user: &[u8]) -> usize {
-    USERS
-        .iter()
-        .position(|name| name.as_bytes() == user)
-        .unwrap_or(USERS.len())
+    place_in(&USERS, user)
 }
 
 /// All names with their mailboxes, in the order of `PATHS`.
@@ -95,7 +99,10 @@ impl PlainWorld {
 
     /// The UIDVALIDITY of a mailbox.
     pub(crate) fn validity(&self, place: usize) -> u32 {
-        self.names.get(place).map_or(0, |name| name.validity)
+        match self.names.get(place) {
+            Some(name) => name.validity,
+            None => 0,
+        }
     }
 
     /// What the user of a batch has of its mailbox.
@@ -258,6 +265,24 @@ fn push_marks(
     Ok(())
 }
 
+fn has_marked(folded: &Folded, marks: &[FlagUpdate]) -> bool {
+    for mark in marks {
+        if !folded.has(mark.uid) {
+            return false;
+        }
+    }
+    true
+}
+
+fn has_all(folded: &Folded, uids: &[u32]) -> bool {
+    for uid in uids {
+        if !folded.has(*uid) {
+            return false;
+        }
+    }
+    true
+}
+
 impl PlainWorld {
     /// Fails with `NoSuch` if the mailbox isn't there, or not all of the messages are.
     fn find(&self, part: &NamedBatch) -> Result<(), WorldError> {
@@ -265,12 +290,8 @@ impl PlainWorld {
         let folded = self.folded(place, 0)?;
         let batch = &part.batch;
         let is_found = self.is_there(place)
-            && batch
-                .marks
-                .as_slice()
-                .iter()
-                .all(|mark| folded.has(mark.uid))
-            && batch.expunged.as_slice().iter().all(|uid| folded.has(*uid));
+            && has_marked(&folded, batch.marks.as_slice())
+            && has_all(&folded, batch.expunged.as_slice());
         drop(folded);
         if is_found {
             Ok(())

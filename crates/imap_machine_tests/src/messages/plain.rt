@@ -79,7 +79,12 @@ impl Folded {
 
     /// Whether a message has the UID.
     pub(crate) fn has(&self, uid: u32) -> bool {
-        self.rows.iter().any(|row| row.uid == uid)
+        for row in &self.rows {
+            if row.uid == uid {
+                return true;
+            }
+        }
+        false
     }
 }
 

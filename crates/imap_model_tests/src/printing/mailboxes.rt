@@ -23,7 +23,7 @@ fn status(
 
 #[test]
 fn statuses(rt: HostRuntime) {
-    const ROWS: [(&[u8], &[(StatusItem, u64)], &[u8]); 3] = [
+    const ROWS: &[(&[u8], &[(StatusItem, u64)], &[u8])] = &[
         (
             b"blurdybloop",
             &[(StatusItem::Messages, 231), (StatusItem::UidNext, 44292)],
@@ -43,7 +43,7 @@ fn statuses(rt: HostRuntime) {
         ),
         (b"A", &[], b"* STATUS A ()\r\n"),
     ];
-    for &(name, values, line) in &ROWS {
+    for &(name, values, line) in ROWS {
         check(&rt, rt.alloc(), status(rt.alloc(), name, values), line);
     }
 }

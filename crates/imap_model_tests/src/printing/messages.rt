@@ -1,6 +1,9 @@
 //! Responses about the messages of the selected mailbox.
 
-use super::{both, check, numbers, octets};
+use super::{check, numbers, octets};
+use crate::owned::both;
+use crate::wanted::expect;
+use imap_lex::Octets;
 use imap_print::*;
 use imap_query::Section;
 use imap_syntax::{Atom, Date, DateTime, FieldName, Items, Keywords, Month, Zone};
@@ -13,7 +16,7 @@ fn vanished(alloc: Global, earlier: bool, uids: &[u32]) -> Result<Response, Allo
 
 #[test]
 fn messages_that_vanished(rt: HostRuntime) {
-    const ROWS: [(bool, &[u32], &[u8]); 7] = [
+    const ROWS: &[(bool, &[u32], &[u8])] = &[
         (false, &[7], b"* VANISHED 7\r\n"),
         (false, &[1, 3], b"* VANISHED 1,3\r\n"),
         (false, &[1, 2, 3, 5, 7, 8], b"* VANISHED 1:3,5,7:8\r\n"),
@@ -36,7 +39,7 @@ fn messages_that_vanished(rt: HostRuntime) {
         ),
         (true, &[2, 3], b"* VANISHED (EARLIER) 2:3\r\n"),
     ];
-    for &(earlier, uids, line) in &ROWS {
+    for &(earlier, uids, line) in ROWS {
         check(&rt, rt.alloc(), vanished(rt.alloc(), earlier, uids), line);
     }
 }
@@ -44,8 +47,8 @@ fn messages_that_vanished(rt: HostRuntime) {
 /// No such set can be made, as each number is above 0 and above the one before.
 #[test]
 fn sets_rise_from_1(rt: HostRuntime) {
-    const NONE: [&[u32]; 4] = [&[], &[0], &[2, 2], &[3, 4, 1]];
-    for &uids in &NONE {
+    const NONE: &[&[u32]] = &[&[], &[0], &[2, 2], &[3, 4, 1]];
+    for &uids in NONE {
         assert!(rt; numbers(rt.alloc(), uids).is_err(), "{uids:?}");
     }
 }
@@ -83,7 +86,7 @@ fn mailbox_flags(alloc: Global, keywords: &[&[u8]]) -> Result<Response, AllocErr
 
 #[test]
 fn flags_of_a_mailbox(rt: HostRuntime) {
-    const ROWS: [(&[&[u8]], &[u8]); 2] = [
+    const ROWS: &[(&[&[u8]], &[u8])] = &[
         (
             &[],
             b"* FLAGS (\\Answered \\Deleted \\Draft \\Flagged \\Seen)\r\n",
@@ -93,7 +96,7 @@ fn flags_of_a_mailbox(rt: HostRuntime) {
             b"* FLAGS (\\Answered \\Deleted \\Draft \\Flagged \\Seen $junk work)\r\n",
         ),
     ];
-    for &(keywords, line) in &ROWS {
+    for &(keywords, line) in ROWS {
         check(&rt, rt.alloc(), mailbox_flags(rt.alloc(), keywords), line);
     }
 }
@@ -128,7 +131,7 @@ fn permanent(
 
 #[test]
 fn flags_that_may_be_changed(rt: HostRuntime) {
-    const ROWS: [(SystemFlags, &[&[u8]], bool, &[u8]); 4] = [
+    const ROWS: &[(SystemFlags, &[&[u8]], bool, &[u8])] = &[
         (
             [false, true, false, false, true],
             &[],
@@ -155,7 +158,7 @@ fn flags_that_may_be_changed(rt: HostRuntime) {
                 flags kept\r\n",
         ),
     ];
-    for (flags, keywords, any, line) in &ROWS {
+    for (flags, keywords, any, line) in ROWS {
         let made = permanent(rt.alloc(), flags, keywords, *any);
         check(&rt, rt.alloc(), made, line);
     }
@@ -275,7 +278,7 @@ fn fetch(alloc: Global, number: u32, message: &Message<'_>) -> Result<Response, 
 
 #[test]
 fn messages(rt: HostRuntime) {
-    const ROWS: [(u32, Message, &[u8]); 10] = [
+    const ROWS: &[(u32, Message, &[u8])] = &[
         (
             1,
             Message {
@@ -370,7 +373,7 @@ fn messages(rt: HostRuntime) {
                 RFC822.SIZE 16 MODSEQ (65402) BODY[TEXT] {2}\r\nhi BODY[HEADER] {0}\r\n)\r\n",
         ),
     ];
-    for (number, message, line) in &ROWS {
+    for (number, message, line) in ROWS {
         check(&rt, rt.alloc(), fetch(rt.alloc(), *number, message), line);
     }
 }
@@ -440,4 +443,45 @@ fn dates(rt: HostRuntime) {
     for (moment, line) in &ROWS {
         check(&rt, rt.alloc(), fetch_date(rt.alloc(), moment), line);
     }
+}
+
+/// A FETCH of a whole message of so many octets.
+fn fetch_of(alloc: Global, octets: &[u8]) -> Result<Response, AllocError> {
+    let message = Message {
+        sections: &[(SectionOf::Whole, None, &[octets])],
+        ..NOTHING
+    };
+    fetch(alloc, 1, &message)
+}
+
+/// What stands before and after the second of three pieces, if that has so many octets.
+fn around(alloc: Global, pieces: &[Octets], len: usize) -> Result<Vec<u8>, AllocError> {
+    match pieces {
+        [front, long, back] if long.as_slice().len() == len => {
+            let mut text = Vec::from_slice(alloc, front.as_slice())?;
+            text.extend_from_slice(back.as_slice())?;
+            Ok(text)
+        }
+        _ => Vec::from_slice(alloc, b"other pieces"),
+    }
+}
+
+/// Prints the response that was made in pieces, of which the second has so many octets.
+fn in_pieces(
+    alloc: Global,
+    made: Result<Response, AllocError>,
+    len: usize,
+) -> Result<Vec<u8>, AllocError> {
+    let response = [made?];
+    let pieces = print_pieces(alloc, &response);
+    drop(response);
+    around(alloc, pieces?.as_slice(), len)
+}
+
+/// A part of 16 KiB isn't copied.
+#[test]
+fn a_long_section_is_a_piece(rt: HostRuntime) {
+    let made = fetch_of(rt.alloc(), &[b'x'; 16_384]);
+    let line = b"* 1 FETCH (BODY[] {16384}\r\n)\r\n";
+    expect(&rt, in_pieces(rt.alloc(), made, 16_384), line);
 }
