@@ -1,5 +1,5 @@
 -- A walk to the first row above a mod-sequence.
-use Rattle.std.proofs.Common.{◌≡◌, ◌⊎◌, inl, inr, ℕ, ◌+◌, ◌<◌, ◌≤◌, max, ltb, false, List, length, map, get_or, sym, subst, ap, ◌∙◌, arith}
+use Rattle.std.proofs.Common.{◌≡◌, ◌⊎◌, inl, inr, ℕ, ◌+◌, ◌<◌, ◌≤◌, max, ltb, Bool, true, false, List, length, map, get_or, sym, subst, ap, ◌∙◌, arith}
 use Rattle.std.proofs.lemmas.Bool.{cases_lt, le-ltb}
 use Rattle.std.proofs.lemmas.List.{get_or-map}
 use Rattle.imap_modseq.proofs.Order.{before_most}
@@ -11,6 +11,14 @@ use Rattle.imap_mailbox.specs.Rows.{Row}
 use Rattle.imap_mailbox.specs.Summary.{latest, latest_number, row_in, number_at}
 use Rattle.imap_mailbox.specs.Above.{AreAtMostFrom}
 use Rattle.imap_mailbox.proofs.Bounds.{length-bs}
+
+-- what isn't among the late ones isn't above the number
+pub early : (n last : ℕ) (late : Bool) → late ≡ false → (n < last → late ≡ true) → last ≤ n
+early n last late not_late above = by (cases_lt n last)
+  where
+    by : (n < last) ⊎ (last ≤ n) → last ≤ n
+    by (inl lt) = let e : true ≡ false = sym (above lt) ∙ not_late in absurd (cc e)
+    by (inr le) = le
 
 -- a message with a last shared event and a last own change that aren't above the number
 pub quiet_row : (n : ℕ) (own : List SeenChange) (m : Message) → latest_number (latest m.uid own) ≤ n → 2 + (m.place + length own) ≤ n → ltb n (row_in own m).number ≡ false

@@ -22,6 +22,7 @@ pub mod ExpungedAll
 pub mod Lending
 pub mod Bounds
 pub mod Last
+pub mod LatestUids
 pub mod FirstAbove
 pub mod Sizes
 pub mod BroughtUp

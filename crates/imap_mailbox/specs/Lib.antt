@@ -8,6 +8,7 @@ pub mod Expunging
 pub mod Called
 pub mod Bridge
 pub mod Latest
+pub mod Late
 pub mod Owned
 pub mod Counted
 pub mod Held

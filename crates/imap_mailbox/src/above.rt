@@ -5,8 +5,10 @@ ghost use Rattle.imap_modseq.specs.Merge.{befores, AreInOrder};
 ghost use Rattle.imap_modseq.specs.Numbers.{max_events};
 ghost use Rattle.imap_mailbox.specs.Above.{IsFirstAbove};
 ghost use Rattle.imap_mailbox.specs.History.{own_entry};
+ghost use Rattle.imap_mailbox.specs.Late.{may_have};
 ghost use Rattle.imap_mailbox.specs.Summary.{latest, latest_number, row_in, ArePlacesBelow};
 
+use crate::late::{LateUids, late_uids};
 use crate::message::Message;
 use crate::own::OwnSeen;
 use crate::row::{own_row, plain_row};
@@ -49,10 +51,10 @@ pub(crate) fn first_own_above(
     ensures { IsFirstAbove number start end result (map (row_in own.now.list) messages.now) }
 {
     let quiet = number.saturating_sub(1 + own.len() as u64);
-    let settled = own.last_number() <= number;
+    let late = late_uids(own.as_slice(), number);
     let mut near = 0;
     for place in start..end {
-        if is_own_above(&messages[place], own, number, quiet, settled, &mut near) {
+        if is_own_above(&messages[place], own, number, quiet, &late, &mut near) {
             return place;
         }
     }
@@ -60,23 +62,26 @@ pub(crate) fn first_own_above(
 }
 
 /// Whether the mod-sequence of the message is above `number`. A last shared event at a place below `quiet` isn't
-/// above it. If `settled`, no own change is; else the look-up of the message's own changes begins at `near`.
+/// above it, and no own change of a UID that isn't among the `late` ones. The look-up of others begins at `near`.
 fn is_own_above(
     message: &Message,
     own: &OwnSeen,
     number: u64,
     quiet: u64,
-    settled: bool,
+    late: &LateUids,
     near: &mut usize,
 ) -> bool
     requires place { message.now.place ≤ max_events }
     requires order { AreInOrder 0 max_events (befores (map own_entry own.now.list)) }
     requires few { length own.now.list ≤ max_events }
     requires quiet { 0 < quiet → quiet + length own.now.list + 1 ≤ number }
-    requires settled { settled ≡ true → (uid : ℕ) → latest_number (latest uid own.now.list) ≤ number }
+    requires late { (uid : ℕ) → number < latest_number (latest uid own.now.list)
+        → may_have late.now uid ≡ true }
     ensures { result ≡ nat_lt number (row_in own.now.list message.now).number }
 {
-    if message.place < quiet && (settled || !own.is_later(message.uid, number, near)) {
+    if message.place < quiet
+        && !(late.may_have(message.uid) && own.is_later(message.uid, number, near))
+    {
         return false;
     }
     number < own_row(message, own).number

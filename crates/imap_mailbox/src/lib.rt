@@ -18,6 +18,7 @@ mod expunging;
 mod flags;
 mod gone;
 mod known;
+mod late;
 mod latest;
 pub mod laws;
 mod mailbox;
