@@ -3,3 +3,4 @@ pub mod Cuts
 pub mod Rows
 pub mod Kept
 pub mod Renaming
+pub mod Numbers

@@ -7,6 +7,7 @@ mod copies;
 mod edits;
 mod moves;
 pub mod name_map;
+pub mod numbers;
 mod places;
 mod run_edits;
 mod sameness;

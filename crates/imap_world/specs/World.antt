@@ -1,10 +1,11 @@
 -- The mailboxes of all users, and what outlives them: used validities and subscriptions.
-use Rattle.std.specs.Prelude.{ℕ, List, [], ◌∷◌, codes, Option, Some, None, unwrap_or, refl}
+use Rattle.std.specs.Prelude.{ℕ, List, [], ◌∷◌, codes, Option, Some, None, refl}
 use Rattle.std.specs.FinMap as map
 use Rattle.std.specs.Coded.{Coded, coded_ℕ, coded_list, coded×, code_by}
 use base.Stored.{coded_unit}
 use Rattle.imap_names.specs.Name.{Name, name_of}
 use Rattle.imap_names.specs.Order.{Names}
+use Rattle.imap_name_map.specs.Numbers.{greatest_number, number_of}
 use Rattle.imap_user_map.specs.Rows.{Users, users_code}
 use Rattle.imap_world.specs.Mailbox.{Mailbox, mailbox_code}
 
@@ -34,11 +35,11 @@ world_code =
 
 -- the greatest UIDVALIDITY that was used under the name, and 0 if none was (RFC 9051, section 2.3.1.1)
 abbrev pub epoch : Names ℕ → Name → ℕ
-epoch epochs name = unwrap_or (map.get epochs name) 0
+epoch epochs name = number_of epochs name
 
 -- the greatest UIDVALIDITY that there is
 abbrev pub max_validity : ℕ
-max_validity = 4294967295
+max_validity = greatest_number
 
 abbrev pub set_of : Option NameSet → NameSet
 set_of None = map.empty

@@ -13,11 +13,12 @@ ghost use Rattle.imap_world.specs.Restored.{AddsName, HaveName, PushesRow, Resto
 ghost use Rattle.imap_world.specs.Restored.{RestoresMap, RestoresNames, Subscribes};
 
 use crate::mailbox_entry::MailboxEntry;
-use crate::placing::{epoch_of, has_superior};
+use crate::placing::has_superior;
 use crate::shared_mailbox::SharedMailbox;
 use crate::world_parts::{MailboxRow, Subscription};
 use imap_mailbox::{Mailbox, PartsError};
 use imap_name_map::NameMap;
+use imap_name_map::numbers::number_of;
 use imap_names::Name;
 use imap_rights::Acl;
 use imap_user_map::UserMap;
@@ -175,7 +176,7 @@ fn is_placed(
     if validity == 0 {
         return false;
     }
-    if epoch_of(epochs, &name) < validity {
+    if number_of(epochs, &name) < validity {
         return false;
     }
     has_superior(mailboxes, &name)

@@ -33,13 +33,14 @@ use crate::messages::{make_message_room, write_parts};
 use crate::moving::set_validities;
 use crate::named_batch::NamedWrite;
 use crate::new_mailbox::NewMailbox;
-use crate::placing::{epoch_of, has_superior, new_row, next_validity};
+use crate::placing::{has_superior, new_row};
 use crate::restored::{are_sound, mailboxes_of, map_of, subscriptions_of};
 use crate::rights::{put_acl, set_rights};
 use crate::subscriptions::{add_name, make_room_for, remove_name};
 use crate::world_parts::WorldParts;
 use imap_mailbox::PartsError;
 use imap_name_map::NameMap;
+use imap_name_map::numbers::{next_number, number_of};
 use imap_names::{Name, NameRef};
 use imap_rights::{Acl, Identifier, RightsChange};
 use imap_user_map::UserMap;
@@ -182,7 +183,7 @@ impl World {
     pub fn epoch(&self, name: &NameRef<'_>) -> u32
         ensures { result ≡ epoch (world_of self.now).epochs name.now }
     {
-        epoch_of(&self.epochs, name)
+        number_of(&self.epochs, name)
     }
 
     /// The names that the user subscribed to, or `None` if there never was one.
@@ -245,7 +246,7 @@ impl World {
             MatchOption result (used ≡ max_validity)
             (λ validity. (validity ≡ used + 1) × (used < max_validity)) }
     {
-        next_validity(&self.epochs, name)
+        next_number(&self.epochs, name)
     }
 
     /// The mailbox that is made under a name, with the next UIDVALIDITY. Fails with `Limit` if none is left.
