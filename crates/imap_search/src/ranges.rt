@@ -5,7 +5,8 @@ ghost use Rattle.std.specs.List.Sorted.{IsNonDecreasingBy, IsPermutation};
 ghost use Rattle.imap_search.specs.Ranges as specs;
 ghost use Rattle.imap_targets.specs.MessageNumbers.{end_of, in_set};
 
-use imap_syntax::{SeqNumber, SeqRange};
+use imap_syntax::SeqRange;
+use imap_targets::end_of;
 use std::alloc::{AllocError, Global};
 use std::marker::Model;
 
@@ -70,16 +71,6 @@ fn count_from(ranges: &[NumberRange], number: u32) -> usize
             ensures { result ≡ nat_le range.now.low number }
         { range.low <= number },
     )
-}
-
-/// Returns what a range ends with, if `*` stands for `last`.
-fn end_of(last: u32, number: SeqNumber) -> u32
-    ensures { result ≡ end_of last number }
-{
-    match number {
-        SeqNumber::Last => last,
-        SeqNumber::Number(number) => number.get(),
-    }
 }
 
 fn range_of(last: u32, range: &SeqRange) -> NumberRange

@@ -14,7 +14,7 @@ pub use effects::{batch_effect, marking_effect, named_batch};
 pub use flags::{has_seen, has_too_many, is_new_seen, new_flags, right_for, with_permitted};
 pub use left::{events_left, lacks_events};
 pub use message_numbers::{
-    MessageNumbers, Numbered, has_known_numbers, in_set, is_by_uid, is_refused, is_saved,
+    MessageNumbers, Numbered, end_of, has_known_numbers, in_set, is_by_uid, is_refused, is_saved,
     known_count, known_with, last_of, messages_named, number_at, ranges_of, row_with,
 };
 pub use row_finder::RowFinder;

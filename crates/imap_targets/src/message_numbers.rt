@@ -175,7 +175,8 @@ fn bounds(last: u32, ranges: &[SeqRange]) -> (u32, u32)
     (low, high)
 }
 
-fn end_of(last: u32, number: SeqNumber) -> u32
+/// Returns what an end of a range means, if `*` stands for `last`.
+pub fn end_of(last: u32, number: SeqNumber) -> u32
     ensures { result ≡ specs.end_of last number }
 {
     match number {
