@@ -2,6 +2,7 @@ pub mod Answering
 pub mod Fitting
 pub mod Marked
 pub mod Named
+pub mod Skipping
 pub mod Possible
 pub mod ReadPossible
 pub mod SameSections

@@ -9,7 +9,7 @@ use Rattle.imap_mailbox.specs.Rows.{Row}
 use Rattle.imap_syntax.specs.declared.set.Numbering.{Numbering}
 use Rattle.imap_syntax.specs.declared.set.SeqRange.{SeqRange}
 use Rattle.imap_messages.specs.declared.reading.Reading.{Reading}
-use Rattle.imap_messages.specs.Changed.{changed_of, is_changed, is_left}
+use Rattle.imap_messages.specs.Changed.{AreSkipped, changed_of, is_changed, is_left}
 use Rattle.imap_messages.specs.Fetched.{Wanted}
 use Rattle.imap_messages.specs.Found.{IsReading, marks_named}
 use Rattle.imap_targets.specs.declared.message_numbers.Numbered.{Numbered}
@@ -201,3 +201,19 @@ module _ (by_uid : Bool) (since : Option ℕ) (wanted : Wanted) (sets : Bool) (m
     passed named found kept before =
         let there = left_there by_uid since (row_with uid mailbox.rows) kept in
         left named (row_with uid mailbox.rows) refl found there.0 there.1 before
+
+  -- it refuses nothing and hasn't changed, whether it is named or not
+  pub left_over : (i : ℕ) → i < length known → ((d : KnownMessage) → ((not by_uid && not (is_some (row_with (get_or known i d).uid mailbox.rows))) ≡ false) × (is_changed since (row_with (get_or known i d).uid mailbox.rows) ≡ false))
+      → (found : Reading) → IsSoFar i found → IsSoFar (i + 1) found
+  left_over i within h found before = from known refl
+    where
+      at : (d : KnownMessage) (b : Bool) → in_set last ranges (number_by by (record { number = i + 1; uid = (get_or known i d).uid })) ≡ b → IsSoFar (i + 1) found
+      at d true e = left i (i + 1) (get_or known i d).uid d within refl refl e (row_with (get_or known i d).uid mailbox.rows) refl found (h d).0 (h d).1 before
+      at d false e = skipped i (i + 1) (get_or known i d).uid d within refl refl found e before
+
+      from : (ks : List KnownMessage) → ks ≡ known → IsSoFar (i + 1) found
+      from [] same = let none = ap length same in absurd (omega (arith, none, within))
+      from (k ∷ ks) same = at k (in_set last ranges (number_by by (record { number = i + 1; uid = (get_or known i k).uid }))) refl
+
+pub skipped_from : (skips : Bool) (since : Option ℕ) (rows : List Row) (known : List KnownMessage) (i next : ℕ) → AreSkipped skips since rows known i next → AreSkipped skips since rows known (i + 1) next
+skipped_from skips since rows known i next h j d from to within = h j d (omega (arith, from)) to within

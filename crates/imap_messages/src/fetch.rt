@@ -23,6 +23,7 @@ ghost use Rattle.imap_session.specs.Held.{UidsRise};
 ghost use Rattle.imap_session.specs.State.{selection_of, state_of};
 ghost use Rattle.imap_view.specs.View.{rights_in};
 
+use crate::changed::{may_skip, next_to_read};
 use crate::reading::Reading;
 use crate::wanted::Wanted;
 use imap_answer::{Answer, CommandContext};
@@ -393,7 +394,16 @@ fn read_named(
     let mut reading = Reading::new(alloc, sets, mailbox.highest, mailbox.own);
     let mut finder = RowFinder::start();
     let (start, end) = messages.span(known);
+    let skips = may_skip(by_uid, since, known, start, end, &mailbox.rows);
+    let mut next = start;
     for index in start..end {
+        if index < next {
+            continue;
+        }
+        next = next_to_read(skips, since, known, index, &mailbox.rows);
+        if index < next {
+            continue;
+        }
         let number = number_at(known, index);
         let uid = known.get(index).uid;
         if !messages.has(number, uid) {

@@ -6,6 +6,7 @@
 
 mod append;
 mod body_sections;
+mod changed;
 mod fetch;
 pub mod laws;
 mod reading;
