@@ -1,4 +1,5 @@
 pub mod Admitted
+pub mod Composed
 pub mod Fitting
 pub mod Histories
 pub mod InStep
@@ -9,7 +10,7 @@ pub mod Noticed
 pub mod Numbered
 pub mod Opened
 pub mod Preparing
-pub mod Replay
+pub mod Quiet
 pub mod Roomless
 pub mod Runs
 pub mod Sameness

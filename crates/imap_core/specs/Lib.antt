@@ -11,6 +11,7 @@ pub mod Machine
 pub mod Notices
 pub mod Opening
 pub mod Outcome
+pub mod OwnSteps
 pub mod Pending
 pub mod Planned
 pub mod Reply

@@ -1,5 +1,6 @@
 -- What a run is to one user, and that it is this user's alone to tell.
-use Rattle.std.specs.Prelude.{◌≡◌, ◌↔◌, IsTrue, ℕ, Bool, true, false, List, [], ◌∷◌, bytes_eq, if◌then◌else◌}
+use Rattle.std.specs.Prelude.{◌≡◌, ◌↔◌, IsTrue, ℕ, Bool, true, false, List, [], ◌∷◌, map, bytes_eq}
+use Rattle.std.specs.Prelude.{if◌then◌else◌}
 use Rattle.imap_print.specs.declared.response.Response.{Response}
 use Rattle.imap_print.specs.Printed.{printed}
 use Rattle.imap_view.specs.View.{View, view_code}
@@ -49,19 +50,32 @@ trace user state (step ∷ steps) =
 
 -- ---- the transcript
 
--- an answer of nothing leaves no octets
-abbrev pub with_replies : ℕ → List Response → List (ℕ × List ℕ) → List (ℕ × List ℕ)
+-- an answer of nothing isn't sent
+abbrev pub with_replies : ℕ → List Response → List (ℕ × List Response) → List (ℕ × List Response)
 with_replies number [] rest = rest
-with_replies number (reply ∷ replies) rest = (number, printed (reply ∷ replies)) ∷ rest
+with_replies number (reply ∷ replies) rest = (number, reply ∷ replies) ∷ rest
+
+-- of the answers to these steps, those that are sent to the user's sessions, each with the session's number
+abbrev pub replies_among : List ℕ → List Step → List (List Response) → List (ℕ × List Response)
+replies_among user [] answers = []
+replies_among user (step ∷ steps) [] = []
+replies_among user (step ∷ steps) (replies ∷ answers) =
+    if bytes_eq step.who.user user
+    then with_replies step.who.number replies (replies_among user steps answers)
+    else replies_among user steps answers
+
+-- the octets of each answer, with the session's number
+abbrev pub octets_of : List (ℕ × List Response) → List (ℕ × List ℕ)
+octets_of = map (λ sent. (sent.0, printed sent.1))
 
 -- of the answers to these steps, the octets that are sent to the user's sessions, each answer with the
 -- session's number
 abbrev pub sent_to : List ℕ → List Step → List (List Response) → List (ℕ × List ℕ)
-sent_to user [] answers = []
-sent_to user (step ∷ steps) [] = []
-sent_to user (step ∷ steps) (replies ∷ answers) =
-    if bytes_eq step.who.user user then with_replies step.who.number replies (sent_to user steps answers)
-    else sent_to user steps answers
+sent_to user steps answers = octets_of (replies_among user steps answers)
+
+-- the replies that a run sends to the user's sessions
+abbrev pub replies_to : List ℕ → State → List Step → List (ℕ × List Response)
+replies_to user state steps = replies_among user steps (answers state steps)
 
 abbrev pub transcript : List ℕ → State → List Step → List (ℕ × List ℕ)
 transcript user state steps = sent_to user steps (answers state steps)
@@ -84,3 +98,10 @@ Isolation =
     (user : List ℕ) (s t : State) (steps others : List Step)
     → Alike user s t → trace user s steps ≡ trace user t others
     → transcript user s steps ≡ transcript user t others
+
+-- They send the same replies. So in every form in which replies may be written, what is sent is equal.
+abbrev pub IsolationOfReplies : Type 0
+IsolationOfReplies =
+    (user : List ℕ) (s t : State) (steps others : List Step)
+    → Alike user s t → trace user s steps ≡ trace user t others
+    → replies_to user s steps ≡ replies_to user t others

@@ -5,16 +5,65 @@ ghost use Rattle.imap_core.specs.InStep.{AreInStep, SessionsStayInStep};
 ghost use Rattle.imap_core.specs.Laws.{EffectsAreMade, HiddenIsAlike, NeverUnavailable, OtherSessionsStay};
 ghost use Rattle.imap_core.specs.Laws.{MessagesAreKnown, OtherUsersStay, QuietPollsChangeNothing};
 ghost use Rattle.imap_core.specs.Laws.{RefusalsChangeNothing, StepsAreAlike};
+ghost use Rattle.imap_core.specs.OwnSteps.{GivenBackTellsNothing, IsolationAtOwnSteps, UnseenStepsAreSilent};
 ghost use Rattle.imap_core.specs.Starting.{StartsWithInboxes};
-ghost use Rattle.imap_core.specs.Trace.{EqualViewsAreSame, Isolation};
+ghost use Rattle.imap_core.specs.Trace.{EqualViewsAreSame, Isolation, IsolationOfReplies};
 ghost use Rattle.imap_world.specs.Kept.{AreKept, IsSound};
 
 use crate::machine::Core;
 
-/// To each user, any two runs that begin alike and have one trace for that user send the same octets.
+/// To each user, any two runs that begin alike and have one trace for that user send the same octets: by the
+/// laws of one step alone.
 pub fn isolation()
     ensures { Isolation }
-{}
+{
+    steps_are_alike();
+    other_sessions_stay();
+    quiet_polls_change_nothing();
+    equal_views_are_same();
+}
+
+/// They send the same replies, however these are written.
+pub fn isolation_of_replies()
+    ensures { IsolationOfReplies }
+{
+    steps_are_alike();
+    other_sessions_stay();
+    quiet_polls_change_nothing();
+    equal_views_are_same();
+}
+
+/// To each user, two runs that begin alike send the same replies if the user takes the same steps in both and
+/// sees the same at each. How often others changed in between what the user may see makes no difference.
+pub fn isolation_at_own_steps()
+    ensures { IsolationAtOwnSteps }
+{
+    steps_are_alike();
+    other_sessions_stay();
+    quiet_polls_change_nothing();
+    equal_views_are_same();
+}
+
+/// What others change and change back between two steps of the user tells the user nothing.
+pub fn what_is_given_back_tells_nothing()
+    ensures { GivenBackTellsNothing }
+{
+    steps_are_alike();
+    other_sessions_stay();
+    quiet_polls_change_nothing();
+    equal_views_are_same();
+}
+
+/// A step of another that changes nothing of what the user may see is in no trace, and leaves the state
+/// alike.
+pub fn unseen_steps_are_silent()
+    ensures { UnseenStepsAreSilent }
+{
+    steps_are_alike();
+    other_sessions_stay();
+    quiet_polls_change_nothing();
+    equal_views_are_same();
+}
 
 /// A trace has another's step exactly if the step changed what the user may see: the test of two views passes
 /// exactly if they are equal.

@@ -1,4 +1,5 @@
 pub mod Counting
+pub mod Journals
 pub mod Kept
 pub mod Opened
 pub mod Stepped

@@ -2,6 +2,7 @@
 pub mod Counts
 pub mod Hall
 pub mod Journal
+pub mod Laws
 pub mod Performing
 pub mod Opening
 pub mod Receipts

@@ -9,6 +9,7 @@ mod counts;
 mod error;
 mod hall;
 mod journal;
+pub mod laws;
 mod memory;
 mod opening;
 mod own_counts;

@@ -1,4 +1,4 @@
-use Rattle.imap_core.proofs.Replay.{same_views}
+use Rattle.imap_core.proofs.Quiet.{same_views}
 use Rattle.imap_core.proofs.laws.equal_views_are_same.Goals as goal
 
 pub returns : goal.returns
