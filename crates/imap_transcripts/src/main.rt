@@ -8,8 +8,9 @@
 //!
 //! Lines `-- TEXT` are no part of a script. `-- stop at each call` runs the script once for each call of
 //! each of the database's two files, from the first on if there are no mailboxes yet: this call fails, and all later
-//! ones. A line says what was left. Any
-//! other TEXT is SQL that runs in a copy of the database at the end. A line says what can be loaded then.
+//! ones. A line says what was left. `-- as USER in NAME` compares what that user's sessions were sent with the run of
+//! an earlier script, and a line says whether it is equal. Any other TEXT is SQL that runs in a copy of the database at
+//! the end. A line says what can be loaded then.
 #![tactic(auto)]
 
 mod comparing_keeper;
@@ -17,6 +18,7 @@ mod database;
 mod faults;
 mod file;
 mod filling;
+mod past_runs;
 mod running;
 mod script_row;
 mod stops;

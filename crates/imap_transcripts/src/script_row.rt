@@ -15,18 +15,23 @@ use std::str;
 /// A script, and what its lines `-- TEXT` ask for.
 #[derive(Drop)]
 pub(crate) struct ScriptRow {
+    pub(crate) name: Vec<u8>,
     script: Vec<u8>,
     /// Whether it is run with each call of the database's files failing in turn.
     stops: bool,
+    /// Lines `USER in NAME`, each of which names a run with which this one is compared.
+    pub(crate) comparisons: String,
     /// Lines of SQL, each of which runs by itself in a copy of the database at the end.
     faults: String,
 }
 
 impl ScriptRow {
-    pub(crate) fn new(alloc: Global) -> ScriptRow {
+    pub(crate) fn new(alloc: Global, name: Vec<u8>) -> ScriptRow {
         ScriptRow {
+            name,
             script: Vec::new(alloc),
             stops: false,
+            comparisons: String::new(alloc),
             faults: String::new(alloc),
         }
     }
@@ -39,7 +44,10 @@ impl ScriptRow {
         };
         match str::from_utf8(text) {
             Ok("stop at each call\n") => self.stops = true,
-            Ok(text) => self.faults.push_str(text)?,
+            Ok(text) => match text.strip_prefix("as ") {
+                Some(runs) => self.comparisons.push_str(runs)?,
+                None => self.faults.push_str(text)?,
+            },
             Err(_) => return Err(ScriptError::Io),
         }
         Ok(())

@@ -1,5 +1,6 @@
 //! Transcripts of many scripts.
 
+use crate::past_runs::PastRuns;
 use crate::script_row::ScriptRow;
 use imap_script::{ScriptError, read_input};
 use std::alloc::Global;
@@ -17,29 +18,43 @@ pub(crate) fn write_transcripts<R: AllocGlobal, I: Read + Drop, O: Write + Drop>
 ) -> Result<(), ScriptError> {
     let alloc = rt.alloc();
     let text = read_input(alloc, input, MAX_READS)?;
+    let mut past = PastRuns::new(alloc);
     let mut row = None;
     for line in text.split_inclusive(|octet| *octet == b'\n') {
         if line.starts_with(b"== ") {
-            write_report(alloc, &row, &mut output)?;
+            write_report(alloc, row.take(), &mut past, &mut output)?;
             write_octets(&mut output, line)?;
-            row = Some(ScriptRow::new(alloc));
+            row = Some(ScriptRow::new(alloc, name_in(alloc, line)?));
         } else if let Some(begun) = &mut row {
             begun.take_line(line)?;
         }
     }
-    write_report(alloc, &row, &mut output)
+    write_report(alloc, row, &mut past, &mut output)
 }
 
-/// Runs the script of `row`, if there is one, and writes its report.
+/// Returns what stands after `== `.
+fn name_in(alloc: Global, line: &[u8]) -> Result<Vec<u8>, ScriptError> {
+    let mut name = Vec::new(alloc);
+    name.extend_from_slice(line.strip_prefix(b"== ").unwrap_or(line).trim_ascii_end())?;
+    Ok(name)
+}
+
+/// Runs the script of `row`, if there is one, and writes its report and how it compares with `past` runs, of which
+/// it becomes one.
 fn write_report<O: Write>(
     alloc: Global,
-    row: &Option<ScriptRow>,
+    row: Option<ScriptRow>,
+    past: &mut PastRuns,
     output: &mut O,
 ) -> Result<(), ScriptError> {
-    match row {
-        Some(row) => write_octets(output, row.report(alloc)?.as_slice()),
-        None => Ok(()),
-    }
+    let Some(row) = row else {
+        return Ok(());
+    };
+    let report = row.report(alloc)?;
+    write_octets(output, report.as_slice())?;
+    let compared = past.compare(alloc, row.comparisons.as_str(), report.as_slice())?;
+    write_octets(output, compared.as_bytes())?;
+    past.push(row.name, report)
 }
 
 fn write_octets<O: Write>(output: &mut O, octets: &[u8]) -> Result<(), ScriptError> {
