@@ -30,7 +30,7 @@ pub const PARTS: u64 = 1_048_576;
 const MAX_ENTRIES: u64 = 10_000;
 
 /// The journal begins anew when its entries hold about this much memory.
-const MAX_OCTETS: u64 = 12 * 1024 * 1024;
+const MAX_OCTETS: u64 = 4 * 1024 * 1024;
 
 /// It does so too when the receipts of the seat that makes a step hold about this much.
 const MAX_SEAT_OCTETS: u64 = 1024 * 1024;
