@@ -79,6 +79,7 @@ def commands(count):
         ("UID SEARCH of the last ten", lambda n: [f"a{n} UID SEARCH UID {max(1, count - 9)}:*"], 2_000),
         ("UID FETCH 1:* CHANGEDSINCE, none", lambda n: [f"a{n} UID FETCH 1:* (FLAGS) (CHANGEDSINCE {2 * count + 1})"], 2_000),
         ("UID FETCH 1:* CHANGEDSINCE, one", lambda n: [f"a{n} UID FETCH 1:* (FLAGS) (CHANGEDSINCE {2 * count})"], 400),
+        ("FETCH 1:* CHANGEDSINCE, one", lambda n: [f"a{n} FETCH 1:* (FLAGS) (CHANGEDSINCE {2 * count})"], 400),
         ("ENABLE, SELECT with QRESYNC, none", lambda n: [f"e{n} ENABLE QRESYNC", f"a{n} SELECT INBOX (QRESYNC (1 {2 * count + 1}))"], 40),
         ("STORE n FLAGS.SILENT", lambda n: [f"a{n} STORE {one(n)} {sign(n // (count // 4))}FLAGS.SILENT (\\Flagged)"], 20_000),
         ("STORE 1:* FLAGS.SILENT", lambda n: [f"a{n} STORE 1:* {sign(n)}FLAGS.SILENT (\\Flagged)"], 20),
