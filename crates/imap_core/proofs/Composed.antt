@@ -1,5 +1,6 @@
 -- All runs, by the laws of one step alone: no command is named, nor what a view is.
 use Rattle.std.proofs.Common.{◌≡◌, ℕ, Bool, true, false, cond, List, [], ◌∷◌, ◌++◌, Option, Some, None, refl, sym, ap, subst, ◌∙◌}
+use Rattle.std.specs.Prelude.{option_map}
 use Rattle.std.specs.Str.{bytes_eq}
 use Rattle.std.proofs.lemmas.Slice.Eq.{bytes_eq-Decides}
 use Rattle.imap_print.specs.declared.response.Response.{Response}
@@ -7,9 +8,10 @@ use Rattle.imap_view.specs.View.{View}
 use Rattle.imap_world.specs.Kept.{AreKept}
 use Rattle.imap_core.specs.declared.step.Step.{Step}
 use Rattle.imap_core.specs.Laws.{OtherUsersStay, QuietPollsChangeNothing, StepsAreAlike}
-use Rattle.imap_core.specs.Machine.{State, after_steps, answer, next, own_in, view_in}
+use Rattle.imap_core.specs.Machine.{State, after_steps, answer, next, view_in}
 use Rattle.imap_core.specs.OwnSteps.{GivenBackTellsNothing, IsolationAtOwnSteps, UnseenStepsAreSilent, are_others, moments, own_moments, since}
 use Rattle.imap_core.specs.Trace.{Acts, Alike, EqualViewsAreSame, Event, Isolation, IsolationOfReplies, Sees, is_quiet, octets_of, replies_to, same_view, trace, with_replies}
+use Rattle.imap_core.specs.Unmarked.{sessions_in, unmarked_sessions}
 use Rattle.imap_core.proofs.Quiet.{quiet_act}
 
 abbrev Sent : Type 0
@@ -20,28 +22,26 @@ abbrev sends : Bool → Step → List Response → Sent → Sent
 sends b step replies later = cond b (with_replies step.who.number replies later) later
 
 itself : (user : List ℕ) (s : State) → AreKept s.world.mailboxes → Alike user s s
-itself user s kept = record { views = refl; sessions = refl; sites = refl; kept = kept; kept_other = kept }
+itself user s kept = record { views = refl; sessions = refl; kept = kept; kept_other = kept }
 
 joined : (user : List ℕ) (s t r : State) → Alike user s t → Alike user t r → Alike user s r
 joined user s t r a b = record {
   views = a.views ∙ b.views;
   sessions = a.sessions ∙ b.sessions;
-  sites = a.sites ∙ b.sites;
   kept = a.kept;
   kept_other = b.kept_other;
 }
 
 back : (user : List ℕ) (s t : State) → Alike user s t → Alike user t s
-back user s t a = record { views = sym a.views; sessions = sym a.sessions; sites = sym a.sites; kept = a.kept_other; kept_other = a.kept }
+back user s t a = record { views = sym a.views; sessions = sym a.sessions; kept = a.kept_other; kept_other = a.kept }
 
 -- a state that differs for the user in nothing but the view
 record Passes (user : List ℕ) (s t : State) : Type 0 where
-  sessions : own_in s user ≡ own_in t user
-  sites : s.site ≡ t.site
+  sessions : sessions_in s user ≡ sessions_in t user
   kept : AreKept t.world.mailboxes
 
-passes_on : (user : List ℕ) (s t r : State) → own_in s user ≡ own_in t user → s.site ≡ t.site → Passes user t r → Passes user s r
-passes_on user s t r sessions sites p = record { sessions = sessions ∙ p.sessions; sites = sites ∙ p.sites; kept = p.kept }
+passes_on : (user : List ℕ) (s t r : State) → sessions_in s user ≡ sessions_in t user → Passes user t r → Passes user s r
+passes_on user s t r sessions p = record { sessions = sessions ∙ p.sessions; kept = p.kept }
 
 -- ---- a run, up to the first event of its trace
 
@@ -93,7 +93,7 @@ skip user s t steps rest (Sees seen ∷ events) alike e p = record {
   reached = p.reached;
   left = p.left;
   view = p.view;
-  passes = passes_on user s t p.reached alike.sessions alike.sites p.passes;
+  passes = passes_on user s t p.reached alike.sessions p.passes;
   later = p.later;
   sent = e ∙ p.sent;
 }
@@ -102,6 +102,10 @@ module _ (of_steps : StepsAreAlike) (of_others : OtherUsersStay) (of_polls : Qui
   -- what the type of a mailbox keeps goes along, since a state is alike to itself
   kept_next : (s : State) (step : Step) → AreKept s.world.mailboxes → AreKept (next s step).world.mailboxes
   kept_next s step kept = (of_steps s s step (itself step.who.user s kept)).1.kept
+
+  -- the user's sessions after a step of another
+  stays : (user : List ℕ) (s : State) (step : Step) → bytes_eq step.who.user user ≡ false → sessions_in (next s step) user ≡ sessions_in s user
+  stays user s step apart = ap (option_map unmarked_sessions) (of_others s step user apart)
 
   own_step : (user : List ℕ) (s t : State) (step : Step) → step.who.user ≡ user → Alike user s t → (answer s step ≡ answer t step) × Alike user (next s step) (next t step)
   own_step user s t step is = subst (λ user. Alike user s t → (answer s step ≡ answer t step) × Alike user (next s step) (next t step)) is (λ alike. of_steps s t step alike)
@@ -114,8 +118,7 @@ module _ (of_steps : StepsAreAlike) (of_others : OtherUsersStay) (of_polls : Qui
   unseen : (user : List ℕ) (s : State) (step : Step) → AreKept s.world.mailboxes → bytes_eq step.who.user user ≡ false → view_in (next s step) user ≡ view_in s user → Alike user s (next s step)
   unseen user s step kept apart same = record {
     views = sym same;
-    sessions = sym (of_others s step user apart);
-    sites = refl;
+    sessions = sym (stays user s step apart);
     kept = kept;
     kept_other = kept_next s step kept;
   }
@@ -149,7 +152,7 @@ module _ (of_steps : StepsAreAlike) (of_others : OtherUsersStay) (of_polls : Qui
         reached = next s step;
         left = steps;
         view = refl;
-        passes = record { sessions = sym (of_others s step user is); sites = refl; kept = kept_next s step kept };
+        passes = record { sessions = sym (stays user s step is); kept = kept_next s step kept };
         later = refl;
         sent = sent_by false is;
       }
@@ -170,7 +173,6 @@ module _ (of_steps : StepsAreAlike) (of_others : OtherUsersStay) (of_polls : Qui
       let here : Alike user p.reached q.reached = record {
         views = p.view ∙ sym q.view;
         sessions = sym p.passes.sessions ∙ alike.sessions ∙ q.passes.sessions;
-        sites = sym p.passes.sites ∙ alike.sites ∙ q.passes.sites;
         kept = p.passes.kept;
         kept_other = q.passes.kept;
       } in
@@ -189,12 +191,12 @@ module _ (of_steps : StepsAreAlike) (of_others : OtherUsersStay) (of_polls : Qui
   -- ---- others' steps that leave what the user sees
 
   others_leave : (user : List ℕ) (s : State) (between : List Step) → AreKept s.world.mailboxes → are_others user between ≡ true → Passes user s (after_steps s between)
-  others_leave user s [] kept apart = record { sessions = refl; sites = refl; kept = kept }
+  others_leave user s [] kept apart = record { sessions = refl; kept = kept }
   others_leave user s (step ∷ steps) kept apart = by (bytes_eq step.who.user user) refl apart (others_leave user (next s step) steps (kept_next s step kept))
     where
       by : (b : Bool) → bytes_eq step.who.user user ≡ b → cond b false (are_others user steps) ≡ true → (are_others user steps ≡ true → Passes user (next s step) (after_steps (next s step) steps)) → Passes user s (after_steps (next s step) steps)
       by true is apart rest = absurd (cc apart)
-      by false is apart rest = passes_on user s (next s step) (after_steps (next s step) steps) (sym (of_others s step user is)) refl (rest apart)
+      by false is apart rest = passes_on user s (next s step) (after_steps (next s step) steps) (sym (stays user s step is)) (rest apart)
 
   others_unsent : (user : List ℕ) (s : State) (between later : List Step) → are_others user between ≡ true → replies_to user s (between ++ later) ≡ replies_to user (after_steps s between) later
   others_unsent user s [] later apart = refl
@@ -211,7 +213,7 @@ module _ (of_steps : StepsAreAlike) (of_others : OtherUsersStay) (of_polls : Qui
   pub given_back : GivenBackTellsNothing
   given_back user s between later others kept apart same traces =
       let left = others_leave user s between kept apart in
-      let alike : Alike user (after_steps s between) s = record { views = same; sessions = sym left.sessions; sites = sym left.sites; kept = left.kept; kept_other = kept } in
+      let alike : Alike user (after_steps s between) s = record { views = same; sessions = sym left.sessions; kept = left.kept; kept_other = kept } in
       others_unsent user s between later apart ∙ replies_isolated user (after_steps s between) s later others alike traces
 
   pub silent : UnseenStepsAreSilent
@@ -229,13 +231,13 @@ module _ (of_steps : StepsAreAlike) (of_others : OtherUsersStay) (of_polls : Qui
 
   -- ---- a run, up to the user's next own step
 
-  passing : (user : List ℕ) (last : View) (s t : State) (steps rest : List Step) (later : List (Option View × Step)) → own_in s user ≡ own_in t user → s.site ≡ t.site → replies_to user s steps ≡ replies_to user t rest → Comes user last t rest later → Comes user last s steps later
-  passing user last s t steps rest [] sessions sites e p = e ∙ p
-  passing user last s t steps rest (m ∷ later) sessions sites e p = record {
+  passing : (user : List ℕ) (last : View) (s t : State) (steps rest : List Step) (later : List (Option View × Step)) → sessions_in s user ≡ sessions_in t user → replies_to user s steps ≡ replies_to user t rest → Comes user last t rest later → Comes user last s steps later
+  passing user last s t steps rest [] sessions e p = e ∙ p
+  passing user last s t steps rest (m ∷ later) sessions e p = record {
     reached = p.reached;
     left = p.left;
     own = p.own;
-    passes = passes_on user s t p.reached sessions sites p.passes;
+    passes = passes_on user s t p.reached sessions p.passes;
     seen = p.seen;
     later = p.later;
     sent = e ∙ p.sent;
@@ -256,18 +258,18 @@ module _ (of_steps : StepsAreAlike) (of_others : OtherUsersStay) (of_polls : Qui
           (own_moments user last (next s step) steps))
       by true is true q rest =
           let alike = polled user s step kept q in
-          passing user last s (next s step) (step ∷ steps) steps (own_moments user last (next s step) steps) alike.sessions alike.sites
+          passing user last s (next s step) (step ∷ steps) steps (own_moments user last (next s step) steps) alike.sessions
           (sent_by true is ∙ ap (λ replies. with_replies step.who.number replies Later) (quiet_act step.act (answer s step) q).1) rest
       by true is false q rest = record {
         reached = s;
         left = steps;
         own = (bytes_eq-Decides step.who.user user).0 is;
-        passes = record { sessions = refl; sites = refl; kept = kept };
+        passes = record { sessions = refl; kept = kept };
         seen = refl;
         later = refl;
         sent = sent_by true is;
       }
-      by false is q p rest = passing user last s (next s step) (step ∷ steps) steps (own_moments user last (next s step) steps) (sym (of_others s step user is)) refl (sent_by false is) rest
+      by false is q p rest = passing user last s (next s step) (step ∷ steps) steps (own_moments user last (next s step) steps) (sym (stays user s step is)) (sent_by false is) rest
 
   -- a view is known by what is seen since the last one
   seen_since : (last v w : View) → since last v ≡ since last w → v ≡ w
@@ -279,14 +281,13 @@ module _ (of_steps : StepsAreAlike) (of_others : OtherUsersStay) (of_polls : Qui
       by false p true q e = absurd (cc e)
       by false p false q e = cc e
 
-  agree_at : (user : List ℕ) (last : View) (moments : List (Option View × Step)) (s t : State) (steps others : List Step) → own_in s user ≡ own_in t user → s.site ≡ t.site
+  agree_at : (user : List ℕ) (last : View) (moments : List (Option View × Step)) (s t : State) (steps others : List Step) → sessions_in s user ≡ sessions_in t user
       → Comes user last s steps moments → Comes user last t others moments → replies_to user s steps ≡ replies_to user t others
-  agree_at user last [] s t steps others sessions sites p q = p ∙ sym q
-  agree_at user last (m ∷ later) s t steps others sessions sites p q =
+  agree_at user last [] s t steps others sessions p q = p ∙ sym q
+  agree_at user last (m ∷ later) s t steps others sessions p q =
       let here : Alike user p.reached q.reached = record {
         views = seen_since last (view_in p.reached user) (view_in q.reached user) (sym p.seen ∙ q.seen);
         sessions = sym p.passes.sessions ∙ sessions ∙ q.passes.sessions;
-        sites = sym p.passes.sites ∙ sites ∙ q.passes.sites;
         kept = p.passes.kept;
         kept_other = q.passes.kept;
       } in
@@ -295,7 +296,7 @@ module _ (of_steps : StepsAreAlike) (of_others : OtherUsersStay) (of_polls : Qui
       let other_seen = view_in (next q.reached m.1) user in
       p.sent ∙ ap (λ replies. with_replies m.1.who.number replies (replies_to user (next p.reached m.1) p.left)) after.0
       ∙ ap (with_replies m.1.who.number (answer q.reached m.1))
-      (agree_at user seen later (next p.reached m.1) (next q.reached m.1) p.left q.left after.1.sessions after.1.sites
+      (agree_at user seen later (next p.reached m.1) (next q.reached m.1) p.left q.left after.1.sessions
       (subst (Comes user seen (next p.reached m.1) p.left) p.later (comes user seen (next p.reached m.1) p.left after.1.kept))
       (subst (λ (v : View). Comes user v (next q.reached m.1) q.left later) (sym after.1.views)
       (subst (Comes user other_seen (next q.reached m.1) q.left) q.later (comes user other_seen (next q.reached m.1) q.left after.1.kept_other))))
@@ -304,5 +305,5 @@ module _ (of_steps : StepsAreAlike) (of_others : OtherUsersStay) (of_polls : Qui
   pub isolated_at_own : IsolationAtOwnSteps
   isolated_at_own user s t steps others alike same =
       let start = view_in s user in
-      agree_at user start (moments user t others) s t steps others alike.sessions alike.sites (subst (Comes user start s steps) same (comes user start s steps alike.kept))
+      agree_at user start (moments user t others) s t steps others alike.sessions (subst (Comes user start s steps) same (comes user start s steps alike.kept))
       (subst (λ (v : View). Comes user v t others (moments user t others)) (sym alike.views) (comes user (view_in t user) t others alike.kept_other))

@@ -1,11 +1,12 @@
 -- What holds of what comes of a step: what it asks for may be asked for by its user, there is room for the session that
 -- it opens, a refusal changes nothing, and none is UNAVAILABLE.
-use Rattle.std.proofs.Common.{◌≡◌, ℕ, Bool, true, false, cond, List, [], ◌∷◌, ◌++◌, ◌⊎◌, ◌||◌, Option, Some, None, is_some, inl, inr, refl, sym, ap, ◌∙◌, true≢false}
+use Rattle.std.proofs.Common.{◌≡◌, ℕ, Bool, true, false, cond, List, [], ◌∷◌, ◌++◌, ◌⊎◌, ◌||◌, Option, Some, None, is_some, inl, inr, refl, sym, ap, subst, ◌∙◌, true≢false}
 use Rattle.std.specs.Prelude.{nat_le, option_and_then}
 use Rattle.std.proofs.lemmas.List.Folds.{list_any-append}
 use Rattle.std.proofs.lemmas.Bool.{leb-false}
 use Rattle.std.specs.List.{list_any}
 use Rattle.std.specs.FinMap as map
+use Rattle.imap_answer.specs.Alike.{view_after_asking}
 use Rattle.imap_answer.specs.Answer.{Answer, carried_out, done, done_line, followed_by, lines_of, nothing_enabled, preceded_by, refusal}
 use Rattle.imap_answer.specs.Fit.{IsFit, IsViewed, MayBeAsked, is_refusal, is_unavailable}
 use Rattle.imap_answer.proofs.Fits.{fits_alone, fits_enabling, fits_followed, fits_preceded}
@@ -27,11 +28,12 @@ use Rattle.imap_print.specs.declared.fetch.FetchedItems.{FetchedItems}
 use Rattle.imap_print.specs.declared.response.Farewell.TheVariants.{LimitReached}
 use Rattle.imap_print.specs.declared.response.Response.{Response}
 use Rattle.imap_print.specs.declared.response.Response.TheVariants as response
+use Rattle.imap_session.specs.declared.options.NoticeOptions.{NoticeOptions}
 use Rattle.imap_session.specs.Lost.{is_lost}
 use Rattle.imap_session.specs.declared.select.Selecting.{Selecting}
 use Rattle.imap_resync.proofs.Fitting as resync
 use Rattle.imap_resync.specs.Select.{is_malformed, select_with_parameters}
-use Rattle.imap_session.specs.State.{Selection, SessionState, selected_name}
+use Rattle.imap_session.specs.State.{Selection, SessionState, both_enabled, selected_name}
 use Rattle.imap_tree.proofs.Fitting as tree
 use Rattle.imap_print.specs.declared.response.Refusal.TheVariants.{Malformed, WrongState}
 use Rattle.imap_commands.specs.declared.commands.select.SelectParameters.{SelectParameters}
@@ -48,8 +50,8 @@ use Rattle.imap_core.specs.Machine.{outcome_for}
 use Rattle.imap_core.specs.Outcome.{Outcome, answered, said}
 use Rattle.imap_core.specs.Planned.{MayOpen}
 use Rattle.imap_core.specs.Commands.Session.{enabled_by_names, named_by}
-use Rattle.imap_core.specs.Laws.{is_idling, is_line, selects}
-use Rattle.imap_core.specs.Notices.{idle_lines, idle_telling, mailbox_after, mailbox_left, may_tell_expunges, notice_lines, notice_options, notice_telling, options_after, selected_mailbox}
+use Rattle.imap_core.specs.Laws.{IsToldInLines, is_idling, is_line, selects}
+use Rattle.imap_core.specs.Notices.{idle_lines, idle_telling, is_bad, mailbox_after, mailbox_left, may_tell_expunges, notice_lines, notice_options, notice_telling, options_after, selected_mailbox}
 use Rattle.imap_core.specs.Answers.{command_answer}
 use Rattle.imap_core.specs.Reply.{command_outcome, enables_nothing, highest_line, idle_outcome, if_selected, kept, newly_enables_condstore, noting, opened, outcome_of_answer, outcome_of_selecting, reply_by_idle, reply_by_session, reply_when_closed, reply_when_open, request_outcome}
 use Rattle.imap_core.specs.Reply.{select_outcome, unless_lost, unselect_outcome, close_outcome, with_notices}
@@ -62,27 +64,38 @@ pub record IsUnchanged (outcome : Outcome) : Type 0 where
   pub session : outcome.session ≡ session.Keep
   pub effect : outcome.effect ≡ None
 
--- a session that is told of its mailbox, and notes nothing else
-pub record OnlyNotes (effect : SessionEffect) : Type 0 where
+-- the session of the number, if it is open
+abbrev pub active_of : Option Own → ℕ → Option SessionState
+active_of own number = option_and_then (λ own. map.get own number) own
+
+-- what a session is told, if it is told anything, is in the lines
+abbrev pub IsTied : View → List Response → Option Telling → Option SessionState → Type 0
+IsTied view replies None active = Unit {0}
+IsTied view replies (Some told) None = ⊥
+IsTied view replies (Some told) (Some active) = IsToldInLines view active replies told
+
+-- a session that is told of its mailbox by lines, and notes nothing else
+pub record OnlyNotes (view : View) (active : Option SessionState) (outcome : Outcome) : Type 0 where
   pub told : Option Telling
-  pub is : effect ≡ noting nothing_enabled told
+  pub is : outcome.session ≡ noting nothing_enabled told
+  pub lines : IsTied view outcome.replies told active
 
 -- a line ends the IDLE of its session
 pub record BreaksIdle (own : Option Own) (number : ℕ) (what : Act) (effect : SessionEffect) : Type 0 where
-  pub idles : is_idling (option_and_then (λ own. map.get own number) own) ≡ true
+  pub idles : is_idling (active_of own number) ≡ true
   pub line : is_line what ≡ true
   pub is : effect ≡ session.Idle None None
 
 -- nothing is asked for; and the session notes what it is told, has no mailbox selected after SELECT or EXAMINE, or
 -- idles no more
-pub record IsRefused (own : Option Own) (number : ℕ) (what : Act) (outcome : Outcome) : Type 0 where
-  pub session : OnlyNotes outcome.session ⊎ (((selects what ≡ true) × (outcome.session ≡ session.Select nothing_enabled None)) ⊎ BreaksIdle own number what outcome.session)
+pub record IsRefused (view : View) (own : Option Own) (number : ℕ) (what : Act) (outcome : Outcome) : Type 0 where
+  pub session : OnlyNotes view (active_of own number) outcome ⊎ (((selects what ≡ true) × (outcome.session ≡ session.Select nothing_enabled None)) ⊎ BreaksIdle own number what outcome.session)
   pub effect : outcome.effect ≡ None
 
 pub record Fits (view : View) (own : Option Own) (number : ℕ) (what : Act) (outcome : Outcome) : Type 0 where
   pub asks : IsViewed view → MayBeAsked view outcome.effect
   pub room : MayOpen own number outcome.session
-  pub refused : list_any is_refusal outcome.replies ≡ true → IsRefused own number what outcome
+  pub refused : list_any is_refusal outcome.replies ≡ true → IsRefused view own number what outcome
   pub available : list_any is_unavailable outcome.replies ≡ false
 
 room_to_keep : (own : Option Own) (number : ℕ) → MayOpen own number session.Keep
@@ -114,18 +127,26 @@ module _ (view : View) (own : Option Own) (number : ℕ) (what : Act) where
       by false = room_to_note own number enables None
   room_noting enables (Some told) = room_to_note own number enables (Some told)
 
-  stays : OnlyNotes session.Keep
-  stays = record { told = None; is = refl }
+  stays : (outcome : Outcome) → outcome.session ≡ session.Keep → OnlyNotes view (active_of own number) outcome
+  stays outcome is = record { told = None; is = is; lines = tt }
 
   -- an answer, with lines before its last one and what its session notes of it
   noted_fits : (answer : Answer) (lines : List Response) (told : Option Telling) → list_any is_refusal lines ≡ false → list_any is_unavailable lines ≡ false → IsFit view answer
+      → (answer.effect ≡ None → answer.enables ≡ nothing_enabled → IsTied view (lines_of (followed_by lines answer)) told (active_of own number))
       → Fits view own number what (answered (followed_by lines answer) (noting answer.enables told))
-  noted_fits answer lines told refuses unavailable fit =
+  noted_fits answer lines told refuses unavailable fit tied =
       let more = fits_followed view lines answer refuses unavailable fit in
       record {
         asks = more.asks;
         room = room_noting answer.enables told;
-        refused = λ e. record { session = inl (record { told = told; is = ap (λ enables. noting enables told) (more.refused e).1 }); effect = (more.refused e).0 };
+        refused = λ e. record {
+          session = inl (record {
+            told = told;
+            is = ap (λ enables. noting enables told) (more.refused e).1;
+            lines = tied (more.refused e).0 (more.refused e).1;
+          });
+          effect = (more.refused e).0;
+        };
         available = more.available;
       }
 
@@ -133,7 +154,7 @@ module _ (view : View) (own : Option Own) (number : ℕ) (what : Act) where
   kept_fits answer fit = record {
     asks = fit.asks;
     room = room_to_keep own number;
-    refused = λ e. record { session = inl stays; effect = (fit.refused e).0 };
+    refused = λ e. record { session = inl (stays (kept answer) refl); effect = (fit.refused e).0 };
     available = fit.available;
   }
 
@@ -141,21 +162,58 @@ module _ (view : View) (own : Option Own) (number : ℕ) (what : Act) where
   highest_fits answer fit None = fits_preceded view [] answer refl refl fit
   highest_fits answer fit (Some mailbox) = fits_preceded view (response.HighestModSeq mailbox.highest ∷ []) answer refl refl fit
 
-  notices_fit : (active : SessionState) (expunges : Bool) (answer : Answer) → IsFit view answer → Fits view own number what (with_notices view active expunges answer)
-  notices_fit active expunges answer fit =
+  -- notices after a refusal are those of the view before
+  notices_tied : (active : SessionState) (expunges : Bool) (answer : Answer) → answer.effect ≡ None → answer.enables ≡ nothing_enabled
+      → IsTied view (lines_of (followed_by (notice_lines (options_after expunges active answer) answer.told active.selected (mailbox_after view active answer)) answer))
+      (notice_telling (options_after expunges active answer) active.selected (mailbox_after view active answer)) (Some active)
+  notices_tied active expunges answer effect enables = by (notice_telling o active.selected mailbox) refl (is_bad answer.last) refl
+    where
+      o : NoticeOptions
+      o = options_after expunges active answer
+
+      mailbox : Option Readable
+      mailbox = mailbox_after view active answer
+
+      replies : List Response
+      replies = lines_of (followed_by (notice_lines o answer.told active.selected mailbox) answer)
+
+      same_options : o ≡ notice_options expunges active.enabled
+      same_options = ap (λ (more : EnabledCapabilities). notice_options expunges (both_enabled more active.enabled)) enables
+
+      left_by : (bad : Bool) → is_bad answer.last ≡ bad → mailbox ≡ cond bad None (mailbox_left view active)
+      left_by bad is = λ i. cond (is i) None (mailbox_left (view_after_asking (effect i) view) active)
+
+      by : (told : Option Telling) → notice_telling o active.selected mailbox ≡ told → (bad : Bool) → is_bad answer.last ≡ bad → IsTied view replies told (Some active)
+      by None is bad last = tt
+      by (Some told) is true last = absurd (cc (sym is ∙ ap (notice_telling o active.selected) (left_by true last)))
+      by (Some told) is false last = record {
+        expunges = expunges;
+        uids = answer.told;
+        before = answer.untagged;
+        last = answer.last;
+        lines = λ i. (answer.untagged ++ notice_lines (same_options i) answer.told active.selected (left_by false last i)) ++ answer.last ∷ [];
+        told = sym (λ i. notice_telling (same_options i) active.selected (left_by false last i)) ∙ is;
+        accepted = last;
+      }
+
+  notices_fit : (active : SessionState) → active_of own number ≡ Some active → (expunges : Bool) (answer : Answer) → IsFit view answer → Fits view own number what (with_notices view active expunges answer)
+  notices_fit active there expunges answer fit =
       let o = options_after expunges active answer in
       let mailbox = mailbox_after view active answer in
-      noted_fits answer (notice_lines o answer.told active.selected mailbox) (notice_telling o active.selected mailbox)
+      let lines = notice_lines o answer.told active.selected mailbox in
+      let told = notice_telling o active.selected mailbox in
+      noted_fits answer lines told
       (no_line_refuses is_refusal (λ n. refl) (λ e uids. refl) (λ n. refl) (λ n items. refl) o answer.told active.selected mailbox)
       (no_line_refuses is_unavailable (λ n. refl) (λ e uids. refl) (λ n. refl) (λ n items. refl) o answer.told active.selected mailbox)
       fit
+      (λ effect enables. subst (IsTied view (lines_of (followed_by lines answer)) told) (sym there) (notices_tied active expunges answer effect enables))
 
-  answer_fits : (active : SessionState) (expunges : Bool) (answer : Answer) → IsFit view answer → Fits view own number what (outcome_of_answer view active expunges answer)
-  answer_fits active expunges answer fit = by (newly_enables_condstore active answer)
+  answer_fits : (active : SessionState) → active_of own number ≡ Some active → (expunges : Bool) (answer : Answer) → IsFit view answer → Fits view own number what (outcome_of_answer view active expunges answer)
+  answer_fits active there expunges answer fit = by (newly_enables_condstore active answer)
     where
       by : (b : Bool) → Fits view own number what (with_notices view active expunges (cond b (preceded_by (highest_line (selected_mailbox view active.selected)) answer) answer))
-      by true = notices_fit active expunges (preceded_by (highest_line (selected_mailbox view active.selected)) answer) (highest_fits answer fit (selected_mailbox view active.selected))
-      by false = notices_fit active expunges answer fit
+      by true = notices_fit active there expunges (preceded_by (highest_line (selected_mailbox view active.selected)) answer) (highest_fits answer fit (selected_mailbox view active.selected))
+      by false = notices_fit active there expunges answer fit
 
   -- a session that idles, or begins to
   idle_fits : (active : SessionState) (step : Idling) → Fits view own number what (idle_outcome view active step)
@@ -204,7 +262,7 @@ module _ (view : View) (own : Option Own) (number : ℕ) (what : Act) where
   says replies available = record {
     asks = λ _. tt;
     room = room_to_keep own number;
-    refused = λ e. record { session = inl stays; effect = refl };
+    refused = λ e. record { session = inl (stays (said replies session.Keep) refl); effect = refl };
     available = available;
   }
 
@@ -303,19 +361,19 @@ module _ (view : View) (own : Option Own) (number : ℕ) where
       by None is = selected_fits view own number what active tag (said [] session.Keep) (says view own number what [] refl) None
       by (Some s) is = selects_nothing view own number what (close_answer view active tag) (changes.close_fits view active tag) (ap (λ (o : Option Selection). list_any is_refusal (lines_of (close_if_selected view tag o))) is)
 
-  outcome_of_command_fits : (active : SessionState) (tag : List ℕ) (at : Moment) (asked : Command) → Fits view own number (act.Do (request.Command tag asked)) (command_outcome view active tag at asked)
-  outcome_of_command_fits active tag at command.Logout = ends view own number _ _ refl refl
-  outcome_of_command_fits active tag at (command.Select mailbox parameters) = select_fits view own number _ refl active tag false mailbox parameters
-  outcome_of_command_fits active tag at (command.Examine mailbox parameters) = select_fits view own number _ refl active tag true mailbox parameters
-  outcome_of_command_fits active tag at command.Close = close_fits _ tag active
-  outcome_of_command_fits active tag at command.Unselect = unselect_fits _ tag active
-  outcome_of_command_fits active tag at command.Idle = idle_fits view own number _ active (idling.Begins tag)
-  outcome_of_command_fits active tag at asked = answer_fits view own number _ active (may_tell_expunges asked) (command_answer view active tag at asked) (command_fits view active tag at asked)
+  outcome_of_command_fits : (active : SessionState) → active_of own number ≡ Some active → (tag : List ℕ) (at : Moment) (asked : Command) → Fits view own number (act.Do (request.Command tag asked)) (command_outcome view active tag at asked)
+  outcome_of_command_fits active there tag at command.Logout = ends view own number _ _ refl refl
+  outcome_of_command_fits active there tag at (command.Select mailbox parameters) = select_fits view own number _ refl active tag false mailbox parameters
+  outcome_of_command_fits active there tag at (command.Examine mailbox parameters) = select_fits view own number _ refl active tag true mailbox parameters
+  outcome_of_command_fits active there tag at command.Close = close_fits _ tag active
+  outcome_of_command_fits active there tag at command.Unselect = unselect_fits _ tag active
+  outcome_of_command_fits active there tag at command.Idle = idle_fits view own number _ active (idling.Begins tag)
+  outcome_of_command_fits active there tag at asked = answer_fits view own number _ active there (may_tell_expunges asked) (command_answer view active tag at asked) (command_fits view active tag at asked)
 
-  request_fits : (active : SessionState) (at : Moment) (asked : Request) → Fits view own number (act.Do asked) (request_outcome view active at asked)
-  request_fits active at (request.Command tag asked) = outcome_of_command_fits active tag at asked
-  request_fits active at (request.Malformed tag) = says view own number _ _ refl
-  request_fits active at (request.TooBig tag) = says view own number _ _ refl
+  request_fits : (active : SessionState) → active_of own number ≡ Some active → (at : Moment) (asked : Request) → Fits view own number (act.Do asked) (request_outcome view active at asked)
+  request_fits active there at (request.Command tag asked) = outcome_of_command_fits active there tag at asked
+  request_fits active there at (request.Malformed tag) = says view own number _ _ refl
+  request_fits active there at (request.TooBig tag) = says view own number _ _ refl
 
 -- ---- sessions
 
@@ -333,7 +391,7 @@ module _ (view : View) (own : Own) (number : ℕ) where
   unless_lost_fits what outcome fit false = fit
 
   line_fits : (active : SessionState) → map.get own number ≡ Some active → (at : Moment) (asked : Request) (idle : Option (List ℕ)) → active.idle ≡ idle → Fits view (Some own) number (act.Do asked) (reply_by_idle view active at (act.Do asked) idle)
-  line_fits active there at asked None idles = request_fits view (Some own) number active at asked
+  line_fits active there at asked None idles = request_fits view (Some own) number active there at asked
   line_fits active there at asked (Some tag) idles = record {
     asks = λ _. tt;
     room = room_to_idle (Some own) number None None;

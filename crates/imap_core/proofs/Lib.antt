@@ -1,10 +1,12 @@
 pub mod Admitted
 pub mod Composed
 pub mod Fitting
+pub mod HiddenTrees
 pub mod Histories
 pub mod InStep
 pub mod Lent
 pub mod MailboxLeft
+pub mod Marks
 pub mod MessagesKnown
 pub mod Noticed
 pub mod Numbered
@@ -16,5 +18,8 @@ pub mod Runs
 pub mod Sameness
 pub mod Silent
 pub mod Starting
+pub mod StartsAlike
 pub mod StepLaws
 pub mod Steps
+pub mod StepsAlike
+pub mod Unmarked

@@ -34,18 +34,18 @@ use Rattle.imap_core.specs.Opening.{Admission, admission, inbox_for, needs_inbox
 use Rattle.imap_core.specs.Sessions.{Own}
 use Rattle.imap_core.specs.Starting.{StartsWithInboxes, gets_inbox, is_one_of, new_inbox}
 
-equal_users : (user other : List ℕ) → bytes_eq user other ≡ true → user ≡ other
+pub equal_users : (user other : List ℕ) → bytes_eq user other ≡ true → user ≡ other
 equal_users user other e = (bytes_eq-Decides user other).0 e
 
-both : (a b : Bool) → (a && b) ≡ true → (a ≡ true) × (b ≡ true)
+pub both : (a b : Bool) → (a && b) ≡ true → (a ≡ true) × (b ≡ true)
 both true b h = (refl, h)
 both false b h = absurd (cc h)
 
-or_false : (b : Bool) → (b || false) ≡ b
+pub or_false : (b : Bool) → (b || false) ≡ b
 or_false true = refl
 or_false false = refl
 
-or_true : (b : Bool) → (b || true) ≡ true
+pub or_true : (b : Bool) → (b || true) ≡ true
 or_true true = refl
 or_true false = refl
 
@@ -89,7 +89,7 @@ known_anyway accounts user other known = by (bytes_eq other user) refl
     by false e = sym (or_false (map.contains_key accounts other))
 
 -- with a user who wasn't known
-abbrev grown : World → Admission → List ℕ → Admission
+abbrev pub grown : World → Admission → List ℕ → Admission
 grown world so_far user = record { accounts = map.insert so_far.accounts user map.empty; effects = so_far.effects ++ inbox_for world user }
 
 known_next : (world : World) (user : List ℕ) (so_far : Admission) (other : List ℕ) → map.contains_key (with_user world user so_far).accounts other ≡ (map.contains_key so_far.accounts other || bytes_eq other user)
@@ -108,7 +108,7 @@ known_all world (user ∷ users) so_far other =
 
 -- ---- what is asked for them
 
-abbrev creations : List (List ℕ) → List Effect
+abbrev pub creations : List (List ℕ) → List Effect
 creations users = map_list (λ user. effect.CreateInbox user) users
 
 -- the user alone, if an INBOX is needed
@@ -116,13 +116,13 @@ abbrev owner_for : World → List ℕ → List (List ℕ)
 owner_for world user = cond (needs_inbox world user) (user ∷ []) []
 
 -- an INBOX is asked for exactly those who are known and need one; nothing else is asked, and no session is open
-record IsFair (world : World) (so_far : Admission) : Type 0 where
-  owners : List (List ℕ)
-  effects : so_far.effects ≡ creations owners
-  asked : (user : List ℕ) → is_one_of owners user ≡ (map.contains_key so_far.accounts user && needs_inbox world user)
-  needed : list_all (needs_inbox world) owners ≡ true
-  distinct : IsDistinct bytes_eq owners
-  closed : (user : List ℕ) (own : Own) → map.get so_far.accounts user ≡ Some own → own ≡ map.empty
+pub record IsFair (world : World) (so_far : Admission) : Type 0 where
+  pub owners : List (List ℕ)
+  pub effects : so_far.effects ≡ creations owners
+  pub asked : (user : List ℕ) → is_one_of owners user ≡ (map.contains_key so_far.accounts user && needs_inbox world user)
+  pub needed : list_all (needs_inbox world) owners ≡ true
+  pub distinct : IsDistinct bytes_eq owners
+  pub closed : (user : List ℕ) (own : Own) → map.get so_far.accounts user ≡ Some own → own ≡ map.empty
 
 one_creation : (user : List ℕ) (needs : Bool) → cond needs (effect.CreateInbox user ∷ []) [] ≡ creations (cond needs (user ∷ []) [])
 one_creation user true = refl
@@ -225,13 +225,13 @@ owners_of (user ∷ users) = ap (λ others. user ∷ others) (owners_of users)
 
 -- ---- what is written
 
-abbrev inbox_row : World → List ℕ → NewMailbox
+abbrev pub inbox_row : World → List ℕ → NewMailbox
 inbox_row base user = record { name = inbox user; validity = epoch base.epochs (inbox user) + 1; acl = owner_acl user }
 
-abbrev inboxes : World → List (List ℕ) → List Write
+abbrev pub inboxes : World → List (List ℕ) → List Write
 inboxes base users = puts (map_list (inbox_row base) users)
 
-room_left : (used : ℕ) → nat_lt used max_validity ≡ true → eqb used max_validity ≡ false
+pub room_left : (used : ℕ) → nat_lt used max_validity ≡ true → eqb used max_validity ≡ false
 room_left used h = grind (arith, nat_tests)
 
 all_written : (base : World) (users : List (List ℕ)) → list_all (needs_inbox base) users ≡ true → writes_of (creations users) base ≡ Ok (inboxes base users)
@@ -248,7 +248,7 @@ same_subscriptions : (base : World) (users : List (List ℕ)) (world : World) �
 same_subscriptions base [] world = refl
 same_subscriptions base (user ∷ users) world = same_subscriptions base users (with_row world (inbox_row base user))
 
-one_owner : (user owner : List ℕ) → inbox user ≡ inbox owner → user ≡ owner
+pub one_owner : (user owner : List ℕ) → inbox user ≡ inbox owner → user ≡ owner
 one_owner user owner e = (name_of-same user owner (codes "INBOX" ∷ []) (codes "INBOX" ∷ []) e).0
 
 -- what is put under the name of each INBOX
@@ -317,7 +317,7 @@ module _ (world : World) (administrator : List ℕ) (users : List (List ℕ)) wh
   abbrev admitted : Admission
   admitted = admission world administrator users
 
-  fair : IsFair world admitted
+  pub fair : IsFair world admitted
   fair = fair_all world all nobody (nobody_is_fair world)
 
   pub admission_apart : AreApart admitted.effects
@@ -326,13 +326,13 @@ module _ (world : World) (administrator : List ℕ) (users : List (List ℕ)) wh
     owners = subst (IsDistinct bytes_eq) (sym (ap (filter_map inbox_owner) fair.effects ∙ owners_of fair.owners)) fair.distinct;
   })
 
-  written : after_all admitted.effects world ≡ after_writes (inboxes world fair.owners) world
+  pub written : after_all admitted.effects world ≡ after_writes (inboxes world fair.owners) world
   written = ap (λ r. after_result r world) (ap (λ effects. writes_of effects world) fair.effects ∙ all_written world fair.owners fair.needed)
 
-  known_users : (user : List ℕ) → map.contains_key admitted.accounts user ≡ is_one_of all user
+  pub known_users : (user : List ℕ) → map.contains_key admitted.accounts user ≡ is_one_of all user
   known_users user = known_all world all nobody user ∙ ap (λ o. is_some o || is_one_of all user) (no_account user)
 
-  asked_users : (user : List ℕ) → is_one_of fair.owners user ≡ gets_inbox world all user
+  pub asked_users : (user : List ℕ) → is_one_of fair.owners user ≡ gets_inbox world all user
   asked_users user = fair.asked user ∙ ap (λ b. b && needs_inbox world user) (known_users user)
 
 pub starts_so : StartsWithInboxes

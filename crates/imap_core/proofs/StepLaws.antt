@@ -1,5 +1,5 @@
 -- What holds of one step.
-use Rattle.std.proofs.Common.{◌≡◌, ℕ, Bool, true, false, cond, ◌&&◌, ◌⊎◌, inl, inr, eqb, List, Option, Some, None, refl, sym, ap, subst, ◌∙◌, arith}
+use Rattle.std.proofs.Common.{◌≡◌, ℕ, Bool, true, false, cond, ◌&&◌, ◌⊎◌, inl, inr, eqb, List, Option, Some, None, refl, ap, subst, ◌∙◌, arith}
 use Rattle.std.specs.Prelude.{option_and_then}
 use Rattle.std.specs.Ordering.{nat_cmp, eq_by_cmp}
 use Rattle.std.specs.Str.{bytes_eq}
@@ -25,27 +25,15 @@ use Rattle.imap_core.specs.InStep.{session_at}
 use Rattle.imap_core.specs.Reply.{noting}
 use Rattle.imap_core.specs.declared.sessions.SessionEffect.{SessionEffect}
 use Rattle.imap_core.specs.declared.sessions.SessionEffect.TheVariants as session
-use Rattle.imap_core.specs.Laws.{EffectsAreMade, IsIdleBroken, IsMadeIfAsked, IsOnlyTold, NeverUnavailable, OtherSessionsStay, OtherUsersStay, RefusalsChangeNothing, StepsAreAlike, selects, unselected}
+use Rattle.imap_core.specs.Laws.{EffectsAreMade, IsIdleBroken, IsMadeIfAsked, IsOnlyTold, NeverUnavailable, OtherSessionsStay, OtherUsersStay, RefusalsChangeNothing, selects, session_in, unselected}
 use Rattle.imap_answer.proofs.Alike.{viewed}
 use Rattle.imap_answer.specs.Alike.{effects_of}
 use Rattle.imap_answer.specs.Fit.{MayBeAsked}
-use Rattle.imap_core.specs.Machine.{accounts_after, next, outcome, outcome_for, own_in, view_in}
+use Rattle.imap_core.specs.Machine.{accounts_after, answer, next, outcome, own_in, view_in}
 use Rattle.imap_core.specs.Sessions.{Own, edited, edited_if_open}
-use Rattle.imap_core.proofs.Fitting.{BreaksIdle, IsRefused, OnlyNotes, outcome_fits}
+use Rattle.imap_core.proofs.Fitting.{BreaksIdle, IsRefused, IsTied, OnlyNotes, outcome_fits}
 use Rattle.imap_core.proofs.Numbered.{at_number}
-use Rattle.imap_core.proofs.Steps.{accounts_after_here, accounts_after_there, kept_next, own_after, own_after_change, own_in-next, own_in-other, view_in-next, view_next}
-
-pub alike_on : StepsAreAlike
-alike_on s t step alike = (
-  λ i. (outcome_for (alike.views i) (alike.sessions i) step).replies,
-  record {
-    views = view_in-next s step alike.kept ∙ (λ i. view_next (alike.views i) (alike.sessions i) step) ∙ sym (view_in-next t step alike.kept_other);
-    sessions = own_in-next s step ∙ (λ i. own_after (alike.views i) (alike.sessions i) step) ∙ sym (own_in-next t step);
-    sites = alike.sites;
-    kept = kept_next s step alike.kept;
-    kept_other = kept_next t step alike.kept_other;
-  },
-)
+use Rattle.imap_core.proofs.Steps.{accounts_after_here, accounts_after_there, own_after_change, own_in-other}
 
 -- ---- other sessions
 
@@ -118,7 +106,7 @@ effects_made state step kept =
 pub refusals_change : RefusalsChangeNothing
 refusals_change state step refused = by fits.session
   where
-    fits : IsRefused (own_in state step.who.user) step.who.number step.act (outcome state step)
+    fits : IsRefused (view_in state step.who.user) (own_in state step.who.user) step.who.number step.act (outcome state step)
     fits = (outcome_fits (view_in state step.who.user) (own_in state step.who.user) step).refused refused
 
     made : (change : SessionEffect) → (outcome state step).session ≡ change → next state step ≡ record { site = state.site; world = state.world; accounts = accounts_after state.accounts step.who change }
@@ -132,14 +120,16 @@ refusals_change state step refused = by fits.session
     Left = (next state step ≡ state)
         ⊎ (IsOnlyTold state step ⊎ (((selects step.act ≡ true) × (next state step ≡ unselected state step.who)) ⊎ IsIdleBroken state step))
 
-    by_told : (told : Option Telling) → (outcome state step).session ≡ noting nothing_enabled told → Left
-    by_told None is = inl (made session.Keep is)
-    by_told (Some told) is = inr (inl (record { told = told; is = made (session.Note nothing_enabled (Some told)) is }))
+    by_told : (told : Option Telling) → (outcome state step).session ≡ noting nothing_enabled told → (active : Option SessionState) → session_in state step.who.user step.who.number ≡ active
+        → IsTied (view_in state step.who.user) (answer state step) told active → Left
+    by_told None is active at tied = inl (made session.Keep is)
+    by_told (Some told) is None at tied = absurd tied
+    by_told (Some told) is (Some own) at tied = inr (inl (record { own = own; active = at; told = told; lines = tied; is = made (session.Note nothing_enabled (Some told)) is }))
 
-    by : OnlyNotes (outcome state step).session
+    by : OnlyNotes (view_in state step.who.user) (session_in state step.who.user step.who.number) (outcome state step)
         ⊎ (((selects step.act ≡ true) × ((outcome state step).session ≡ session.Select nothing_enabled None)) ⊎ BreaksIdle (own_in state step.who.user) step.who.number step.act (outcome state step).session)
         → Left
-    by (inl notes) = by_told notes.told notes.is
+    by (inl notes) = by_told notes.told notes.is (session_in state step.who.user step.who.number) refl notes.lines
     by (inr (inl closed)) = inr (inr (inl (closed.0, made (session.Select nothing_enabled None) closed.1)))
     by (inr (inr broken)) = inr (inr (inr (record { idles = broken.idles; line = broken.line; is = made (session.Idle None None) broken.is })))
 

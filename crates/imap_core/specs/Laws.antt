@@ -1,10 +1,13 @@
 -- What holds of every step.
-use Rattle.std.specs.Prelude.{◌≡◌, ◌⊎◌, ℕ, Bool, true, false, ◌==◌, ◌&&◌, List, map, Option, Some, None}
-use Rattle.std.specs.Prelude.{bytes_eq, is_some}
+use Rattle.std.specs.Prelude.{◌≡◌, ◌⊎◌, ℕ, Bool, true, false, not, ◌==◌, ◌&&◌, List, [], ◌∷◌, ◌++◌}
+use Rattle.std.specs.Prelude.{Option, Some, None, bytes_eq, is_some, map as map_list}
+use Rattle.std.specs.FinMap as map
 use Rattle.std.specs.List.{list_any}
 use Rattle.imap_answer.specs.Fit.{is_refusal, is_unavailable}
 use Rattle.imap_answer.specs.Answer.{nothing_enabled}
 use Rattle.imap_mailbox.specs.Brought.{told_of}
+use Rattle.imap_names.specs.Name.{Name}
+use Rattle.imap_names.specs.Order.{is_within}
 use Rattle.imap_session.specs.State.{Selection, SessionState}
 use Rattle.imap_session.specs.Telling.{Telling}
 use Rattle.imap_core.specs.InStep.{session_at}
@@ -21,11 +24,14 @@ use Rattle.imap_view.specs.After.{DifferInHidden, IsMade}
 use Rattle.imap_world.specs.declared.effect.Effect.{Effect}
 use Rattle.imap_world.specs.Kept.{AreKept}
 use Rattle.imap_world.specs.World.{World}
+use Rattle.imap_print.specs.declared.response.Response.{Response}
 use Rattle.imap_view.specs.declared.readable.Readable.{Readable}
-use Rattle.imap_view.specs.View.{View}
+use Rattle.imap_view.specs.View.{View, may_know_name_in}
 use Rattle.imap_core.specs.Machine.{State, accounts_with, answer, next, outcome, own_in, view_in}
-use Rattle.imap_core.specs.Notices.{is_bad, mailbox_left, may_tell_expunges}
+use Rattle.imap_core.specs.Notices.{is_bad, mailbox_left, may_tell_expunges, notice_lines, notice_options}
+use Rattle.imap_core.specs.Notices.{notice_telling}
 use Rattle.imap_core.specs.Trace.{Alike, is_quiet}
+use Rattle.imap_core.specs.Unmarked.{sessions_in}
 
 -- A step in two states that are alike to its user is answered alike, and leaves them alike to that user.
 abbrev pub StepsAreAlike : Type 0
@@ -79,9 +85,25 @@ unselected state who = record {
   accounts = accounts_with state.accounts who (session.Select nothing_enabled None);
 }
 
--- a session was told of its mailbox, and nothing else changed
+-- What a session is told of its mailbox is what notices in the replies tell. They stand before the last line, which
+-- isn't BAD, and after lines of the command, by which messages with the UIDs `uids` were told.
+pub record IsToldInLines (view : View) (own : SessionState) (replies : List Response) (t : Telling) : Type 0 where
+  pub expunges : Bool
+  pub uids : List ℕ
+  pub before : List Response
+  pub last : Response
+  pub lines : let o = notice_options expunges own.enabled in
+      replies ≡ (before ++ notice_lines o uids own.selected (mailbox_left view own)) ++ last ∷ []
+  pub told : let o = notice_options expunges own.enabled in
+      notice_telling o own.selected (mailbox_left view own) ≡ Some t
+  pub accepted : is_bad last ≡ false
+
+-- a session was told of its mailbox by lines, and nothing else changed
 pub record IsOnlyTold (state : State) (step : Step) : Type 0 where
+  pub own : SessionState
+  pub active : session_in state step.who.user step.who.number ≡ Some own
   pub told : Telling
+  pub lines : IsToldInLines (view_in state step.who.user) own (answer state step) told
   pub is : next state step ≡ record {
     site = state.site;
     world = state.world;
@@ -108,9 +130,9 @@ pub record IsIdleBroken (state : State) (step : Step) : Type 0 where
     accounts = accounts_with state.accounts step.who (session.Idle None None);
   }
 
--- A step that is answered by a refusal changes nothing; but its session may be told of its mailbox, a refused
--- SELECT or EXAMINE leaves no mailbox selected in it (RFC 9051, section 6.3.2), and a line that ends its IDLE
--- does so.
+-- A step that is answered by a refusal changes nothing; but its session may be told of its mailbox by lines
+-- before the refusal, unless this is BAD, a refused SELECT or EXAMINE leaves no mailbox selected in it (RFC 9051,
+-- section 6.3.2), and a line that ends its IDLE does so.
 abbrev pub RefusalsChangeNothing : Type 0
 RefusalsChangeNothing = (state : State) (step : Step) → list_any is_refusal (answer state step) ≡ true
     → (next state step ≡ state)
@@ -134,7 +156,7 @@ may_be_told idle _ = false
 -- it has lost the mailbox
 abbrev pub KnowsMessages : View → SessionState → Type 0
 KnowsMessages view own = (s : Selection) (mailbox : Readable)
-    → own.selected ≡ Some s → mailbox_left view own ≡ Some mailbox → s.known ≡ map told_of mailbox.rows
+    → own.selected ≡ Some s → mailbox_left view own ≡ Some mailbox → s.known ≡ map_list told_of mailbox.rows
 
 -- After a step in which expunges may be told, and which isn't answered BAD, its session knows the messages of its
 -- mailbox (RFC 9051, section 7.5.1).
@@ -153,6 +175,29 @@ NeverUnavailable = (state : State) (step : Step) → list_any is_unavailable (an
 -- To a user, states are alike that differ in hidden mailboxes alone, and in used validities of names of which the
 -- user may not know. A name in use of which the user may know stays in use.
 abbrev pub HiddenIsAlike : Type 0
-HiddenIsAlike = (user : List ℕ) (s t : State) → s.site ≡ t.site → own_in s user ≡ own_in t user
+HiddenIsAlike = (user : List ℕ) (s t : State) → s.site ≡ t.site → sessions_in s user ≡ sessions_in t user
     → AreKept s.world.mailboxes → AreKept t.world.mailboxes
     → DifferInHidden s.site user s.world t.world → Alike user s t
+
+-- without the mailbox of a name and all below it
+abbrev pub without_tree : State → (top : Name) → State
+without_tree state top = record {
+  site = state.site;
+  world = record state.world {
+    mailboxes = map.retain_keys state.world.mailboxes (λ name. not (is_within top name));
+  };
+  accounts = state.accounts;
+}
+
+-- the user sees no mailbox of the name or below it, and may not know that their names are in use
+abbrev pub IsHiddenTree : (user : List ℕ) → State → (top : Name) → Type 0
+IsHiddenTree user state top = (name : Name)
+    → is_within top name ≡ true → map.contains_key state.world.mailboxes name ≡ true
+    → (map.get (view_in state user).seen name ≡ None)
+    × (may_know_name_in (view_in state user) name ≡ false)
+
+-- A mailbox that is taken away with all below it leaves no trace to a user who sees none of them and may not know of
+-- their names: a hidden mailbox answers as an absent one.
+abbrev pub HiddenSubtreesAreAbsent : Type 0
+HiddenSubtreesAreAbsent = (user : List ℕ) (state : State) (top : Name)
+    → AreKept state.world.mailboxes → IsHiddenTree user state top → Alike user state (without_tree state top)

@@ -19,4 +19,5 @@ pub mod Same
 pub mod Sessions
 pub mod Starting
 pub mod Trace
+pub mod Unmarked
 pub mod Version

@@ -1,17 +1,22 @@
--- What a host starts with: the mailboxes of its world, an INBOX for each user, and no open session.
+-- What a host starts with: the mailboxes of its world, an INBOX for each user, and no open session. To a user
+-- it makes no difference what is hidden from the user.
 use Rattle.std.specs.Prelude.{◌≡◌, ◌≢◌, ℕ, ◌+◌, Bool, true, ◌&&◌, List, ◌∷◌, Some, bytes_eq}
-use Rattle.std.specs.List.{list_any}
+use Rattle.std.specs.List.{list_all, list_any}
 use Rattle.std.specs.FinMap as map
 use Rattle.imap_names.specs.Name.{Name}
+use Rattle.imap_names.specs.UserName.{is_user_name}
 use Rattle.imap_rights.specs.Acl.{owner_acl}
 use Rattle.imap_rights.specs.Groups.{Members}
 use Rattle.imap_world.specs.declared.site.Limits.{Limits}
 use Rattle.imap_world.specs.declared.site.Site.{Site}
+use Rattle.imap_view.specs.After.{DifferInHidden}
+use Rattle.imap_world.specs.Kept.{AreKept}
 use Rattle.imap_world.specs.Mailbox.{Mailbox, new_mailbox}
 use Rattle.imap_world.specs.World.{World, epoch, inbox}
 use Rattle.imap_core.specs.Machine.{State}
 use Rattle.imap_core.specs.Opening.{needs_inbox, state_at_start}
 use Rattle.imap_core.specs.Sessions.{Own}
+use Rattle.imap_core.specs.Trace.{Alike}
 
 abbrev pub is_one_of : List (List ℕ) → List ℕ → Bool
 is_one_of users user = list_any (bytes_eq user) users
@@ -50,3 +55,15 @@ StartsWithInboxes =
     (world : World) (administrator : List ℕ) (users : List (List ℕ)) (groups : Members) (limits : Limits) →
     let site : Site = record { administrator = administrator; limits = limits; groups = groups } in
     IsStart world site (administrator ∷ users) (state_at_start world administrator users groups limits)
+
+-- Two stores that differ for a user in hidden mailboxes alone, and in used validities of names of which the user
+-- may not know, start machines that are alike to the user.
+abbrev pub StartsAreAlike : Type 0
+StartsAreAlike =
+    (administrator : List ℕ) (users : List (List ℕ)) (groups : Members) (limits : Limits)
+    (user : List ℕ) (one other : World) →
+    let site : Site = record { administrator = administrator; limits = limits; groups = groups } in
+    list_all is_user_name (administrator ∷ users) ≡ true
+    → AreKept one.mailboxes → AreKept other.mailboxes → DifferInHidden site user one other
+    → Alike user (state_at_start one administrator users groups limits)
+    (state_at_start other administrator users groups limits)

@@ -2,15 +2,16 @@
 
 ghost use Rattle.imap_core.specs.Histories.{RunsGrowMessages, RunsKeepValidities};
 ghost use Rattle.imap_core.specs.InStep.{AreInStep, SessionsStayInStep};
-ghost use Rattle.imap_core.specs.Laws.{EffectsAreMade, HiddenIsAlike, NeverUnavailable, OtherSessionsStay};
-ghost use Rattle.imap_core.specs.Laws.{MessagesAreKnown, OtherUsersStay, QuietPollsChangeNothing};
-ghost use Rattle.imap_core.specs.Laws.{RefusalsChangeNothing, StepsAreAlike};
+ghost use Rattle.imap_core.specs.Laws.{EffectsAreMade, HiddenIsAlike, HiddenSubtreesAreAbsent};
+ghost use Rattle.imap_core.specs.Laws.{MessagesAreKnown, NeverUnavailable, OtherSessionsStay, OtherUsersStay};
+ghost use Rattle.imap_core.specs.Laws.{QuietPollsChangeNothing, RefusalsChangeNothing, StepsAreAlike};
 ghost use Rattle.imap_core.specs.OwnSteps.{GivenBackTellsNothing, IsolationAtOwnSteps, UnseenStepsAreSilent};
-ghost use Rattle.imap_core.specs.Starting.{StartsWithInboxes};
+ghost use Rattle.imap_core.specs.Starting.{StartsAreAlike, StartsWithInboxes};
 ghost use Rattle.imap_core.specs.Trace.{EqualViewsAreSame, Isolation, IsolationOfReplies};
 ghost use Rattle.imap_world.specs.Kept.{AreKept, IsSound};
 
 use crate::machine::Core;
+use imap_view::laws::{creating_is_seen, hidden_is_absent, others_inboxes_are_hidden};
 
 /// To each user, any two runs that begin alike and have one trace for that user send the same octets: by the
 /// laws of one step alone.
@@ -72,10 +73,18 @@ pub fn equal_views_are_same()
 {}
 
 /// A step in two states that are alike to its user has equal replies, and the states afterwards are
-/// alike again.
+/// alike again: by the laws of the commands.
 pub fn steps_are_alike()
     ensures { StepsAreAlike }
-{}
+{
+    imap_changes::laws::commands_are_alike();
+    imap_copies::laws::commands_are_alike();
+    imap_list::laws::commands_are_alike();
+    imap_messages::laws::commands_are_alike();
+    imap_resync::laws::commands_are_alike();
+    imap_search::laws::commands_are_alike();
+    imap_tree::laws::commands_are_alike();
+}
 
 /// States are alike to a user that differ in mailboxes alone which are hidden from the user. Under a name of
 /// which the user may not know they may come and go, and leave used UIDVALIDITYs. Under another name a
@@ -84,6 +93,14 @@ pub fn steps_are_alike()
 pub fn hidden_is_alike()
     ensures { HiddenIsAlike }
 {}
+
+/// A mailbox that is taken away with all below it leaves the state alike to a user who sees none of them, and
+/// who may not know that their names are in use. So to the user a hidden mailbox is as one that isn't there.
+pub fn hidden_subtrees_are_absent()
+    ensures { HiddenSubtreesAreAbsent }
+{
+    hidden_is_alike();
+}
 
 /// A step changes no session but its own: neither another user's, nor another one of the same user.
 pub fn other_sessions_stay()
@@ -121,8 +138,8 @@ pub fn messages_grow()
 {}
 
 /// A step that is answered by a refusal leaves all mailboxes, subscriptions and sessions as they were, but for
-/// what its session was told of its mailbox; a refused SELECT or EXAMINE leaves no mailbox selected in its
-/// session, and a line that ends the IDLE of its session does so.
+/// what its session was told of its mailbox by lines before the refusal, which are none at BAD; a refused SELECT
+/// or EXAMINE leaves no mailbox selected in its session, and a line that ends the IDLE of its session does so.
 pub fn refusals_change_nothing()
     ensures { RefusalsChangeNothing }
 {}
@@ -139,6 +156,17 @@ pub fn never_unavailable()
 pub fn starts_with_inboxes()
     ensures { StartsWithInboxes }
 {}
+
+/// Two stores that differ for a user in hidden mailboxes alone, and in used UIDVALIDITYs of names of which the
+/// user may not know, start machines that are alike to the user. So by [`isolation`] the user's sessions are
+/// sent the same over both.
+pub fn starts_are_alike()
+    ensures { StartsAreAlike }
+{
+    others_inboxes_are_hidden();
+    creating_is_seen();
+    hidden_is_absent();
+}
 
 /// Sessions stay in step with their mailboxes, whosever step is made: each was told all of its mailbox up to a
 /// mod-sequence, but for expunges that were held back. [`messages_are_kept`] says that the machine's type keeps

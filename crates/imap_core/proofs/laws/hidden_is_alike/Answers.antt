@@ -8,7 +8,6 @@ pub returns : goal.returns
 returns c = λ user s t sites sessions kept kept_other differ. record {
   views = hidden_absent s.site user s.world t.world differ ∙ ap (λ (site : Site). view_of site user t.world) sites;
   sessions = sessions;
-  sites = sites;
   kept = kept;
   kept_other = kept_other;
 }
