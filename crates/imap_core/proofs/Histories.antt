@@ -4,10 +4,8 @@ use Rattle.std.specs.List.{AllByRecursion}
 use Rattle.imap_answer.specs.Alike.{effects_of}
 use Rattle.imap_world.specs.declared.effect.Effect.{Effect}
 use Rattle.imap_world.specs.Effects as world
-use Rattle.imap_world.specs.Kept.{AreKept}
 use Rattle.imap_world.specs.Laws.{KeepsValidities, MessagesGrown}
 use Rattle.imap_world.specs.Ready.{AreApart}
-use Rattle.imap_world.specs.World.{World}
 use Rattle.imap_world.proofs.Growing.{messages_grow}
 use Rattle.imap_world.proofs.Histories.{used_once}
 use Rattle.imap_core.specs.declared.step.Step.{Step}
