@@ -8,9 +8,9 @@ use Rattle.imap_view.specs.View.{View}
 use Rattle.imap_world.specs.Kept.{AreKept}
 use Rattle.imap_core.specs.declared.step.Step.{Step}
 use Rattle.imap_core.specs.Laws.{OtherUsersStay, QuietPollsChangeNothing, StepsAreAlike}
-use Rattle.imap_core.specs.Machine.{State, after_steps, answer, next, view_in}
+use Rattle.imap_core.specs.Machine.{State, after_steps, answer, answers, next, view_in}
 use Rattle.imap_core.specs.OwnSteps.{GivenBackTellsNothing, IsolationAtOwnSteps, UnseenStepsAreSilent, are_others, moments, own_moments, since}
-use Rattle.imap_core.specs.Trace.{Acts, Alike, EqualViewsAreSame, Event, Isolation, IsolationOfReplies, Sees, is_quiet, octets_of, replies_to, same_view, trace, with_replies}
+use Rattle.imap_core.specs.Trace.{Acts, Alike, AreIsolated, EqualViewsAreSame, Event, Isolation, IsolationOfReplies, Sees, is_quiet, octets_of, replies_among, replies_to, same_view, trace, with_replies}
 use Rattle.imap_core.specs.Unmarked.{sessions_in, unmarked_sessions}
 use Rattle.imap_core.proofs.Quiet.{quiet_act}
 
@@ -307,3 +307,7 @@ module _ (of_steps : StepsAreAlike) (of_others : OtherUsersStay) (of_polls : Qui
       let start = view_in s user in
       agree_at user start (moments user t others) s t steps others alike.sessions (subst (Comes user start s steps) same (comes user start s steps alike.kept))
       (subst (λ (v : View). Comes user v t others (moments user t others)) (sym alike.views) (comes user (view_in t user) t others alike.kept_other))
+
+-- of the answers to a run
+pub answers_isolated : IsolationOfReplies → (state : State) (steps : List Step) (said : List (List Response)) → said ≡ answers state steps → AreIsolated state steps said
+answers_isolated isolated state steps said is user other others alike same = ap (replies_among user steps) is ∙ isolated user state other steps others alike same

@@ -106,3 +106,11 @@ IsolationOfReplies =
     (user : List ℕ) (s t : State) (steps others : List Step)
     → Alike user s t → trace user s steps ≡ trace user t others
     → replies_to user s steps ≡ replies_to user t others
+
+-- These answers to the steps of a run are to each user what every run sends that begins alike and has one
+-- trace with it for that user.
+abbrev pub AreIsolated : State → List Step → (answers : List (List Response)) → Type 0
+AreIsolated state steps answers =
+    (user : List ℕ) (other : State) (others : List Step)
+    → Alike user state other → trace user state steps ≡ trace user other others
+    → replies_among user steps answers ≡ replies_to user other others

@@ -20,13 +20,14 @@ ghost use Rattle.imap_core.specs.Pending.{IsCompletable, completed, effect_in};
 ghost use Rattle.imap_core.specs.Planned.{ArePrintable, IsReady, MayTell, change_of};
 ghost use Rattle.imap_core.specs.Planned.{replies_in, replies_of, room_needed, session_of};
 ghost use Rattle.imap_core.specs.Planned.{state_after, who_of};
-ghost use Rattle.imap_core.specs.Trace.{sent_to, transcript};
+ghost use Rattle.imap_core.specs.Trace.{AreIsolated, sent_to, transcript};
 ghost use Rattle.imap_core.specs.Version.{version_in, version_of};
 ghost use Rattle.imap_core.specs.Notices.{selected_mailbox};
 
 use crate::accounts::{change_session, open_session, own_sessions, reserve_known};
 use crate::commands::selected_mailbox;
 use crate::effects::{resolve_effects, with_effects};
+use crate::laws::isolation_of_replies;
 use crate::mailbox_version::MailboxVersion;
 use crate::notices::{PlannedChange, with_notices};
 use crate::opening::Opening;
@@ -236,6 +237,7 @@ impl Core {
         ensures answers { IfOk result (λ said. replies_in said ≡ answers self.old.state steps.now) }
         ensures octets { IfOk result (λ said. (user : List ℕ)
             → sent_to user steps.now (replies_in said) ≡ transcript user self.old.state steps.now) }
+        ensures isolated { IfOk result (λ said. AreIsolated self.old.state steps.now (replies_in said)) }
         ensures state { OnOk result (self.new.state ≡ after_steps self.old.state steps.now) }
         ensures printable { IfOk result (λ said. AllByRecursion ArePrintable said.items) }
         ensures err { OnErr result (IsPartWay self.old.state steps.now self.new.state) }
@@ -245,6 +247,7 @@ impl Core {
             let prepared = self.prepare(alloc, step)?;
             said.push_reserved(self.commit(prepared));
         }
+        isolation_of_replies();
         Ok(said)
     }
 

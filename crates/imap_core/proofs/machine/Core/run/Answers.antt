@@ -1,9 +1,10 @@
-use Rattle.std.proofs.Common.{◌≡◌, ◌+◌, ◌++◌, map, drop, sym, ap, subst, ◌∙◌, arith}
+use Rattle.std.proofs.Common.{◌≡◌, ◌+◌, ◌++◌, map, drop, sym, ap, subst, ◌∙◌, arith, rules}
 use Rattle.std.specs.List.{AllByRecursion}
 use Rattle.imap_print.specs.Lines.{IsPrintable}
 use Rattle.std.proofs.lemmas.List.{map_push}
 use Rattle.imap_core.specs.Machine.{State, answers, next}
-use Rattle.imap_core.specs.Planned.{ArePrintable, state_after}
+use Rattle.imap_core.specs.Planned.{ArePrintable, replies_in, state_after}
+use Rattle.imap_core.proofs.Composed.{answers_isolated}
 use Rattle.imap_core.proofs.Runs.{all-push, this_step, told_on, rest_on, made_on}
 use Rattle.imap_core.proofs.machine.Core.run.Goals as goal
 
@@ -24,3 +25,8 @@ loop-step-preserved c =
       count = omega (arith, c.push_reserved.ensures.len, c.loop-step.invariant.count);
       room = omega (arith, c.push_reserved.ensures.capacity, c.loop-step.invariant.room);
     }
+
+pub returns-clause-isolated : goal.returns-clause-isolated
+returns-clause-isolated c =
+    let is : replies_in c.loop-step.said ≡ answers c.args.self.now.state c.args.steps.now = search rules in
+    answers_isolated c.isolation_of_replies.ensures c.args.self.now.state c.args.steps.now (replies_in c.loop-step.said) is
