@@ -1,6 +1,6 @@
 -- A run, one step further.
-use Rattle.std.proofs.Common.{◌≡◌, ℕ, ◌+◌, ◌<◌, List, [], ◌∷◌, ◌++◌, append_assoc, length, get_or, take, drop, drop-cons, add-one, suc, refl, sym, ap, ◌∙◌}
-use Rattle.std.proofs.lemmas.List.{take_more}
+use Rattle.std.proofs.Common.{◌≡◌, ℕ, ◌+◌, ◌<◌, ◌≤◌, List, [], ◌∷◌, ◌++◌, append_assoc, length, get_or, take, drop, drop-cons, add-one, suc, refl, sym, ap, ◌∙◌}
+use Rattle.std.proofs.lemmas.List.{append-nil, drop_all, take_more}
 use Rattle.std.specs.List.{AllByRecursion}
 use Rattle.imap_print.specs.declared.response.Response.{Response}
 use Rattle.imap_core.specs.declared.step.Step.{Step}
@@ -31,3 +31,7 @@ pub made_on : (s0 s s' : State) (steps : List Step) (i : ℕ) (step : Step) → 
 made_on s0 s s' steps i step made lt is so_far =
     made ∙ ap (λ state. next state step) so_far ∙ sym (after_steps-push s0 (take i steps) step)
     ∙ ap (after_steps s0) (sym (take_more steps i step lt ∙ ap (λ x. take i steps ++ x ∷ []) (sym is)))
+
+-- after the last step all is told
+pub told_all : (s s0 : State) (steps : List Step) (i : ℕ) (said : List (List Response)) → length steps ≤ i → said ++ answers s (drop i steps) ≡ answers s0 steps → said ≡ answers s0 steps
+told_all s s0 steps i said le told = sym (append-nil said) ∙ ap (λ rest. said ++ answers s rest) (sym (drop_all i steps le)) ∙ told

@@ -1,11 +1,11 @@
-use Rattle.std.proofs.Common.{◌≡◌, ◌+◌, ◌++◌, map, drop, sym, ap, subst, ◌∙◌, arith, rules}
+use Rattle.std.proofs.Common.{◌≡◌, ◌+◌, ◌++◌, map, drop, sym, ap, subst, ◌∙◌, arith}
 use Rattle.std.specs.List.{AllByRecursion}
 use Rattle.imap_print.specs.Lines.{IsPrintable}
 use Rattle.std.proofs.lemmas.List.{map_push}
 use Rattle.imap_core.specs.Machine.{State, answers, next}
 use Rattle.imap_core.specs.Planned.{ArePrintable, replies_in, state_after}
 use Rattle.imap_core.proofs.Composed.{answers_isolated}
-use Rattle.imap_core.proofs.Runs.{all-push, this_step, told_on, rest_on, made_on}
+use Rattle.imap_core.proofs.Runs.{all-push, this_step, told_all, told_on, rest_on, made_on}
 use Rattle.imap_core.proofs.machine.Core.run.Goals as goal
 
 pub loop-step-preserved : goal.loop-step-preserved
@@ -28,5 +28,5 @@ loop-step-preserved c =
 
 pub returns-clause-isolated : goal.returns-clause-isolated
 returns-clause-isolated c =
-    let is : replies_in c.loop-step.said ≡ answers c.args.self.now.state c.args.steps.now = search rules in
+    let is = told_all c.loop-step.self.state c.args.self.now.state c.args.steps.now c.loop-step.step-index (replies_in c.loop-step.said) (omega (arith, c.loop-step-test.false)) c.loop-step.invariant.told in
     answers_isolated c.isolation_of_replies.ensures c.args.self.now.state c.args.steps.now (replies_in c.loop-step.said) is
