@@ -332,7 +332,7 @@ fn date_and_day(alloc: Global, date: InternalDate) -> Result<Vec<u8>, AllocError
     let mut text = Vec::new(alloc);
     date.print(&mut text)?;
     laws::dates_are_read_back(&date);
-    let day = format!(in alloc; ", {}", date.day())?;
+    let day = format!(in alloc; ", {}", date.date().day_number())?;
     text.extend_from_slice(day.as_bytes())?;
     Ok(text)
 }

@@ -21,7 +21,7 @@ few_days year month.Jan = omega arith
 few_days year month.Feb = february (is_leap_year year)
 few_days year _ = omega arith
 
-month_within : (m : Month) → (1 ≤ month_number m) × (month_number m ≤ 12)
+pub month_within : (m : Month) → (1 ≤ month_number m) × (month_number m ≤ 12)
 month_within month.Jan = (omega arith, omega arith)
 month_within _ = (omega arith, omega arith)
 

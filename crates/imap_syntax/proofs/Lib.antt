@@ -23,4 +23,5 @@ pub mod Lined
 pub mod Texts
 pub mod SyntaxTexts
 pub mod DayNumbers
+pub mod DayOrder
 pub mod ReadBack

@@ -1,12 +1,17 @@
 -- Days and moments as numbers (the proleptic Gregorian calendar, on a clock whose days have 24 hours).
 use Rattle.std.specs.Prelude.{◌≡◌, ℕ, ◌+◌, ◌*◌, false, ℤ, pos, ◌+ℤ◌, ◌*ℤ◌}
 use Rattle.jiff_core.specs.Calendar.{days_from_civil}
+use Rattle.imap_syntax.specs.declared.month.Month.{Month}
 use Rattle.imap_syntax.specs.Calendar.{month_number}
 use Rattle.imap_syntax.specs.Moments.{Day, Offset, Moment}
 
 -- the days from 1-Jan-1970 to a day, less than none before it
 abbrev pub day_number : Day → ℤ
 day_number d = days_from_civil (pos d.year) (month_number d.month) d.day
+
+-- greater for each later day, since no month has 32 days
+abbrev pub order_of : (year : ℕ) → Month → (day : ℕ) → ℕ
+order_of year month day = year * 512 + month_number month * 32 + day
 
 abbrev pub IsNumbered : ℕ → Day → Type 0
 IsNumbered number d = day_number d ≡ pos number

@@ -1,8 +1,9 @@
 //! Days and moments.
 
-ghost use Rattle.std.specs.Prelude.{◌≡◌, ◌<◌, ◌++◌, IsTrue, OnOk, MatchOption};
+ghost use Rattle.std.specs.Prelude.{◌≡◌, ◌<◌, ◌++◌, int_lt, IsTrue, OnOk, MatchOption};
 ghost use Rattle.imap_syntax.specs.Calendar.{day_exists};
 ghost use Rattle.imap_syntax.specs.Dates.{date_time_read};
+ghost use Rattle.imap_syntax.specs.DayNumbers as specs;
 ghost use Rattle.imap_syntax.specs.DayNumbers.{day_number, IsNumbered, IsMomentAt, max_day, max_moment};
 ghost use Rattle.imap_syntax.specs.WrittenDates.{day_of, offset_of, moment_of, date_time_text};
 
@@ -39,6 +40,13 @@ impl Model for Date {
     ghost invariant = { λ d. day_exists d.year d.month d.day ≡ true };
 
     ghost inverse = { λ d. record { year = d.year; month = d.month; day = d.day } };
+}
+
+/// A number that is greater for each later day. No month has 32 days.
+fn order_of(year: u16, month: Month, day: u8) -> u32
+    ensures { result ≡ specs.order_of year month day }
+{
+    u32::from(year) * 512 + u32::from(month.number()) * 32 + u32::from(day)
 }
 
 impl Date {
@@ -79,6 +87,14 @@ impl Date {
     {
         let day = civil::date(self.year as i16, self.month.number() as i8, self.day as i8);
         i64::from(day.to_plain().to_unix_epoch_day())
+    }
+
+    /// Whether the day is before the other. It takes less than the numbers of both.
+    pub fn is_before(self, other: Date) -> bool
+        ensures { result ≡ int_lt (day_number self) (day_number other) }
+    {
+        let order = order_of(self.year, self.month, self.day);
+        order < order_of(other.year, other.month, other.day)
     }
 
     /// Returns the day `number` days after 1-Jan-1970, or `None` if it is after the year 9999.
@@ -272,14 +288,6 @@ impl DateTime {
         ensures { OnOk result (out.new.items ≡ out.old.items ++ date_time_text self) }
     {
         push_date_time_text(out, &self)
-    }
-
-    /// Returns the number of the day that is written, whatever the zone: 0 for 1-Jan-1970, and less before
-    /// it.
-    pub fn day(self) -> i64
-        ensures { result ≡ day_number self.date }
-    {
-        self.date.day_number()
     }
 
     /// Returns the moment `seconds` after the beginning of 1-Jan-1970 in UTC, written at `+0000`, or `None`
