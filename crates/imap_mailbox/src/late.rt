@@ -30,8 +30,8 @@ impl LateUids {
     }
 }
 
-/// Returns the UIDs whose last own change may be above `number`. If few changes are above it, they are no more
-/// than those from the least to the greatest UID of these.
+/// Returns UIDs among which are all whose last own change is above `number`. If few changes are above it, these are
+/// the UIDs from the least to the greatest of them, else all: no clause says so, since it changes only the time.
 pub(crate) fn late_uids(changes: &[SeenChange], number: u64) -> LateUids
     requires order { AreInOrder 0 max_events (befores (map own_entry changes.now)) }
     requires few { length changes.now ≤ max_events }
