@@ -4,10 +4,11 @@ ghost use Rattle.std.specs.Prelude.{◌≡◌};
 ghost use Rattle.std.specs.Str.{str_eq_ignore_ascii_case};
 ghost use Rattle.imap_mailbox.specs.Lent.{row_shown};
 ghost use Rattle.imap_search.specs.Finds as specs;
+ghost use Rattle.imap_syntax.specs.DayNumbers.{day_number};
 
 use imap_mailbox::Row;
 use imap_query::SearchDate;
-use imap_syntax::{Atom, Flag, Keywords};
+use imap_syntax::{Atom, Date, Flag, Keywords};
 
 /// Whether the word is one of the keywords, in any ASCII case.
 fn has_keyword(word: &[u8], keywords: &[Atom]) -> bool
@@ -42,13 +43,13 @@ pub(crate) fn is_as(wanted: bool, is: bool) -> bool
     if wanted { is } else { !is }
 }
 
-/// Whether `day` stands in this relation to the day of the key. Days are numbered from 1970-01-01.
-pub(crate) fn is_dated(relation: SearchDate, day: i64, wanted: i64) -> bool
-    ensures { result ≡ specs.is_dated relation day wanted }
+/// Whether `day` stands in this relation to the day of the key.
+pub(crate) fn is_dated(relation: SearchDate, day: Date, wanted: Date) -> bool
+    ensures { result ≡ specs.is_dated relation (day_number day) (day_number wanted) }
 {
     match relation {
-        SearchDate::Before => day < wanted,
-        SearchDate::On => day == wanted,
-        SearchDate::Since => day >= wanted,
+        SearchDate::Before => day.is_before(wanted),
+        SearchDate::On => !day.is_before(wanted) && !wanted.is_before(day),
+        SearchDate::Since => !day.is_before(wanted),
     }
 }

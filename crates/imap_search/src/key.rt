@@ -118,7 +118,7 @@ fn finds_plain(
             texts.has_in_field(alloc, needles, field.as_slice(), text.as_slice())
         }
         SearchKey::Date { relation, date } => {
-            Ok(is_dated(*relation, candidate.row.date.day(), date.day_number()))
+            Ok(is_dated(*relation, candidate.row.date.date(), *date))
         }
         SearchKey::Larger(size) => Ok(*size < candidate.row.octets.as_slice().len() as u64),
         SearchKey::Smaller(size) => Ok((candidate.row.octets.as_slice().len() as u64) < *size),
