@@ -19,15 +19,15 @@ use Rattle.imap_answer.specs.Name.{answer_of_name, if_named, name_of_text}
 -- nothing is asked for
 pub fits_alone : (view : View) (untagged : List Response) (last : Response) → list_any is_unavailable (untagged ++ last ∷ []) ≡ false
     → IsFit view (record { untagged = untagged; last = last; effect = None; enables = nothing_enabled; told = [] })
-fits_alone view untagged last available = record { asks = λ _. tt; refused = λ e. (refl, refl); available = available }
+fits_alone view untagged last available = record { asks = λ _. tt; refused = λ e. (refl, refl, refl); available = available }
 
 -- what is carried out may enable capabilities
 pub fits_enabling : (view : View) (enables : EnabledCapabilities) (answer : Answer) → list_any is_refusal (lines_of answer) ≡ false → IsFit view answer → IsFit view (enabling enables answer)
 fits_enabling view enables answer done fit = record { asks = fit.asks; refused = λ e. absurd (true≢false (sym e ∙ done)); available = fit.available }
 
--- what is told by lines makes no difference
-pub fits_telling : (view : View) (uids : List ℕ) (answer : Answer) → IsFit view answer → IsFit view (telling uids answer)
-fits_telling view uids answer fit = record { asks = fit.asks; refused = fit.refused; available = fit.available }
+-- what is carried out may tell of messages
+pub fits_telling : (view : View) (uids : List ℕ) (answer : Answer) → list_any is_refusal (lines_of answer) ≡ false → IsFit view answer → IsFit view (telling uids answer)
+fits_telling view uids answer done fit = record { asks = fit.asks; refused = λ e. absurd (true≢false (sym e ∙ done)); available = fit.available }
 
 -- lines in front that refuse nothing
 pub fits_preceded : (view : View) (front : List Response) (answer : Answer) → list_any is_refusal front ≡ false → list_any is_unavailable front ≡ false → IsFit view answer → IsFit view (preceded_by front answer)

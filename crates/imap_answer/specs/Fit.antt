@@ -1,6 +1,6 @@
--- What holds of each answer to a command: its user may ask for the effect, a refusal asks for nothing,
--- and none is UNAVAILABLE (RFC 5530), which is for a host to say, when it can't save a change.
-use Rattle.std.specs.Prelude.{◌≡◌, Bool, true, false, Option, Some, None}
+-- What holds of each answer to a command: its user may ask for the effect, a refusal asks for nothing and tells of
+-- no message, and none is UNAVAILABLE (RFC 5530), which is for a host to say, when it can't save a change.
+use Rattle.std.specs.Prelude.{◌≡◌, Bool, true, false, [], Option, Some, None}
 use Rattle.std.specs.List.{list_any}
 use Rattle.imap_print.specs.declared.response.Refusal.TheVariants.{Unavailable}
 use Rattle.imap_print.specs.declared.response.Response.{Response}
@@ -34,5 +34,5 @@ pub record IsViewed (view : View) : Type 0 where
 pub record IsFit (view : View) (answer : Answer) : Type 0 where
   pub asks : IsViewed view → MayBeAsked view answer.effect
   pub refused : list_any is_refusal (lines_of answer) ≡ true
-      → (answer.effect ≡ None) × (answer.enables ≡ nothing_enabled)
+      → (answer.effect ≡ None) × (answer.enables ≡ nothing_enabled) × (answer.told ≡ [])
   pub available : list_any is_unavailable (lines_of answer) ≡ false

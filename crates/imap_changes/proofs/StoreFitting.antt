@@ -166,7 +166,7 @@ module _ (view : View) (enabled : EnabledCapabilities) (tag : List ℕ) (argumen
       let answer = carried_out (store_lines mailbox messages) tag (modified_code skipped) effect in
       let last = response.Done tag (modified_code skipped) ∷ [] in
       let passes = lines_pass is_refusal (λ number items. refl) spec.silent (tells_mod_seq enabled spec) mailbox.highest messages last in
-      fits_enabling view (enabled_by spec) (telling uids answer) passes (fits_telling view uids answer (record {
+      fits_enabling view (enabled_by spec) (telling uids answer) passes (fits_telling view uids answer passes (record {
         asks = may;
         refused = λ e. absurd (true≢false (sym e ∙ passes));
         available = lines_pass is_unavailable (λ number items. refl) spec.silent (tells_mod_seq enabled spec) mailbox.highest messages last;

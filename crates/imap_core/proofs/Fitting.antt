@@ -132,7 +132,7 @@ module _ (view : View) (own : Option Own) (number : ℕ) (what : Act) where
 
   -- an answer, with lines before its last one and what its session notes of it
   noted_fits : (answer : Answer) (lines : List Response) (told : Option Telling) → list_any is_refusal lines ≡ false → list_any is_unavailable lines ≡ false → IsFit view answer
-      → (answer.effect ≡ None → answer.enables ≡ nothing_enabled → IsTied view (lines_of (followed_by lines answer)) told (active_of own number))
+      → (answer.effect ≡ None → answer.enables ≡ nothing_enabled → answer.told ≡ [] → IsTied view (lines_of (followed_by lines answer)) told (active_of own number))
       → Fits view own number what (answered (followed_by lines answer) (noting answer.enables told))
   noted_fits answer lines told refuses unavailable fit tied =
       let more = fits_followed view lines answer refuses unavailable fit in
@@ -143,7 +143,7 @@ module _ (view : View) (own : Option Own) (number : ℕ) (what : Act) where
           session = inl (record {
             told = told;
             is = ap (λ enables. noting enables told) (more.refused e).1;
-            lines = tied (more.refused e).0 (more.refused e).1;
+            lines = tied (more.refused e).0 (more.refused e).1 (more.refused e).2;
           });
           effect = (more.refused e).0;
         };
@@ -163,10 +163,10 @@ module _ (view : View) (own : Option Own) (number : ℕ) (what : Act) where
   highest_fits answer fit (Some mailbox) = fits_preceded view (response.HighestModSeq mailbox.highest ∷ []) answer refl refl fit
 
   -- notices after a refusal are those of the view before
-  notices_tied : (active : SessionState) (expunges : Bool) (answer : Answer) → answer.effect ≡ None → answer.enables ≡ nothing_enabled
+  notices_tied : (active : SessionState) (expunges : Bool) (answer : Answer) → answer.effect ≡ None → answer.enables ≡ nothing_enabled → answer.told ≡ []
       → IsTied view (lines_of (followed_by (notice_lines (options_after expunges active answer) answer.told active.selected (mailbox_after view active answer)) answer))
       (notice_telling (options_after expunges active answer) active.selected (mailbox_after view active answer)) (Some active)
-  notices_tied active expunges answer effect enables = by (notice_telling o active.selected mailbox) refl (is_bad answer.last) refl
+  notices_tied active expunges answer effect enables untold = by (notice_telling o active.selected mailbox) refl (is_bad answer.last) refl
     where
       o : NoticeOptions
       o = options_after expunges active answer
@@ -188,10 +188,9 @@ module _ (view : View) (own : Option Own) (number : ℕ) (what : Act) where
       by (Some told) is true last = absurd (cc (sym is ∙ ap (notice_telling o active.selected) (left_by true last)))
       by (Some told) is false last = record {
         expunges = expunges;
-        uids = answer.told;
         before = answer.untagged;
         last = answer.last;
-        lines = λ i. (answer.untagged ++ notice_lines (same_options i) answer.told active.selected (left_by false last i)) ++ answer.last ∷ [];
+        lines = λ i. (answer.untagged ++ notice_lines (same_options i) (untold i) active.selected (left_by false last i)) ++ answer.last ∷ [];
         told = sym (λ i. notice_telling (same_options i) active.selected (left_by false last i)) ∙ is;
         accepted = last;
       }
@@ -206,7 +205,7 @@ module _ (view : View) (own : Option Own) (number : ℕ) (what : Act) where
       (no_line_refuses is_refusal (λ n. refl) (λ e uids. refl) (λ n. refl) (λ n items. refl) o answer.told active.selected mailbox)
       (no_line_refuses is_unavailable (λ n. refl) (λ e uids. refl) (λ n. refl) (λ n items. refl) o answer.told active.selected mailbox)
       fit
-      (λ effect enables. subst (IsTied view (lines_of (followed_by lines answer)) told) (sym there) (notices_tied active expunges answer effect enables))
+      (λ effect enables untold. subst (IsTied view (lines_of (followed_by lines answer)) told) (sym there) (notices_tied active expunges answer effect enables untold))
 
   answer_fits : (active : SessionState) → active_of own number ≡ Some active → (expunges : Bool) (answer : Answer) → IsFit view answer → Fits view own number what (outcome_of_answer view active expunges answer)
   answer_fits active there expunges answer fit = by (newly_enables_condstore active answer)

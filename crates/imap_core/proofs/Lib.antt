@@ -20,6 +20,7 @@ pub mod Silent
 pub mod Starting
 pub mod StartsAlike
 pub mod StepLaws
+pub mod Quotas
 pub mod Steps
 pub mod StepsAlike
 pub mod Unmarked

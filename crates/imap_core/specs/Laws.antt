@@ -1,6 +1,6 @@
 -- What holds of every step.
-use Rattle.std.specs.Prelude.{◌≡◌, ◌⊎◌, ℕ, Bool, true, false, not, ◌==◌, ◌&&◌, List, [], ◌∷◌, ◌++◌}
-use Rattle.std.specs.Prelude.{Option, Some, None, bytes_eq, is_some, map as map_list}
+use Rattle.std.specs.Prelude.{◌≡◌, ◌⊎◌, ℕ, ◌-◌, ◌≤◌, Bool, true, false, not, ◌==◌, ◌&&◌, List, [], ◌∷◌, ◌++◌}
+use Rattle.std.specs.Prelude.{Option, Some, None, bytes_eq, is_some, length, map as map_list}
 use Rattle.std.specs.FinMap as map
 use Rattle.std.specs.List.{list_any}
 use Rattle.imap_answer.specs.Fit.{is_refusal, is_unavailable}
@@ -22,6 +22,8 @@ use Rattle.imap_core.specs.declared.step.Act.TheVariants as act
 use Rattle.imap_core.specs.declared.step.Step.{Step}
 use Rattle.imap_view.specs.After.{DifferInHidden, IsMade}
 use Rattle.imap_world.specs.declared.effect.Effect.{Effect}
+use Rattle.imap_world.specs.declared.effect.Effect.TheVariants as effect
+use Rattle.imap_world.specs.declared.named_batch.NamedBatch.{NamedBatch}
 use Rattle.imap_world.specs.Kept.{AreKept}
 use Rattle.imap_world.specs.World.{World}
 use Rattle.imap_print.specs.declared.response.Response.{Response}
@@ -63,6 +65,23 @@ abbrev pub EffectsAreMade : Type 0
 EffectsAreMade = (state : State) (step : Step)
     → AreKept state.world.mailboxes → IsMadeIfAsked (outcome state step).effect state.world
 
+-- the messages that a batch adds fit in beside those that its mailbox has
+abbrev pub IsWithinQuota : State → NamedBatch → Type 0
+IsWithinQuota state part = (mailbox : Mailbox) → map.get state.world.mailboxes part.name ≡ Some mailbox
+    → length part.batch.added ≤ state.site.limits.max_messages - length mailbox.messages.messages
+
+abbrev pub IsWithinQuotas : State → Option Effect → Type 0
+IsWithinQuotas state (Some (effect.Messages part None)) = IsWithinQuota state part
+IsWithinQuotas state (Some (effect.Messages part (Some other))) =
+    IsWithinQuota state part × IsWithinQuota state other
+IsWithinQuotas state asked = Unit {0}
+
+-- No step adds messages to a mailbox that would then have more than `max_messages`: APPEND, COPY and MOVE are
+-- refused that would.
+abbrev pub QuotasAreKept : Type 0
+QuotasAreKept = (state : State) (step : Step)
+    → AreKept state.world.mailboxes → IsWithinQuotas state (outcome state step).effect
+
 -- SELECT or EXAMINE
 abbrev pub is_select : Command → Bool
 is_select (command.Select mailbox parameters) = true
@@ -86,14 +105,13 @@ unselected state who = record {
 }
 
 -- What a session is told of its mailbox is what notices in the replies tell. They stand before the last line, which
--- isn't BAD, and after lines of the command, by which messages with the UIDs `uids` were told.
+-- isn't BAD, and tell of every message that changed: the refused command told of none itself.
 pub record IsToldInLines (view : View) (own : SessionState) (replies : List Response) (t : Telling) : Type 0 where
   pub expunges : Bool
-  pub uids : List ℕ
   pub before : List Response
   pub last : Response
   pub lines : let o = notice_options expunges own.enabled in
-      replies ≡ (before ++ notice_lines o uids own.selected (mailbox_left view own)) ++ last ∷ []
+      replies ≡ (before ++ notice_lines o [] own.selected (mailbox_left view own)) ++ last ∷ []
   pub told : let o = notice_options expunges own.enabled in
       notice_telling o own.selected (mailbox_left view own) ≡ Some t
   pub accepted : is_bad last ≡ false

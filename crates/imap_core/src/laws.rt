@@ -4,7 +4,7 @@ ghost use Rattle.imap_core.specs.Histories.{RunsGrowMessages, RunsKeepValidities
 ghost use Rattle.imap_core.specs.InStep.{AreInStep, SessionsStayInStep};
 ghost use Rattle.imap_core.specs.Laws.{EffectsAreMade, HiddenIsAlike, HiddenSubtreesAreAbsent};
 ghost use Rattle.imap_core.specs.Laws.{MessagesAreKnown, NeverUnavailable, OtherSessionsStay, OtherUsersStay};
-ghost use Rattle.imap_core.specs.Laws.{QuietPollsChangeNothing, RefusalsChangeNothing, StepsAreAlike};
+ghost use Rattle.imap_core.specs.Laws.{QuietPollsChangeNothing, QuotasAreKept, RefusalsChangeNothing, StepsAreAlike};
 ghost use Rattle.imap_core.specs.OwnSteps.{GivenBackTellsNothing, IsolationAtOwnSteps, UnseenStepsAreSilent};
 ghost use Rattle.imap_core.specs.Starting.{StartsAreAlike, StartsWithInboxes};
 ghost use Rattle.imap_core.specs.Trace.{EqualViewsAreSame, Isolation, IsolationOfReplies};
@@ -112,6 +112,12 @@ pub fn other_sessions_stay()
 /// its type keeps them: no reply says OK to an effect that is dropped.
 pub fn effects_are_made()
     ensures { EffectsAreMade }
+{}
+
+/// No step adds messages to a mailbox that would then have more than `max_messages`: APPEND, COPY and MOVE are
+/// refused that would.
+pub fn quotas_are_kept()
+    ensures { QuotasAreKept }
 {}
 
 /// In every state of the machine, what the type of a mailbox keeps holds of the messages of each. So the

@@ -109,7 +109,7 @@ module _ (view : View) (tag : List ℕ) (enabled : EnabledCapabilities) (argumen
       let wanted = wanted_by enabled arguments in
       let answer = carried_out (fetched_lines enabled arguments sets mailbox messages) tag None (read_effect sets view.user s.name messages mailbox.rows) in
       let carried = lines_pass is_refusal (λ number items. refl) wanted sets mailbox.rows mailbox.highest mailbox.own messages (done_line tag ∷ []) in
-      fits_telling view (fetched_uids enabled arguments sets mailbox messages) (enabling (enabled_by arguments) answer)
+      fits_telling view (fetched_uids enabled arguments sets mailbox messages) (enabling (enabled_by arguments) answer) carried
       (fits_enabling view (enabled_by arguments) answer carried (record {
         asks = λ viewed. may_read view s.name messages mailbox viewed sets is;
         refused = λ e. absurd (true≢false (sym e ∙ carried));

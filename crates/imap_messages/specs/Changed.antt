@@ -47,7 +47,8 @@ NoneRefuses by_uid rows known start end = (index : ℕ) (d : KnownMessage) → s
 -- those from the index `start` on and before `end` haven't changed after the number, or are gone
 abbrev pub AreLeft : (since : ℕ) (rows : List Row) → List KnownMessage → (start end : ℕ) → Type 0
 AreLeft since rows known start end = (index : ℕ) (d : KnownMessage) → start ≤ index → index < end
-    → index < length known → is_changed (Some since) (row_with (slice_index_or known index d).uid rows) ≡ false
+    → index < length known
+    → is_changed (Some since) (row_with (slice_index_or known index d).uid rows) ≡ false
 
 -- they are skipped, if that is allowed
 abbrev pub AreSkipped : (skips : Bool) (since : Option ℕ) (rows : List Row) → List KnownMessage

@@ -9,7 +9,8 @@ use imap_mailbox::Rows;
 use imap_session::KnownList;
 
 /// Whether known messages from the index `start` on and before `end` may be skipped that haven't changed after
-/// `since`. One that is gone may refuse the command if messages are named by their numbers.
+/// `since`. One that is gone may refuse the command if messages are named by their numbers. Where the answer is no,
+/// each is looked at, which changes nothing but the time.
 pub(crate) fn may_skip(
     by_uid: bool,
     since: Option<u64>,
@@ -25,8 +26,8 @@ pub(crate) fn may_skip(
     since.is_some() && (by_uid || are_there(known, start, end, rows))
 }
 
-/// Returns the index of the first known message, from `index` on, that is to be read. If `skips`, those that haven't
-/// changed after `since` aren't.
+/// Returns an index from `index` on, before which no known message is to be read: the first one that changed after
+/// `since`, if `skips`.
 pub(crate) fn next_to_read(
     skips: bool,
     since: Option<u64>,
@@ -44,7 +45,8 @@ pub(crate) fn next_to_read(
     }
 }
 
-/// Whether all known messages from the index `start` on and before `end` are there, one row after another.
+/// Whether all known messages from the index `start` on and before `end` were found, one row after another. If so,
+/// they are there.
 fn are_there(known: &KnownList, start: usize, end: usize, rows: &Rows<'_>) -> bool
     requires order { start ≤ end }
     requires within { end ≤ length known.now.list }

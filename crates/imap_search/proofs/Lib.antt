@@ -7,3 +7,4 @@ pub mod Looked
 pub mod Spanned
 pub mod Reaching
 pub mod Readied
+pub mod Days
