@@ -7,7 +7,6 @@ use Rattle.imap_answer.specs.Fit.{is_refusal, is_unavailable}
 use Rattle.imap_answer.specs.Answer.{nothing_enabled}
 use Rattle.imap_mailbox.specs.Brought.{told_of}
 use Rattle.imap_names.specs.Name.{Name}
-use Rattle.imap_names.specs.Order.{is_within}
 use Rattle.imap_session.specs.State.{Selection, SessionState}
 use Rattle.imap_session.specs.Telling.{Telling}
 use Rattle.imap_core.specs.InStep.{session_at}
@@ -20,7 +19,8 @@ use Rattle.imap_core.specs.declared.sessions.SessionEffect.TheVariants as sessio
 use Rattle.imap_core.specs.declared.step.Act.{Act}
 use Rattle.imap_core.specs.declared.step.Act.TheVariants as act
 use Rattle.imap_core.specs.declared.step.Step.{Step}
-use Rattle.imap_view.specs.After.{DifferInHidden, IsMade}
+use Rattle.imap_view.specs.After as after
+use Rattle.imap_view.specs.After.{DifferInHidden, IsHiddenTree, IsMade}
 use Rattle.imap_world.specs.declared.effect.Effect.{Effect}
 use Rattle.imap_world.specs.declared.effect.Effect.TheVariants as effect
 use Rattle.imap_world.specs.declared.named_batch.NamedBatch.{NamedBatch}
@@ -28,7 +28,7 @@ use Rattle.imap_world.specs.Kept.{AreKept}
 use Rattle.imap_world.specs.World.{World}
 use Rattle.imap_print.specs.declared.response.Response.{Response}
 use Rattle.imap_view.specs.declared.readable.Readable.{Readable}
-use Rattle.imap_view.specs.View.{View, may_know_name_in}
+use Rattle.imap_view.specs.View.{View}
 use Rattle.imap_core.specs.Machine.{State, accounts_with, answer, next, outcome, own_in, view_in}
 use Rattle.imap_core.specs.Notices.{is_bad, mailbox_left, may_tell_expunges, notice_lines, notice_options}
 use Rattle.imap_core.specs.Notices.{notice_telling}
@@ -201,21 +201,13 @@ HiddenIsAlike = (user : List ℕ) (s t : State) → s.site ≡ t.site → sessio
 abbrev pub without_tree : State → (top : Name) → State
 without_tree state top = record {
   site = state.site;
-  world = record state.world {
-    mailboxes = map.retain_keys state.world.mailboxes (λ name. not (is_within top name));
-  };
+  world = after.without_tree state.world top;
   accounts = state.accounts;
 }
-
--- the user sees no mailbox of the name or below it, and may not know that their names are in use
-abbrev pub IsHiddenTree : (user : List ℕ) → State → (top : Name) → Type 0
-IsHiddenTree user state top = (name : Name)
-    → is_within top name ≡ true → map.contains_key state.world.mailboxes name ≡ true
-    → (map.get (view_in state user).seen name ≡ None)
-    × (may_know_name_in (view_in state user) name ≡ false)
 
 -- A mailbox that is taken away with all below it leaves no trace to a user who sees none of them and may not know of
 -- their names: a hidden mailbox answers as an absent one.
 abbrev pub HiddenSubtreesAreAbsent : Type 0
 HiddenSubtreesAreAbsent = (user : List ℕ) (state : State) (top : Name)
-    → AreKept state.world.mailboxes → IsHiddenTree user state top → Alike user state (without_tree state top)
+    → AreKept state.world.mailboxes → IsHiddenTree state.site user state.world top
+    → Alike user state (without_tree state top)

@@ -7,6 +7,7 @@ pub mod Changing
 pub mod Climbing
 pub mod Creating
 pub mod Deleting
+pub mod HiddenTrees
 pub mod Inboxes
 pub mod Listings
 pub mod Moving

@@ -1,7 +1,8 @@
 -- What the view of a user becomes when the world changes.
-use Rattle.std.specs.Prelude.{◌≡◌, ◌≢◌, ◌⊎◌, ℕ, true, false, List, [], ◌∷◌, None, Ok}
+use Rattle.std.specs.Prelude.{◌≡◌, ◌≢◌, ◌⊎◌, ℕ, true, false, not, List, [], ◌∷◌, None, Ok}
 use Rattle.std.specs.FinMap as map
 use Rattle.imap_names.specs.Name.{Name}
+use Rattle.imap_names.specs.Order.{is_within}
 use Rattle.imap_names.specs.UserName.{is_user_name}
 use Rattle.imap_world.specs.declared.site.Site.{Site}
 use Rattle.imap_world.specs.declared.change.Write.{Write}
@@ -97,3 +98,21 @@ abbrev pub HiddenIsAbsent : Type 0
 HiddenIsAbsent = (site : Site) (user : List ℕ) (one other : World)
     → DifferInHidden site user one other
     → view_of site user one ≡ view_of site user other
+
+-- without the mailbox of a name and all below it
+abbrev pub without_tree : World → (top : Name) → World
+without_tree world top =
+    record world { mailboxes = map.retain_keys world.mailboxes (λ name. not (is_within top name)) }
+
+-- the user sees no mailbox of the name or below it, and may not know that their names are in use
+abbrev pub IsHiddenTree : (site : Site) (user : List ℕ) → World → (top : Name) → Type 0
+IsHiddenTree site user world top = (name : Name)
+    → is_within top name ≡ true → map.contains_key world.mailboxes name ≡ true
+    → (map.get (view_of site user world).seen name ≡ None)
+    × (may_know_name_in (view_of site user world) name ≡ false)
+
+-- A mailbox and all below it can go of which the user sees none and may not know the names, and the view stays: a
+-- hidden mailbox is as one that isn't there.
+abbrev pub HiddenSubtreesAreAbsent : Type 0
+HiddenSubtreesAreAbsent = (site : Site) (user : List ℕ) (world : World) (top : Name)
+    → IsHiddenTree site user world top → view_of site user world ≡ view_of site user (without_tree world top)

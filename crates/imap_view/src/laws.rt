@@ -1,6 +1,6 @@
 //! What holds of every view.
 
-ghost use Rattle.imap_view.specs.After.{HiddenIsAbsent, OthersInboxesAreHidden};
+ghost use Rattle.imap_view.specs.After.{HiddenIsAbsent, HiddenSubtreesAreAbsent, OthersInboxesAreHidden};
 ghost use Rattle.imap_view.specs.After.{OthersSubscriptionsAreHidden, OwnEffectsAreMade, OwnEffectsAreSeen};
 ghost use Rattle.imap_view.specs.MessagesAfter.{AnothersSeenIsHidden, ChangingMessagesIsSeen};
 ghost use Rattle.imap_view.specs.RenameAfter.{RenamingIsSeen};
@@ -33,6 +33,14 @@ pub fn others_inboxes_are_hidden()
 pub fn hidden_is_absent()
     ensures { HiddenIsAbsent }
 {}
+
+/// A mailbox that the user doesn't see is as one that isn't there, with all below it, if the user may not know of
+/// their names.
+pub fn hidden_subtrees_are_absent()
+    ensures { HiddenSubtreesAreAbsent }
+{
+    hidden_is_absent();
+}
 
 /// Whether the user may delete a mailbox, and the view after it, are found from the view before alone.
 pub fn deleting_is_seen()
