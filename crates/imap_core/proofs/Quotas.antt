@@ -1,5 +1,5 @@
 -- No step adds more messages than its mailbox may still take.
-use Rattle.std.proofs.Common.{◌≡◌, ℕ, ◌-◌, ◌≤◌, Bool, true, false, cond, List, length, Option, Some, None, refl, sym, ap, subst, ◌∙◌, arith}
+use Rattle.std.proofs.Common.{◌≡◌, ℕ, ◌-◌, ◌≤◌, Bool, true, false, cond, ◌||◌, List, length, Option, Some, None, refl, sym, ap, subst, ◌∙◌, arith}
 use Rattle.std.specs.Prelude.{option_and_then}
 use Rattle.std.specs.FinMap as map
 use Rattle.imap_names.specs.Name.{Name}
@@ -10,7 +10,7 @@ use Rattle.imap_batch.specs.Seen.{HasRoomToAdd}
 use Rattle.imap_batch.specs.declared.batch.Batch.{Batch}
 use Rattle.imap_mailbox.specs.History.{room_by}
 use Rattle.imap_mailbox.specs.Shown.{Rights, shown_to}
-use Rattle.imap_mailbox.specs.Summary.{Summary}
+use Rattle.imap_mailbox.specs.Summary.{Summary, room_of}
 use Rattle.imap_rights.specs.Effective.{effective}
 use Rattle.imap_rights.specs.Rights.{has_any, visible_rights}
 use Rattle.imap_world.specs.declared.effect.Effect.{Effect}
@@ -39,9 +39,9 @@ none_fits count left h = omega arith
 
 shown_room : (limit : ℕ) (user : List ℕ) (r : Rights) (s : Summary) (count : ℕ)
     → HasRoomToAdd count (shown_to limit user r s).room → count ≤ limit - length s.messages
-shown_room limit user (record { read = read; insert = insert; admin = admin }) s count h = by read insert admin h
+shown_room limit user r s count = by r.read r.insert r.admin
   where
-    by : (read insert admin : Bool) → HasRoomToAdd count (shown_to limit user (record { read = read; insert = insert; admin = admin }) s).room → count ≤ limit - length s.messages
+    by : (read insert admin : Bool) → HasRoomToAdd count (cond (read || (insert || admin)) (Some (room_of limit s)) None) → count ≤ limit - length s.messages
     by true insert admin h = left_of_messages limit _ _ _ count h
     by false true admin h = left_of_messages limit _ _ _ count h
     by false false true h = left_of_messages limit _ _ _ count h

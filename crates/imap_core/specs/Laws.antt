@@ -25,6 +25,7 @@ use Rattle.imap_world.specs.declared.effect.Effect.{Effect}
 use Rattle.imap_world.specs.declared.effect.Effect.TheVariants as effect
 use Rattle.imap_world.specs.declared.named_batch.NamedBatch.{NamedBatch}
 use Rattle.imap_world.specs.Kept.{AreKept}
+use Rattle.imap_world.specs.Mailbox.{Mailbox}
 use Rattle.imap_world.specs.World.{World}
 use Rattle.imap_print.specs.declared.response.Response.{Response}
 use Rattle.imap_view.specs.declared.readable.Readable.{Readable}

@@ -12,7 +12,7 @@ const MAX_OCTETS: u64 = 1_073_741_824;
 
 /// The limits if none are given.
 pub const DEFAULT_LIMITS: Limits = Limits {
-    max_messages: 10_000,
+    max_messages: 100_000,
     max_octets: 33_554_432,
 };
 

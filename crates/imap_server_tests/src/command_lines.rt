@@ -64,7 +64,7 @@ fn reads_command_lines(rt: HostRuntime) {
             &[
                 "imapd", "serve", "--db", "mail.db", "--admin", "root", "--listen", "ann=1143",
             ],
-            b"mail.db root 10000 33554432 ann=1143",
+            b"mail.db root 100000 33554432 ann=1143",
         ),
         (
             &[
@@ -97,7 +97,7 @@ fn reads_command_lines(rt: HostRuntime) {
                 "--member=x-y=root",
                 "--member=\u{e9}=root",
             ],
-            b"x root 10000 33554432 ann=1143 a=b=1144",
+            b"x root 100000 33554432 ann=1143 a=b=1144",
         ),
     ];
     for &(texts, wanted) in ROWS {
