@@ -1,5 +1,6 @@
 -- A hidden mailbox that is taken away with all below it.
-use Rattle.std.proofs.Common.{◌≡◌, ℕ, Bool, true, false, cond, not, List, Option, Some, None, refl, sym, ◌∙◌}
+use Rattle.std.proofs.Common.{◌≡◌, Bool, true, false, cond, not, Option, Some, None, refl, sym, ◌∙◌}
+use Rattle.std.specs.FinMap as map
 use Rattle.imap_names.specs.Name.{Name}
 use Rattle.imap_names.specs.Order.{is_within}
 use Rattle.imap_view.proofs.HiddenTrees.{differs, get_left}
@@ -7,7 +8,6 @@ use Rattle.imap_world.specs.Kept.{AreKept}
 use Rattle.imap_world.specs.Mailbox.{Mailbox}
 use Rattle.imap_core.specs.Laws.{HiddenIsAlike, HiddenSubtreesAreAbsent, without_tree}
 use Rattle.imap_core.specs.Machine.{State}
-use Rattle.std.specs.FinMap as map
 
 kept_left : (state : State) (top : Name) → AreKept state.world.mailboxes → AreKept (without_tree state top).world.mailboxes
 kept_left state top kept = record {

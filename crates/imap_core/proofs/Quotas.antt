@@ -1,5 +1,5 @@
 -- No step adds more messages than its mailbox may still take.
-use Rattle.std.proofs.Common.{◌≡◌, ℕ, ◌-◌, ◌≤◌, Bool, true, false, cond, ◌||◌, List, length, Option, Some, None, refl, sym, ap, subst, ◌∙◌, arith}
+use Rattle.std.proofs.Common.{◌≡◌, ℕ, ◌-◌, ◌≤◌, Bool, true, false, cond, ◌||◌, List, length, Option, Some, None, sym, ap, subst, ◌∙◌, arith}
 use Rattle.std.specs.Prelude.{option_and_then}
 use Rattle.std.specs.FinMap as map
 use Rattle.imap_names.specs.Name.{Name}
@@ -17,16 +17,14 @@ use Rattle.imap_world.specs.declared.effect.Effect.{Effect}
 use Rattle.imap_world.specs.declared.effect.Effect.TheVariants as effect
 use Rattle.imap_world.specs.declared.named_batch.NamedBatch.{NamedBatch}
 use Rattle.imap_world.specs.declared.site.Site.{Site}
-use Rattle.imap_world.specs.Kept.{AreKept}
 use Rattle.imap_world.specs.Mailbox.{Mailbox}
 use Rattle.imap_world.specs.World.{World}
-use Rattle.imap_view.specs.After.{MayAsk}
 use Rattle.imap_view.specs.MessagesAfter.{IsPossibleAt, MayAskOf}
 use Rattle.imap_view.specs.Seen.{is_root, owner_of, rights_shown, seen_at, seen_by_rights}
 use Rattle.imap_view.specs.View.{seen_in, view_of}
 use Rattle.imap_answer.proofs.Alike.{viewed}
 use Rattle.imap_answer.specs.Fit.{MayBeAsked}
-use Rattle.imap_core.specs.Laws.{IsWithinQuota, IsWithinQuotas, QuotasAreKept}
+use Rattle.imap_core.specs.Laws.{IsWithinQuotas, QuotasAreKept}
 use Rattle.imap_core.specs.Machine.{State, outcome, own_in, view_in}
 use Rattle.imap_core.proofs.Fitting.{outcome_fits}
 
