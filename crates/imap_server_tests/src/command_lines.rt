@@ -11,7 +11,7 @@ use std::alloc::{AllocError, Global};
 use std::io::ErrorKind;
 use std::process::{Abort, ExitCode};
 
-fn words(alloc: Global, texts: &[&str]) -> Result<Vec<String>, AllocError> {
+pub(crate) fn words(alloc: Global, texts: &[&str]) -> Result<Vec<String>, AllocError> {
     let mut words = Vec::new(alloc);
     for text in texts {
         words.push(String::from_str(alloc, text)?)?;
@@ -39,15 +39,22 @@ fn shown_service(alloc: Global, database: &str, service: &Service) -> Result<Vec
         text.push_str(" connections")?;
     }
     for port in &service.ports {
-        let shown = format!(in alloc; " {}={}", port.user.as_str(), port.number)?;
+        let shown = format!(in alloc; " {}={}", port.user.as_str(), port.address)?;
         text.push_str(shown.as_str())?;
     }
     Ok(text.into_bytes())
 }
 
-/// What is asked for, or that nothing is.
 fn shown(alloc: Global, texts: &[&str]) -> Result<Vec<u8>, AllocError> {
-    match task(alloc, texts) {
+    shown_task(alloc, task(alloc, texts))
+}
+
+/// What is asked for, or that nothing is.
+pub(crate) fn shown_task(
+    alloc: Global,
+    task: Result<Task, CommandLineError>,
+) -> Result<Vec<u8>, AllocError> {
+    match task {
         Ok(Task::Script) => Vec::from_slice(alloc, b"script"),
         Ok(Task::Version) => Vec::from_slice(alloc, b"version"),
         Ok(Task::Serve { database, service }) => shown_service(alloc, database.as_str(), &service),
@@ -98,6 +105,18 @@ fn reads_command_lines(rt: HostRuntime) {
                 "--member=\u{e9}=root",
             ],
             b"x root 100000 33554432 ann=1143 a=b=1144",
+        ),
+        (
+            &[
+                "imapd",
+                "serve",
+                "--db=x",
+                "--admin=root",
+                "--listen=ann=/run/ann=1",
+                "--listen=a=b=./c",
+                "--listen=bob=1143",
+            ],
+            b"x root 10000 33554432 ann=/run/ann=1 a=b=./c bob=1143",
         ),
     ];
     for &(texts, wanted) in ROWS {
@@ -168,7 +187,7 @@ fn refuses_command_lines(rt: HostRuntime) {
 /// Options, of which each is refused beside `--admin root --listen ann=1143`.
 #[test]
 fn refuses_options(rt: HostRuntime) {
-    const ROWS: [&str; 21] = [
+    const ROWS: [&str; 24] = [
         "--log=all",
         "--log=",
         "--listen=bob",
@@ -178,6 +197,9 @@ fn refuses_options(rt: HostRuntime) {
         "--listen=bob=x",
         "--listen==1144",
         "--listen=anyone=1144",
+        "--listen=/x",
+        "--listen==/x",
+        "--listen=bob=/x\0",
         "--max-messages=0",
         "--max-messages=1000001",
         "--max-octets=0",
@@ -261,10 +283,14 @@ fn said(alloc: Global, texts: &[&str]) -> Result<String, AllocError> {
 #[test]
 fn says_what_is_wrong(rt: HostRuntime) {
     const SERVE: [&str; 4] = ["imapd", "serve", "--db=x", "--admin=root"];
-    const ROWS: [(&str, &str); 5] = [
+    const ROWS: [(&str, &str); 6] = [
         (
             "--listen=ann=0",
             "imapd: bad command line\nimapd: --listen ann=0: NAME=PORT is wanted, PORT from 1 to 65535\n",
+        ),
+        (
+            "--listen=/x",
+            "imapd: bad command line\nimapd: --listen /x: NAME=PATH is wanted, PATH of at most 107 octets\n",
         ),
         (
             "--listen=-a=1",

@@ -1,7 +1,9 @@
 //! Reads that bring nothing, and wakes.
 
 use crate::owned::both;
-use imap_service::{IDLE_TICKS, IdleTicks, IdleWakers, TICKS_PER_SECOND, WakeableStream};
+use imap_service::{
+    Connection, IDLE_TICKS, IdleTicks, IdleWakers, TICKS_PER_SECOND, WakeableStream,
+};
 use std::alloc::Global;
 use std::io::{self, ErrorKind, Read, Write};
 use std::net::{Net, TcpListener, TcpStream};
@@ -125,7 +127,7 @@ fn waited<R: Net<Listener = TcpListener, Stream = TcpStream> + Wait + Clock + Al
         return Err(io::Error::from(ErrorKind::InvalidData));
     };
     let (input, client) = connection(rt)?;
-    let (input, mut client) = both(shared(rt.alloc(), input), Ok(client))?;
+    let (input, mut client) = both(shared(rt.alloc(), Connection::from(input)), Ok(client))?;
     match WakeableStream::new(rt, rt.alloc(), wakers, waker, input) {
         Ok(mut input) => times_of(rt, wakers, &mut input, &mut client),
         Err(error) => Err(error),

@@ -12,6 +12,8 @@ mod broken_connections;
 #[cfg(test)]
 mod command_lines;
 #[cfg(test)]
+mod config_files;
+#[cfg(test)]
 mod connection;
 #[cfg(test)]
 mod doors;
@@ -41,6 +43,8 @@ mod settling;
 mod shut_gates;
 #[cfg(test)]
 mod side_by_side;
+#[cfg(test)]
+mod socket_files;
 #[cfg(test)]
 mod sockets;
 #[cfg(test)]

@@ -8,8 +8,8 @@ use imap_host::{Door, Host, PARTS, Seat};
 use imap_keeper::{Keeper, ListKeeper};
 use imap_names::UserName;
 use imap_service::{
-    ClientDoor, IdleWakers, LogLevel, Port, PortDoor, Reception, Receptionist, Report, SEATS,
-    listen_at, posts,
+    Address, ClientDoor, Connection, IdleWakers, Listener, LogLevel, Port, PortDoor, Reception,
+    Receptionist, Report, SEATS, listen_at, posts,
 };
 use std::alloc::{AllocError, Global};
 use std::io::{self, Read, Write};
@@ -44,7 +44,7 @@ fn named(alloc: Global, text: &str) -> io::Result<UserName> {
     Ok(user(alloc, text)?)
 }
 
-fn reception(alloc: Global, listener: TcpListener) -> io::Result<Reception> {
+fn reception(alloc: Global, listener: Listener) -> io::Result<Reception> {
     Ok(Reception::new(alloc, listener)?)
 }
 
@@ -101,7 +101,7 @@ fn admit_all<R: Net<Listener = TcpListener, Stream = TcpStream> + Wait + Eprint 
     let (user, streams) = both(named(rt.alloc(), "ann"), Ok(streams))?;
     let report = Report::new(rt, LogLevel::Off);
     for stream in streams {
-        reception.admit(rt, &user, &report, stream);
+        reception.admit(rt, &user, &report, Connection::from(stream));
     }
     Ok(())
 }
@@ -112,7 +112,8 @@ fn last_of_seventeen<
 >(rt: &R) -> io::Result<Vec<u8>> {
     let listener = listener(rt)?;
     let connected = connections(rt, &listener, SEATS + 1);
-    let (reception, (clients, streams)) = both(reception(rt.alloc(), listener), connected)?;
+    let received = reception(rt.alloc(), Listener::from(listener));
+    let (reception, (clients, streams)) = both(received, connected)?;
     let admitted = admit_all(rt, &reception, streams);
     drop(reception);
     let (_, clients) = both(admitted, Ok(clients))?;
@@ -136,25 +137,25 @@ fn a_seventeenth_client_is_refused(rt: HostRuntime) {
 }
 
 /// What is done with the connection of one client.
-trait Deed {
+pub(crate) trait Deed {
     /// Whether it came out as it should.
-    fn is_done<I: Read, O: Write>(
+    fn is_done<C: Read + Write, I: Read, O: Write>(
         &self,
         alloc: Global,
-        client: &mut TcpStream,
+        client: &mut C,
         input: &mut I,
         output: &mut O,
     ) -> io::Result<bool>;
 }
 
 /// A web page's request is told apart.
-struct Web;
+pub(crate) struct Web;
 
 impl Deed for Web {
-    fn is_done<I: Read, O: Write>(
+    fn is_done<C: Read + Write, I: Read, O: Write>(
         &self,
         alloc: Global,
-        client: &mut TcpStream,
+        client: &mut C,
         input: &mut I,
         _output: &mut O,
     ) -> io::Result<bool> {
@@ -169,13 +170,13 @@ impl Deed for Web {
 }
 
 /// A client that doesn't read is let go.
-struct Unread;
+pub(crate) struct Unread;
 
 impl Deed for Unread {
-    fn is_done<I: Read, O: Write>(
+    fn is_done<C: Read + Write, I: Read, O: Write>(
         &self,
         alloc: Global,
-        _client: &mut TcpStream,
+        _client: &mut C,
         _input: &mut I,
         output: &mut O,
     ) -> io::Result<bool> {
@@ -190,15 +191,30 @@ impl Deed for Unread {
     }
 }
 
-/// Does it with one client, who may keep a reply from being written for 100 milliseconds.
+/// Does it with one client over TCP.
 fn done<
     D: Deed,
     R: Net<Listener = TcpListener, Stream = TcpStream> + Wait + Clock + Eprint + Sync + AllocGlobal,
 >(rt: &R, deed: &D) -> io::Result<bool> {
     let listener = listener(rt)?;
-    let connected = both(named(rt.alloc(), "ann"), connection(rt, &listener));
-    let made = both(reception(rt.alloc(), listener), connected);
-    let (reception, (user, (mut client, stream))) = made?;
+    let (client, stream) = connection(rt, &listener)?;
+    done_with(
+        rt,
+        deed,
+        Listener::from(listener),
+        client,
+        Connection::from(stream),
+    )
+}
+
+/// Does it with the client of a listener, who may keep a reply from being written for 100 milliseconds.
+pub(crate) fn done_with<
+    D: Deed,
+    C: Read + Write + Drop,
+    R: Net<Listener = TcpListener, Stream = TcpStream> + Wait + Clock + Eprint + Sync + AllocGlobal,
+>(rt: &R, deed: &D, listener: Listener, mut client: C, stream: Connection) -> io::Result<bool> {
+    let made = both(reception(rt.alloc(), listener), named(rt.alloc(), "ann"));
+    let (reception, user) = made?;
     reception.admit(rt, &user, &Report::new(rt, LogLevel::Off), stream);
     let done = done_at(rt, deed, &reception, &user, &mut client);
     drop(reception);
@@ -210,14 +226,9 @@ fn done<
 /// Does it with the client who was admitted.
 fn done_at<
     D: Deed,
+    C: Read + Write,
     R: Net<Listener = TcpListener, Stream = TcpStream> + Wait + Clock + Eprint + Sync + AllocGlobal,
->(
-    rt: &R,
-    deed: &D,
-    reception: &Reception,
-    user: &UserName,
-    client: &mut TcpStream,
-) -> io::Result<bool> {
+>(rt: &R, deed: &D, reception: &Reception, user: &UserName, client: &mut C) -> io::Result<bool> {
     let wakers = IdleWakers::new(rt.alloc(), 1)?;
     let report = Report::new(rt, LogLevel::Off);
     let [waker, ..] = wakers.as_slice() else {
@@ -278,7 +289,8 @@ fn ports(alloc: Global) -> Result<Vec<Port>, AllocError> {
 
 fn port(alloc: Global, text: &str, number: u16) -> Result<Port, AllocError> {
     let user = user(alloc, text)?;
-    Ok(Port { user, number })
+    let address = Address::Tcp(number);
+    Ok(Port { user, address })
 }
 
 /// Two receptions, and their ports.
@@ -287,16 +299,17 @@ fn receptions<R: Net<Listener = TcpListener, Stream = TcpStream> + AllocGlobal>(
 ) -> io::Result<Vec<Reception>> {
     let mut receptions = Vec::new(rt.alloc());
     for _ in 0..2 {
-        push(&mut receptions, Reception::new(rt.alloc(), listener(rt)?))?;
+        let listener = Listener::from(listener(rt)?);
+        push(&mut receptions, Reception::new(rt.alloc(), listener))?;
     }
     Ok(receptions)
 }
 
-/// Whether the reception is that of a port, as far as it can be told.
+/// Whether the reception is that of a port.
 fn is_at(reception: &Reception, wanted: Option<&Reception>) -> bool {
-    match (reception.local_addr(), wanted.map(Reception::local_addr)) {
-        (Ok(found), Some(Ok(wanted))) => found == wanted,
-        _ => false,
+    match wanted {
+        Some(wanted) => reception.descriptor() == wanted.descriptor(),
+        None => false,
     }
 }
 

@@ -3,6 +3,7 @@
 //! The socket stays blocking, since a writer's `WouldBlock` is a failed write. Its reads end after a
 //! millisecond by a timeout of their own, and its writes after minutes in which the client took nothing.
 
+use crate::connection::Connection;
 use crate::guarded_stream::GuardedStream;
 use crate::http_request::RequestLine;
 use crate::idle_waker::{IdleWaker, IdleWakers};
@@ -56,9 +57,9 @@ impl<'a, R: Net<Listener = TcpListener, Stream = TcpStream> + Wait + Clock + Epr
     }
 
     /// Returns what is read of a client and what is written to it.
-    fn connect(&self, client: TcpStream) -> io::Result<(GuardedStream<'a, R>, SharedStream)> {
-        client.set_nodelay(true)?;
-        client.set_write_timeout(Some(self.write_timeout))?;
+    fn connect(&self, client: Connection) -> io::Result<(GuardedStream<'a, R>, SharedStream)> {
+        client.set_nodelay()?;
+        client.set_write_timeout(self.write_timeout)?;
         let stream = Arc::new(self.alloc, client)?;
         let input = WakeableStream::new(
             self.rt,

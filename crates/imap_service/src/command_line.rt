@@ -1,17 +1,14 @@
 //! The command line.
 
-use crate::report::LogLevel;
-use crate::service::{Port, Service};
+use crate::command_line_error::CommandLineError;
+use crate::config_file::ConfigFile;
+use crate::serve_options::read_service;
+use crate::service::Service;
 use clap::error::ErrorKind;
 use clap::{Arg, ArgAction, ArgMatches, Command};
-use imap_names::UserName;
-use imap_rights::Groups;
-use imap_script::{DEFAULT_LIMITS, read_max_messages, read_max_octets, read_number};
-use imap_world::Limits;
-use std::alloc::{AllocError, AllocFailed, Global};
-use std::rt::Env;
-use std::{env, io};
-use thiserror::Error;
+use std::alloc::{AllocError, Global};
+use std::rt::{Env, Files};
+use std::{env, fs, io};
 
 /// The version of the program, as `CHANGELOG.md` has it.
 pub const VERSION: &str = "0.1.0";
@@ -31,50 +28,8 @@ pub enum Task {
     },
 }
 
-/// Why a command line isn't read as a task. The texts end with a line end.
-#[derive(Debug, Drop, Error)]
-pub enum CommandLineError {
-    /// The parser's own text: what it found wrong, or the help that was asked for.
-    #[error("{0}")]
-    Usage(clap::Error),
-    #[error("imapd: bad command line\nimapd: the words of the command line can't be read\n")]
-    Unreadable,
-    #[error("imapd: bad command line\nimapd: a subcommand is wanted: serve or script\n")]
-    NoSubcommand,
-    /// The value of an option isn't valid.
-    #[error("imapd: bad command line\nimapd: --{option} {value}: {reason}\n")]
-    Value {
-        option: &'static str,
-        value: String,
-        reason: &'static str,
-    },
-    #[error("imapd: out of memory\n")]
-    Memory,
-}
-
-impl From<AllocError> for CommandLineError {
-    fn from(_error: AllocError) -> CommandLineError {
-        CommandLineError::Memory
-    }
-}
-
-impl<T: Drop> From<AllocFailed<T>> for CommandLineError {
-    fn from(_error: AllocFailed<T>) -> CommandLineError {
-        CommandLineError::Memory
-    }
-}
-
-impl From<clap::Error> for CommandLineError {
-    fn from(error: clap::Error) -> CommandLineError {
-        match error.kind() {
-            ErrorKind::OutOfMemory => CommandLineError::Memory,
-            _ => CommandLineError::Usage(error),
-        }
-    }
-}
-
-/// Reads the words that the program was started with.
-pub fn read_command_line<R: Env + AllocGlobal>(rt: &R) -> Result<Task, CommandLineError> {
+/// Reads the words that the program was started with, and the configuration file that they name.
+pub fn read_command_line<R: Env + Files + AllocGlobal>(rt: &R) -> Result<Task, CommandLineError> {
     let words = match env::args(rt) {
         Ok(words) => words.collect::<Vec<String>>(rt.alloc())?,
         Err(error) if error.kind() == io::ErrorKind::OutOfMemory => {
@@ -82,20 +37,81 @@ pub fn read_command_line<R: Env + AllocGlobal>(rt: &R) -> Result<Task, CommandLi
         }
         Err(_) => return Err(CommandLineError::Unreadable),
     };
-    read_words(rt.alloc(), words.as_slice())
+    match config_name(rt.alloc(), words.as_slice())? {
+        Some(name) => {
+            let text = read_config(rt, name)?;
+            read_words_after(rt.alloc(), words.as_slice(), name, text.as_str())
+        }
+        None => read_words(rt.alloc(), words.as_slice()),
+    }
+}
+
+/// Returns the name of the configuration file that the words of a command line name, if they do.
+fn config_name<'a>(
+    alloc: Global,
+    words: &'a [String],
+) -> Result<Option<&'a str>, CommandLineError> {
+    if !words.iter().any(|word| word.starts_with("--config")) {
+        return Ok(None);
+    }
+    match command(alloc, false)?.try_get_matches_from(words) {
+        Ok(matches) => match matches.subcommand() {
+            Some(("serve", found)) => Ok(found.get_str("config")),
+            _ => Ok(None),
+        },
+        Err(error) => match error.kind() {
+            ErrorKind::OutOfMemory => Err(CommandLineError::Memory),
+            // What is wrong is said when all words are read.
+            _ => Ok(None),
+        },
+    }
+}
+
+fn read_config<R: Files + AllocGlobal>(rt: &R, name: &str) -> Result<String, CommandLineError> {
+    match fs::read_to_string(rt, name) {
+        Ok(text) => Ok(text),
+        Err(error) => match error.kind() {
+            io::ErrorKind::OutOfMemory => Err(CommandLineError::Memory),
+            kind => Err(CommandLineError::of_value(rt.alloc(), "config", name, why_unread(kind))),
+        },
+    }
+}
+
+/// Why a configuration file can't be read, in words.
+fn why_unread(kind: io::ErrorKind) -> &'static str {
+    match kind {
+        io::ErrorKind::NotFound => "there is no such file",
+        io::ErrorKind::PermissionDenied => "the file may not be read",
+        io::ErrorKind::InvalidData => "the file is no text in UTF-8",
+        _ => "the file can't be read",
+    }
 }
 
 /// Reads the words of a command line. The first of them names the program.
 pub fn read_words(alloc: Global, words: &[String]) -> Result<Task, CommandLineError> {
-    let script = Command::new(alloc, "script").about(
-        "Runs a script from standard input and writes its transcript to standard output",
-    );
-    let command = Command::new(alloc, "imapd")
-        .about("An IMAP server for shared mailboxes")
-        .version(VERSION)
-        .subcommand(script)?;
-    match with_serve(alloc, command)?.try_get_matches_from(words) {
-        Ok(matches) => read_matches(alloc, &matches),
+    read_with(alloc, &ConfigFile::none(alloc), words)
+}
+
+/// Reads the words of a command line after the options in the text of a configuration file, which stand before those of
+/// the words.
+pub fn read_words_after(
+    alloc: Global,
+    words: &[String],
+    name: &str,
+    text: &str,
+) -> Result<Task, CommandLineError> {
+    let file = ConfigFile::read(alloc, name, text)?;
+    let joined = file.joined(words)?;
+    read_with(alloc, &file, joined.as_slice())
+}
+
+fn read_with(
+    alloc: Global,
+    file: &ConfigFile<'_>,
+    words: &[String],
+) -> Result<Task, CommandLineError> {
+    match command(alloc, true)?.try_get_matches_from(words) {
+        Ok(matches) => read_matches(file, &matches),
         Err(error) => match error.kind() {
             ErrorKind::DisplayVersion => Ok(Task::Version),
             _ => Err(CommandLineError::from(error)),
@@ -103,17 +119,33 @@ pub fn read_words(alloc: Global, words: &[String]) -> Result<Task, CommandLineEr
     }
 }
 
-fn read_matches(alloc: Global, matches: &ArgMatches<'_>) -> Result<Task, CommandLineError> {
+/// The program's command line. `is_whole` says whether the options of `serve` that it can't do without are asked for.
+fn command<'a>(alloc: Global, is_whole: bool) -> Result<Command<'a>, AllocError> {
+    let script = Command::new(alloc, "script").about(
+        "Runs a script from standard input and writes its transcript to standard output",
+    );
+    let command = Command::new(alloc, "imapd")
+        .about("An IMAP server for shared mailboxes")
+        .version(VERSION)
+        .subcommand(script)?;
+    with_serve(alloc, command, is_whole)
+}
+
+fn read_matches(file: &ConfigFile<'_>, matches: &ArgMatches<'_>) -> Result<Task, CommandLineError> {
     match matches.subcommand() {
         Some(("script", _)) => Ok(Task::Script),
-        Some(("serve", found)) => read_service(alloc, found),
+        Some(("serve", found)) => read_service(file, found),
         _ => Err(CommandLineError::NoSubcommand),
     }
 }
 
 /// Adds the subcommand `serve`.
-fn with_serve<'a>(alloc: Global, command: Command<'a>) -> Result<Command<'a>, AllocError> {
-    match serve_command(alloc) {
+fn with_serve<'a>(
+    alloc: Global,
+    command: Command<'a>,
+    is_whole: bool,
+) -> Result<Command<'a>, AllocError> {
+    match serve_command(alloc, is_whole) {
         Ok(serve) => command.subcommand(serve),
         Err(error) => {
             drop(command);
@@ -122,20 +154,22 @@ fn with_serve<'a>(alloc: Global, command: Command<'a>) -> Result<Command<'a>, Al
     }
 }
 
-fn serve_command<'a>(alloc: Global) -> Result<Command<'a>, AllocError> {
+fn serve_command<'a>(alloc: Global, is_whole: bool) -> Result<Command<'a>, AllocError> {
     let database = option(alloc, "db", "FILE")
         .help("The database that keeps the mail; it is made if it is missing")
-        .required(true);
+        .required(is_whole);
     let command = Command::new(alloc, "serve")
-        .about("Serves users over TCP")
+        .about("Serves users over TCP and by socket files")
         .arg(database)?;
     let administrator = option(alloc, "admin", "NAME")
         .help("The administrator, who owns the Shared tree")
-        .required(true);
+        .required(is_whole);
     let command = command.arg(administrator)?;
     let listen = option(alloc, "listen", "NAME=PORT")
-        .help("Serves a user at a port of 127.0.0.1; may be repeated")
-        .required(true)
+        .help(
+            "Serves a user at a port of 127.0.0.1, or with NAME=PATH at a socket file; may be repeated",
+        )
+        .required(is_whole)
         .action(ArgAction::Append);
     let command = command.arg(listen)?;
     let member = option(alloc, "member", "GROUP=NAME")
@@ -151,7 +185,11 @@ fn serve_command<'a>(alloc: Global) -> Result<Command<'a>, AllocError> {
     let log = option(alloc, "log", "LINES").help(
         "What standard error is told: off, errors (the default) or connections",
     );
-    command.arg(log)
+    let command = command.arg(log)?;
+    let config = option(alloc, "config", "FILE").help(
+        "Reads options from a file, one a line without its hyphens, before those given here",
+    );
+    command.arg(config)
 }
 
 /// An option `--NAME` that may be given once. `value` names its value in the help.
@@ -160,173 +198,4 @@ fn option<'a>(alloc: Global, name: &'a str, value: &'a str) -> Arg<'a> {
         .long(name)
         .value_name(value)
         .action(ArgAction::Set)
-}
-
-/// Reads the options of `serve`.
-fn read_service(alloc: Global, found: &ArgMatches<'_>) -> Result<Task, CommandLineError> {
-    let database = String::from_str(alloc, found.get_str("db").unwrap_or(""))?;
-    let administrator = read_user(alloc, "admin", found.get_str("admin").unwrap_or(""))?;
-    let limits = read_limits(alloc, found)?;
-    let log = read_log(alloc, found.get_str("log").unwrap_or("errors"))?;
-    let ports = read_ports(alloc, found.get_strs("listen").unwrap_or(&[]))?;
-    let members = found.get_strs("member").unwrap_or(&[]);
-    let groups = read_groups(alloc, members, &administrator, ports.as_slice())?;
-    let service = Service {
-        administrator,
-        ports,
-        groups,
-        limits,
-        log,
-    };
-    Ok(Task::Serve { database, service })
-}
-
-fn read_limits(alloc: Global, found: &ArgMatches<'_>) -> Result<Limits, CommandLineError> {
-    let mut limits = DEFAULT_LIMITS;
-    if let Some(text) = found.get_str("max-messages") {
-        match read_max_messages(text) {
-            Some(number) => limits.max_messages = number,
-            None => return Err(fault(alloc, "max-messages", text, "1 to 1000000 are wanted")),
-        }
-    }
-    if let Some(text) = found.get_str("max-octets") {
-        match read_max_octets(text) {
-            Some(number) => limits.max_octets = number,
-            None => return Err(fault(alloc, "max-octets", text, "1 to 1073741824 are wanted")),
-        }
-    }
-    Ok(limits)
-}
-
-/// Why the value of an option isn't valid.
-fn fault(
-    alloc: Global,
-    option: &'static str,
-    value: &str,
-    reason: &'static str,
-) -> CommandLineError {
-    match String::from_str(alloc, value) {
-        Ok(value) => CommandLineError::Value {
-            option,
-            value,
-            reason,
-        },
-        Err(_) => CommandLineError::Memory,
-    }
-}
-
-fn read_log(alloc: Global, text: &str) -> Result<LogLevel, CommandLineError> {
-    match LogLevel::read(text) {
-        Some(level) => Ok(level),
-        None => Err(fault(alloc, "log", text, "off, errors or connections is wanted")),
-    }
-}
-
-/// Reads the users with their ports. No user is named twice.
-fn read_ports(alloc: Global, texts: &[&str]) -> Result<Vec<Port>, CommandLineError> {
-    let mut ports = Vec::new(alloc);
-    for text in texts {
-        let port = read_port(alloc, text)?;
-        if is_named(ports.as_slice(), &port.user) {
-            return Err(fault(alloc, "listen", text, "the user is named before"));
-        }
-        ports.push(port)?;
-    }
-    Ok(ports)
-}
-
-fn is_named(ports: &[Port], user: &UserName) -> bool {
-    ports.iter().any(|other| other.user.is_same(user))
-}
-
-/// Reads `NAME=PORT`. The name ends at the last `=`.
-fn read_port(alloc: Global, text: &str) -> Result<Port, CommandLineError> {
-    match split_port(text) {
-        Some((name, number)) => Ok(Port {
-            user: read_user(alloc, "listen", name)?,
-            number,
-        }),
-        None => Err(fault(
-            alloc,
-            "listen",
-            text,
-            "NAME=PORT is wanted, PORT from 1 to 65535",
-        )),
-    }
-}
-
-/// Reads who is in which groups. Who is named twice in a group is in it once.
-fn read_groups(
-    alloc: Global,
-    texts: &[&str],
-    administrator: &UserName,
-    ports: &[Port],
-) -> Result<Groups, CommandLineError> {
-    let mut groups = Groups::new(alloc);
-    for text in texts {
-        if let Err(error) = add_member(alloc, &mut groups, text, administrator, ports) {
-            return Err(error);
-        }
-    }
-    Ok(groups)
-}
-
-/// Reads `GROUP=NAME`, and puts the user into the group. The group's name ends at the first `=`.
-fn add_member(
-    alloc: Global,
-    groups: &mut Groups,
-    text: &str,
-    administrator: &UserName,
-    ports: &[Port],
-) -> Result<(), CommandLineError> {
-    let Some((group, name)) = text.split_once('=') else {
-        return Err(fault(alloc, "member", text, "GROUP=NAME is wanted"));
-    };
-    let Some(user) = find_user(name, administrator, ports) else {
-        return Err(fault(
-            alloc,
-            "member",
-            name,
-            "this is neither a user who is served nor the administrator",
-        ));
-    };
-    if groups.add(alloc, group, user)? {
-        Ok(())
-    } else {
-        Err(fault(alloc, "member", group, "this is no name of a group"))
-    }
-}
-
-/// The administrator or the served user of this name.
-fn find_user<'a>(
-    name: &str,
-    administrator: &'a UserName,
-    ports: &'a [Port],
-) -> Option<&'a UserName> {
-    if administrator.as_str() == name {
-        return Some(administrator);
-    }
-    for port in ports {
-        if port.user.as_str() == name {
-            return Some(&port.user);
-        }
-    }
-    None
-}
-
-fn split_port(text: &str) -> Option<(&str, u16)> {
-    let (name, number) = text.rsplit_once('=')?;
-    let number = read_number(number, 1, u64::from(u16::MAX))?;
-    Some((name, number as u16))
-}
-
-fn read_user(
-    alloc: Global,
-    option: &'static str,
-    name: &str,
-) -> Result<UserName, CommandLineError> {
-    match UserName::read(alloc, name)? {
-        Some(user) => Ok(user),
-        None => Err(fault(alloc, option, name, "this is no name of a user")),
-    }
 }

@@ -1,6 +1,7 @@
 //! How the program ends: its exit statuses, and what standard error is told.
 
-use crate::command_line::{CommandLineError, VERSION};
+use crate::command_line::VERSION;
+use crate::command_line_error::CommandLineError;
 use crate::service::ServiceError;
 use imap_script::ScriptError;
 use std::process::ExitCode;
@@ -45,13 +46,14 @@ pub fn report_script_error(rt: &impl Eprint, error: &ScriptError) -> ExitCode {
 }
 
 /// Tells standard error, as far as it takes it, why serving ended: in words after the line that each exit status has.
-/// Returns the exit status: 3 if a port can't be had, too few files may be open, no connection comes any more or
+/// Returns the exit status: 3 if a port or a socket file can't be had, too few files may be open, no connection comes any more or
 /// standard output failed, 4 for want of memory, and 5 if the store can't be used.
 pub fn report_service_error(rt: &impl Eprint, error: ServiceError) -> ExitCode {
     match error {
         ServiceError::Output
         | ServiceError::NoConnection
         | ServiceError::Port { .. }
+        | ServiceError::SocketFile { .. }
         | ServiceError::Descriptors { .. } => {
             let _ = eprintln!(rt; "imapd: {error}");
             ExitCode::from(BROKEN_STREAM)

@@ -1,5 +1,6 @@
 //! Connections that are ended when their first line is an HTTP request line.
 
+use crate::connection::Connection;
 use crate::http_request::RequestLine;
 use crate::refusing::say_goodbye;
 use crate::wakeable_stream::WakeableStream;
@@ -13,7 +14,7 @@ use std::sync::{Arc, Wait};
 #[derive(Drop)]
 pub struct GuardedStream<'a, R: Net<Listener = TcpListener, Stream = TcpStream> + Wait + Clock> {
     pub(crate) input: WakeableStream<'a, R>,
-    pub(crate) stream: Arc<TcpStream>,
+    pub(crate) stream: Arc<Connection>,
     pub(crate) line: RequestLine,
 }
 

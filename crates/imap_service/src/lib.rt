@@ -1,4 +1,4 @@
-//! Serving users over TCP, each at a port of their own, and what the program `imapd` is asked to do.
+//! Serving users, each at a port of TCP or a socket file of their own, and what the program `imapd` is asked to do.
 //!
 //! [`read_command_line`] returns a [`Task`]. [`run`] serves the users of a [`Service`] from what a keeper keeps: a
 //! thread for each port receives its clients ([`Reception`]), and a worker for each seat takes one after the other
@@ -9,14 +9,19 @@
 #![tactic(auto)]
 
 mod accept_faults;
+mod address;
 mod client_door;
 mod command_line;
+mod command_line_error;
+mod config_file;
+mod connection;
 mod descriptors;
 mod exit_status;
 mod guarded_stream;
 mod http_request;
 mod idle_ticks;
 mod idle_waker;
+mod listener;
 mod listening;
 mod log_tail;
 mod notify_on_change;
@@ -26,30 +31,37 @@ mod reception;
 mod refusing;
 mod report;
 mod reporting_keeper;
+mod serve_options;
 mod service;
 mod serving;
 mod shared_stream;
+mod socket_file;
 mod store_table;
 mod system_clock;
 mod wakeable_stream;
 
 pub use accept_faults::AcceptFaults;
+pub use address::{Address, MAX_SOCKET_PATH, SocketPath};
 pub use client_door::ClientDoor;
-pub use command_line::{CommandLineError, Task, VERSION, read_command_line, read_words};
+pub use command_line::{Task, VERSION, read_command_line, read_words, read_words_after};
+pub use command_line_error::CommandLineError;
+pub use connection::Connection;
 pub use descriptors::{needed, read_limit};
 pub use exit_status::{report_misuse, report_script_error, report_service_error, report_version};
 pub use guarded_stream::GuardedStream;
 pub use http_request::RequestLine;
 pub use idle_ticks::{IdleTicks, TICKS_PER_SECOND};
 pub use idle_waker::{IdleWaker, IdleWakers};
+pub use listener::Listener;
 pub use listening::listen_at;
 pub use log_tail::{LogLook, look_at, report_unread};
 pub use port_door::{PortDoor, Receptionist};
 pub use private_files::{make_missing, make_private};
 pub use reception::{Reception, SEATS};
 pub use report::{LogLevel, Report};
-pub use service::{Port, Service, ServiceError, StoreFault};
+pub use service::{Port, Service, ServiceError, SocketFault, StoreFault};
 pub use serving::{IDLE_TICKS, posts, run};
 pub use shared_stream::SharedStream;
+pub use socket_file::listen_at_file;
 pub use store_table::StoreTable;
 pub use wakeable_stream::WakeableStream;

@@ -1,13 +1,16 @@
-//! Listening at ports of this machine.
+//! Listening at ports of this machine and at socket files.
 
+use crate::address::Address;
 use crate::descriptors::{allowed, needed};
+use crate::listener::Listener;
 use crate::reception::Reception;
 use crate::service::{Port, ServiceError};
+use crate::socket_file::listen_at_file;
 use std::io;
 use std::net::{Ipv4Addr, Net, TcpListener, TcpStream};
 use std::rt::Files;
 
-/// Listens at all ports of this machine alone, and then prints a line for each. Fails before the first line if the
+/// Listens at all ports and socket files, and then prints a line for each. Fails before the first line if the
 /// process may not open as many files as the connections of all ports may need.
 pub(crate) fn listen<
     R: Net<Listener = TcpListener, Stream = TcpStream> + Print + Files + AllocGlobal,
@@ -20,13 +23,23 @@ pub(crate) fn listen<
     }
     let mut receptions = Vec::new(rt.alloc());
     for port in ports {
-        let listener = listen_at(rt, port.number)?;
+        let listener = listener(rt, &port.address)?;
         receptions.push(Reception::new(rt.alloc(), listener)?)?;
     }
     for port in ports {
         print_port(rt, port)?;
     }
     Ok(receptions)
+}
+
+fn listener<R: Net<Listener = TcpListener, Stream = TcpStream> + Files>(
+    rt: &R,
+    address: &Address,
+) -> Result<Listener, ServiceError> {
+    match address {
+        Address::Tcp(number) => Ok(Listener::Tcp(listen_at(rt, *number)?)),
+        Address::Unix(path) => Ok(Listener::Unix(listen_at_file(rt, path)?)),
+    }
 }
 
 /// Listens at a port of this machine alone.
@@ -44,7 +57,7 @@ pub fn listen_at<R: Net<Listener = TcpListener, Stream = TcpStream>>(
 }
 
 fn print_port<R: Print>(rt: &R, port: &Port) -> Result<(), ServiceError> {
-    match println!(rt; "listening {} {}", port.user.as_str(), port.number) {
+    match println!(rt; "listening {} {}", port.user.as_str(), port.address) {
         Ok(()) => Ok(()),
         Err(error) => match error.kind() {
             io::ErrorKind::OutOfMemory => Err(ServiceError::Memory),

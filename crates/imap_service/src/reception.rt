@@ -4,15 +4,17 @@
 //! has one descriptor. A connection that comes while the last busy worker becomes free may still be refused.
 
 use crate::accept_faults::AcceptFaults;
+use crate::connection::Connection;
+use crate::listener::Listener;
 use crate::refusing::say_goodbye;
 use crate::report::Report;
 use imap_names::UserName;
 use std::alloc::{AllocError, Global};
 use std::collections::VecDeque;
-use std::net::{SocketAddr, TcpListener, TcpStream};
+use std::os::fd::RawFd;
 use std::rt::Clock;
 use std::sync::{Condvar, Mutex, Wait};
-use std::{io, thread};
+use std::thread;
 
 /// How many connections a user may have at once.
 pub const SEATS: usize = 16;
@@ -20,7 +22,7 @@ pub const SEATS: usize = 16;
 /// Clients who wait for a worker, and how many workers have one.
 #[derive(Drop)]
 struct Queue {
-    clients: VecDeque<TcpStream>,
+    clients: VecDeque<Connection>,
     /// How many clients wait or are served.
     taken: usize,
     /// Whether no client comes any more.
@@ -30,14 +32,14 @@ struct Queue {
 /// Where the clients of one port are received.
 #[derive(Drop)]
 pub struct Reception {
-    listener: TcpListener,
+    listener: Listener,
     queue: Mutex<Queue>,
     arrived: Condvar,
 }
 
 impl Reception {
     /// Receives the clients of a listener.
-    pub fn new(alloc: Global, listener: TcpListener) -> Result<Reception, AllocError> {
+    pub fn new(alloc: Global, listener: Listener) -> Result<Reception, AllocError> {
         let queue = Queue {
             clients: VecDeque::with_capacity(alloc, SEATS)?,
             taken: 0,
@@ -50,9 +52,9 @@ impl Reception {
         })
     }
 
-    /// The address at which clients are received.
-    pub fn local_addr(&self) -> io::Result<SocketAddr> {
-        self.listener.local_addr()
+    /// The number of the descriptor at which clients are received.
+    pub fn descriptor(&self) -> RawFd {
+        self.listener.descriptor()
     }
 
     /// Receives clients until no more can be had. Refuses a client if as many are served as may be.
@@ -65,7 +67,7 @@ impl Reception {
         let mut faults = AcceptFaults::new();
         for _ in rt.forever() {
             match self.listener.accept() {
-                Ok((client, _)) => {
+                Ok(client) => {
                     faults = AcceptFaults::new();
                     self.admit(rt, user, report, client);
                 }
@@ -86,7 +88,7 @@ impl Reception {
         rt: &R,
         user: &UserName,
         report: &Report<'_, R>,
-        client: TcpStream,
+        client: Connection,
     ) {
         match self.enter(rt, client) {
             None => self.arrived.notify_one(),
@@ -98,7 +100,7 @@ impl Reception {
     }
 
     /// Puts a client where a worker takes it from. Hands it back if as many are served as may be.
-    fn enter<R: Wait>(&self, rt: &R, client: TcpStream) -> Option<TcpStream> {
+    fn enter<R: Wait>(&self, rt: &R, client: Connection) -> Option<Connection> {
         let mut queue = self.queue.lock(rt);
         if queue.taken >= SEATS {
             return Some(client);
@@ -111,7 +113,7 @@ impl Reception {
     }
 
     /// Waits for the next client. Returns `None` if none comes any more.
-    pub fn take<R: Wait>(&self, rt: &R) -> Option<TcpStream> {
+    pub fn take<R: Wait>(&self, rt: &R) -> Option<Connection> {
         let queue = self.queue.lock(rt);
         let mut queue = self
             .arrived

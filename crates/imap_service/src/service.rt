@@ -1,5 +1,6 @@
 //! What is served, and why serving ends.
 
+use crate::address::{Address, SocketPath};
 use crate::report::LogLevel;
 use crate::store_table::StoreTable;
 use imap_hall::OpenError;
@@ -12,11 +13,11 @@ use std::alloc::{AllocError, AllocFailed};
 use std::io;
 use thiserror::Error;
 
-/// A user, and the port at which the user is served.
+/// A user, and where the user is served: at a port of TCP, or at a socket file in the place of one.
 #[derive(Debug, Drop)]
 pub struct Port {
     pub user: UserName,
-    pub number: u16,
+    pub address: Address,
 }
 
 /// What is served.
@@ -40,14 +41,38 @@ pub enum ServiceError {
     #[error("no connection comes any more")]
     NoConnection,
     #[error("port {number}: {kind}")]
-    Port { number: u16, kind: io::ErrorKind },
+    Port {
+        number: u16,
+        kind: io::ErrorKind,
+    },
+    #[error("socket file {path}: {fault}")]
+    SocketFile {
+        path: SocketPath,
+        fault: SocketFault,
+    },
     /// The process may not open as many files as connections may need.
     #[error("{needed} open files are needed, and {allowed} are allowed (ulimit -n)")]
-    Descriptors { needed: u64, allowed: u64 },
+    Descriptors {
+        needed: u64,
+        allowed: u64,
+    },
     #[error("out of memory")]
     Memory,
     #[error("{0}")]
     Store(StoreFault),
+}
+
+/// Why a socket file can't be had.
+#[derive(Clone, Copy, Debug, Error, PartialEq, Eq)]
+pub enum SocketFault {
+    #[error("another program listens there")]
+    InUse,
+    #[error("a file is there that is no socket")]
+    NoSocket,
+    #[error("its folder is missing")]
+    NoFolder,
+    #[error("{0}")]
+    Other(io::ErrorKind),
 }
 
 /// Why a store can't be used.

@@ -34,8 +34,8 @@ pub const IDLE_TICKS: u64 = 1800 * TICKS_PER_SECOND;
 /// For how many seconds a client may keep a reply from being written.
 const WRITE_SECONDS: u64 = 300;
 
-/// Serves the users of `service` at their ports of 127.0.0.1 from what `keeper` keeps, until no connection comes any
-/// more. Prints a line `listening USER PORT` for each port once all are open. `since` is when the program was started.
+/// Serves the users of `service` at their ports of 127.0.0.1 and socket files from what `keeper` keeps, until no connection comes any
+/// more. Prints a line `listening USER PORT` or `listening USER PATH` for each once all are open. `since` is when the program was started.
 /// Returns the keeper, and why serving ended or didn't begin.
 pub fn run<
     K: Keeper + Send,

@@ -1,13 +1,13 @@
 //! What is written to a connection.
 
+use crate::connection::Connection;
 use std::io::{self, Write};
-use std::net::TcpStream;
 use std::sync::Arc;
 
 /// The writer of a connection that is read elsewhere. Both share one descriptor.
 #[derive(Drop)]
 pub struct SharedStream {
-    pub(crate) stream: Arc<TcpStream>,
+    pub(crate) stream: Arc<Connection>,
 }
 
 impl Write for SharedStream {

@@ -7,6 +7,7 @@
 ghost use Rattle.std.specs.Counts.{IsPrefixLen};
 ghost use Rattle.std.specs.Prelude.{IfOk};
 
+use crate::connection::Connection;
 use crate::idle_ticks::IdleTicks;
 use crate::idle_waker::{CONNECTION, IdleWaker, IdleWakers};
 use mio::unix::SourceFd;
@@ -14,7 +15,6 @@ use mio::{Events, Interest, Poll};
 use std::alloc::Global;
 use std::io::{self, ErrorKind, Read};
 use std::net::{Net, TcpListener, TcpStream};
-use std::os::fd::AsRawFd;
 use std::rt::Clock;
 use std::sync::{Arc, Wait};
 use std::time::{Duration, Instant};
@@ -42,7 +42,7 @@ pub struct WakeableStream<'a, R: Net<Listener = TcpListener, Stream = TcpStream>
     rt: &'a R,
     wakers: &'a IdleWakers,
     waker: &'a IdleWaker,
-    stream: Arc<TcpStream>,
+    stream: Arc<Connection>,
     /// Where the worker waits for both.
     poll: Poll,
     events: Events,
@@ -63,11 +63,11 @@ impl<'a, R: Net<Listener = TcpListener, Stream = TcpStream> + Wait + Clock> Wake
         alloc: Global,
         wakers: &'a IdleWakers,
         waker: &'a IdleWaker,
-        stream: Arc<TcpStream>,
+        stream: Arc<Connection>,
     ) -> io::Result<WakeableStream<'a, R>> {
-        stream.set_read_timeout(Some(Duration::from_millis(PAUSE_MILLIS)))?;
+        stream.set_read_timeout(Duration::from_millis(PAUSE_MILLIS))?;
         let poll = Poll::new(rt)?;
-        let descriptor = stream.as_raw_fd();
+        let descriptor = stream.descriptor();
         let registry = poll.registry();
         registry.register(&mut SourceFd(&descriptor), CONNECTION, Interest::READABLE)?;
         waker.attach(rt, &poll)?;

@@ -1,0 +1,83 @@
+//! Connections over TCP and over socket files.
+
+use std::io::{self, Read, Write};
+use std::net::TcpStream;
+use std::os::fd::{AsRawFd, RawFd};
+use std::os::unix::net::UnixStream;
+use std::time::Duration;
+
+/// A connection of a client.
+#[derive(Drop)]
+pub enum Connection {
+    Tcp(TcpStream),
+    /// Over a socket file.
+    Unix(UnixStream),
+}
+
+impl Connection {
+    /// Sends what is written at once, and waits for no more. Over a socket file nothing else is done.
+    pub(crate) fn set_nodelay(&self) -> io::Result<()> {
+        match self {
+            Connection::Tcp(stream) => stream.set_nodelay(true),
+            Connection::Unix(_) => Ok(()),
+        }
+    }
+
+    /// A read that waits longer fails with `WouldBlock`.
+    pub(crate) fn set_read_timeout(&self, timeout: Duration) -> io::Result<()> {
+        match self {
+            Connection::Tcp(stream) => stream.set_read_timeout(Some(timeout)),
+            Connection::Unix(stream) => stream.set_read_timeout(Some(timeout)),
+        }
+    }
+
+    /// A write that waits longer fails with `WouldBlock`.
+    pub(crate) fn set_write_timeout(&self, timeout: Duration) -> io::Result<()> {
+        match self {
+            Connection::Tcp(stream) => stream.set_write_timeout(Some(timeout)),
+            Connection::Unix(stream) => stream.set_write_timeout(Some(timeout)),
+        }
+    }
+
+    /// The number of its descriptor.
+    pub(crate) fn descriptor(&self) -> RawFd {
+        match self {
+            Connection::Tcp(stream) => stream.as_raw_fd(),
+            Connection::Unix(stream) => stream.as_raw_fd(),
+        }
+    }
+}
+
+impl From<TcpStream> for Connection {
+    fn from(stream: TcpStream) -> Connection {
+        Connection::Tcp(stream)
+    }
+}
+
+impl From<UnixStream> for Connection {
+    fn from(stream: UnixStream) -> Connection {
+        Connection::Unix(stream)
+    }
+}
+
+impl Read for &Connection {
+    fn read(&mut self, buf: &mut [u8]) -> io::Result<usize> {
+        match *self {
+            Connection::Tcp(stream) => (&*stream).read(buf),
+            Connection::Unix(stream) => (&*stream).read(buf),
+        }
+    }
+}
+
+impl Write for &Connection {
+    fn write(&mut self, buf: &[u8]) -> io::Result<usize> {
+        match *self {
+            Connection::Tcp(stream) => (&*stream).write(buf),
+            Connection::Unix(stream) => (&*stream).write(buf),
+        }
+    }
+
+    fn flush(&mut self) -> io::Result<()> {
+        Ok(())
+    }
+}
