@@ -53,7 +53,7 @@ struct Looks {
     later: Option<SocketFault>,
 }
 
-fn looks<R: Net + Files + Clock + AllocGlobal>(rt: &R) -> io::Result<Looks> {
+fn observed<R: Net + Files + Clock + AllocGlobal>(rt: &R) -> io::Result<Looks> {
     let path = new_path(rt, "looks")?;
     let first = listener(rt, &path)?;
     let mode = mode_of(rt, &path);
@@ -81,7 +81,7 @@ fn a_socket_file_is_its_owners(rt: HostRuntime) {
         second: Some(SocketFault::InUse),
         later: None,
     };
-    match looks(&rt) {
+    match observed(&rt) {
         Ok(looks) => assert!(rt; looks == WANTED, "{looks:?}"),
         Err(error) => panic!(rt; "{error:?}"),
     }
