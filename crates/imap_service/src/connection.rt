@@ -1,5 +1,8 @@
 //! Connections over TCP and over socket files.
 
+ghost use Rattle.std.specs.Counts.{IsPrefixLen};
+ghost use Rattle.std.specs.Prelude.{IfOk};
+
 use std::io::{self, Read, Write};
 use std::net::TcpStream;
 use std::os::fd::{AsRawFd, RawFd};
@@ -39,6 +42,24 @@ impl Connection {
         }
     }
 
+    fn receive(&self, buf: &mut [u8]) -> io::Result<usize>
+        ensures { IfOk result (λ n. IsPrefixLen n buf.new) }
+    {
+        match self {
+            Connection::Tcp(stream) => read_from(stream, buf),
+            Connection::Unix(stream) => read_from(stream, buf),
+        }
+    }
+
+    fn send(&self, buf: &[u8]) -> io::Result<usize>
+        ensures { IfOk result (λ n. IsPrefixLen n buf.now) }
+    {
+        match self {
+            Connection::Tcp(stream) => write_to(stream, buf),
+            Connection::Unix(stream) => write_to(stream, buf),
+        }
+    }
+
     /// The number of its descriptor.
     pub(crate) fn descriptor(&self) -> RawFd {
         match self {
@@ -62,22 +83,28 @@ impl From<UnixStream> for Connection {
 
 impl Read for &Connection {
     fn read(&mut self, buf: &mut [u8]) -> io::Result<usize> {
-        match *self {
-            Connection::Tcp(stream) => (&*stream).read(buf),
-            Connection::Unix(stream) => (&*stream).read(buf),
-        }
+        self.receive(buf)
     }
 }
 
 impl Write for &Connection {
     fn write(&mut self, buf: &[u8]) -> io::Result<usize> {
-        match *self {
-            Connection::Tcp(stream) => (&*stream).write(buf),
-            Connection::Unix(stream) => (&*stream).write(buf),
-        }
+        self.send(buf)
     }
 
     fn flush(&mut self) -> io::Result<()> {
         Ok(())
     }
+}
+
+fn read_from<S: Read + Copy>(mut stream: S, buf: &mut [u8]) -> io::Result<usize>
+    ensures { IfOk result (λ n. IsPrefixLen n buf.new) }
+{
+    stream.read(buf)
+}
+
+fn write_to<S: Write + Copy>(mut stream: S, buf: &[u8]) -> io::Result<usize>
+    ensures { IfOk result (λ n. IsPrefixLen n buf.now) }
+{
+    stream.write(buf)
 }

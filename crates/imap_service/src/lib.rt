@@ -1,4 +1,4 @@
-//! Serving users, each at a port of TCP or a socket file of their own, and what the program `imapd` is asked to do.
+//! Serving users at ports and socket files, each at one of their own, and what the program `imapd` is asked to do.
 //!
 //! [`read_command_line`] returns a [`Task`]. [`run`] serves the users of a [`Service`] from what a keeper keeps: a
 //! thread for each port receives its clients ([`Reception`]), and a worker for each seat takes one after the other
