@@ -20,7 +20,7 @@ pub enum Task {
     Script,
     /// To say which version of the program this is.
     Version,
-    /// To serve users over TCP.
+    /// To serve users.
     Serve {
         /// The path of the database that keeps the mail.
         database: String,

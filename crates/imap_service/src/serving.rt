@@ -1,4 +1,4 @@
-//! Serving users over TCP.
+//! Serving users at ports and socket files.
 
 ghost use Rattle.std.specs.Prelude.{◌≡◌, IfOk};
 ghost use Rattle.imap_hall.specs.Hall.{IsFresh};

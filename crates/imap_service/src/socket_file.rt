@@ -55,7 +55,7 @@ fn is_stale<R: Net>(rt: &R, path: &SocketPath) -> io::Result<bool> {
     match mio::net::UnixStream::connect(rt, path.as_str()) {
         Ok(_) => Ok(false),
         Err(error) => match error.kind() {
-            ErrorKind::ConnectionRefused => Ok(true),
+            ErrorKind::ConnectionRefused | ErrorKind::NotFound => Ok(true),
             ErrorKind::WouldBlock => Ok(false),
             _ => Err(error),
         },
