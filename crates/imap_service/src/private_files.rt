@@ -7,7 +7,7 @@ use std::os::unix::fs::{OpenOptionsExt, PermissionsExt};
 use std::rt::Files;
 
 /// Reading and writing, by the owner alone.
-const OWNER_ALONE: u32 = 0o600;
+pub(crate) const OWNER_ALONE: u32 = 0o600;
 
 /// What stands beside a database: its log, and what other programs that read it share.
 const BESIDE: [&str; 2] = ["-wal", "-shm"];

@@ -4,6 +4,7 @@
 //! `std` makes one and gives it its mode afterwards, hence `libc`.
 
 use crate::address::SocketPath;
+use crate::private_files::OWNER_ALONE;
 use crate::service::{ServiceError, SocketFault};
 use libc::fchmod;
 use libc::net::listen;
@@ -14,9 +15,6 @@ use std::os::fd::{AsFd, AsRawFd};
 use std::os::unix::fs::FileTypeExt;
 use std::os::unix::net::{SocketAddr, UnixListener};
 use std::rt::Files;
-
-/// Reading and writing, by the owner alone.
-const OWNER_ALONE: u32 = 0o600;
 
 /// As many connections may wait to be accepted as the system allows.
 const BACKLOG: i32 = i32::MAX;
