@@ -2,7 +2,7 @@
 use Rattle.std.proofs.Common.{◌≡◌, inl, inr, ℕ, ℤ, pos, Bool, true, false, length, List, [], ◌∷◌, map, drop, Ok, refl, sym, ap, subst, ◌∙◌, arith, ne_eqb}
 use Rattle.std.specs.Prelude.{◌==◌, ◌/◌}
 use Rattle.std.specs.List.{flat_map, filter_map}
-use Rattle.sqlite.specs.declared.types.Value.TheVariants.{Null, Int, Text as Words, Blob as Bytes}
+use Rattle.sqlite.specs.declared.types.Value.TheVariants.{Null, Int, Text as Words}
 use Rattle.sqlite.specs.Order.{Row, column}
 use Rattle.sqlite.specs.Table.{Table}
 use Rattle.sqlite.specs.Tree.{Trees, put_row}
@@ -23,17 +23,17 @@ use Rattle.sqlite_rules.specs.Cast.{cast_row}
 use Rattle.sqlite_rules.specs.Edit.{numbered as with_rowids, taken_by, without_all}
 use Rattle.sqlite_rules.proofs.ActionLemmas.{no_works}
 use Rattle.sqlite_tied.specs.Compute.{everything}
-use Rattle.imap_tables.specs.Edits.{Adds, HasId, IsBelow, IsEpochOf, IsMessageOf, IsNamed, IsSubOf, Removes, RemovesMailboxes, Replaces, counted_row, flagged_row, moved_row}
-use Rattle.imap_tables.specs.Rows.{IsOrderly, IsRowOf, acl_row, epoch_row, flag_of, gone_row, mailbox_row, mark_row, message_row, meta_row, sub_row}
-use Rattle.imap_tables.specs.Tables.{store_schema, mailbox_table, acl_table, message_table, gone_table, mark_table, epoch_table, sub_table, meta_table}
+use Rattle.imap_tables.specs.Edits.{Adds, HasId, IsBelow, IsEpochOf, IsNamed, IsSubOf, Removes, RemovesMailboxes, Replaces, counted_row, moved_row}
+use Rattle.imap_tables.specs.Rows.{IsOrderly, IsRowOf, acl_row, epoch_row, flag_of, gone_row, mailbox_row, mark_row, meta_row, sub_row}
+use Rattle.imap_tables.specs.Tables.{store_schema, mailbox_table, acl_table, gone_table, mark_table, epoch_table, sub_table, meta_table}
 use Rattle.imap_tables.proofs.Added.{Becomes, added_orderly, adds}
 use Rattle.imap_tables.proofs.Casts.{cast_int, cast_null}
 use Rattle.imap_tables.proofs.Dropped.{dropped_orderly, drops, went}
 use Rattle.imap_tables.proofs.Edited.{IsPlainTable, deleted, inserted, updated}
 use Rattle.imap_tables.proofs.Replaced.{AreTests, removed_orderly, removes, replaced_orderly, replaces}
-use Rattle.imap_tables.proofs.Shapes.{mailbox_is, message_is}
+use Rattle.imap_tables.proofs.Shapes.{mailbox_is}
 use Rattle.imap_tables.proofs.Statements as text
-use Rattle.imap_tables.proofs.Tested.{tests_entries, tests_epoch, tests_id, tests_message, tests_name, tests_sub}
+use Rattle.imap_tables.proofs.Tested.{tests_entries, tests_epoch, tests_id, tests_name, tests_sub}
 use Rattle.imap_tables.proofs.Turned.{Made}
 
 -- ---- the tables by their places
@@ -43,9 +43,6 @@ mailboxes = record { listed = inl refl; found = refl; uncounted = refl; unstampe
 
 entries : IsPlainTable 1 acl_table
 entries = record { listed = inr (inl refl); found = refl; uncounted = refl; unstamped = refl }
-
-messages : IsPlainTable 2 message_table
-messages = record { listed = inr (inr (inl refl)); found = refl; uncounted = refl; unstamped = refl }
 
 gones : IsPlainTable 3 gone_table
 gones = record { listed = inr (inr (inr (inl refl))); found = refl; uncounted = refl; unstamped = refl }
@@ -59,12 +56,12 @@ epochs = record { listed = inr (inr (inr (inr (inr (inl refl))))); found = refl;
 subs : IsPlainTable 6 sub_table
 subs = record { listed = inr (inr (inr (inr (inr (inr (inl refl)))))); found = refl; uncounted = refl; unstamped = refl }
 
-metas : IsPlainTable 7 meta_table
+pub metas : IsPlainTable 7 meta_table
 metas = record { listed = inr (inr (inr (inr (inr (inr (inr (inl refl))))))); found = refl; uncounted = refl; unstamped = refl }
 
 -- ---- rows that are inserted
 
-inserts : (at : ℕ) (table : Table) → IsPlainTable at table → (old new : State) (params : Row) (sql : List ℕ) (terms : List Term) (width count : ℕ) → text.IsText sql (Insert at (Values terms width))
+pub inserts : (at : ℕ) (table : Table) → IsPlainTable at table → (old new : State) (params : Row) (sql : List ℕ) (terms : List Term) (width count : ℕ) → text.IsText sql (Insert at (Values terms width))
     → (source : Row) (row_of : ℤ → Row) → Becomes table source row_of → value_rows params width (length terms / width) terms ≡ source ∷ []
     → old.now.schema ≡ store_schema → Executes sql params old new (Ok count) → Made (λ db after. Adds db after table.tree row_of) old new
 inserts at table plain old new params sql terms width count means source row_of becomes values has h =
@@ -96,19 +93,6 @@ module _ (old new : State) (count : ℕ) (has : old.now.schema ≡ store_schema)
         row = λ before. rw (cast_null, cast_int mailbox, cast_int (pos rights)) refl;
         rowid_is = λ id. refl;
         fits = λ id. ((id, refl), ((mailbox, refl), ((identifier, refl), ((pos rights, refl), refl))));
-      }) refl has h
-
-  pub puts_message : (mailbox : ℤ) (uid : ℕ) (date octets : List ℕ) (flags : ℕ) (keywords : List ℕ) (place : ℤ)
-      → Executes text.insert_message (Int mailbox ∷ Int (pos uid) ∷ Words date ∷ Bytes octets ∷ Int (pos flags) ∷ Words keywords ∷ Int place ∷ []) old new (Ok count)
-      → Made (λ db after. Adds db after 4 (message_row mailbox uid date octets flags keywords place)) old new
-  puts_message mailbox uid date octets flags keywords place h =
-      inserts 2 message_table messages old new (Int mailbox ∷ Int (pos uid) ∷ Words date ∷ Bytes octets ∷ Int (pos flags) ∷ Words keywords ∷ Int place ∷ []) text.insert_message
-      (lit Null ∷ col 0 0 ∷ col 0 1 ∷ col 0 2 ∷ col 0 3 ∷ col 0 4 ∷ col 0 5 ∷ col 0 6 ∷ []) 8 count text.insert_message_is
-      (Null ∷ Int mailbox ∷ Int (pos uid) ∷ Words date ∷ Bytes octets ∷ Int (pos flags) ∷ Words keywords ∷ Int place ∷ []) (message_row mailbox uid date octets flags keywords place)
-      (record {
-        row = λ before. rw (cast_null, cast_int mailbox, cast_int (pos uid), cast_int (pos flags), cast_int place) refl;
-        rowid_is = λ id. refl;
-        fits = λ id. ((id, refl), ((mailbox, refl), ((pos uid, refl), ((date, refl), ((octets, refl), ((pos flags, refl), ((keywords, refl), ((place, refl), refl))))))));
       }) refl has h
 
   pub puts_gone : (mailbox : ℤ) (uid : ℕ) (place : ℤ) → Executes text.insert_gone (Int mailbox ∷ Int (pos uid) ∷ Int place ∷ []) old new (Ok count)
@@ -194,14 +178,6 @@ quiet_acl olds news = by (length news == 0)
     by true = refl
     by false = refl
 
-quiet_message : (olds news : List Row) → works store_schema Enforced 0 4 olds news ≡ []
-unfolding everything
-quiet_message olds news = by (length news == 0)
-  where
-    by : (b : Bool) → flat_map (λ child. filter_map (λ ref. work_by 0 4 (pairs olds news) child ref (deed_for Enforced b ref) (parent_key store_schema.tables ref)) child.references) store_schema.tables ≡ []
-    by true = refl
-    by false = refl
-
 quiet_epoch : (olds : List Row) → works store_schema Enforced 0 10 olds [] ≡ []
 unfolding everything
 quiet_epoch olds = refl
@@ -211,7 +187,7 @@ unfolding everything
 quiet_sub olds = refl
 
 -- the rows of a table that pass tests
-removing : (at : ℕ) (table : Table) → IsPlainTable at table → (old new : State) (params : Row) (sql : List ℕ) (tests : List Term) (count : ℕ)
+pub removing : (at : ℕ) (table : Table) → IsPlainTable at table → (old new : State) (params : Row) (sql : List ℕ) (tests : List Term) (count : ℕ)
     → text.IsText sql (Delete at (record { lets = []; body = text.rowids_where table.tree tests })) → (P : Row → Type 0) → (IsOrderly old.now.trees → AreTests old.now.trees table tests params P)
     → ((olds : List Row) → works store_schema Enforced 0 table.tree olds [] ≡ []) → old.now.schema ≡ store_schema → Executes sql params old new (Ok count)
     → Made (λ db after. Removes db after table.tree P) old new
@@ -232,12 +208,6 @@ module _ (old new : State) (count : ℕ) (has : old.now.schema ≡ store_schema)
   drops_entries mailbox h =
       removing 1 acl_table entries old new (Int mailbox ∷ []) text.delete_acl text.below count text.delete_acl_is (IsBelow mailbox) (λ o. tests_entries old.now.trees o [] mailbox) (λ olds. quiet_acl olds []) has h
 
-  pub drops_message : (mailbox : ℤ) (uid : ℕ) → Executes text.delete_message (Int mailbox ∷ Int (pos uid) ∷ []) old new (Ok count)
-      → Made (λ db after. Removes db after 4 (IsMessageOf mailbox uid)) old new
-  drops_message mailbox uid h =
-      removing 2 message_table messages old new (Int mailbox ∷ Int (pos uid) ∷ []) text.delete_message text.numbered count text.delete_message_is (IsMessageOf mailbox uid)
-      (λ o. tests_message old.now.trees o [] mailbox uid) (λ olds. quiet_message olds []) has h
-
   pub drops_epoch : (tree path : List ℕ) → Executes text.delete_epoch (Words tree ∷ Words path ∷ []) old new (Ok count) → Made (λ db after. Removes db after 10 (IsEpochOf tree path)) old new
   drops_epoch tree path h =
       removing 5 epoch_table epochs old new (Words tree ∷ Words path ∷ []) text.delete_epoch text.under count text.delete_epoch_is (IsEpochOf tree path)
@@ -251,7 +221,7 @@ module _ (old new : State) (count : ℕ) (has : old.now.schema ≡ store_schema)
 
 -- ---- rows that are updated
 
-replacing : (at : ℕ) (table : Table) → IsPlainTable at table → (old new : State) (params : Row) (sql : List ℕ) (tests project : List Term) (count : ℕ)
+pub replacing : (at : ℕ) (table : Table) → IsPlainTable at table → (old new : State) (params : Row) (sql : List ℕ) (tests project : List Term) (count : ℕ)
     → text.IsText sql (Update at (record { lets = []; body = text.plain_query (inner table.tree end) tests project })) → (P : Row → Type 0) → (IsOrderly old.now.trees → AreTests old.now.trees table tests params P)
     → (heir : Row → Row) → ((row : Row) → eval_all project (params ∷ row ∷ []) ≡ column row 0 ∷ heir row)
     → ((row : Row) → IsRowOf table row → cast_row table (heir row) ≡ heir row) → ((row : Row) → IsRowOf table row → IsRowOf table (heir row))
@@ -311,18 +281,6 @@ fits_counted uidnext shared row h =
     subst (λ r. IsRowOf mailbox_table (counted_row uidnext shared r)) (sym m.is)
     ((m.id, refl), (refl, ((m.tree, refl), ((m.path, refl), ((m.validity, refl), ((pos uidnext, refl), ((shared, refl), refl)))))))
 
-cast_flagged : (flags : ℕ) (keywords : List ℕ) (place : ℤ) (row : Row) → IsRowOf message_table row → cast_row message_table (flagged_row flags keywords place row) ≡ flagged_row flags keywords place row
-cast_flagged flags keywords place row h =
-    let m = message_is row h in
-    subst (λ r. cast_row message_table (flagged_row flags keywords place r) ≡ flagged_row flags keywords place r) (sym m.is)
-    (rw (cast_int m.rowid, cast_int m.mailbox, cast_int m.uid, cast_int (pos flags), cast_int place) refl)
-
-fits_flagged : (flags : ℕ) (keywords : List ℕ) (place : ℤ) (row : Row) → IsRowOf message_table row → IsRowOf message_table (flagged_row flags keywords place row)
-fits_flagged flags keywords place row h =
-    let m = message_is row h in
-    subst (λ r. IsRowOf message_table (flagged_row flags keywords place r)) (sym m.is)
-    ((m.rowid, refl), ((m.mailbox, refl), ((m.uid, refl), ((m.date, refl), ((m.octets, refl), ((pos flags, refl), ((keywords, refl), ((place, refl), refl))))))))
-
 module _ (old new : State) (count : ℕ) (has : old.now.schema ≡ store_schema) where
   pub moves_mailbox : (tree path to : List ℕ) (validity : ℕ) → Executes text.move_mailbox (Words tree ∷ Words path ∷ Words to ∷ Int (pos validity) ∷ []) old new (Ok count)
       → Made (λ db after. Replaces db after 0 (IsNamed tree path) (moved_row to validity)) old new
@@ -335,12 +293,3 @@ module _ (old new : State) (count : ℕ) (has : old.now.schema ≡ store_schema)
   counts_mailbox mailbox uidnext shared h =
       replacing 0 mailbox_table mailboxes old new (Int mailbox ∷ Int (pos uidnext) ∷ Int shared ∷ []) text.count_mailbox (text.is_given 0 0 ∷ []) text.counted_row count text.count_mailbox_is (HasId mailbox)
       (λ o. tests_id old.now.trees o (Int (pos uidnext) ∷ Int shared ∷ []) mailbox) (counted_row uidnext shared) (λ row. refl) (cast_counted uidnext shared) (fits_counted uidnext shared) (quiet_mailbox old.now.trees) has h
-
-  pub flags_message : (mailbox : ℤ) (uid flags : ℕ) (keywords : List ℕ) (place : ℤ)
-      → Executes text.flag_message (Int mailbox ∷ Int (pos uid) ∷ Int (pos flags) ∷ Words keywords ∷ Int place ∷ []) old new (Ok count)
-      → Made (λ db after. Replaces db after 4 (IsMessageOf mailbox uid) (flagged_row flags keywords place)) old new
-  flags_message mailbox uid flags keywords place h =
-      replacing 2 message_table messages old new (Int mailbox ∷ Int (pos uid) ∷ Int (pos flags) ∷ Words keywords ∷ Int place ∷ []) text.flag_message text.numbered text.flagged_row count text.flag_message_is
-      (IsMessageOf mailbox uid) (λ o. tests_message old.now.trees o (Int (pos flags) ∷ Words keywords ∷ Int place ∷ []) mailbox uid) (flagged_row flags keywords place) (λ row. refl)
-      (cast_flagged flags keywords place) (fits_flagged flags keywords place)
-      (λ rows. quiet_message (taken_by old.now.trees (edit_of old.now.trees message_table (ids_of rows) Given 1 rows)) (edit_of old.now.trees message_table (ids_of rows) Given 1 rows).news) has h

@@ -38,3 +38,10 @@ pub one_is : {X : Type 0} (xs : List X) (a : X) → 1 ≤ length xs → length x
 one_is [] a low high h = absurd (omega (arith, low))
 one_is (x ∷ []) a low high h = λ i. sym h i ∷ []
 one_is (x ∷ y ∷ ys) a low high h = absurd (omega (arith, high))
+
+pub three_are : {X : Type 0} (xs : List X) (a b c : X) → 3 ≤ length xs → length xs < 4 → a ≡ get_or xs 0 a → b ≡ get_or xs 1 b → c ≡ get_or xs 2 c → xs ≡ a ∷ b ∷ c ∷ []
+three_are [] a b c low high h0 h1 h2 = absurd (omega (arith, low))
+three_are (x0 ∷ []) a b c low high h0 h1 h2 = absurd (omega (arith, low))
+three_are (x0 ∷ x1 ∷ []) a b c low high h0 h1 h2 = absurd (omega (arith, low))
+three_are (x0 ∷ x1 ∷ x2 ∷ []) a b c low high h0 h1 h2 = λ i. sym h0 i ∷ sym h1 i ∷ sym h2 i ∷ []
+three_are (x0 ∷ x1 ∷ x2 ∷ y ∷ ys) a b c low high h0 h1 h2 = absurd (omega (arith, high))

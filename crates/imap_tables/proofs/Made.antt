@@ -19,8 +19,9 @@ use Rattle.imap_tables.specs.Texts.{text_at, table_at, schema_at}
 use Rattle.sqlite_rules.specs.Lists.{Has}
 use Rattle.imap_tables.specs.Edits.{Adds, KeepsOthers}
 use Rattle.imap_tables.specs.Rows.{AreApart, IsOrderly, meta_row}
-use Rattle.imap_tables.specs.Steps.{HasSchema, AreEmpty, IsCall, IsNewStore, MakesNext, MakesStore, MakesTables, Turns, store_version}
-use Rattle.imap_tables.specs.Tables.{store_tables, mailbox_table, acl_table, message_table, gone_table, mark_table, epoch_table, sub_table, meta_table}
+use Rattle.imap_tables.specs.Steps.{HasSchema, AreEmpty, IsCall, IsNewStore, KeepTables, MakesNext, MakesStore, MakesTables, Turns, store_version}
+use Rattle.imap_tables.proofs.Tested.{bodies_listed, heads_listed, keywords_listed}
+use Rattle.imap_tables.specs.Tables.{body_table, keyword_table, message2_table, store_tables, mailbox_table, acl_table, message_table, gone_table, mark_table, epoch_table, sub_table, meta_table}
 use Rattle.imap_tables.proofs.Dropped.{ne}
 use Rattle.imap_tables.proofs.Edited.{went, same_value}
 
@@ -67,7 +68,19 @@ makes_meta : IsMaking (text_at 7) (schema_at 7) (table_at 7) (schema_at 8)
 unfolding understood everything
 makes_meta = record { command = refl; text = refl; plain = (refl, refl); defined = refl; counted = refl; created_is = refl; tree = refl; grows = λ db was here. (was.0, (was.1.0, (was.1.1.0, (was.1.1.1.0, (was.1.1.1.1.0, (was.1.1.1.1.1.0, (was.1.1.1.1.1.1.0, (here, tt)))))))) }
 
-pub making : (n : ℕ) → n < 8 → IsMaking (text_at n) (schema_at n) (table_at n) (schema_at (n + 1))
+makes_message2 : IsMaking (text_at 8) (schema_at 8) (table_at 8) (schema_at 9)
+unfolding understood everything
+makes_message2 = record { command = refl; text = refl; plain = (refl, refl); defined = refl; counted = refl; created_is = refl; tree = refl; grows = λ db was here. (was.0, (was.1.0, (was.1.1.0, (was.1.1.1.0, (was.1.1.1.1.0, (was.1.1.1.1.1.0, (was.1.1.1.1.1.1.0, (was.1.1.1.1.1.1.1.0, (here, tt))))))))) }
+
+makes_body : IsMaking (text_at 9) (schema_at 9) (table_at 9) (schema_at 10)
+unfolding understood everything
+makes_body = record { command = refl; text = refl; plain = (refl, refl); defined = refl; counted = refl; created_is = refl; tree = refl; grows = λ db was here. (was.0, (was.1.0, (was.1.1.0, (was.1.1.1.0, (was.1.1.1.1.0, (was.1.1.1.1.1.0, (was.1.1.1.1.1.1.0, (was.1.1.1.1.1.1.1.0, (was.1.1.1.1.1.1.1.1.0, (here, tt)))))))))) }
+
+makes_keyword : IsMaking (text_at 10) (schema_at 10) (table_at 10) (schema_at 11)
+unfolding understood everything
+makes_keyword = record { command = refl; text = refl; plain = (refl, refl); defined = refl; counted = refl; created_is = refl; tree = refl; grows = λ db was here. (was.0, (was.1.0, (was.1.1.0, (was.1.1.1.0, (was.1.1.1.1.0, (was.1.1.1.1.1.0, (was.1.1.1.1.1.1.0, (was.1.1.1.1.1.1.1.0, (was.1.1.1.1.1.1.1.1.0, (was.1.1.1.1.1.1.1.1.1.0, (here, tt))))))))))) }
+
+pub making : (n : ℕ) → n < 11 → IsMaking (text_at n) (schema_at n) (table_at n) (schema_at (n + 1))
 making zero low = makes_mailbox
 making (suc zero) low = makes_acl
 making (suc (suc zero)) low = makes_message
@@ -76,7 +89,10 @@ making (suc (suc (suc (suc zero)))) low = makes_mark
 making (suc (suc (suc (suc (suc zero))))) low = makes_epoch
 making (suc (suc (suc (suc (suc (suc zero)))))) low = makes_sub
 making (suc (suc (suc (suc (suc (suc (suc zero))))))) low = makes_meta
-making (suc (suc (suc (suc (suc (suc (suc (suc n)))))))) low = absurd (omega (arith, low))
+making (suc (suc (suc (suc (suc (suc (suc (suc zero)))))))) low = makes_message2
+making (suc (suc (suc (suc (suc (suc (suc (suc (suc zero))))))))) low = makes_body
+making (suc (suc (suc (suc (suc (suc (suc (suc (suc (suc zero)))))))))) low = makes_keyword
+making (suc (suc (suc (suc (suc (suc (suc (suc (suc (suc (suc n))))))))))) low = absurd (omega (arith, low))
 
 still_empty : (tables : List Table) (old new : Trees) → AllByRecursion (λ t. new t.tree ≡ old t.tree) tables → AreEmpty tables old → AreEmpty tables new
 still_empty [] old new kept h = tt
@@ -84,7 +100,7 @@ still_empty (t ∷ tables) old new kept h = (kept.0 ∙ h.0, still_empty tables 
 
 -- A table is made at the end of the schema, with no row, and those before it keep their rows.
 pub makes : (sql : List ℕ) (schema after : Schema) (table : Table) → IsMaking sql schema table after → (old new : State) (count : ℕ) → old.now.schema ≡ schema → Executes sql [] old new (Ok count)
-    → (new.now.schema ≡ after) × (AreEmpty schema.tables old.now.trees → AreEmpty after.tables new.now.trees)
+    → (new.now.schema ≡ after) × (AreEmpty schema.tables old.now.trees → AreEmpty after.tables new.now.trees) × KeepTables schema.tables old.now.trees new.now.trees × (new.now.trees table.tree ≡ [])
 makes sql schema after table m old new count has h =
     let w = subst (λ t. Writes old new None CreateTable t [] count) m.text (runs_as sql [] old new schema has CreateTable m.command m.plain count h) in
     let all = went w.changed in
@@ -99,12 +115,15 @@ makes sql schema after table m old new count has h =
     let kept : KeepsRows schema.tables old.now.trees new.now.trees = subst (λ (d : Database). KeepsRows schema.tables old.now.trees d.trees) (sym now) (subst (λ s. KeepsRows s.tables old.now.trees first.0.trees) has made.others) in (
       ap (λ (d : Database). d.schema) now ∙ is ∙ m.created_is,
       λ was. m.grows new.now.trees (still_empty schema.tables old.now.trees new.now.trees kept was) (subst (λ t. new.now.trees t ≡ []) m.tree empty),
+      kept,
+      subst (λ t. new.now.trees t ≡ []) m.tree empty,
     )
 
-pub next_made : (n : ℕ) (old new : State) (r : Result ℕ Error) → n < 8 → HasSchema (schema_at n) old → HasCleanDisk old → ExecutesInside 0 (text_at n) [] old new r → OnOk r (MakesNext n old new)
+pub next_made : (n : ℕ) (old new : State) (r : Result ℕ Error) → n < 11 → HasSchema (schema_at n) old → HasCleanDisk old → ExecutesInside 0 (text_at n) [] old new r → OnOk r (MakesNext n old new)
 next_made n old new (Err e) low has clean h = tt
 next_made n old new (Ok count) low has clean h =
-    let it = makes (text_at n) (schema_at n) (schema_at (n + 1)) (table_at n) (making n low) old new count (has clean h.1.was_open) h.0 in record { schema = it.0; empty = it.1; shown = h.1 }
+    let it = makes (text_at n) (schema_at n) (schema_at (n + 1)) (table_at n) (making n low) old new count (has clean h.1.was_open) h.0 in
+    record { schema = it.0; empty = it.1; kept = it.2; blank = it.3; shown = h.1 }
 
 -- ---- the version
 
@@ -147,6 +166,10 @@ versioned db next h it = record {
         ),
       ),
     ),
+  );
+  added = (
+    still db next h it.others message2_table heads_listed refl,
+    (still db next h it.others body_table bodies_listed refl, (still db next h it.others keyword_table keywords_listed refl, tt)),
   );
 }
 

@@ -14,12 +14,16 @@ use Rattle.sqlite_tied.specs.Compute.{everything}
 use Rattle.sqlite.specs.Command.{Command}
 use Rattle.sqlite.specs.Listing.{understood, reads_listing}
 use Rattle.sqlite.proofs.Callers.{IsPlain, command_of}
+use Rattle.sqlite.specs.Schema.{Schema}
 use Rattle.imap_tables.specs.Tables.{store_schema}
 
--- the text is this command, without RETURNING and without the time
-pub record IsText (sql : List ℕ) (command : Command) : Type 0 where
-  pub means : command_of (understood store_schema sql) ≡ command
-  pub plain : IsPlain (understood store_schema sql)
+-- under the schema the text is this command, without RETURNING and without the time
+pub record IsTextIn (schema : Schema) (sql : List ℕ) (command : Command) : Type 0 where
+  pub means : command_of (understood schema sql) ≡ command
+  pub plain : IsPlain (understood schema sql)
+
+abbrev pub IsText : (sql : List ℕ) (command : Command) → Type 0
+IsText sql command = IsTextIn store_schema sql command
 
 abbrev pub plain_query : Join → List Term → List Term → Query
 plain_query from filter project = record { from = from; filter = filter; group = None; project = project; distinct = false; collations = []; order = []; limit = lit (Int (negsuc 0)); offset = lit (Int (pos 0)) }
@@ -187,3 +191,111 @@ insert_meta = codes "INSERT INTO meta (key, value) VALUES (?1, ?2)"
 pub insert_meta_is : IsText insert_meta (Insert 7 (Values (lit Null ∷ col 0 0 ∷ col 0 1 ∷ []) 3))
 unfolding understood everything
 insert_meta_is = record { means = refl; plain = (refl, refl) }
+
+-- ---- of the three tables of messages
+
+abbrev pub insert_head : List ℕ
+insert_head = codes "INSERT INTO message2 (mailbox, uid, date, flags, place) VALUES (?1, ?2, ?3, ?4, ?5)"
+
+abbrev pub head_terms : List Term
+head_terms = lit Null ∷ col 0 0 ∷ col 0 1 ∷ col 0 2 ∷ col 0 3 ∷ col 0 4 ∷ []
+
+pub insert_head_is : IsText insert_head (Insert 8 (Values head_terms 6))
+unfolding understood everything
+insert_head_is = record { means = refl; plain = (refl, refl) }
+
+abbrev pub insert_body : List ℕ
+insert_body = codes "INSERT INTO body (mailbox, uid, octets) VALUES (?1, ?2, ?3)"
+
+pub insert_body_is : IsText insert_body (Insert 9 (Values (lit Null ∷ col 0 0 ∷ col 0 1 ∷ col 0 2 ∷ []) 4))
+unfolding understood everything
+insert_body_is = record { means = refl; plain = (refl, refl) }
+
+abbrev pub insert_keyword : List ℕ
+insert_keyword = codes "INSERT INTO keyword (mailbox, uid, word) VALUES (?1, ?2, ?3)"
+
+pub insert_keyword_is : IsText insert_keyword (Insert 10 (Values (lit Null ∷ col 0 0 ∷ col 0 1 ∷ col 0 2 ∷ []) 4))
+unfolding understood everything
+insert_keyword_is = record { means = refl; plain = (refl, refl) }
+
+abbrev pub flag_head : List ℕ
+flag_head = codes "UPDATE message2 SET flags = ?3, place = ?4 WHERE mailbox = ?1 AND uid = ?2"
+
+abbrev pub flagged_head : List Term
+flagged_head = col 1 0 ∷ col 1 0 ∷ col 1 1 ∷ col 1 2 ∷ col 1 3 ∷ col 0 2 ∷ col 0 3 ∷ []
+
+pub flag_head_is : IsText flag_head (Update 8 (record { lets = []; body = plain_query (inner 16 end) numbered flagged_head }))
+unfolding understood everything
+flag_head_is = record { means = refl; plain = (refl, refl) }
+
+abbrev pub delete_head : List ℕ
+delete_head = codes "DELETE FROM message2 WHERE mailbox = ?1 AND uid = ?2"
+
+pub delete_head_is : IsText delete_head (Delete 8 (record { lets = []; body = rowids_where 16 numbered }))
+unfolding understood everything
+delete_head_is = record { means = refl; plain = (refl, refl) }
+
+abbrev pub delete_body : List ℕ
+delete_body = codes "DELETE FROM body WHERE mailbox = ?1 AND uid = ?2"
+
+pub delete_body_is : IsText delete_body (Delete 9 (record { lets = []; body = rowids_where 18 numbered }))
+unfolding understood everything
+delete_body_is = record { means = refl; plain = (refl, refl) }
+
+abbrev pub delete_keywords : List ℕ
+delete_keywords = codes "DELETE FROM keyword WHERE mailbox = ?1 AND uid = ?2"
+
+pub delete_keywords_is : IsText delete_keywords (Delete 10 (record { lets = []; body = rowids_where 20 numbered }))
+unfolding understood everything
+delete_keywords_is = record { means = refl; plain = (refl, refl) }
+
+abbrev pub worded : List Term
+worded = is_given 1 0 ∷ is_given 2 1 ∷ is_given 3 2 ∷ []
+
+abbrev pub delete_keyword : List ℕ
+delete_keyword = codes "DELETE FROM keyword WHERE mailbox = ?1 AND uid = ?2 AND word = ?3"
+
+pub delete_keyword_is : IsText delete_keyword (Delete 10 (record { lets = []; body = rowids_where 20 worded }))
+unfolding understood everything
+delete_keyword_is = record { means = refl; plain = (refl, refl) }
+
+abbrev pub find_head : List ℕ
+find_head = codes "SELECT uid FROM message2 WHERE mailbox = ?1 AND uid = ?2"
+
+pub find_head_is : IsText find_head (Select (record { lets = []; body = plain_query (inner 16 end) numbered (col 1 2 ∷ []) }) (codes "uid" ∷ []))
+unfolding understood everything
+find_head_is = record { means = refl; plain = (refl, refl) }
+
+pub find_head_unlisted : reads_listing store_schema find_head ≡ false
+unfolding understood everything
+find_head_unlisted = refl
+
+abbrev pub find_keywords : List ℕ
+find_keywords = codes "SELECT word FROM keyword WHERE mailbox = ?1 AND uid = ?2"
+
+pub find_keywords_is : IsText find_keywords (Select (record { lets = []; body = plain_query (inner 20 end) numbered (col 1 3 ∷ []) }) (codes "word" ∷ []))
+unfolding understood everything
+find_keywords_is = record { means = refl; plain = (refl, refl) }
+
+pub find_keywords_unlisted : reads_listing store_schema find_keywords ≡ false
+unfolding understood everything
+find_keywords_unlisted = refl
+
+-- ---- a store of the first version
+
+abbrev pub delete_messages : List ℕ
+delete_messages = codes "DELETE FROM message"
+
+pub delete_messages_is : IsText delete_messages (Delete 2 (record { lets = []; body = rowids_where 4 [] }))
+unfolding understood everything
+delete_messages_is = record { means = refl; plain = (refl, refl) }
+
+abbrev pub update_meta : List ℕ
+update_meta = codes "UPDATE meta SET value = ?2 WHERE key = ?1"
+
+abbrev pub valued_row : List Term
+valued_row = col 1 0 ∷ col 1 0 ∷ col 1 1 ∷ col 0 1 ∷ []
+
+pub update_meta_is : IsText update_meta (Update 7 (record { lets = []; body = plain_query (inner 14 end) (is_given 1 0 ∷ []) valued_row }))
+unfolding understood everything
+update_meta_is = record { means = refl; plain = (refl, refl) }

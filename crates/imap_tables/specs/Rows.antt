@@ -1,5 +1,8 @@
 -- The rows of the tables as the store of trees has them: first the rowid.
 use Rattle.std.specs.Prelude.{◌≡◌, ℤ, ℕ, pos, List, [], ◌∷◌, Bool, true, false, if◌then◌else◌}
+use Rattle.std.specs.Prelude.{string_bytes}
+use Rattle.std.specs.Global.{Global}
+use Rattle.std.specs.declared.string.String.{String}
 use Rattle.std.specs.Ordering.{is_eq}
 use Rattle.sqlite.specs.declared.types.Value.{Value}
 use Rattle.sqlite.specs.declared.types.Value.TheVariants.{Null, Int, Text as Words, Blob as Bytes}
@@ -30,6 +33,16 @@ message_row mailbox uid date octets flags keywords place rowid =
 abbrev pub gone_row : (mailbox : ℤ) (uid : ℕ) (place : ℤ) (rowid : ℤ) → Row
 gone_row mailbox uid place rowid = Int rowid ∷ Int mailbox ∷ Int (pos uid) ∷ Int place ∷ []
 
+abbrev pub message2_row : (mailbox : ℤ) (uid : ℕ) (date : List ℕ) (flags : ℕ) (place : ℤ) (rowid : ℤ) → Row
+message2_row mailbox uid date flags place rowid =
+    Int rowid ∷ Int mailbox ∷ Int (pos uid) ∷ Words date ∷ Int (pos flags) ∷ Int place ∷ []
+
+abbrev pub body_row : (mailbox : ℤ) (uid : ℕ) (octets : List ℕ) (rowid : ℤ) → Row
+body_row mailbox uid octets rowid = Int rowid ∷ Int mailbox ∷ Int (pos uid) ∷ Bytes octets ∷ []
+
+abbrev pub keyword_row : (mailbox : ℤ) (uid : ℕ) (word : List ℕ) (rowid : ℤ) → Row
+keyword_row mailbox uid word rowid = Int rowid ∷ Int mailbox ∷ Int (pos uid) ∷ Words word ∷ []
+
 -- 1 or 0
 abbrev pub flag_of : Bool → ℤ
 flag_of set = if set then pos 1 else pos 0
@@ -47,6 +60,10 @@ sub_row user tree path rowid = Int rowid ∷ Words user ∷ Words tree ∷ Words
 
 abbrev pub meta_row : (key : List ℕ) (value : ℕ) (rowid : ℤ) → Row
 meta_row key value rowid = Int rowid ∷ Words key ∷ Int (pos value) ∷ []
+
+-- a row that shows a text alone
+abbrev pub text_row : String Global → Row
+text_row text = Words (string_bytes text) ∷ []
 
 -- ---- tables that are in order
 

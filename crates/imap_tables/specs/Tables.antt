@@ -37,6 +37,15 @@ sub_tree = 12
 abbrev pub meta_tree : ℕ
 meta_tree = 14
 
+abbrev pub message2_tree : ℕ
+message2_tree = 16
+
+abbrev pub body_tree : ℕ
+body_tree = 18
+
+abbrev pub keyword_tree : ℕ
+keyword_tree = 20
+
 -- ---- the tables
 
 abbrev pub column_of : Kind → List ℕ → Column
@@ -118,7 +127,7 @@ acl_table =
     child_table (codes "acl") acl_tree
     (column_of Text (codes "identifier") ∷ column_of Integer (codes "rights") ∷ []) (2 ∷ [])
 
--- a message that is there
+-- a message that is there, in one row, as the first version has it; now the table is empty
 abbrev pub message_table : Table
 message_table =
     child_table (codes "message") message_tree
@@ -159,6 +168,25 @@ meta_table =
     table_of (codes "meta") meta_tree (column_of Text (codes "key") ∷ column_of Integer (codes "value") ∷ [])
     (1 ∷ []) []
 
+-- a message that is there, without its octets and keywords
+abbrev pub message2_table : Table
+message2_table =
+    child_table (codes "message2") message2_tree
+    (column_of Integer (codes "uid") ∷ column_of Text (codes "date") ∷ column_of Integer (codes "flags")
+    ∷ column_of Integer (codes "place") ∷ []) (2 ∷ [])
+
+-- its octets
+abbrev pub body_table : Table
+body_table =
+    child_table (codes "body") body_tree
+    (column_of Integer (codes "uid") ∷ column_of Blob (codes "octets") ∷ []) (2 ∷ [])
+
+-- one of its keywords
+abbrev pub keyword_table : Table
+keyword_table =
+    child_table (codes "keyword") keyword_tree
+    (column_of Integer (codes "uid") ∷ column_of Text (codes "word") ∷ []) (2 ∷ 3 ∷ [])
+
 abbrev pub index_of : List ℕ → ℕ → ℕ → List ℕ → Index
 index_of name tree table columns = record {
   name = name;
@@ -169,10 +197,20 @@ index_of name tree table columns = record {
   is_unique = true;
 }
 
+-- the three tables of messages, which the second version added
+abbrev pub added_tables : List Table
+added_tables = message2_table ∷ body_table ∷ keyword_table ∷ []
+
 abbrev pub store_tables : List Table
 store_tables =
     mailbox_table ∷ acl_table ∷ message_table ∷ gone_table ∷ mark_table ∷ epoch_table ∷ sub_table
-    ∷ meta_table ∷ []
+    ∷ meta_table ∷ message2_table ∷ body_table ∷ keyword_table ∷ []
+
+abbrev pub added_indexes : List Index
+added_indexes =
+    index_of (codes "sqlite_autoindex_message2_1") 17 message2_tree (1 ∷ 2 ∷ [])
+    ∷ index_of (codes "sqlite_autoindex_body_1") 19 body_tree (1 ∷ 2 ∷ [])
+    ∷ index_of (codes "sqlite_autoindex_keyword_1") 21 keyword_tree (1 ∷ 2 ∷ 3 ∷ []) ∷ []
 
 abbrev pub store_indexes : List Index
 store_indexes =
@@ -183,7 +221,10 @@ store_indexes =
     ∷ index_of (codes "sqlite_autoindex_mark_1") 9 mark_tree (1 ∷ 2 ∷ 3 ∷ [])
     ∷ index_of (codes "sqlite_autoindex_epoch_1") 11 epoch_tree (1 ∷ 2 ∷ [])
     ∷ index_of (codes "sqlite_autoindex_sub_1") 13 sub_tree (1 ∷ 2 ∷ 3 ∷ [])
-    ∷ index_of (codes "sqlite_autoindex_meta_1") 15 meta_tree (1 ∷ []) ∷ []
+    ∷ index_of (codes "sqlite_autoindex_meta_1") 15 meta_tree (1 ∷ [])
+    ∷ index_of (codes "sqlite_autoindex_message2_1") 17 message2_tree (1 ∷ 2 ∷ [])
+    ∷ index_of (codes "sqlite_autoindex_body_1") 19 body_tree (1 ∷ 2 ∷ [])
+    ∷ index_of (codes "sqlite_autoindex_keyword_1") 21 keyword_tree (1 ∷ 2 ∷ 3 ∷ []) ∷ []
 
 abbrev pub store_schema : Schema
 store_schema = record { tables = store_tables; indexes = store_indexes; views = [] }
@@ -193,4 +234,5 @@ no_schema = record { tables = []; indexes = []; views = [] }
 
 -- the tables below a mailbox
 abbrev pub tables_below : List Table
-tables_below = acl_table ∷ message_table ∷ gone_table ∷ mark_table ∷ []
+tables_below =
+    acl_table ∷ message_table ∷ gone_table ∷ mark_table ∷ message2_table ∷ body_table ∷ keyword_table ∷ []

@@ -49,11 +49,27 @@ abbrev pub create_meta : List ℕ
 create_meta =
     codes "CREATE TABLE meta (key TEXT NOT NULL PRIMARY KEY, value INTEGER NOT NULL) STRICT"
 
+abbrev pub create_message2 : List ℕ
+create_message2 =
+    codes "CREATE TABLE message2 (mailbox INTEGER NOT NULL REFERENCES mailbox (id) ON DELETE CASCADE, "
+    ++ codes "uid INTEGER NOT NULL, date TEXT NOT NULL, flags INTEGER NOT NULL, "
+    ++ codes "place INTEGER NOT NULL, PRIMARY KEY (mailbox, uid)) STRICT"
+
+abbrev pub create_body : List ℕ
+create_body =
+    codes "CREATE TABLE body (mailbox INTEGER NOT NULL REFERENCES mailbox (id) ON DELETE CASCADE, "
+    ++ codes "uid INTEGER NOT NULL, octets BLOB NOT NULL, PRIMARY KEY (mailbox, uid)) STRICT"
+
+abbrev pub create_keyword : List ℕ
+create_keyword =
+    codes "CREATE TABLE keyword (mailbox INTEGER NOT NULL REFERENCES mailbox (id) ON DELETE CASCADE, "
+    ++ codes "uid INTEGER NOT NULL, word TEXT NOT NULL, PRIMARY KEY (mailbox, uid, word)) STRICT"
+
 abbrev pub text_at : ℕ → List ℕ
 text_at n =
     slice_index_or
     (create_mailbox ∷ create_acl ∷ create_message ∷ create_gone ∷ create_mark ∷ create_epoch ∷ create_sub
-    ∷ create_meta ∷ []) n []
+    ∷ create_meta ∷ create_message2 ∷ create_body ∷ create_keyword ∷ []) n []
 
 abbrev pub table_at : ℕ → Table
 table_at n = slice_index_or store_schema.tables n mailbox_table
@@ -62,3 +78,7 @@ table_at n = slice_index_or store_schema.tables n mailbox_table
 abbrev pub schema_at : ℕ → Schema
 schema_at n =
     record { tables = take n store_schema.tables; indexes = take n store_schema.indexes; views = [] }
+
+-- that of the first version, which had each message in one row
+abbrev pub first_schema : Schema
+first_schema = schema_at 8

@@ -1,9 +1,9 @@
 //! Rows that are inserted.
 
 ghost use Rattle.std.specs.Prelude.{◌≡◌, pos, OnOk};
-ghost use Rattle.imap_tables.specs.Edits.{Adds};
-ghost use Rattle.imap_tables.specs.Rows.{acl_row, epoch_row, gone_row, mailbox_row, mark_row};
-ghost use Rattle.imap_tables.specs.Rows.{message_row, meta_row, sub_row};
+ghost use Rattle.imap_tables.specs.Edits.{Adds, AddsApart};
+ghost use Rattle.imap_tables.specs.Rows.{acl_row, body_row, epoch_row, gone_row, keyword_row};
+ghost use Rattle.imap_tables.specs.Rows.{mailbox_row, mark_row, message2_row, meta_row, sub_row};
 ghost use Rattle.imap_tables.specs.Steps.{Calls, HasSchema, Turns};
 ghost use Rattle.imap_tables.specs.Tables.{store_schema};
 ghost use Rattle.sqlite.specs.Held.{state};
@@ -47,27 +47,60 @@ pub fn insert_acl<S: Alter>(
     )
 }
 
-/// Inserts a message.
-pub fn insert_message<S: Alter>(
+/// Inserts a message, without its octets and keywords. No two rows agree in a key then.
+pub fn insert_head<S: Alter>(
     tx: &mut Transaction<'_, S>,
     mailbox: &i64,
     uid: u32,
     date: &str,
-    octets: &[u8],
     flags: u32,
-    keywords: &str,
     place: &i64,
 ) -> Result<usize, Error>
     requires { HasSchema store_schema (state S.Store tx.old.conn.now) }
     ensures same_reference { tx.new.conn.ghost_name ≡ tx.old.conn.ghost_name }
     ensures call { Calls S.Store tx.old.conn.now tx.new.conn.now (λ old new. OnOk result
-        (Turns (λ db after. Adds db after 4
-        (message_row mailbox.now uid date.now octets.now flags keywords.now place.now)) old new)) }
+        (Turns (λ db after. AddsApart db after 16
+        (message2_row mailbox.now uid date.now flags place.now)) old new)) }
 {
     tx.execute(
-        "INSERT INTO message (mailbox, uid, date, octets, flags, keywords, place) \
-         VALUES (?1, ?2, ?3, ?4, ?5, ?6, ?7)",
-        params![mailbox, uid, date, octets, flags, keywords, place],
+        "INSERT INTO message2 (mailbox, uid, date, flags, place) VALUES (?1, ?2, ?3, ?4, ?5)",
+        params![mailbox, uid, date, flags, place],
+    )
+}
+
+/// Inserts the octets of a message.
+pub fn insert_body<S: Alter>(
+    tx: &mut Transaction<'_, S>,
+    mailbox: &i64,
+    uid: u32,
+    octets: &[u8],
+) -> Result<usize, Error>
+    requires { HasSchema store_schema (state S.Store tx.old.conn.now) }
+    ensures same_reference { tx.new.conn.ghost_name ≡ tx.old.conn.ghost_name }
+    ensures call { Calls S.Store tx.old.conn.now tx.new.conn.now (λ old new. OnOk result
+        (Turns (λ db after. Adds db after 18 (body_row mailbox.now uid octets.now)) old new)) }
+{
+    tx.execute(
+        "INSERT INTO body (mailbox, uid, octets) VALUES (?1, ?2, ?3)",
+        params![mailbox, uid, octets],
+    )
+}
+
+/// Inserts a keyword of a message.
+pub fn insert_keyword<S: Alter>(
+    tx: &mut Transaction<'_, S>,
+    mailbox: &i64,
+    uid: u32,
+    word: &str,
+) -> Result<usize, Error>
+    requires { HasSchema store_schema (state S.Store tx.old.conn.now) }
+    ensures same_reference { tx.new.conn.ghost_name ≡ tx.old.conn.ghost_name }
+    ensures call { Calls S.Store tx.old.conn.now tx.new.conn.now (λ old new. OnOk result
+        (Turns (λ db after. Adds db after 20 (keyword_row mailbox.now uid word.now)) old new)) }
+{
+    tx.execute(
+        "INSERT INTO keyword (mailbox, uid, word) VALUES (?1, ?2, ?3)",
+        params![mailbox, uid, word],
     )
 }
 

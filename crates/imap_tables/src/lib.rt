@@ -10,27 +10,30 @@ mod deletes;
 mod finding;
 mod inserts;
 mod making;
+mod message_rows;
 mod reading;
-mod saving;
 mod schema;
 mod stored;
 mod tables;
 mod updates;
 
 pub use changes::{ChangeBelow, FlagsRow, MailboxKey, MessageRow, RowChange, SeenFlagRow};
-pub use deletes::{delete_acl, delete_epoch, delete_mailbox, delete_message, delete_subscription};
-pub use finding::find_mailbox;
-pub use inserts::{
-    insert_acl, insert_epoch, insert_gone, insert_mailbox, insert_mark, insert_message,
-    insert_meta, insert_subscription,
+pub use deletes::{
+    delete_acl, delete_body, delete_epoch, delete_head, delete_keyword, delete_keywords,
+    delete_mailbox, delete_messages, delete_subscription,
 };
-pub use making::{STORE_VERSION, make_store};
-pub use reading::{check_open, read_meta, read_tables};
-pub use saving::save_rows;
-pub use schema::{is_blank, is_store};
+pub use finding::{check_head, find_keywords, find_mailbox};
+pub use inserts::{
+    insert_acl, insert_body, insert_epoch, insert_gone, insert_head, insert_keyword,
+    insert_mailbox, insert_mark, insert_meta, insert_subscription,
+};
+pub use making::{FIRST_VERSION, STORE_VERSION, make_added, make_store};
+pub use message_rows::{StoredBody, StoredHead, StoredKeyword};
+pub use reading::{check_open, read_added, read_meta, read_tables};
+pub use schema::{is_blank, is_first_store, is_store};
 pub use stored::{
     FromRow, StoredEntry, StoredEpoch, StoredGone, StoredMailbox, StoredMessage, StoredMeta,
     StoredSeenFlag, StoredSubscription,
 };
-pub use tables::{StoredTables, are_all_apart};
-pub use updates::{count_mailbox, flag_message, move_mailbox};
+pub use tables::{AddedTables, StoredTables, are_added_apart, are_all_apart};
+pub use updates::{count_mailbox, flag_head, move_mailbox, update_meta};

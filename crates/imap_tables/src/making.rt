@@ -2,9 +2,10 @@
 
 ghost use Rattle.std.specs.Prelude.{◌<◌, ◌≡◌, false, IsTrue, OnErr, OnOk};
 ghost use Rattle.imap_tables.specs.Rows.{IsOrderly};
-ghost use Rattle.imap_tables.specs.Steps.{Calls, HasSchema, IsNewStore, MakesNext, MakesStore, MakesTables};
+ghost use Rattle.imap_tables.specs.Steps.{Calls, HasSchema, IsBegun, IsNewStore, MakesAdded, MakesNext};
+ghost use Rattle.imap_tables.specs.Steps.{MakesStore, MakesTables};
 ghost use Rattle.imap_tables.specs.Tables.{no_schema, store_schema};
-ghost use Rattle.imap_tables.specs.Texts.{schema_at, text_at};
+ghost use Rattle.imap_tables.specs.Texts.{first_schema, schema_at, text_at};
 ghost use Rattle.sqlite.specs.Held.{state};
 ghost use Rattle.sqlite.specs.State.{HasCleanDisk, Survives};
 ghost use Rattle.sqlite.specs.Tree.{Trees};
@@ -13,11 +14,14 @@ use crate::inserts::insert_meta;
 use sqlite::{Alter, Connection, Error, Transaction};
 
 /// The version of the tables.
-pub const STORE_VERSION: u32 = 1;
+pub const STORE_VERSION: u32 = 2;
+
+/// The version before, which had each message in one row.
+pub const FIRST_VERSION: u32 = 1;
 
 /// The text that makes the table at a place.
 fn text_of(at: u32) -> &'static str
-    requires low { at < 8 }
+    requires low { at < 11 }
     ensures { result.now ≡ text_at at }
 {
     match at {
@@ -45,13 +49,23 @@ fn text_of(at: u32) -> &'static str
              greatest INTEGER NOT NULL, PRIMARY KEY (tree, path)) STRICT",
         6 => "CREATE TABLE sub (user TEXT NOT NULL, tree TEXT NOT NULL, path TEXT NOT NULL, \
              PRIMARY KEY (user, tree, path)) STRICT",
-        _ => "CREATE TABLE meta (key TEXT NOT NULL PRIMARY KEY, value INTEGER NOT NULL) STRICT",
+        7 => "CREATE TABLE meta (key TEXT NOT NULL PRIMARY KEY, value INTEGER NOT NULL) STRICT",
+        8 =>
+            "CREATE TABLE message2 (mailbox INTEGER NOT NULL REFERENCES mailbox (id) ON DELETE CASCADE, \
+             uid INTEGER NOT NULL, date TEXT NOT NULL, flags INTEGER NOT NULL, \
+             place INTEGER NOT NULL, PRIMARY KEY (mailbox, uid)) STRICT",
+        9 =>
+            "CREATE TABLE body (mailbox INTEGER NOT NULL REFERENCES mailbox (id) ON DELETE CASCADE, \
+             uid INTEGER NOT NULL, octets BLOB NOT NULL, PRIMARY KEY (mailbox, uid)) STRICT",
+        _ =>
+            "CREATE TABLE keyword (mailbox INTEGER NOT NULL REFERENCES mailbox (id) ON DELETE CASCADE, \
+             uid INTEGER NOT NULL, word TEXT NOT NULL, PRIMARY KEY (mailbox, uid, word)) STRICT",
     }
 }
 
 /// Makes the table at a place, after those before it.
 fn make_table<S: Alter>(tx: &mut Transaction<'_, S>, at: u32) -> Result<usize, Error>
-    requires low { at < 8 }
+    requires low { at < 11 }
     requires schema { HasSchema (schema_at at) (state S.Store tx.old.conn.now) }
     ensures same_reference { tx.new.conn.ghost_name ≡ tx.old.conn.ghost_name }
     ensures call { Calls S.Store tx.old.conn.now tx.new.conn.now (λ old new.
@@ -59,6 +73,32 @@ fn make_table<S: Alter>(tx: &mut Transaction<'_, S>, at: u32) -> Result<usize, E
 {
     let text = text_of(at);
     tx.execute(text, &[])
+}
+
+/// Makes the tables `message2` and `body` after those of the first version.
+fn make_two<S: Alter>(tx: &mut Transaction<'_, S>) -> Result<(), Error>
+    requires schema { HasSchema first_schema (state S.Store tx.old.conn.now) }
+    requires begun { IsBegun (state S.Store tx.old.conn.now) }
+    ensures same_reference { tx.new.conn.ghost_name ≡ tx.old.conn.ghost_name }
+    ensures call { Calls S.Store tx.old.conn.now tx.new.conn.now (λ old new.
+        OnOk result (MakesAdded 10 old new)) }
+{
+    make_table(tx, 8)?;
+    make_table(tx, 9)?;
+    Ok(())
+}
+
+/// Makes the three tables of messages after those of the first version, which keep their rows.
+pub fn make_added<S: Alter>(tx: &mut Transaction<'_, S>) -> Result<(), Error>
+    requires schema { HasSchema first_schema (state S.Store tx.old.conn.now) }
+    requires begun { IsBegun (state S.Store tx.old.conn.now) }
+    ensures same_reference { tx.new.conn.ghost_name ≡ tx.old.conn.ghost_name }
+    ensures call { Calls S.Store tx.old.conn.now tx.new.conn.now (λ old new.
+        OnOk result (MakesAdded 11 old new)) }
+{
+    make_two(tx)?;
+    make_table(tx, 10)?;
+    Ok(())
 }
 
 /// Makes all tables in turn.
@@ -73,7 +113,7 @@ fn make_all<S: Alter>(tx: &mut Transaction<'_, S>) -> Result<(), Error>
         → (state S.Store tx.new.conn.now).committed ≡ (state S.Store tx.old.conn.now).committed }
     ensures survives { Survives (state S.Store tx.old.conn.now) (state S.Store tx.new.conn.now) (λ _. ⊥) }
 {
-    'tables: for at in 0u32..8 {
+    'tables: for at in 0u32..11 {
         make_table(tx, at)?;
     }
     Ok(())

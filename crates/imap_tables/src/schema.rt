@@ -1,14 +1,18 @@
 //! Whether a database has the tables of a store.
 
 ghost use Rattle.std.specs.Prelude.{◌≡◌, ◌∷◌, [], ◌↔◌, false, None, IsTrue, codes};
-ghost use Rattle.imap_tables.specs.Tables.{acl_table, epoch_table, gone_table, index_of, mailbox_table};
-ghost use Rattle.imap_tables.specs.Tables.{mark_table, message_table, meta_table, no_schema, store_indexes};
-ghost use Rattle.imap_tables.specs.Tables.{store_schema, store_tables, sub_table, table_of, to_mailbox};
+ghost use Rattle.imap_tables.specs.Tables.{acl_table, added_indexes, added_tables, body_table, epoch_table};
+ghost use Rattle.imap_tables.specs.Tables.{gone_table, index_of, keyword_table, mailbox_table, mark_table};
+ghost use Rattle.imap_tables.specs.Tables.{message2_table, message_table, meta_table, no_schema};
+ghost use Rattle.imap_tables.specs.Tables.{store_indexes, store_schema, store_tables, sub_table, table_of};
+ghost use Rattle.imap_tables.specs.Tables.{to_mailbox};
+ghost use Rattle.imap_tables.specs.Texts.{first_schema};
 ghost use Rattle.sqlite_schema.specs.declared.schema.Action.TheVariants.{Cascade, NoAction};
 
 use crate::columns::{
-    has_acl_columns, has_epoch_columns, has_gone_columns, has_mailbox_columns, has_mark_columns,
-    has_message_columns, has_meta_columns, has_sub_columns,
+    has_acl_columns, has_body_columns, has_epoch_columns, has_gone_columns, has_keyword_columns,
+    has_mailbox_columns, has_mark_columns, has_message_columns, has_message2_columns,
+    has_meta_columns, has_sub_columns,
 };
 use sqlite_schema::code::Terms;
 use sqlite_schema::schema::{Action, Index, Reference, Schema, Stamps, Table};
@@ -276,6 +280,42 @@ fn is_meta(table: &Table) -> bool
     has_meta_columns(table.columns.as_slice())
 }
 
+fn is_message2(table: &Table) -> bool
+    ensures { IsTrue result ↔ (table.now ≡ message2_table) }
+{
+    if !is_table(table, "message2", 16, &[1, 2], &[1, 2]) {
+        return false;
+    }
+    if !is_below(table) {
+        return false;
+    }
+    has_message2_columns(table.columns.as_slice())
+}
+
+fn is_body(table: &Table) -> bool
+    ensures { IsTrue result ↔ (table.now ≡ body_table) }
+{
+    if !is_table(table, "body", 18, &[1, 2], &[1, 2]) {
+        return false;
+    }
+    if !is_below(table) {
+        return false;
+    }
+    has_body_columns(table.columns.as_slice())
+}
+
+fn is_keyword(table: &Table) -> bool
+    ensures { IsTrue result ↔ (table.now ≡ keyword_table) }
+{
+    if !is_table(table, "keyword", 20, &[1, 2, 3], &[1, 2, 3]) {
+        return false;
+    }
+    if !is_below(table) {
+        return false;
+    }
+    has_keyword_columns(table.columns.as_slice())
+}
+
 fn is_index(index: &Index, name: &str, tree: u32, table: u32, columns: &[usize]) -> bool
     ensures { IsTrue result ↔ (index.now ≡ index_of name.now tree table columns.now) }
 {
@@ -297,8 +337,9 @@ fn is_index(index: &Index, name: &str, tree: u32, table: u32, columns: &[usize])
     index.name.as_slice() == name.as_bytes()
 }
 
-fn are_tables(tables: &[Table]) -> bool
-    ensures { IsTrue result ↔ (tables.now ≡ store_tables) }
+/// Whether the tables are those of the first version.
+fn are_first_tables(tables: &[Table]) -> bool
+    ensures { IsTrue result ↔ (tables.now ≡ first_schema.tables) }
 {
     let [mailbox, acl, message, gone, mark, epoch, sub, meta] = tables else {
         return false;
@@ -327,8 +368,34 @@ fn are_tables(tables: &[Table]) -> bool
     is_meta(meta)
 }
 
-fn are_indexes(indexes: &[Index]) -> bool
-    ensures { IsTrue result ↔ (indexes.now ≡ store_indexes) }
+/// Whether the tables are the three of messages, which the second version added.
+fn are_added_tables(tables: &[Table]) -> bool
+    ensures { IsTrue result ↔ (tables.now ≡ added_tables) }
+{
+    let [message2, body, keyword] = tables else {
+        return false;
+    };
+    if !is_message2(message2) {
+        return false;
+    }
+    if !is_body(body) {
+        return false;
+    }
+    is_keyword(keyword)
+}
+
+fn are_tables(tables: &[Table]) -> bool
+    ensures { IsTrue result ↔ (tables.now ≡ store_tables) }
+{
+    let Some((first, added)) = tables.split_at_checked(8) else {
+        return false;
+    };
+    are_first_tables(first) && are_added_tables(added)
+}
+
+/// Whether the indexes are those of the first version.
+fn are_first_indexes(indexes: &[Index]) -> bool
+    ensures { IsTrue result ↔ (indexes.now ≡ first_schema.indexes) }
 {
     let [mailbox, acl, message, gone, mark, epoch, sub, meta] = indexes else {
         return false;
@@ -355,6 +422,44 @@ fn are_indexes(indexes: &[Index]) -> bool
         return false;
     }
     is_index(meta, "sqlite_autoindex_meta_1", 15, 14, &[1])
+}
+
+/// Whether the indexes are those of the three tables of messages.
+fn are_added_indexes(indexes: &[Index]) -> bool
+    ensures { IsTrue result ↔ (indexes.now ≡ added_indexes) }
+{
+    let [message2, body, keyword] = indexes else {
+        return false;
+    };
+    if !is_index(message2, "sqlite_autoindex_message2_1", 17, 16, &[1, 2]) {
+        return false;
+    }
+    if !is_index(body, "sqlite_autoindex_body_1", 19, 18, &[1, 2]) {
+        return false;
+    }
+    is_index(keyword, "sqlite_autoindex_keyword_1", 21, 20, &[1, 2, 3])
+}
+
+fn are_indexes(indexes: &[Index]) -> bool
+    ensures { IsTrue result ↔ (indexes.now ≡ store_indexes) }
+{
+    let Some((first, added)) = indexes.split_at_checked(8) else {
+        return false;
+    };
+    are_first_indexes(first) && are_added_indexes(added)
+}
+
+/// Whether the tables are those of a store of the first version.
+pub fn is_first_store(schema: &Schema) -> bool
+    ensures { IsTrue result ↔ (schema.now ≡ first_schema) }
+{
+    if !schema.views.is_empty() {
+        return false;
+    }
+    if !are_first_tables(schema.tables.as_slice()) {
+        return false;
+    }
+    are_first_indexes(schema.indexes.as_slice())
 }
 
 /// Whether the tables are those of a store.

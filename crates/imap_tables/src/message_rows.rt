@@ -1,0 +1,127 @@
+//! Rows of the three tables of messages, as they are read.
+
+ghost use Rattle.imap_tables.specs.Stored.{IsBody, IsHead, IsKeyword, ShowsBody, ShowsHead, ShowsKeyword};
+
+use crate::stored::{FromRow, octets_at};
+use imap_lex::Octets;
+use sqlite::{Error, Row};
+
+/// A message that is there, without its octets and keywords.
+#[derive(Debug, Drop)]
+pub struct StoredHead {
+    pub rowid: i64,
+    pub mailbox: i64,
+    pub uid: u32,
+    pub date: String,
+    pub flags: u32,
+    /// The place of its last shared event.
+    pub place: i64,
+}
+
+/// The octets of a message.
+#[derive(Debug, Drop)]
+pub struct StoredBody {
+    pub rowid: i64,
+    pub mailbox: i64,
+    pub uid: u32,
+    pub octets: Octets,
+}
+
+/// A keyword of a message.
+#[derive(Debug, Drop)]
+pub struct StoredKeyword {
+    pub rowid: i64,
+    pub mailbox: i64,
+    pub uid: u32,
+    pub word: String,
+}
+
+impl FromRow for StoredHead {
+    ghost is_of = { IsHead };
+
+    ghost shows = { ShowsHead };
+
+    ghost id = { λ it. it.rowid };
+
+    fn rowid(&self) -> i64 {
+        self.rowid
+    }
+
+    #[tactic(auto, using(crate::proofs::Utf8::text_is_utf8))]
+    fn read(row: &Row) -> Result<StoredHead, Error> {
+        if row.column_count() != 6 {
+            return Err(Error::InvalidColumnIndex(6));
+        }
+        let rowid = row.get(0)?;
+        let mailbox = row.get(1)?;
+        let uid = row.get(2)?;
+        let date = row.get(3)?;
+        let flags = row.get(4)?;
+        let place = row.get(5)?;
+        Ok(StoredHead {
+            rowid,
+            mailbox,
+            uid,
+            date,
+            flags,
+            place,
+        })
+    }
+}
+
+impl FromRow for StoredBody {
+    ghost is_of = { IsBody };
+
+    ghost shows = { ShowsBody };
+
+    ghost id = { λ it. it.rowid };
+
+    fn rowid(&self) -> i64 {
+        self.rowid
+    }
+
+    fn read(row: &Row) -> Result<StoredBody, Error> {
+        if row.column_count() != 4 {
+            return Err(Error::InvalidColumnIndex(4));
+        }
+        let rowid = row.get(0)?;
+        let mailbox = row.get(1)?;
+        let uid = row.get(2)?;
+        let octets = octets_at(row, 3)?;
+        Ok(StoredBody {
+            rowid,
+            mailbox,
+            uid,
+            octets,
+        })
+    }
+}
+
+impl FromRow for StoredKeyword {
+    ghost is_of = { IsKeyword };
+
+    ghost shows = { ShowsKeyword };
+
+    ghost id = { λ it. it.rowid };
+
+    fn rowid(&self) -> i64 {
+        self.rowid
+    }
+
+    #[tactic(auto, using(crate::proofs::Utf8::text_is_utf8))]
+    fn read(row: &Row) -> Result<StoredKeyword, Error> {
+        if row.column_count() != 4 {
+            return Err(Error::InvalidColumnIndex(4));
+        }
+        let rowid = row.get(0)?;
+        let mailbox = row.get(1)?;
+        let uid = row.get(2)?;
+        let word = row.get(3)?;
+        Ok(StoredKeyword {
+            rowid,
+            mailbox,
+            uid,
+            word,
+        })
+    }
+}
