@@ -1,6 +1,6 @@
 -- The rows of a store, by what is read of them.
-use Rattle.std.proofs.Common.{◌≡◌, ◌≤◌, ◌+◌, ℕ, ℤ, true, List, [], ◌∷◌, drop, length, Option, Some, refl, ap, arith}
-use Rattle.std.specs.List.{AllByRecursion}
+use Rattle.std.proofs.Common.{◌≡◌, ◌≤◌, ◌+◌, ◌&&◌, not, ℕ, ℤ, true, List, [], ◌∷◌, drop, length, Option, Some, refl, ap, arith}
+use Rattle.std.specs.List.{AllByRecursion, list_all}
 use Rattle.std.proofs.lemmas.Bool.{and_parts}
 use Rattle.sqlite.specs.Effect.{IsDatabase}
 use Rattle.sqlite.specs.Order.{Row, column}
@@ -11,13 +11,14 @@ use Rattle.sqlite.specs.declared.types.Value.TheVariants.{Null, Int, Real, Text 
 use Rattle.sqlite_rules.specs.Lists.{Has}
 use Rattle.sqlite_rules.proofs.ListLemmas.{all_has}
 use Rattle.sqlite.specs.Ops.{is_null}
-use Rattle.sqlite_schema.specs.Rules.{are_typed, has_computed, passes}
+use Rattle.sqlite_schema.specs.Rules.{are_typed, clashes, guards, has_computed, passes}
 use Rattle.sqlite_schema.specs.declared.schema.Column.{Column}
-use Rattle.sqlite_schema.specs.declared.schema.Constraint.TheVariants.{Datatype}
+use Rattle.sqlite_schema.specs.declared.schema.Constraint.TheVariants.{Datatype, Unique}
+use Rattle.imap_restore.specs.Holding.{AreKeptRows}
 use Rattle.imap_tables.specs.Reading.{shown_at}
 use Rattle.imap_tables.specs.Rows.{acl_row, epoch_row, gone_row, mailbox_row, mark_row, message_row, meta_row, sub_row}
 use Rattle.imap_tables.specs.Stored.{IsEntry, IsEpoch, IsGone, IsMailbox, IsMark, IsMessage, IsMeta, IsSubscription}
-use Rattle.imap_tables.specs.Tables.{mailbox_table, store_schema, store_tables}
+use Rattle.imap_tables.specs.Tables.{mailbox_table, store_indexes, store_schema, store_tables}
 use Rattle.imap_tables.specs.declared.stored.StoredEntry.{StoredEntry}
 use Rattle.imap_tables.specs.declared.stored.StoredEpoch.{StoredEpoch}
 use Rattle.imap_tables.specs.declared.stored.StoredGone.{StoredGone}
@@ -37,20 +38,33 @@ typed_length key at (c ∷ cs) [] h = omega (arith)
 typed_length key at (c ∷ cs) (v ∷ vs) h = let rest = typed_length key (at + 1) cs vs (and_parts _ _ h).1 in omega (arith, rest)
 
 -- the rows of a database obey its schema
-pub typed : (db : Trees) → IsDatabase (record { schema = store_schema; trees = db }) → (table : Table) → Has store_tables table → (row : Row) → Has (db table.tree) row
+typed_by : (db : Trees) → IsDatabase (record { schema = store_schema; trees = db }) → (table : Table) → Has store_tables table → (row : Row) → Has (db table.tree) row
     → are_typed table.key 0 table.columns (drop 1 row) ≡ true
-typed db is table listed row h =
+typed_by db is table listed row h =
     (and_parts _ (has_computed table row)
     (all_has (λ r. passes Datatype store_schema db table r ≡ true) (db table.tree) row
     (all_has (λ (t : Table). AllByRecursion (λ r. passes Datatype store_schema db t r ≡ true) (db t.tree)) store_tables table (is.obeys.rules Datatype) listed) h)).0
 
-pub few : (db : Trees) → IsDatabase (record { schema = store_schema; trees = db }) → (table : Table) → Has store_tables table → (row : Row) → Has (db table.tree) row → length (drop 1 row) ≤ length table.columns
+pub typed : (db : Trees) → AreKeptRows db → (table : Table) → Has store_tables table → (row : Row) → Has (db table.tree) row → are_typed table.key 0 table.columns (drop 1 row) ≡ true
+typed db is table listed row h = is.typed table listed row h
+
+-- and no two agree in a key
+unique_by : (db : Trees) → IsDatabase (record { schema = store_schema; trees = db }) → (table : Table) → Has store_tables table → (row : Row) → Has (db table.tree) row
+    → list_all (λ i. not (guards i table && clashes i.order i.columns (db table.tree) row)) store_indexes ≡ true
+unique_by db is table listed row h =
+    all_has (λ r. passes Unique store_schema db table r ≡ true) (db table.tree) row
+    (all_has (λ (t : Table). AllByRecursion (λ r. passes Unique store_schema db t r ≡ true) (db t.tree)) store_tables table (is.obeys.rules Unique) listed) h
+
+pub kept_rows : (db : Trees) → IsDatabase (record { schema = store_schema; trees = db }) → AreKeptRows db
+kept_rows db is = record { typed = typed_by db is; unique = unique_by db is }
+
+pub few : (db : Trees) → AreKeptRows db → (table : Table) → Has store_tables table → (row : Row) → Has (db table.tree) row → length (drop 1 row) ≤ length table.columns
 few db is table listed row h = typed_length table.key 0 table.columns (drop 1 row) (typed db is table listed row h)
 
-null_int : (n : ℤ) → Null ≡ Int n → ⊥
+pub null_int : (n : ℤ) → Null ≡ Int n → ⊥
 null_int n e = cc e
 
-null_words : (t : List ℕ) → Null ≡ Words t → ⊥
+pub null_words : (t : List ℕ) → Null ≡ Words t → ⊥
 null_words t e = cc e
 
 pub entry_form : (row : Row) (x : StoredEntry) → length (drop 1 row) ≤ 3 → IsEntry (shown_at 1 row) x → row ≡ acl_row x.mailbox (string_bytes x.identifier) x.rights x.rowid

@@ -3,7 +3,7 @@ mod Words
 mod Kept
 mod Zipped
 mod Matching
-mod Forms
+pub mod Forms
 mod Unique
 pub mod Listed
 mod TableRows
@@ -27,5 +27,9 @@ mod Flat
 mod Again
 mod Whole
 mod Refused
+pub mod SplitRows
+pub mod Split
+pub mod First
+pub mod TakenOver
 mod Grouped
 mod InOrder

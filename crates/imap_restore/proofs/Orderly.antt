@@ -1,5 +1,5 @@
 -- The tables are in order.
-use Rattle.std.proofs.Common.{◌≡◌, inl, inr, ℤ, false, List, [], ◌∷◌, map, IsPermutation, is_eq, refl, sym, ap, subst, ◌∙◌}
+use Rattle.std.proofs.Common.{◌≡◌, inl, inr, ℕ, ℤ, false, List, [], ◌∷◌, map, IsPermutation, is_eq, refl, sym, ap, subst, ◌∙◌}
 use Rattle.std.specs.List.{AllByRecursion, AllZip, IsDistinct}
 use Rattle.std.specs.Ordering.{eq_by_cmp, int_cmp}
 use Rattle.std.proofs.lemmas.Cmp.{eq_by_cmp_equiv}
@@ -18,7 +18,7 @@ use Rattle.imap_tables.specs.Contents.{AreNumbersApart}
 use Rattle.imap_tables.specs.Reading.{shown_at}
 use Rattle.imap_tables.specs.Rows.{AreApart, IsOrderly, IsRowOf, are_tied}
 use Rattle.imap_tables.specs.Stored.{IsEntry, IsEpoch, IsGone, IsMailbox, IsMark, IsMessage, IsMeta, IsSubscription}
-use Rattle.imap_tables.specs.Tables.{acl_table, epoch_table, gone_table, mailbox_table, mark_table, message_table, meta_table, store_tables, sub_table}
+use Rattle.imap_tables.specs.Tables.{acl_table, body_table, epoch_table, gone_table, keyword_table, mailbox_table, mark_table, message2_table, message_table, meta_table, store_tables, sub_table}
 use Rattle.std.specs.Prelude.{string_bytes}
 use Rattle.std.proofs.lemmas.Str.{IsUtf8-string_bytes}
 use Rattle.imap_restore.specs.Holding.{MetaShows}
@@ -150,13 +150,23 @@ module _ (db : Trees) (w : World) (c : Read db w) where
       let x = (meta_rows db c.rows).to row h in
       subst (IsRowOf meta_table) (sym (meta_is db c.rows row h x.0 x.2)) ((_, refl), ((_, refl), ((_, refl), refl)))
 
-  -- a statement of each table is one of the eight
-  of_all : (P : Table → Type 0) → P mailbox_table → P acl_table → P message_table → P gone_table → P mark_table → P epoch_table → P sub_table → P meta_table → (table : Table) → Has store_tables table → P table
-  of_all P a b d e f g h i table listed = all_has P store_tables table (a, (b, (d, (e, (f, (g, (h, (i, tt)))))))) listed
+  -- a table without rows
+  none_ok : (table : Table) → db table.tree ≡ [] → (row : Row) → Has (db table.tree) row → IsRowOf table row
+  none_ok table none row h = absurd (subst (λ rows. Has rows row) none h)
+
+  none_apart : (tree : ℕ) → db tree ≡ [] → AreApart (db tree)
+  none_apart tree none = subst AreApart (sym none) tt
+
+  -- a statement of each table is one of the eight, if it holds of tables without rows
+  of_all : (P : Table → Type 0) → P mailbox_table → P acl_table → P message_table → P gone_table → P mark_table → P epoch_table → P sub_table → P meta_table
+      → ((table : Table) → db table.tree ≡ [] → P table) → (table : Table) → Has store_tables table → P table
+  of_all P a b d e f g h i none table listed =
+      let empty = c.rows.are.blank in
+      all_has P store_tables table (a, (b, (d, (e, (f, (g, (h, (i, (none message2_table empty.0, (none body_table empty.1.0, (none keyword_table empty.1.1.0, tt))))))))))) listed
 
   pub tables_orderly : IsOrderly db
   tables_orderly = record {
-    rows = of_all (λ table. (row : Row) → Has (db table.tree) row → IsRowOf table row) mailbox_ok entry_ok message_ok gone_ok mark_ok epoch_ok sub_ok meta_ok;
+    rows = of_all (λ table. (row : Row) → Has (db table.tree) row → IsRowOf table row) mailbox_ok entry_ok message_ok gone_ok mark_ok epoch_ok sub_ok meta_ok none_ok;
     apart = of_all (λ table. AreApart (db table.tree))
         (let it = c.rows.are.stored.mailboxes in read_apart (shown_at 0) IsMailbox _ (db 0) it.rows c.rows.t.mailboxes.items (λ row. refl) (λ r x is. ap (λ v. column v 0) is.0) it.all it.read c.distinct.mailboxes)
         (let it = c.rows.are.stored.entries in read_apart (shown_at 1) IsEntry _ (db 2) it.rows c.rows.t.entries.items (λ row. refl) (λ r x is. ap (λ v. column v 0) is.0) it.all it.read c.distinct.entries)
@@ -165,7 +175,8 @@ module _ (db : Trees) (w : World) (c : Read db w) where
         (let it = c.rows.are.stored.marks in read_apart (shown_at 4) IsMark _ (db 8) it.rows c.rows.t.marks.items (λ row. refl) (λ r x is. ap (λ v. column v 0) is.0) it.all it.read c.distinct.marks)
         (let it = c.rows.are.stored.epochs in read_apart (shown_at 5) IsEpoch _ (db 10) it.rows c.rows.t.epochs.items (λ row. refl) (λ r x is. ap (λ v. column v 0) is.0) it.all it.read c.distinct.epochs)
         (let it = c.rows.are.stored.subscriptions in read_apart (shown_at 6) IsSubscription _ (db 12) it.rows c.rows.t.subscriptions.items (λ row. refl) (λ r x is. ap (λ v. column v 0) is) it.all it.read c.distinct.subscriptions)
-        (let it = c.rows.are.stored.meta in read_apart (shown_at 7) IsMeta _ (db 14) it.rows c.rows.t.meta.items (λ row. refl) (λ r x is. ap (λ v. column v 0) is.0) it.all it.read c.distinct.meta);
+        (let it = c.rows.are.stored.meta in read_apart (shown_at 7) IsMeta _ (db 14) it.rows c.rows.t.meta.items (λ row. refl) (λ r x is. ap (λ v. column v 0) is.0) it.all it.read c.distinct.meta)
+        (λ table none. none_apart table.tree none);
   }
 
   pub meta_shows : MetaShows db

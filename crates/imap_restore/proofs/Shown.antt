@@ -37,7 +37,7 @@ use Rattle.imap_tables.specs.Contents.{AllShow}
 use Rattle.imap_tables.specs.Reading.{shown_at}
 use Rattle.imap_tables.specs.Stored.{IsShort, ShowsEntry, ShowsEpoch, ShowsGone, ShowsMailbox, ShowsMark, ShowsMessage, ShowsSubscription}
 use Rattle.imap_world.specs.World.{World}
-use Rattle.imap_restore.specs.Holding.{Hold}
+use Rattle.imap_restore.specs.Holding.{MetaShows, Stand}
 
 -- ---- texts
 
@@ -114,13 +114,13 @@ at_has {X} (y ∷ xs) zero x is = inl (same x y is)
     same x y e = cc e
 at_has (y ∷ xs) (suc j) x is = inr (at_has xs j x is)
 
-module _ (db : Trees) (w : World) (hold : Hold db w) where
+module _ (db : Trees) (w : World) (stand : Stand db w) (shows : MetaShows db) where
   mailbox_shows : (row : Row) → Has (db 0) row → ShowsMailbox (shown_at 0 row)
   mailbox_shows row h =
-      let s = hold.0.stands in
+      let s = stand.stands in
       let it = (s.mailboxes row).0 h in
       let named = s.named.mailboxes it.name it.mailbox it.there in
-      let v = hold.0.values.mailboxes it.name it.mailbox it.there in
+      let v = stand.values.mailboxes it.name it.mailbox it.there in
       subst (λ r. ShowsMailbox (shown_at 0 r)) (sym it.shown) (record {
         id = s.id it.name;
         tree = tree_text it.name;
@@ -135,11 +135,11 @@ module _ (db : Trees) (w : World) (hold : Hold db w) where
 
   entry_shows : (row : Row) → Has (db 2) row → ShowsEntry (shown_at 1 row)
   entry_shows row h =
-      let s = hold.0.stands in
+      let s = stand.stands in
       let n = (s.below entries).sound row h in
       let u = n.meant in
       let e : EntryOf u.mailbox.acl (s.id u.name) n.values = u.shown in
-      let v = hold.0.values.mailboxes u.name u.mailbox u.there in
+      let v = stand.values.mailboxes u.name u.mailbox u.there in
       let p = and_parts (is_identifier e.identifier) (is_some_rights e.rights) (test_has is_entry (map.entries u.mailbox.acl) (e.identifier, e.rights) v.acl.entries e.there) in
       subst (λ r. ShowsEntry (shown_at 1 r)) (sym (n.shown ∙ ap (λ values. Int n.rowid ∷ values) e.shown)) (record {
         rowid = n.rowid;
@@ -153,13 +153,13 @@ module _ (db : Trees) (w : World) (hold : Hold db w) where
 
   message_shows : (row : Row) → Has (db 4) row → ShowsMessage (shown_at 2 row)
   message_shows row h =
-      let s = hold.0.stands in
+      let s = stand.stands in
       let n = (s.below messages).sound row h in
       let u = n.meant in
       let e : MessageOf u.mailbox.messages.messages (s.id u.name) n.values = u.shown in
-      let v = (hold.0.values.mailboxes u.name u.mailbox u.there).messages in
+      let v = (stand.values.mailboxes u.name u.mailbox u.there).messages in
       let values = v.messages e.message e.there in
-      let k : IsKept u.mailbox.messages = hold.0.kept.at u.name u.mailbox u.there in
+      let k : IsKept u.mailbox.messages = stand.kept.at u.name u.mailbox u.there in
       let low = rises_below (λ (x : Message). x.uid) u.mailbox.messages.messages 1 u.mailbox.messages.next k.sound.uids e.message e.there in
       subst (λ r. ShowsMessage (shown_at 2 r)) (sym (n.shown ∙ ap (λ values. Int n.rowid ∷ values) e.shown)) (record {
         rowid = n.rowid;
@@ -177,12 +177,12 @@ module _ (db : Trees) (w : World) (hold : Hold db w) where
 
   gone_shows : (row : Row) → Has (db 6) row → ShowsGone (shown_at 3 row)
   gone_shows row h =
-      let s = hold.0.stands in
+      let s = stand.stands in
       let n = (s.below gone).sound row h in
       let u = n.meant in
       let e : GoneOf u.mailbox.messages.gone (s.id u.name) n.values = u.shown in
-      let v = (hold.0.values.mailboxes u.name u.mailbox u.there).messages in
-      let k : IsKept u.mailbox.messages = hold.0.kept.at u.name u.mailbox u.there in
+      let v = (stand.values.mailboxes u.name u.mailbox u.there).messages in
+      let k : IsKept u.mailbox.messages = stand.kept.at u.name u.mailbox u.there in
       let low = gone_below u.mailbox.messages.next (uids_in u.mailbox.messages.messages) u.mailbox.messages.gone k.sound.once e.message e.there in
       subst (λ r. ShowsGone (shown_at 3 r)) (sym (n.shown ∙ ap (λ values. Int n.rowid ∷ values) e.shown)) (record {
         rowid = n.rowid;
@@ -195,12 +195,12 @@ module _ (db : Trees) (w : World) (hold : Hold db w) where
 
   mark_shows : (row : Row) → Has (db 8) row → ShowsMark (shown_at 4 row)
   mark_shows row h =
-      let s = hold.0.stands in
+      let s = stand.stands in
       let n = (s.below marks).sound row h in
       let u = n.meant in
       let e : MarkOf u.mailbox.messages.own (s.id u.name) n.values = u.shown in
-      let v = (hold.0.values.mailboxes u.name u.mailbox u.there).messages in
-      let k : IsKept u.mailbox.messages = hold.0.kept.at u.name u.mailbox u.there in
+      let v = (stand.values.mailboxes u.name u.mailbox u.there).messages in
+      let k : IsKept u.mailbox.messages = stand.kept.at u.name u.mailbox u.there in
       let given = given_at u.mailbox.messages.next (own_at u.mailbox.messages.own e.user) e.place e.change (k.sound.fits e.user).known e.there in
       subst (λ r. ShowsMark (shown_at 4 r)) (sym (n.shown ∙ ap (λ values. Int n.rowid ∷ values) e.shown)) (record {
         rowid = n.rowid;
@@ -217,7 +217,7 @@ module _ (db : Trees) (w : World) (hold : Hold db w) where
 
   epoch_shows : (row : Row) → Has (db 10) row → ShowsEpoch (shown_at 5 row)
   epoch_shows row h =
-      let s = hold.0.stands in
+      let s = stand.stands in
       let n = s.epochs.sound row h in
       let e = n.meant in
       let named = s.named.epochs e.name e.greatest e.there in
@@ -227,13 +227,13 @@ module _ (db : Trees) (w : World) (hold : Hold db w) where
         path = path_of e.name;
         greatest = e.greatest;
         texts = (name_tree_utf8 e.name named, name_path_utf8 e.name named);
-        short = hold.0.values.epochs e.name e.greatest e.there;
+        short = stand.values.epochs e.name e.greatest e.there;
         shown = refl;
       })
 
   sub_shows : (row : Row) → Has (db 12) row → ShowsSubscription (shown_at 6 row)
   sub_shows row h =
-      let s = hold.0.stands in
+      let s = stand.stands in
       let n = s.subscriptions.sound row h in
       let e = n.meant in
       let named = s.named.subscriptions e.user e.name e.there in
@@ -242,7 +242,7 @@ module _ (db : Trees) (w : World) (hold : Hold db w) where
         user = e.user;
         tree = tree_text e.name;
         path = path_of e.name;
-        texts = (IsUtf8-from_is_utf8 e.user (hold.0.values.users e.user e.name e.there), name_tree_utf8 e.name named, name_path_utf8 e.name named);
+        texts = (IsUtf8-from_is_utf8 e.user (stand.values.users e.user e.name e.there), name_tree_utf8 e.name named, name_path_utf8 e.name named);
         shown = refl;
       })
 
@@ -255,5 +255,5 @@ module _ (db : Trees) (w : World) (hold : Hold db w) where
     marks = mark_shows;
     epochs = epoch_shows;
     subscriptions = sub_shows;
-    meta = hold.2;
+    meta = shows;
   }

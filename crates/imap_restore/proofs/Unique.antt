@@ -1,26 +1,24 @@
 -- No two rows of a table agree in its key.
 use Rattle.std.proofs.Common.{◌≡◌, ◌⊎◌, inl, inr, ℕ, ℤ, Bool, true, false, cond, not, ◌&&◌, ◌||◌, List, [], ◌∷◌, Ordering, Less, Equal, Greater, Some, refl, sym, ap, ◌∙◌, true≢false}
-use Rattle.std.specs.List.{AllByRecursion, list_all}
+use Rattle.std.specs.List.{AllByRecursion}
 use Rattle.std.specs.Ordering.{is_ne}
 use Rattle.std.proofs.lemmas.Bool.{and_parts, and_from, cases_Bool, both_ways, not-true}
 use Rattle.std.proofs.lemmas.Cmp.{tied_itself}
 use Rattle.std.proofs.lemmas.Map.Lookups.{exact_signed}
 use Rattle.sqlite.specs.Collation.TheVariants.{Binary}
-use Rattle.sqlite.specs.Effect.{IsDatabase}
+use Rattle.imap_restore.specs.Holding.{AreKeptRows}
 use Rattle.sqlite.specs.Ops.{binary, from_truth, is_null, is_true}
 use Rattle.sqlite.specs.Order.{Row, column, value_cmp}
-use Rattle.sqlite.specs.Table.{Table}
 use Rattle.sqlite.specs.Tree.{Trees, rowid}
 use Rattle.sqlite.specs.declared.types.Value.{Value}
 use Rattle.sqlite.specs.declared.types.Value.TheVariants.{Null, Int}
 use Rattle.sqlite_rules.specs.Lists.{Has}
-use Rattle.sqlite_rules.proofs.ListLemmas.{all_has, some_from}
-use Rattle.sqlite_schema.specs.Rules.{agree, clashes, differ, equal, guards, passes}
-use Rattle.sqlite_schema.specs.declared.schema.Constraint.TheVariants.{Unique}
+use Rattle.sqlite_rules.proofs.ListLemmas.{some_from}
+use Rattle.sqlite_schema.specs.Rules.{agree, clashes, differ, equal}
 use Rattle.sqlite_value.specs.Keys.{first_key, later}
 use Rattle.sqlite_value.specs.declared.keys.Order.{Order}
 use Rattle.sqlite_value.proofs.OrderLemmas.{value_cmp_total, value_cmp-Int}
-use Rattle.imap_tables.specs.Tables.{store_indexes, store_schema, store_tables, acl_table, epoch_table, gone_table, mailbox_table, mark_table, message_table, sub_table}
+use Rattle.imap_tables.specs.Tables.{acl_table, epoch_table, gone_table, mailbox_table, mark_table, message_table, sub_table}
 
 -- what is no NULL is equal to itself
 equal_itself : (a : Value) → is_null a ≡ false → equal Binary a a ≡ true
@@ -47,7 +45,7 @@ same_int m n h = exact_signed m n (sym (value_cmp-Int m n) ∙ undiffer (Int m) 
 abbrev pub plain : Order
 plain = record { digits = 0 }
 
-first_is : (first_key plain).collation ≡ Binary
+pub first_is : (first_key plain).collation ≡ Binary
 unfolding first_key
 first_is = refl
 
@@ -66,30 +64,23 @@ one_rowid ps rows a b none h all m n at bt = same_int m n ((λ i. differ (sym at
     by (inl differs) = absurd (both_ways _ none (some_from (λ other. agree plain ps other ps b && differ (rowid other) (rowid b)) rows a h (and_from _ _ (agree_plain ps a b all) differs)))
     by (inr same) = same
 
--- the rule of a table
-rule : (db : Trees) → IsDatabase (record { schema = store_schema; trees = db }) → (table : Table) → Has store_tables table → (row : Row) → Has (db table.tree) row
-    → list_all (λ i. not (guards i table && clashes i.order i.columns (db table.tree) row)) store_indexes ≡ true
-rule db is table listed row h =
-    all_has (λ r. passes Unique store_schema db table r ≡ true) (db table.tree) row
-    (all_has (λ (t : Table). AllByRecursion (λ r. passes Unique store_schema db t r ≡ true) (db t.tree)) store_tables table (is.obeys.rules Unique) listed) h
+pub one_mailbox : (db : Trees) → AreKeptRows db → (row : Row) → Has (db 0) row → clashes plain (2 ∷ 3 ∷ []) (db 0) row ≡ false
+one_mailbox db is row h = not-true _ (and_parts (not (clashes plain (2 ∷ 3 ∷ []) (db 0) row)) _ (is.unique mailbox_table (inl refl) row h)).0
 
-pub one_mailbox : (db : Trees) → IsDatabase (record { schema = store_schema; trees = db }) → (row : Row) → Has (db 0) row → clashes plain (2 ∷ 3 ∷ []) (db 0) row ≡ false
-one_mailbox db is row h = not-true _ (and_parts (not (clashes plain (2 ∷ 3 ∷ []) (db 0) row)) _ (rule db is mailbox_table (inl refl) row h)).0
+pub one_entry : (db : Trees) → AreKeptRows db → (row : Row) → Has (db 2) row → clashes plain (1 ∷ 2 ∷ []) (db 2) row ≡ false
+one_entry db is row h = not-true _ (and_parts (not (clashes plain (1 ∷ 2 ∷ []) (db 2) row)) _ (is.unique acl_table (inr (inl refl)) row h)).0
 
-pub one_entry : (db : Trees) → IsDatabase (record { schema = store_schema; trees = db }) → (row : Row) → Has (db 2) row → clashes plain (1 ∷ 2 ∷ []) (db 2) row ≡ false
-one_entry db is row h = not-true _ (and_parts (not (clashes plain (1 ∷ 2 ∷ []) (db 2) row)) _ (rule db is acl_table (inr (inl refl)) row h)).0
+pub one_message : (db : Trees) → AreKeptRows db → (row : Row) → Has (db 4) row → clashes plain (1 ∷ 2 ∷ []) (db 4) row ≡ false
+one_message db is row h = not-true _ (and_parts (not (clashes plain (1 ∷ 2 ∷ []) (db 4) row)) _ (is.unique message_table (inr (inr (inl refl))) row h)).0
 
-pub one_message : (db : Trees) → IsDatabase (record { schema = store_schema; trees = db }) → (row : Row) → Has (db 4) row → clashes plain (1 ∷ 2 ∷ []) (db 4) row ≡ false
-one_message db is row h = not-true _ (and_parts (not (clashes plain (1 ∷ 2 ∷ []) (db 4) row)) _ (rule db is message_table (inr (inr (inl refl))) row h)).0
+pub one_gone : (db : Trees) → AreKeptRows db → (row : Row) → Has (db 6) row → clashes plain (1 ∷ 2 ∷ []) (db 6) row ≡ false
+one_gone db is row h = not-true _ (and_parts (not (clashes plain (1 ∷ 2 ∷ []) (db 6) row)) _ (is.unique gone_table (inr (inr (inr (inl refl)))) row h)).0
 
-pub one_gone : (db : Trees) → IsDatabase (record { schema = store_schema; trees = db }) → (row : Row) → Has (db 6) row → clashes plain (1 ∷ 2 ∷ []) (db 6) row ≡ false
-one_gone db is row h = not-true _ (and_parts (not (clashes plain (1 ∷ 2 ∷ []) (db 6) row)) _ (rule db is gone_table (inr (inr (inr (inl refl)))) row h)).0
+pub one_mark : (db : Trees) → AreKeptRows db → (row : Row) → Has (db 8) row → clashes plain (1 ∷ 2 ∷ 3 ∷ []) (db 8) row ≡ false
+one_mark db is row h = not-true _ (and_parts (not (clashes plain (1 ∷ 2 ∷ 3 ∷ []) (db 8) row)) _ (is.unique mark_table (inr (inr (inr (inr (inl refl))))) row h)).0
 
-pub one_mark : (db : Trees) → IsDatabase (record { schema = store_schema; trees = db }) → (row : Row) → Has (db 8) row → clashes plain (1 ∷ 2 ∷ 3 ∷ []) (db 8) row ≡ false
-one_mark db is row h = not-true _ (and_parts (not (clashes plain (1 ∷ 2 ∷ 3 ∷ []) (db 8) row)) _ (rule db is mark_table (inr (inr (inr (inr (inl refl))))) row h)).0
+pub one_epoch : (db : Trees) → AreKeptRows db → (row : Row) → Has (db 10) row → clashes plain (1 ∷ 2 ∷ []) (db 10) row ≡ false
+one_epoch db is row h = not-true _ (and_parts (not (clashes plain (1 ∷ 2 ∷ []) (db 10) row)) _ (is.unique epoch_table (inr (inr (inr (inr (inr (inl refl)))))) row h)).0
 
-pub one_epoch : (db : Trees) → IsDatabase (record { schema = store_schema; trees = db }) → (row : Row) → Has (db 10) row → clashes plain (1 ∷ 2 ∷ []) (db 10) row ≡ false
-one_epoch db is row h = not-true _ (and_parts (not (clashes plain (1 ∷ 2 ∷ []) (db 10) row)) _ (rule db is epoch_table (inr (inr (inr (inr (inr (inl refl)))))) row h)).0
-
-pub one_subscription : (db : Trees) → IsDatabase (record { schema = store_schema; trees = db }) → (row : Row) → Has (db 12) row → clashes plain (1 ∷ 2 ∷ 3 ∷ []) (db 12) row ≡ false
-one_subscription db is row h = not-true _ (and_parts (not (clashes plain (1 ∷ 2 ∷ 3 ∷ []) (db 12) row)) _ (rule db is sub_table (inr (inr (inr (inr (inr (inr (inl refl))))))) row h)).0
+pub one_subscription : (db : Trees) → AreKeptRows db → (row : Row) → Has (db 12) row → clashes plain (1 ∷ 2 ∷ 3 ∷ []) (db 12) row ≡ false
+one_subscription db is row h = not-true _ (and_parts (not (clashes plain (1 ∷ 2 ∷ 3 ∷ []) (db 12) row)) _ (is.unique sub_table (inr (inr (inr (inr (inr (inr (inl refl))))))) row h)).0

@@ -7,19 +7,35 @@ ghost use Rattle.imap_restore.specs.Parts.{HaveGroups};
 
 use crate::below::{Restore, read_below};
 use crate::grouping::grouped;
+use crate::message_rows::damage_in_three;
 use crate::names::read_key;
 use crate::parts::{has_id, ids_of, set_of};
 use crate::values::read_count;
 use imap_keeper::{Damage, RowFault};
 use imap_mailbox::{GoneMessage, Mailbox, MailboxParts, Message, PartsError, UserChange};
+use imap_message_tables::join_tables;
 use imap_rights::{Acl, Entry};
-use imap_tables::{FromRow, MailboxKey, StoredMailbox, StoredTables};
+use imap_tables::{AddedTables, FromRow, MailboxKey, StoredMailbox, StoredTables};
 use std::alloc::Global;
 use std::collections::BTreeSet;
 
 /// Finds a row that stands for nothing: the first by itself, or else the first that doesn't fit others.
 /// Returns `None` if none is found, or memory runs out.
-pub fn find_damage(alloc: Global, tables: StoredTables) -> Option<Damage> {
+pub fn find_damage(alloc: Global, tables: StoredTables, added: AddedTables) -> Option<Damage> {
+    if let Some(row) = tables.messages.first() {
+        return Some(of_row("message", row, RowFault::Value));
+    }
+    if let Some(damage) = damage_in_three(alloc, &added) {
+        return Some(damage);
+    }
+    match join_tables(alloc, tables, added) {
+        Ok(Some(tables)) => damage_in_one(alloc, tables),
+        Ok(None) | Err(_) => None,
+    }
+}
+
+/// Finds a row, where each message stands in one.
+fn damage_in_one(alloc: Global, tables: StoredTables) -> Option<Damage> {
     match grouped(tables) {
         Ok(tables) => damage_in(alloc, &tables),
         Err(_) => None,
@@ -46,7 +62,7 @@ fn bad_value(alloc: Global, tables: &StoredTables) -> Option<Damage> {
     if let Some(damage) = bad_below::<_, Entry>(alloc, "acl", &tables.entries) {
         return Some(damage);
     }
-    if let Some(damage) = bad_below::<_, Message>(alloc, "message", &tables.messages) {
+    if let Some(damage) = bad_below::<_, Message>(alloc, "message2", &tables.messages) {
         return Some(damage);
     }
     if let Some(damage) = bad_below::<_, GoneMessage>(alloc, "gone", &tables.gone) {
@@ -75,7 +91,7 @@ fn is_bad<R, T: Restore<R>>(alloc: Global, row: &R) -> bool {
     }
 }
 
-fn of_row<R: FromRow>(table: &'static str, row: &R, fault: RowFault) -> Damage {
+pub(crate) fn of_row<R: FromRow>(table: &'static str, row: &R, fault: RowFault) -> Damage {
     Damage {
         table,
         row: row.rowid(),
@@ -117,7 +133,7 @@ fn lost_row(alloc: Global, tables: &StoredTables) -> Option<Damage> {
     if let Some(damage) = lost_below::<_, Entry>("acl", &tables.entries, &ids) {
         return Some(damage);
     }
-    if let Some(damage) = lost_below::<_, Message>("message", &tables.messages, &ids) {
+    if let Some(damage) = lost_below::<_, Message>("message2", &tables.messages, &ids) {
         return Some(damage);
     }
     if let Some(damage) = lost_below::<_, GoneMessage>("gone", &tables.gone, &ids) {
