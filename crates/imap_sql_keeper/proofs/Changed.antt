@@ -4,7 +4,9 @@ use Rattle.sqlite.specs.State.{State, HasCleanDisk}
 use Rattle.sqlite.specs.Tree.{Trees}
 use Rattle.imap_records.specs.Standing.{StandFor}
 use Rattle.imap_records.specs.Values.{WorldHasValues}
-use Rattle.imap_restore.specs.Holding.{Hold, Stand}
+use Rattle.imap_message_tables.proofs.Written.{writing_fits}
+use Rattle.imap_restore.specs.Holding.{HoldSplit, Stand}
+use Rattle.imap_restore.proofs.Split.{meta_here, meta_there}
 use Rattle.imap_sql_keeper.specs.Keeping.{Keeps, LeavesMade, Made}
 use Rattle.imap_tables.specs.Changes.{MakesAll}
 use Rattle.imap_tables.specs.declared.changes.RowChange.{RowChange}
@@ -29,13 +31,15 @@ module _ (change : List Write) (rows : List RowChange)
   }
 
   module _ (old new : State) (early : HasCleanDisk new → HasCleanDisk old) (world : World) (kept : Keeps old world) (current : IsCurrent change world) where
-    pub made_holds : HasCleanDisk new → (db : Trees) → Made rows old db → Hold db (after_writes change world)
+    pub made_holds : HasCleanDisk new → (db : Trees) → Made rows old db → HoldSplit db (after_writes change world)
     made_holds clean db it =
         let was = kept (early clean) it.was_open in
-        (changed world old.now.trees db current was.0 it.made, it.orderly, still_shows rows old.now.trees db it.made was.2)
+        let (one, split, stand) = was.0 in
+        let (next, fits, made) = writing_fits rows old.now.trees db it.made one split in
+        ((next, fits, changed world one next current stand made), it.orderly, meta_here db next fits (still_shows rows one next made (meta_there old.now.trees one split was.2)))
 
     pub made_keeps : (HasCleanDisk new → IsTrue new.is_open → Made rows old new.now.trees) → Keeps new (after_writes change world)
     made_keeps after clean live = made_holds clean new.now.trees (after clean live)
 
-    pub made_leaves : HasCleanDisk new → LeavesMade rows old new → LeavesOr old.may_leave new.may_leave (λ db. Hold db (after_writes change world))
+    pub made_leaves : HasCleanDisk new → LeavesMade rows old new → LeavesOr old.may_leave new.may_leave (λ db. HoldSplit db (after_writes change world))
     made_leaves clean leaves db may = elim (leaves db may) [ inl was ↦ inl was | inr it ↦ inr (made_holds clean db it) ]

@@ -16,7 +16,8 @@ use Rattle.imap_names.specs.Order.{Names, name_cmp}
 use Rattle.imap_names.proofs.Composed.{ascii_by_test}
 use Rattle.imap_records.proofs.NewStore.{new_stores_stand}
 use Rattle.imap_records.specs.Values.{WorldHasValues}
-use Rattle.imap_restore.specs.Holding.{Hold, MetaShows}
+use Rattle.imap_message_tables.proofs.Fitting.{empty_fits}
+use Rattle.imap_restore.specs.Holding.{HoldSplit, MetaShows}
 use Rattle.imap_sql_keeper.specs.Adopting.{FindsStore}
 use Rattle.imap_sql_keeper.specs.Keeping.{IsAtRest, Keeps}
 use Rattle.imap_tables.specs.Reading.{shown_at}
@@ -24,6 +25,7 @@ use Rattle.imap_tables.specs.Rows.{IsOrderly}
 use Rattle.imap_tables.specs.Steps.{IsNewStore, store_version}
 use Rattle.imap_tables.specs.Stored.{ShowsMeta}
 use Rattle.imap_tables.specs.Tables.{no_schema, store_schema}
+use Rattle.imap_tables.specs.Texts.{first_schema}
 use Rattle.imap_world.specs.Effects.{if_filled}
 use Rattle.imap_world.specs.Kept.{AreKept}
 use Rattle.imap_world.specs.World.{World, set_of}
@@ -49,6 +51,9 @@ meta_shows db made row h =
 no_store : store_schema ≡ no_schema → ⊥
 no_store e = cc (ap (λ (s : Schema). s.tables) e)
 
+no_first : first_schema ≡ no_schema → ⊥
+no_first e = cc (ap (λ (s : Schema). s.tables) e)
+
 module _ (world : World) (mailboxes : world.mailboxes ≡ map.empty) (epochs : world.epochs ≡ map.empty) (subscriptions : world.subscriptions ≡ map.empty) where
   set_none : (user : List ℕ) → map.get world.subscriptions user ≡ None
   set_none user = ap (λ s. map.get s user) subscriptions ∙ get-empty (slice_cmp nat_cmp) user
@@ -61,14 +66,18 @@ module _ (world : World) (mailboxes : world.mailboxes ≡ map.empty) (epochs : w
     filled = λ user. set_none user ∙ sym if_filled-empty ∙ ap (λ o. if_filled (set_of o)) (sym (set_none user));
   }
 
-  pub new_holds : (db : Trees) → IsNewStore db → IsOrderly db → Hold db world
+  pub new_holds : (db : Trees) → IsNewStore db → IsOrderly db → HoldSplit db world
   new_holds db made orderly = (
-    record {
-      stands = new_stores_stand db world made mailboxes epochs subscriptions;
-      values = empty_has;
-      sound = empty_is_sound world mailboxes epochs;
-      kept = subst AreKept (sym mailboxes) kept_none;
-    },
+    (
+      db,
+      empty_fits db made.empty.1.1.0 made.added.0 made.added.1.0 made.added.1.1.0,
+      record {
+        stands = new_stores_stand db world made mailboxes epochs subscriptions;
+        values = empty_has;
+        sound = empty_is_sound world mailboxes epochs;
+        kept = subst AreKept (sym mailboxes) kept_none;
+      },
+    ),
     orderly,
     meta_shows db made,
   )
@@ -76,6 +85,7 @@ module _ (world : World) (mailboxes : world.mailboxes ≡ map.empty) (epochs : w
   pub new_keeps : (old new : State) → IsAtRest new → (HasCleanDisk new → IsTrue new.is_open → FindsStore old new) → old.now.schema ≡ no_schema → Keeps new world
   new_keeps old new rest finds blank clean live = by (finds clean live)
     where
-      by : FindsStore old new → Hold new.now.trees world
+      by : FindsStore old new → HoldSplit new.now.trees world
       by (inl it) = new_holds new.now.trees it.1 it.2
-      by (inr it) = absurd (no_store (sym (rest.schema clean live) ∙ ap (λ (d : Database). d.schema) it.0 ∙ blank))
+      by (inr (inl it)) = absurd (no_store (sym (rest.schema clean live) ∙ ap (λ (d : Database). d.schema) it.0 ∙ blank))
+      by (inr (inr it)) = absurd (no_first (sym it.0 ∙ blank))

@@ -4,3 +4,4 @@ mod Changed
 mod Version
 mod Loaded
 mod Fresh
+mod FirstTaken

@@ -1,13 +1,14 @@
 -- Connections at rest, before and after calls.
 use Rattle.std.proofs.Common.{◌≡◌, false, IsTrue, OnErr, OnOk, [], Result, Ok, Err, sym, ap, subst, ◌∙◌, arith}
 use Rattle.sqlite.specs.Effect.{Database}
+use Rattle.sqlite.specs.Schema.{Schema}
 use Rattle.sqlite.specs.State.{State, HasCleanDisk, Survives}
 use Rattle.sqlite.specs.Tree.{Trees}
 use Rattle.imap_tables.specs.Rows.{IsOrderly}
 use Rattle.imap_tables.specs.Steps.{IsBack, IsStore, Saves}
-use Rattle.imap_sql_keeper.specs.Keeping.{IsAtRest, Keeps, Made}
+use Rattle.imap_sql_keeper.specs.Keeping.{IsAtRest, Keeps, Made, Rests}
 use Rattle.imap_world.specs.World.{World}
-use Rattle.imap_restore.specs.Holding.{Hold}
+use Rattle.imap_restore.specs.Holding.{HoldSplit}
 
 pub on_ok : {X E A B : Type 0} (r : Result X E) → (A → B) → OnOk r A → OnOk r B
 on_ok (Ok x) f a = f a
@@ -21,7 +22,7 @@ pub on_err : {X E A B : Type 0} (r : Result X E) → (A → B) → OnErr r A →
 on_err (Ok x) f a = tt
 on_err (Err e) f a = f a
 
-module _ (old new : State) (C : Trees → Type 0) (rest : IsAtRest old) (s : Survives old new C) where
+module _ {tables : Schema} (old new : State) (C : Trees → Type 0) (rest : Rests tables old) (s : Survives old new C) where
   pub early : HasCleanDisk new → HasCleanDisk old
   early clean = omega (arith, s.clean, clean)
 
@@ -29,13 +30,20 @@ module _ (old new : State) (C : Trees → Type 0) (rest : IsAtRest old) (s : Sur
   pub same_trees : HasCleanDisk new → IsBack old new → new.now ≡ old.now
   same_trees clean b = b.now_is ∙ sym (rest.settled (early clean) b.was_open)
 
-  pub rest_back : new.in_transaction ≡ false → (HasCleanDisk new → IsTrue new.is_open → IsBack old new) → IsAtRest new
+  pub rest_back : new.in_transaction ≡ false → (HasCleanDisk new → IsTrue new.is_open → IsBack old new) → Rests tables new
   rest_back autocommit back = record {
     autocommit = autocommit;
     settled = λ clean live. let b = back clean live in b.now_is ∙ sym b.committed_is;
     schema = λ clean live. let b = back clean live in ap (λ (d : Database). d.schema) (same_trees clean b) ∙ rest.schema (early clean) b.was_open;
   }
 
+  -- a world that was kept is kept
+  pub back_keeps : (HasCleanDisk new → IsTrue new.is_open → IsBack old new) → (world : World) → Keeps old world → Keeps new world
+  back_keeps back world kept clean live =
+      let b = back clean live in
+      subst (λ (d : Database). HoldSplit d.trees world) (sym (same_trees clean b)) (kept (early clean) b.was_open)
+
+module _ (old new : State) (C : Trees → Type 0) (rest : IsAtRest old) (s : Survives old new C) where
   pub rest_saved : {X E : Type 0} (P : Trees → Trees → Type 0) (r : Result X E) → new.in_transaction ≡ false
       → (HasCleanDisk new → OnOk r (Saves P old new)) → (HasCleanDisk new → IsTrue new.is_open → OnErr r (IsBack old new)) → IsAtRest new
   rest_saved P (Ok x) autocommit after before = record {
@@ -43,13 +51,7 @@ module _ (old new : State) (C : Trees → Type 0) (rest : IsAtRest old) (s : Sur
     settled = λ clean live. sym (after clean).committed;
     schema = λ clean live. (after clean).schema;
   }
-  rest_saved P (Err e) autocommit after before = rest_back autocommit before
-
-  -- a world that was kept is kept
-  pub back_keeps : (HasCleanDisk new → IsTrue new.is_open → IsBack old new) → (world : World) → Keeps old world → Keeps new world
-  back_keeps back world kept clean live =
-      let b = back clean live in
-      subst (λ (d : Database). Hold d.trees world) (sym (same_trees clean b)) (kept (early clean) b.was_open)
+  rest_saved P (Err e) autocommit after before = rest_back old new C rest s autocommit before
 
 module _ (old : State) (rest : IsAtRest old) (store : IsStore old) where
   -- tables that are as before

@@ -3,12 +3,15 @@
 ghost use Rattle.std.specs.Prelude.{◌≡◌, ◌≢◌, ◌↔◌, false, Err, IfErr, IfOk, IsTrue, OnErr, OnOk};
 ghost use Rattle.std.specs.List.{AllByRecursion};
 ghost use Rattle.imap_keeper.specs.declared.error.KeepError.TheVariants.{Damaged};
-ghost use Rattle.imap_sql_keeper.specs.Adopting.{FindsStore, IsDamaged, IsNew, IsVersion, SaysVersion};
+ghost use Rattle.imap_keeper.specs.Keeping.{LeavesOnly};
 ghost use Rattle.imap_restore.specs.Holding.{MetaShows};
+ghost use Rattle.imap_sql_keeper.specs.Adopting.{FindsStore, IsAdopted, IsDamaged, IsNew, IsTakenOver};
+ghost use Rattle.imap_sql_keeper.specs.Adopting.{IsVersion, SaysVersion};
 ghost use Rattle.imap_sql_keeper.specs.Keeping.{IsAtRest};
 ghost use Rattle.imap_tables.specs.Rows.{IsOrderly};
-ghost use Rattle.imap_tables.specs.Steps.{IsBack, IsNewStore};
+ghost use Rattle.imap_tables.specs.Steps.{HasTables, IsBack, IsNewStore, store_version};
 ghost use Rattle.imap_tables.specs.Tables.{no_schema};
+ghost use Rattle.imap_tables.specs.Texts.{first_schema};
 ghost use Rattle.imap_tables.specs.Stored.{IsMeta, ShowsMeta};
 ghost use Rattle.imap_tables.specs.declared.stored.StoredMeta.{StoredMeta as Meta};
 ghost use Rattle.sqlite.specs.Held.{state};
@@ -20,54 +23,84 @@ ghost use Rattle.sqlite.specs.declared.error.ErrorCode.TheVariants.{OutOfMemory}
 ghost use Rattle.sqlite_rules.specs.Lists.{Has};
 
 use crate::refusal::{damage, refusal};
+use crate::taking::take_over;
 use imap_keeper::KeepError;
-use imap_tables::{FromRow, STORE_VERSION, StoredMeta, is_blank, is_store, make_store, read_meta};
+use imap_tables::{
+    FromRow, STORE_VERSION, StoredMeta, is_blank, is_first_store, is_store, make_store, read_meta,
+};
 use sqlite::{Alter, Connection, Error, Row};
+use std::alloc::Global;
 
 /// Whether a row of `meta` says that the tables are of this version.
-fn is_version(row: &Row) -> Result<bool, Error>
-    ensures ok { IfOk result (λ is. IsTrue is ↔ IsVersion row.now) }
+fn is_version(row: &Row, version: u32) -> Result<bool, Error>
+    ensures ok { IfOk result (λ is. IsTrue is ↔ IsVersion version row.now) }
     ensures unread { IfErr result (λ e. e ≢ SqliteFailure OutOfMemory → ShowsMeta row.now → ⊥) }
 {
     let meta = StoredMeta::read(row)?;
-    Ok(meta.key.as_str() == "version" && meta.value == STORE_VERSION)
+    Ok(meta.key.as_str() == "version" && meta.value == version)
 }
 
 /// Whether one of the rows of `meta` says that the tables are of this version.
-fn have_version(rows: &[Row]) -> Result<bool, Error>
-    ensures ok { IfOk result (λ have. IsTrue have ↔ ((row : Values) × Has rows.now row × IsVersion row)) }
+fn have_version(rows: &[Row], version: u32) -> Result<bool, Error>
+    ensures ok { IfOk result (λ have.
+        IsTrue have ↔ ((row : Values) × Has rows.now row × IsVersion version row)) }
     ensures unread { IfErr result (λ e. e ≢ SqliteFailure OutOfMemory
         → ((row : Values) → Has rows.now row → ShowsMeta row) → ⊥) }
 {
     'rows: for row in rows {
-        if is_version(row)? {
+        if is_version(row, version)? {
             return Ok(true);
         }
     }
     Ok(false)
 }
 
-/// Checks that the tables are of this version. Fails with `Damaged` if they are of another, or if a row of `meta`
-/// can't be read.
-fn check_version<S: Alter>(conn: &mut Connection<S>) -> Result<(), KeepError>
-    requires rest { IsAtRest (state S.Store conn.old) }
-    ensures rest { IsAtRest (state S.Store conn.new) }
+/// Checks that the tables say that they are of this version. Fails with `Damaged` if they don't, or if a row of `meta`
+/// can't be read. Returns the allocator of the connection.
+pub(crate) fn check_version<S: Alter>(
+    conn: &mut Connection<S>,
+    version: u32,
+) -> Result<Global, KeepError>
+    requires schema { HasTables (state S.Store conn.old) }
+    requires autocommit { conn.old.in_transaction ≡ false }
+    ensures autocommit { conn.new.in_transaction ≡ false }
     ensures says { HasCleanDisk (state S.Store conn.new)
-        → OnOk result (SaysVersion (state S.Store conn.old).now.trees) }
+        → OnOk result (SaysVersion version (state S.Store conn.old).now.trees) }
     ensures kept { HasCleanDisk (state S.Store conn.new) → IsTrue (state S.Store conn.new).is_open
         → IsBack (state S.Store conn.old) (state S.Store conn.new) }
     ensures damaged { HasCleanDisk (state S.Store conn.new) → result ≡ Err Damaged
-        → MetaShows (state S.Store conn.old).now.trees → SaysVersion (state S.Store conn.old).now.trees → ⊥ }
+        → MetaShows (state S.Store conn.old).now.trees
+        → SaysVersion version (state S.Store conn.old).now.trees → ⊥ }
     ensures crash { Survives (state S.Store conn.old) (state S.Store conn.new) (λ _. ⊥) }
 {
     let rows = match read_meta(conn) {
         Ok(rows) => rows,
         Err(error) => return Err(refusal(error)),
     };
-    match have_version(rows.as_slice()) {
-        Ok(true) => Ok(()),
+    let alloc = *rows.allocator();
+    match have_version(rows.as_slice(), version) {
+        Ok(true) => Ok(alloc),
         Ok(false) => Err(KeepError::Damaged),
         Err(error) => Err(damage(error)),
+    }
+}
+
+/// Checks that the tables are those of a store of this version.
+fn check_store<S: Alter>(conn: &mut Connection<S>) -> Result<(), KeepError>
+    requires rest { IsAtRest (state S.Store conn.old) }
+    ensures rest { IsAtRest (state S.Store conn.new) }
+    ensures says { HasCleanDisk (state S.Store conn.new)
+        → OnOk result (SaysVersion store_version (state S.Store conn.old).now.trees) }
+    ensures kept { HasCleanDisk (state S.Store conn.new) → IsTrue (state S.Store conn.new).is_open
+        → IsBack (state S.Store conn.old) (state S.Store conn.new) }
+    ensures damaged { HasCleanDisk (state S.Store conn.new) → result ≡ Err Damaged
+        → MetaShows (state S.Store conn.old).now.trees
+        → SaysVersion store_version (state S.Store conn.old).now.trees → ⊥ }
+    ensures crash { Survives (state S.Store conn.old) (state S.Store conn.new) (λ _. ⊥) }
+{
+    match check_version(conn, STORE_VERSION) {
+        Ok(_) => Ok(()),
+        Err(error) => Err(error),
     }
 }
 
@@ -98,7 +131,7 @@ fn make_new<S: Alter>(conn: &mut Connection<S>) -> Result<(), KeepError>
     }
 }
 
-/// Finds the tables of a store, or makes them in a database that has none.
+/// Finds the tables of a store, or makes them in a database that has none. Takes those of the first version over.
 pub(crate) fn find_store<S: Alter>(conn: &mut Connection<S>) -> Result<(), KeepError>
     ensures rest { OnOk result (IsAtRest (state S.Store conn.new)) }
     ensures finds { HasCleanDisk (state S.Store conn.new) → IsTrue (state S.Store conn.new).is_open
@@ -107,10 +140,14 @@ pub(crate) fn find_store<S: Alter>(conn: &mut Connection<S>) -> Result<(), KeepE
         → OnErr result ((state S.Store conn.new).committed ≡ (state S.Store conn.old).committed) }
     ensures damaged { HasCleanDisk (state S.Store conn.new) → result ≡ Err Damaged
         → IsDamaged (state S.Store conn.old) }
-    ensures crash { Survives (state S.Store conn.old) (state S.Store conn.new) IsNew }
+    ensures crash { Survives (state S.Store conn.old) (state S.Store conn.new)
+        (IsAdopted (state S.Store conn.old)) }
     ensures alone { HasCleanDisk (state S.Store conn.new)
         → OnOk result ((state S.Store conn.old).now.schema ≡ no_schema
         → (db : Trees) → (state S.Store conn.new).may_leave db → IsNew db) }
+    ensures taken { HasCleanDisk (state S.Store conn.new)
+        → OnOk result ((state S.Store conn.old).now.schema ≡ first_schema
+        → LeavesOnly (state S.Store conn.new).may_leave (IsTakenOver (state S.Store conn.old).now.trees)) }
 {
     if !conn.is_autocommit() {
         return Err(KeepError::Refused);
@@ -118,8 +155,11 @@ pub(crate) fn find_store<S: Alter>(conn: &mut Connection<S>) -> Result<(), KeepE
     if is_blank(conn.schema()) {
         return make_new(conn);
     }
-    if !is_store(conn.schema()) {
+    if is_store(conn.schema()) {
+        return check_store(conn);
+    }
+    if !is_first_store(conn.schema()) {
         return Err(KeepError::Damaged);
     }
-    check_version(conn)
+    take_over(conn)
 }

@@ -5,11 +5,12 @@
 ghost use Rattle.imap_sql_keeper.specs.Keeping.{IsAtRest};
 ghost use Rattle.sqlite.specs.Held.{state};
 
-use imap_keeper::{Damage, RowFault};
+use crate::loading::read_all;
+use imap_keeper::{Damage, KeepError, RowFault};
 use imap_restore::find_damage;
 use imap_tables::{
-    FromRow, StoredEntry, StoredEpoch, StoredGone, StoredMailbox, StoredMessage, StoredMeta,
-    StoredSeenFlag, StoredSubscription, read_tables,
+    FromRow, StoredBody, StoredEntry, StoredEpoch, StoredGone, StoredHead, StoredKeyword,
+    StoredMailbox, StoredMessage, StoredMeta, StoredSeenFlag, StoredSubscription,
 };
 use sqlite::{Alter, Connection, Error, ErrorCode, Row};
 use std::alloc::Global;
@@ -18,9 +19,9 @@ use std::alloc::Global;
 pub(crate) fn damage_of<S: Alter>(conn: &mut Connection<S>, alloc: Global) -> Option<Damage>
     requires { IsAtRest (state S.Store conn.old) }
 {
-    match read_tables(conn, alloc) {
-        Ok(Some(tables)) => find_damage(alloc, tables),
-        Ok(None) => unread_row(conn),
+    match read_all(conn, alloc) {
+        Ok((tables, added)) => find_damage(alloc, tables, added),
+        Err(KeepError::Damaged) => unread_row(conn),
         Err(_) => None,
     }
 }
@@ -28,6 +29,9 @@ pub(crate) fn damage_of<S: Alter>(conn: &mut Connection<S>, alloc: Global) -> Op
 /// Finds the first row of which nothing is read.
 fn unread_row<S: Alter>(conn: &mut Connection<S>) -> Option<Damage> {
     if let Some(damage) = unread_mailbox(conn) {
+        return Some(damage);
+    }
+    if let Some(damage) = unread_message(conn) {
         return Some(damage);
     }
     if let Some(damage) = unread_below(conn) {
@@ -41,13 +45,26 @@ fn unread_mailbox<S: Alter>(conn: &mut Connection<S>) -> Option<Damage> {
     unread_in::<S, StoredMailbox>(conn, "mailbox", text)
 }
 
+fn unread_message<S: Alter>(conn: &mut Connection<S>) -> Option<Damage> {
+    let text = "SELECT rowid, mailbox, uid, date, octets, flags, keywords, place FROM message";
+    if let Some(damage) = unread_in::<S, StoredMessage>(conn, "message", text) {
+        return Some(damage);
+    }
+    let text = "SELECT rowid, mailbox, uid, date, flags, place FROM message2";
+    if let Some(damage) = unread_in::<S, StoredHead>(conn, "message2", text) {
+        return Some(damage);
+    }
+    let text = "SELECT rowid, mailbox, uid, octets FROM body";
+    if let Some(damage) = unread_in::<S, StoredBody>(conn, "body", text) {
+        return Some(damage);
+    }
+    let text = "SELECT rowid, mailbox, uid, word FROM keyword";
+    unread_in::<S, StoredKeyword>(conn, "keyword", text)
+}
+
 fn unread_below<S: Alter>(conn: &mut Connection<S>) -> Option<Damage> {
     let text = "SELECT rowid, mailbox, identifier, rights FROM acl";
     if let Some(damage) = unread_in::<S, StoredEntry>(conn, "acl", text) {
-        return Some(damage);
-    }
-    let text = "SELECT rowid, mailbox, uid, date, octets, flags, keywords, place FROM message";
-    if let Some(damage) = unread_in::<S, StoredMessage>(conn, "message", text) {
         return Some(damage);
     }
     let text = "SELECT rowid, mailbox, uid, place FROM gone";

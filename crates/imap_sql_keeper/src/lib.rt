@@ -7,5 +7,6 @@ mod loading;
 mod refusal;
 mod saving;
 mod sql_keeper;
+mod taking;
 
 pub use sql_keeper::SqlKeeper;

@@ -3,7 +3,7 @@
 ghost use Rattle.std.specs.Prelude.{◌≡◌, ◌≢◌, [], Err, IsTrue, OnErr, OnOk};
 ghost use Rattle.imap_keeper.specs.declared.error.KeepError.TheVariants.{Damaged};
 ghost use Rattle.imap_keeper.specs.Keeping.{LeavesOnly, LeavesOr};
-ghost use Rattle.imap_restore.specs.Holding.{Hold};
+ghost use Rattle.imap_restore.specs.Holding.{HoldSplit};
 ghost use Rattle.imap_sql_keeper.specs.Keeping.{IsAtRest, Keeps, LeavesMade, Made};
 ghost use Rattle.imap_tables.specs.Steps.{IsBack, IsStore};
 ghost use Rattle.imap_world.specs.Effects.{after_writes};
@@ -15,8 +15,9 @@ ghost use Rattle.sqlite.specs.Tree.{Trees};
 
 use crate::refusal::refusal;
 use imap_keeper::KeepError;
+use imap_message_tables::save_rows;
 use imap_records::row_changes;
-use imap_tables::{RowChange, check_open, save_rows};
+use imap_tables::{RowChange, check_open};
 use imap_world::Change;
 use sqlite::{Alter, Connection, Error};
 use std::alloc::Global;
@@ -42,7 +43,11 @@ fn make_none<S: Alter>(conn: &mut Connection<S>) -> Result<(), Error>
 }
 
 /// Makes some changes of rows.
-fn make_some<S: Alter>(conn: &mut Connection<S>, rows: &[RowChange]) -> Result<(), Error>
+fn make_some<S: Alter>(
+    conn: &mut Connection<S>,
+    alloc: Global,
+    rows: &[RowChange],
+) -> Result<(), Error>
     requires some { rows.now ≢ [] }
     requires store { IsStore (state S.Store conn.old) }
     requires rest { IsAtRest (state S.Store conn.old) }
@@ -59,11 +64,15 @@ fn make_some<S: Alter>(conn: &mut Connection<S>, rows: &[RowChange]) -> Result<(
     ensures open { HasCleanDisk (state S.Store conn.new)
         → OnOk result (IsTrue (state S.Store conn.old).is_open) }
 {
-    save_rows(conn, rows)
+    save_rows(conn, alloc, rows)
 }
 
 /// Makes changes of rows, if there are any.
-fn make_rows<S: Alter>(conn: &mut Connection<S>, rows: &[RowChange]) -> Result<(), Error>
+fn make_rows<S: Alter>(
+    conn: &mut Connection<S>,
+    alloc: Global,
+    rows: &[RowChange],
+) -> Result<(), Error>
     requires store { IsStore (state S.Store conn.old) }
     requires rest { IsAtRest (state S.Store conn.old) }
     ensures rest { IsAtRest (state S.Store conn.new) }
@@ -82,7 +91,7 @@ fn make_rows<S: Alter>(conn: &mut Connection<S>, rows: &[RowChange]) -> Result<(
     if rows.is_empty() {
         return make_none(conn);
     }
-    make_some(conn, rows)
+    make_some(conn, alloc, rows)
 }
 
 /// Saves what a change writes. A change that writes no rows changes nothing.
@@ -103,16 +112,16 @@ pub(crate) fn save_change<S: Alter>(
     ensures crash { HasCleanDisk (state S.Store conn.new)
         → (world : World) → Keeps (state S.Store conn.old) world → IsCurrent change.now world
         → LeavesOr (state S.Store conn.old).may_leave (state S.Store conn.new).may_leave
-        (λ db. Hold db (after_writes change.now world)) }
+        (λ db. HoldSplit db (after_writes change.now world)) }
     ensures alone { HasCleanDisk (state S.Store conn.new)
         → (world : World) → Keeps (state S.Store conn.old) world → IsCurrent change.now world
         → OnOk result (LeavesOnly (state S.Store conn.new).may_leave
-        (λ db. Hold db (after_writes change.now world))) }
+        (λ db. HoldSplit db (after_writes change.now world))) }
     ensures open { HasCleanDisk (state S.Store conn.new)
         → OnOk result (IsTrue (state S.Store conn.old).is_open) }
 {
     let rows = row_changes(alloc, change)?;
-    match make_rows(conn, rows.as_slice()) {
+    match make_rows(conn, alloc, rows.as_slice()) {
         Ok(()) => Ok(()),
         Err(error) => Err(refusal(error)),
     }

@@ -4,10 +4,11 @@ ghost use Rattle.std.specs.Prelude.{◌≡◌, Err, IfErr, IfOk, IsTrue, OnErr, 
 ghost use Rattle.std.specs.FinMap as map;
 ghost use Rattle.imap_keeper.specs.declared.error.KeepError.TheVariants.{Damaged};
 ghost use Rattle.imap_keeper.specs.Keeping.{HasBase, LeavesOnly, LeavesOr, OfChanged, failures_after};
-ghost use Rattle.imap_restore.specs.Holding.{Hold};
-ghost use Rattle.imap_sql_keeper.specs.Adopting.{FindsStore, IsDamaged, IsNew};
+ghost use Rattle.imap_restore.specs.Holding.{HoldSplit};
+ghost use Rattle.imap_sql_keeper.specs.Adopting.{FindsStore, IsAdopted, IsDamaged, IsNew, IsTakenOver};
 ghost use Rattle.imap_sql_keeper.specs.Keeping.{Keeps};
 ghost use Rattle.imap_tables.specs.Tables.{no_schema};
+ghost use Rattle.imap_tables.specs.Texts.{first_schema};
 ghost use Rattle.imap_world.specs.Stored.{world_of};
 ghost use Rattle.imap_world.specs.World.{World as Mailboxes};
 ghost use Rattle.sqlite.specs.Held.{state};
@@ -55,8 +56,10 @@ impl<S: Alter> Model for SqlKeeper<S> {
 
 impl<S: Alter> SqlKeeper<S> {
     /// Takes a database over. If nothing was made in it so far, the tables of a store are made in one
-    /// transaction. Fails with `Damaged` if it has other tables, or these say that they are of another
-    /// version. A refusal returns the connection, and has committed nothing.
+    /// transaction. Tables of the first version, which had each message in one row, become those of this version
+    /// in one transaction, and hold the same world. Fails with `Damaged` if it has other tables, if these say that
+    /// they are of another version, or if those of the first version hold no world. A refusal returns the
+    /// connection, and has committed nothing.
     pub fn adopt(mut conn: Connection<S>) -> Result<SqlKeeper<S>, (Connection<S>, KeepError)>
         ensures finds { IfOk result (λ k. HasCleanDisk (state S.Store k.conn)
             → IsTrue (state S.Store k.conn).is_open
@@ -70,12 +73,16 @@ impl<S: Alter> SqlKeeper<S> {
             → (state S.Store e.0).committed ≡ (state S.Store conn).committed) }
         ensures damaged { IfErr result (λ e. HasCleanDisk (state S.Store e.0) → e.1 ≡ Damaged
             → IsDamaged (state S.Store conn)) }
-        ensures crash { IfOk result (λ k. Survives (state S.Store conn) (state S.Store k.conn) IsNew) }
-        ensures refused_crash { IfErr result (λ e.
-            Survives (state S.Store conn) (state S.Store e.0) IsNew) }
+        ensures crash { IfOk result (λ k. Survives (state S.Store conn) (state S.Store k.conn)
+            (IsAdopted (state S.Store conn))) }
+        ensures refused_crash { IfErr result (λ e. Survives (state S.Store conn) (state S.Store e.0)
+            (IsAdopted (state S.Store conn))) }
         ensures alone { IfOk result (λ k. HasCleanDisk (state S.Store k.conn)
             → (state S.Store conn).now.schema ≡ no_schema
             → (db : Trees) → (state S.Store k.conn).may_leave db → IsNew db) }
+        ensures taken { IfOk result (λ k. HasCleanDisk (state S.Store k.conn)
+            → (state S.Store conn).now.schema ≡ first_schema
+            → LeavesOnly (state S.Store k.conn).may_leave (IsTakenOver (state S.Store conn).now.trees)) }
     {
         match find_store(&mut conn) {
             Ok(()) => Ok(SqlKeeper { conn, failures: 0 }),
@@ -105,7 +112,7 @@ impl<S: Alter + Drop> SqlKeeper<S> {
 }
 
 impl<S: Alter> Keeper for SqlKeeper<S> {
-    ghost use Rattle.imap_restore.specs.Holding.{Hold};
+    ghost use Rattle.imap_restore.specs.Holding.{HoldSplit};
     ghost use Rattle.imap_sql_keeper.specs.Keeping.{Keeps};
     ghost use Rattle.sqlite.specs.Held.{state};
     ghost use Rattle.sqlite.specs.State.{HasCleanDisk};
@@ -121,7 +128,7 @@ impl<S: Alter> Keeper for SqlKeeper<S> {
 
     ghost leaves = { λ k. (state S.Store k.conn).may_leave };
 
-    ghost stands = { Hold };
+    ghost stands = { HoldSplit };
 
     /// Fails if the connection is shut.
     fn save(&mut self, alloc: Global, change: &Change) -> Result<(), KeepError>
@@ -137,10 +144,11 @@ impl<S: Alter> Keeper for SqlKeeper<S> {
         ensures crash { HasCleanDisk (state S.Store self.new.conn)
             → OfChanged (Keeps (state S.Store self.old.conn)) change.now (λ after.
             LeavesOr (state S.Store self.old.conn).may_leave (state S.Store self.new.conn).may_leave
-            (λ image. Hold image after)) }
+            (λ image. HoldSplit image after)) }
         ensures alone { HasCleanDisk (state S.Store self.new.conn)
             → OfChanged (Keeps (state S.Store self.old.conn)) change.now (λ after.
-            OnOk result (LeavesOnly (state S.Store self.new.conn).may_leave (λ image. Hold image after))) }
+            OnOk result (LeavesOnly (state S.Store self.new.conn).may_leave
+            (λ image. HoldSplit image after))) }
         ensures open { HasCleanDisk (state S.Store self.new.conn)
             → OnOk result (IsTrue (state S.Store self.old.conn).is_open) }
     {

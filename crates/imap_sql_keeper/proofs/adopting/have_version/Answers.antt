@@ -21,7 +21,7 @@ rows-preserved c row h version =
     drop_more rows c.rows.row-index c.row-item.result c.rows-test.true ∙ ap (λ y. y ∷ drop (c.rows.row-index + 1) rows) (sym c.row-item.is) in
     let after : Has (c.row-item.result ∷ drop (c.rows.row-index + 1) rows) row = subst (λ l. Has l row) cut (c.rows.invariant row h version) in
     elim after [
-      | inl is ↦ absurd (true≢false (sym (c.in_ok-is_version.ensures.ok.1 (subst IsVersion is version)) ∙ c.if-branch.false))
+      | inl is ↦ absurd (true≢false (sym (c.in_ok-is_version.ensures.ok.1 (subst (IsVersion c.args.version) is version)) ∙ c.if-branch.false))
       | inr later ↦ later
     ]
 

@@ -1,14 +1,14 @@
 use Rattle.std.proofs.Common.{inl, inr, subst, sym, ap, ◌∙◌}
 use Rattle.sqlite.specs.Effect.{Database}
 use Rattle.sqlite.specs.Held.{state}
-use Rattle.imap_tables.specs.Changes.{MakesAll}
+use Rattle.imap_message_tables.specs.Writing.{WritesAll}
 use Rattle.imap_sql_keeper.proofs.Saved.{early, on_both, on_ok, rest_saved}
 use Rattle.imap_sql_keeper.specs.Keeping.{Made}
 use Rattle.imap_sql_keeper.proofs.saving.make_some.Goals as goal
 
 pub returns-clause-rest : goal.returns-clause-rest
 returns-clause-rest g c =
-    rest_saved (state g.S.Store c.args.conn.now) (state g.S.Store c.save_rows.new.conn) _ c.requires.rest c.save_rows.ensures.crash (MakesAll c.args.rows.now) c.save_rows.result
+    rest_saved (state g.S.Store c.args.conn.now) (state g.S.Store c.save_rows.new.conn) _ c.requires.rest c.save_rows.ensures.crash (WritesAll c.args.rows.now) c.save_rows.result
     c.save_rows.ensures.autocommit c.save_rows.ensures.after c.save_rows.ensures.before
 
 pub returns-clause-after : goal.returns-clause-after

@@ -1,7 +1,7 @@
 use Rattle.std.proofs.Common.{◌≡◌, rules, sym, subst}
 use Rattle.sqlite.specs.Held.{state}
 use Rattle.imap_keeper.specs.Keeping.{LeavesOr}
-use Rattle.imap_restore.specs.Holding.{Hold}
+use Rattle.imap_restore.specs.Holding.{HoldSplit}
 use Rattle.imap_sql_keeper.specs.Keeping.{Keeps}
 use Rattle.imap_world.specs.Effects.{after_writes}
 use Rattle.imap_sql_keeper.proofs.sql_keeper.SqlKeeperKeeper.save.Goals as goal
@@ -19,7 +19,7 @@ returns-in-Ok-clause-ok g c world kept current =
 pub returns-in-Ok-clause-crash : goal.returns-in-Ok-clause-crash
 returns-in-Ok-clause-crash g c clean world kept current =
     let same : c.args.self.now.conn ≡ c.self.inside.conn = search rules in
-    subst (λ k. LeavesOr (state g.S.Store k).may_leave (state g.S.Store c.save_change.new.conn).may_leave (λ db. Hold db (after_writes c.args.change.now world))) (sym same)
+    subst (λ k. LeavesOr (state g.S.Store k).may_leave (state g.S.Store c.save_change.new.conn).may_leave (λ db. HoldSplit db (after_writes c.args.change.now world))) (sym same)
     (c.in-Ok.ensures.crash clean world (subst (λ k. Keeps (state g.S.Store k) world) same kept) current)
 
 pub returns-in-Ok-clause-alone : goal.returns-in-Ok-clause-alone
@@ -35,5 +35,5 @@ returns-in-Err-clause-err g c world kept =
 pub returns-in-Err-clause-crash : goal.returns-in-Err-clause-crash
 returns-in-Err-clause-crash g c clean world kept current =
     let same : c.args.self.now.conn ≡ c.self.inside.conn = search rules in
-    subst (λ k. LeavesOr (state g.S.Store k).may_leave (state g.S.Store c.save_change.new.conn).may_leave (λ db. Hold db (after_writes c.args.change.now world))) (sym same)
+    subst (λ k. LeavesOr (state g.S.Store k).may_leave (state g.S.Store c.save_change.new.conn).may_leave (λ db. HoldSplit db (after_writes c.args.change.now world))) (sym same)
     (c.in-Err.ensures.crash clean world (subst (λ k. Keeps (state g.S.Store k) world) same kept) current)
