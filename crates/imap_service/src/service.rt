@@ -90,7 +90,7 @@ pub enum StoreFault {
     Disk,
     #[error("it refused to be read or changed")]
     Refused,
-    #[error("its tables are those of another program, or table meta has no row that says this version")]
+    #[error("its tables are those of another program, or table meta has no row that says this version, or an earlier one is damaged")]
     OtherTables,
     #[error("its rows stand for no mailboxes")]
     Damaged,

@@ -8,16 +8,23 @@ use thiserror::Error;
 pub enum StoreTable {
     #[error("acl")]
     Acl,
+    #[error("body")]
+    Body,
     #[error("epoch")]
     Epoch,
     #[error("gone")]
     Gone,
+    #[error("keyword")]
+    Keyword,
     #[error("mailbox")]
     Mailbox,
     #[error("mark")]
     Mark,
     #[error("message")]
     Message,
+    /// What is said of a message, beside its octets and keywords.
+    #[error("message2")]
+    MessageHead,
     #[error("meta")]
     Meta,
     #[error("sub")]
@@ -29,11 +36,14 @@ impl StoreTable {
     pub(crate) fn named(name: &str) -> Option<StoreTable> {
         match name {
             "acl" => Some(StoreTable::Acl),
+            "body" => Some(StoreTable::Body),
             "epoch" => Some(StoreTable::Epoch),
             "gone" => Some(StoreTable::Gone),
+            "keyword" => Some(StoreTable::Keyword),
             "mailbox" => Some(StoreTable::Mailbox),
             "mark" => Some(StoreTable::Mark),
             "message" => Some(StoreTable::Message),
+            "message2" => Some(StoreTable::MessageHead),
             "meta" => Some(StoreTable::Meta),
             "sub" => Some(StoreTable::Subscription),
             _ => None,
