@@ -8,7 +8,8 @@
 //!
 //! Lines `-- TEXT` are no part of a script. `-- stop at each call` runs the script once for each call of
 //! each of the database's two files, from the first on if there are no mailboxes yet: this call fails, and all later
-//! ones. A line says what was left. `-- as USER in NAME` compares what that user's sessions were sent with the run of
+//! ones. A line says what was left. `-- stop at each call from the first version` does the same over the database that
+//! the script leaves, with the tables of the first version. `-- as USER in NAME` compares what that user's sessions were sent with the run of
 //! an earlier script, and a line says whether it is equal. Any other TEXT is SQL that runs in a copy of the database at
 //! the end. A line says what can be loaded then.
 #![tactic(auto)]

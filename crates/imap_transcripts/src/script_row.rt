@@ -4,7 +4,7 @@ use crate::database::{DatabaseKeeper, TestKeeper};
 use crate::faults::fault_report;
 use crate::file::TestFile;
 use crate::running::{Found, image_after, run_in_database};
-use crate::stops::stop_report;
+use crate::stops::{first_stop_report, stop_report};
 use imap_keeper::{KeepError, ListKeeper};
 use imap_script::{Scenario, ScriptError};
 use imap_world::World;
@@ -19,6 +19,8 @@ pub(crate) struct ScriptRow {
     script: Vec<u8>,
     /// Whether it is run with each call of the database's files failing in turn.
     stops: bool,
+    /// Whether it is also run so over the tables of the first version.
+    first_stops: bool,
     /// Lines `USER in NAME`, each of which names a run with which this one is compared.
     pub(crate) comparisons: String,
     /// Lines of SQL, each of which runs by itself in a copy of the database at the end.
@@ -31,6 +33,7 @@ impl ScriptRow {
             name,
             script: Vec::new(alloc),
             stops: false,
+            first_stops: false,
             comparisons: String::new(alloc),
             faults: String::new(alloc),
         }
@@ -44,6 +47,7 @@ impl ScriptRow {
         };
         match str::from_utf8(text) {
             Ok("stop at each call\n") => self.stops = true,
+            Ok("stop at each call from the first version\n") => self.first_stops = true,
             Ok(text) => match text.strip_prefix("as ") {
                 Some(runs) => self.comparisons.push_str(runs)?,
                 None => self.faults.push_str(text)?,
@@ -96,6 +100,10 @@ impl ScriptRow {
         }
         if self.stops {
             let line = stop_report::<K>(alloc, scenario, world);
+            report.extend_from_slice(line.map_err(script_error)?.as_bytes())?;
+        }
+        if self.first_stops {
+            let line = first_stop_report::<K>(alloc, scenario, world);
             report.extend_from_slice(line.map_err(script_error)?.as_bytes())?;
         }
         Ok(())

@@ -2,11 +2,17 @@
 
 use crate::database::{Opened, TestKeeper, load, new_keeper};
 use crate::file::{Calls, Image, Left};
-use crate::running::{Found, image_of, run_compared};
+use crate::running::{Found, image_after, image_of, run_compared};
 use imap_keeper::KeepError;
 use imap_script::Scenario;
 use imap_world::World;
 use std::alloc::{AllocError, Global};
+
+/// Makes the tables of a store those of the first version, if each message has at most one keyword.
+const TO_FIRST: &str = "INSERT INTO message SELECT h.mailbox, h.uid, date, octets, flags, \
+     coalesce((SELECT word FROM keyword k WHERE k.mailbox = h.mailbox AND k.uid = h.uid), ''), \
+     place FROM message2 h JOIN body b ON b.mailbox = h.mailbox AND b.uid = h.uid; \
+     DROP TABLE keyword; DROP TABLE body; DROP TABLE message2; UPDATE meta SET value = 1";
 
 /// The most calls of a file.
 const MAX_CALLS: u64 = 100_000;
@@ -52,8 +58,32 @@ pub(crate) fn stop_report<K: TestKeeper>(
     world: &World,
 ) -> Result<&'static str, KeepError> {
     let image = start_image::<K>(alloc, world)?;
-    let log = stop_each::<K>(alloc, &image, FileKind::Log, scenario, world)?;
-    let database = stop_each::<K>(alloc, &image, FileKind::Database, scenario, world)?;
+    stop_both::<K>(alloc, &image, scenario, world)
+}
+
+/// Does the same over the database that the script leaves, with the tables of the first version.
+pub(crate) fn first_stop_report<K: TestKeeper>(
+    alloc: Global,
+    scenario: &Scenario,
+    world: &World,
+) -> Result<&'static str, KeepError> {
+    let image = image_after::<K>(alloc, scenario, world)?;
+    let (loaded, left) = load::<K>(alloc, &image)?;
+    drop(left);
+    let world = loaded?;
+    let first = K::execute(alloc, &image, TO_FIRST)?;
+    stop_both::<K>(alloc, &first, scenario, &world)
+}
+
+/// Has each call of each of the files fail in turn.
+fn stop_both<K: TestKeeper>(
+    alloc: Global,
+    image: &Image,
+    scenario: &Scenario,
+    world: &World,
+) -> Result<&'static str, KeepError> {
+    let log = stop_each::<K>(alloc, image, FileKind::Log, scenario, world)?;
+    let database = stop_each::<K>(alloc, image, FileKind::Database, scenario, world)?;
     if log == Outcome::Kept && database == Outcome::Kept {
         Ok("after each stop the mailboxes are those before a change or after it\n")
     } else {
