@@ -8,7 +8,7 @@ use imap_grammar::parse;
 use imap_lex::Octets;
 use imap_print::{Response, print};
 use imap_rights::Groups;
-use imap_syntax::DateTime;
+use imap_syntax::{Date, DateTime};
 use imap_world::{World, WorldError};
 use std::alloc::{AllocError, Global};
 
@@ -241,7 +241,9 @@ fn a_host_starts_with_an_inbox_for_each_user(rt: HostRuntime) {
 fn moments_and_session_numbers_have_ranges(rt: HostRuntime) {
     let last = Moment::from_seconds(253_402_300_799);
     assert_eq!(rt;
-        last.map(Moment::date_time).map(DateTime::day),
+        last.map(Moment::date_time)
+            .map(DateTime::date)
+            .map(Date::day_number),
         Some(2_932_896)
     );
     assert_eq!(rt; Moment::from_seconds(253_402_300_800), None);

@@ -116,7 +116,7 @@ fn reads_command_lines(rt: HostRuntime) {
                 "--listen=a=b=./c",
                 "--listen=bob=1143",
             ],
-            b"x root 10000 33554432 ann=/run/ann=1 a=b=./c bob=1143",
+            b"x root 100000 33554432 ann=/run/ann=1 a=b=./c bob=1143",
         ),
     ];
     for &(texts, wanted) in ROWS {

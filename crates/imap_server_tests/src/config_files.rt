@@ -22,7 +22,7 @@ const ROWS: &[(&str, &[&str], &[u8])] = &[
     (
         "# who is served\n\ndb /x y\r\n  admin   root \n\t\nlisten ann=/run/ann\nlisten bob=1143",
         &["--listen=cat=1144", "--log=connections"],
-        b"/x y root 10000 33554432 connections ann=/run/ann bob=1143 cat=1144",
+        b"/x y root 100000 33554432 connections ann=/run/ann bob=1143 cat=1144",
     ),
     (
         "member staff=ann\nmax-messages 7\nmax-octets 8\n#log off",
