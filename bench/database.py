@@ -13,10 +13,11 @@ ALL_RIGHTS = 2_047
 STRIDE = 7_919  # As in bench/store.txt.
 
 FIND = "SELECT id FROM mailbox WHERE tree = ?1 AND path = ?2"
-ADD = "INSERT INTO message (mailbox, uid, date, octets, flags, keywords, place) VALUES (?1, ?2, ?3, ?4, ?5, ?6, ?7)"
-FLAG = "UPDATE message SET flags = ?3, keywords = ?4, place = ?5 WHERE mailbox = ?1 AND uid = ?2"
+ADD = "INSERT INTO message2 (mailbox, uid, date, flags, place) VALUES (?1, ?2, ?3, ?4, ?5)"
+ADD_OCTETS = "INSERT INTO body (mailbox, uid, octets) VALUES (?1, ?2, ?3)"
+FLAG = "UPDATE message2 SET flags = ?3, place = ?4 WHERE mailbox = ?1 AND uid = ?2"
 MARK = "INSERT INTO mark (mailbox, user, own, before, uid, seen) VALUES (?1, ?2, ?3, ?4, ?5, ?6)"
-REMOVE = "DELETE FROM message WHERE mailbox = ?1 AND uid = ?2"
+REMOVE = [f"DELETE FROM {table} WHERE mailbox = ?1 AND uid = ?2" for table in ("message2", "body", "keyword")]
 GONE = "INSERT INTO gone (mailbox, uid, place) VALUES (?1, ?2, ?3)"
 COUNT = "UPDATE mailbox SET uidnext = ?2, shared = ?3 WHERE id = ?1"
 DELETE = "DELETE FROM mailbox WHERE tree = ?1 AND path = ?2"
@@ -32,14 +33,18 @@ def connect(path):
 def rows_of(path, table):
     """The rows of a table in order. Of a message there is the number of octets in place of these, and no date."""
     database = connect(path)
-    columns = "mailbox, uid, length(octets), flags, keywords, place" if table == "message" else "*"
+    columns = {"message2": "mailbox, uid, flags, place", "body": "mailbox, uid, length(octets)"}.get(table, "*")
     rows = sorted(database.execute(f"SELECT {columns} FROM {table}"))
     database.close()
     return rows
 
 
 def message_row(mailbox, uid, place):
-    return mailbox, uid, DATE, b"x" * OCTETS, 0, "", place
+    return mailbox, uid, DATE, 0, place
+
+
+def octets_row(mailbox, uid):
+    return mailbox, uid, b"x" * OCTETS
 
 
 class Box:
@@ -49,7 +54,7 @@ class Box:
         self.database, self.key = database, (tree, path)
         line = "SELECT id, uidnext, shared FROM mailbox WHERE tree = ?1 AND path = ?2"
         ((self.id, self.next, self.shared),) = database.execute(line, self.key)
-        self.uids = [uid for (uid,) in database.execute("SELECT uid FROM message WHERE mailbox = ?1 ORDER BY uid", (self.id,))]
+        self.uids = [uid for (uid,) in database.execute("SELECT uid FROM message2 WHERE mailbox = ?1 ORDER BY uid", (self.id,))]
         line = "SELECT count(*) FROM mark WHERE mailbox = ?1 AND user = ?2"
         ((self.own,),) = database.execute(line, (self.id, USER))
 
@@ -78,12 +83,13 @@ class Box:
         uids = range(self.next, self.next + many)
         self.next += many
         self.uids += uids
-        return [(ADD, [message_row(self.id, uid, place) for uid, place in zip(uids, self.places(many))]), self.counts()]
+        rows = [message_row(self.id, uid, place) for uid, place in zip(uids, self.places(many))]
+        return [(ADD, rows), (ADD_OCTETS, [octets_row(self.id, uid) for uid in uids]), self.counts()]
 
     def flag(self, many, turn):
         flags = 8 if turn % 2 == 0 else 0
         places = self.places(many)
-        return [(FLAG, [(self.id, uid, flags, "", place) for uid, place in zip(self.some(many, turn), places)]), self.counts()]
+        return [(FLAG, [(self.id, uid, flags, place) for uid, place in zip(self.some(many, turn), places)]), self.counts()]
 
     def seen(self, many, turn):
         self.own += many
@@ -97,7 +103,7 @@ class Box:
         self.uids = [uid for uid in self.uids if uid not in gone]
         places = self.places(many)
         removed = [(self.id, uid) for uid in uids]
-        return [(REMOVE, removed), (GONE, [(*row, place) for row, place in zip(removed, places)]), self.counts()]
+        return [*((text, removed) for text in REMOVE), (GONE, [(*row, place) for row, place in zip(removed, places)]), self.counts()]
 
     def delete(self, _many, _turn):
         return [(DELETE, [self.key])]
@@ -118,6 +124,7 @@ def fill(path, sizes):
         ("INSERT INTO epoch VALUES ('s', ?1, 1)", ((path,) for _, path, _ in boxes)),
         ("INSERT INTO acl VALUES (?1, ?2, ?3)", ((at, USER, ALL_RIGHTS) for at, _, _ in boxes)),
         (ADD, (message_row(at, uid, uid) for at, uid, _ in every)),
+        (ADD_OCTETS, (octets_row(at, uid) for at, uid, _ in every)),
         (MARK, ((at, USER, uid, size, uid, 1) for at, uid, size in every)),
     ):
         database.executemany(text, rows)

@@ -24,7 +24,7 @@ from messages import CRATES, run
 
 USES = "imap_batch imap_keeper imap_lex imap_mailbox imap_names imap_sql_keeper imap_syntax imap_world sqlite"
 MORE = "imap_batch imap_name_map imap_names imap_rights imap_world"
-STORE = "imap_keeper imap_records imap_restore imap_sql_keeper imap_tables"
+STORE = "imap_keeper imap_message_tables imap_records imap_restore imap_sql_keeper imap_tables"
 PART = int(sys.argv[2]) if len(sys.argv) > 2 else 1
 SIZES = (200, 20_000, 100_000)
 MANY = 2_000
@@ -112,7 +112,7 @@ def changes(store, copy, what, kind, many, times, unit):
 
 def check_alike(path, copy):
     """The store and the copy have to have the same rows, but for the dates of messages."""
-    for table in ("mailbox", "gone", "mark", "acl", "epoch", "message"):
+    for table in ("mailbox", "gone", "mark", "acl", "epoch", "message2", "body", "keyword"):
         if database.rows_of(path, table) != database.rows_of(copy, table):
             raise SystemExit(f"other rows of {table}")
 
