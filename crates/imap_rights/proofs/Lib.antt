@@ -16,3 +16,4 @@ pub mod AnothersList
 pub mod Owners
 pub mod AclLaws
 pub mod InOrder
+pub mod GroupIdentifiers

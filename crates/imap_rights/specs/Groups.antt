@@ -1,10 +1,10 @@
 -- Groups of users, and the identifiers that stand for a user (RFC 4314, section 2).
-use Rattle.std.specs.Prelude.{ℕ, Bool, false, List, [], ◌∷◌, ◌==◌, ◌&&◌, ◌||◌, not, codes, bytes_eq, drop}
+use Rattle.std.specs.Prelude.{◌≡◌, ◌↔◌, ℕ, Bool, true, false, List, [], ◌∷◌, ◌==◌, ◌&&◌, ◌||◌, not, codes, bytes_eq, drop}
 use Rattle.std.specs.Prelude.{if◌then◌else◌, nat_eq, unwrap_or}
 use Rattle.std.specs.Coded.{Coded}
 use base.Stored.{coded_unit}
 use Rattle.std.specs.FinMap as map
-use Rattle.std.specs.List.{starts_with}
+use Rattle.std.specs.List.{Contains, starts_with}
 use Rattle.imap_names.specs.UserName.{is_user_name}
 use Rattle.imap_user_map.specs.Finite.{map_values}
 use Rattle.imap_user_map.specs.Rows.{Rows, Users, users_code}
@@ -50,6 +50,11 @@ anyone = codes "anyone"
 abbrev pub is_group_in : Names → (subject : List ℕ) → Bool
 is_group_in groups subject =
     starts_with nat_eq subject group_prefix && map.contains_key groups (drop 6 subject)
+
+-- the identifiers are those that stand for the members of these groups
+abbrev pub AreIdentifiersOf : Names → List (List ℕ) → Type 0
+AreIdentifiersOf groups identifiers =
+    (subject : List ℕ) → (is_group_in groups subject ≡ true) ↔ Contains identifiers subject
 
 -- the subject is the user, everyone, or a group of the user's
 abbrev pub stands_for : Names → (user subject : List ℕ) → Bool

@@ -1,18 +1,21 @@
 //! Groups of users, which entries of access control lists may name (RFC 4314, section 2).
 
-ghost use Rattle.std.specs.Prelude.{◌≡◌, true, false, is_some, string_bytes, IfOk, Ok, OnErr, OnOk};
+ghost use Rattle.std.specs.Prelude.{◌≡◌, true, false, is_some, map as map_list, string_bytes};
+ghost use Rattle.std.specs.Prelude.{IfOk, Ok, OnErr, OnOk};
 ghost use Rattle.std.specs.FinMap as map;
 ghost use Rattle.imap_names.specs.UserName.{is_user_name};
-ghost use Rattle.imap_rights.specs.Groups.{groups_of, is_group_in, is_misnamed, members_of, stands_for};
+ghost use Rattle.imap_rights.specs.Groups.{AreIdentifiersOf, groups_of, is_group_in, is_misnamed};
+ghost use Rattle.imap_rights.specs.Groups.{members_of, stands_for};
 ghost use Rattle.imap_rights.specs.Groups.{takes_from, with_member};
 
+use crate::group_names::GroupNames;
 use imap_names::UserName;
 use imap_user_map::UserMap;
 use std::alloc::{AllocError, Global};
 use std::marker::Model;
 
 /// What begins an identifier that stands for the members of a group.
-const GROUP_PREFIX: &'static str = "group:";
+pub(crate) const GROUP_PREFIX: &'static str = "group:";
 
 /// An identifier that stands for every user.
 const ANYONE: &'static str = "anyone";
@@ -23,9 +26,9 @@ const ANYONE: &'static str = "anyone";
 #[derive(Drop)]
 pub struct Groups {
     // The groups of each user who is in one.
-    members: UserMap<UserMap<()>>,
+    members: UserMap<GroupNames>,
     // The groups of everyone else.
-    none: UserMap<()>,
+    none: GroupNames,
 }
 
 impl Model for Groups {
@@ -49,7 +52,7 @@ impl Groups {
     {
         Groups {
             members: UserMap::new(alloc),
-            none: UserMap::new(alloc),
+            none: GroupNames::new(alloc),
         }
     }
 
@@ -72,6 +75,20 @@ impl Groups {
     pub(crate) fn of(&self, user: &str) -> &UserMap<()>
         ensures { result.now.map ≡ groups_of self.now user.now }
     {
+        self.names_of(user).names()
+    }
+
+    /// The identifiers that stand for a user beside the user's own name and `anyone`: one for each group of the
+    /// user's, in no order.
+    pub fn identifiers(&self, user: &str) -> &[String]
+        ensures { AreIdentifiersOf (groups_of self.now user.now) (map_list string_bytes result.now) }
+    {
+        self.names_of(user).identifiers()
+    }
+
+    fn names_of(&self, user: &str) -> &GroupNames
+        ensures { result.now.map ≡ groups_of self.now user.now }
+    {
         match self.members.get(user) {
             Some(groups) => groups,
             None => &self.none,
@@ -80,7 +97,7 @@ impl Groups {
 }
 
 fn add_member(
-    members: &mut UserMap<UserMap<()>>,
+    members: &mut UserMap<GroupNames>,
     alloc: Global,
     group: String,
     user: &str,
@@ -90,7 +107,7 @@ fn add_member(
     ensures err { OnErr result (members_of members.new ≡ members_of members.old) }
 {
     if members.contains(user) {
-        add_group(members, group, user)
+        add_group(members, alloc, group, user)
     } else {
         add_user(members, alloc, group, user)
     }
@@ -98,7 +115,8 @@ fn add_member(
 
 /// Puts a user who is in a group into another one.
 fn add_group(
-    members: &mut UserMap<UserMap<()>>,
+    members: &mut UserMap<GroupNames>,
+    alloc: Global,
     group: String,
     user: &str,
 ) -> Result<(), AllocError>
@@ -108,14 +126,14 @@ fn add_group(
     ensures err { OnErr result (members_of members.new ≡ members_of members.old) }
 {
     match members.get_mut(user) {
-        Some(groups) => put_name(groups, group),
+        Some(groups) => groups.add(alloc, group),
         None => Ok(()),
     }
 }
 
 /// Puts a user who is in no group into one.
 fn add_user(
-    members: &mut UserMap<UserMap<()>>,
+    members: &mut UserMap<GroupNames>,
     alloc: Global,
     group: String,
     user: &str,
@@ -125,20 +143,11 @@ fn add_user(
         (members_of members.new ≡ with_member (members_of members.old) (string_bytes group) user.now) }
     ensures err { OnErr result (members_of members.new ≡ members_of members.old) }
 {
-    let mut groups = UserMap::new(alloc);
-    put_name(&mut groups, group)?;
+    let mut groups = GroupNames::new(alloc);
+    groups.add(alloc, group)?;
     let user = String::from_str(alloc, user)?;
     members.reserve(1)?;
     members.insert_reserved(user, groups);
-    Ok(())
-}
-
-fn put_name(names: &mut UserMap<()>, name: String) -> Result<(), AllocError>
-    ensures ok { OnOk result (names.new.map ≡ map.insert names.old.map (string_bytes name) tt) }
-    ensures err { OnErr result (names.new.map ≡ names.old.map) }
-{
-    names.reserve(1)?;
-    names.insert_reserved(name, ());
     Ok(())
 }
 

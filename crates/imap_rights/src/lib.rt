@@ -4,6 +4,7 @@
 
 mod acl;
 mod change;
+mod group_names;
 mod groups;
 mod identifier;
 pub mod laws;

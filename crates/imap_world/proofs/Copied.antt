@@ -28,7 +28,7 @@ nothing_copied m copy es are none = record {
 }
 
 -- an entry of the map is found
-entry_found : (m : Names MailboxEntry) (i : ℕ) (e : Name × MailboxEntry) → i < length (map.entries m) → e ≡ get_or (map.entries m) i e → map.get m e.0 ≡ Some e.1
+pub entry_found : (m : Names MailboxEntry) (i : ℕ) (e : Name × MailboxEntry) → i < length (map.entries m) → e ≡ get_or (map.entries m) i e → map.get m e.0 ≡ Some e.1
 entry_found m i e lt is =
     get-entries m e.0 ∙ sym (found (map.entries m) e.0 i e (placed (map.entries m) e.0 i (sorted_entries m (map.entries m) refl) (lt, λ d. at d)) is)
   where

@@ -27,3 +27,7 @@ pub mod Standing
 pub mod Subscribing
 pub mod OneOfParts
 pub mod Sharing
+pub mod ListsChanged
+pub mod IndexMoved
+pub mod Numbering
+pub mod Granted

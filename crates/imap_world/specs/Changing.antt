@@ -55,6 +55,11 @@ mailboxes_with_acl mailboxes name mailbox (Err error) = Err error
 mailboxes_with_acl mailboxes name mailbox (Ok acl) =
     Ok (map.insert mailboxes name (record mailbox { acl = acl }))
 
+-- the list of the mailbox, if it is there, with an identifier's rights changed
+abbrev pub list_with_rights : Option Mailbox → List ℕ → RightsChange → Result AclMap WorldError
+list_with_rights None identifier change = Err NoSuch
+list_with_rights (Some mailbox) identifier change = acl_with_rights mailbox.acl identifier change
+
 abbrev pub mailboxes_with_rights_at :
     Names Mailbox → Name → List ℕ → RightsChange → Option Mailbox
     → Result (Names Mailbox) WorldError

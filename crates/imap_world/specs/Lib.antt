@@ -1,6 +1,7 @@
 -- The mailboxes of all users, what is asked of them, and what changes them.
 pub mod Changing
 pub mod Effects
+pub mod Indexed
 pub mod Kept
 pub mod Laws
 pub mod Mailbox

@@ -9,6 +9,7 @@ mod change;
 mod copies;
 mod effect;
 mod error;
+mod indexing;
 pub mod laws;
 mod limits;
 mod mailbox_entry;

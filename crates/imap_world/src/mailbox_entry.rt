@@ -10,6 +10,7 @@ ghost use Rattle.imap_world.specs.Shared.{HasOwnRoomFor};
 
 use crate::shared_mailbox::SharedMailbox;
 use imap_batch::BatchWrite;
+use imap_identifier_index::Numbered;
 use imap_mailbox::Mailbox;
 use imap_rights::Acl;
 use std::alloc::{AllocError, Global};
@@ -21,6 +22,14 @@ pub struct MailboxEntry {
     pub validity: u32,
     pub acl: Acl,
     pub messages: SharedMailbox,
+    /// By which the world's index knows it. Another number may stand here: the index tests it.
+    pub(crate) number: u32,
+}
+
+impl Numbered for MailboxEntry {
+    fn number(&self) -> u32 {
+        self.number
+    }
 }
 
 impl MailboxEntry {
@@ -32,6 +41,7 @@ impl MailboxEntry {
             validity,
             acl,
             messages: SharedMailbox::new(alloc, Mailbox::new(alloc))?,
+            number: 0,
         })
     }
 
@@ -69,6 +79,7 @@ impl MailboxEntry {
             validity: self.validity,
             acl: self.acl.try_copy(alloc)?,
             messages: self.messages.try_copy(alloc)?,
+            number: self.number,
         })
     }
 }

@@ -72,6 +72,7 @@ fn push_entry(
         validity,
         acl,
         messages: held,
+        number: 0,
     };
     push(entries, (name, entry))?;
     Ok(())

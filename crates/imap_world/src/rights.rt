@@ -2,7 +2,7 @@
 
 ghost use Rattle.std.specs.Prelude.{◌≡◌, OnErr};
 ghost use Rattle.std.specs.FinMap as map;
-ghost use Rattle.imap_world.specs.Changing.{Answers, Changes, mailboxes_with_rights};
+ghost use Rattle.imap_world.specs.Changing.{Answers, Changes};
 ghost use Rattle.imap_world.specs.Mailbox.{plain_all};
 ghost use Rattle.imap_world.specs.Tree.{acl_with_rights, mailboxes_with_list};
 
@@ -12,25 +12,6 @@ use imap_name_map::NameMap;
 use imap_names::NameRef;
 use imap_rights::{Acl, AclError, Identifier, RightsChange};
 use std::alloc::Global;
-
-/// Changes the rights of one identifier on a mailbox. Fails with `NoSuch` if there is no such mailbox.
-pub(crate) fn set_rights(
-    mailboxes: &mut NameMap<MailboxEntry>,
-    name: &NameRef<'_>,
-    identifier: Identifier,
-    change: RightsChange,
-) -> Result<(), WorldError>
-    ensures mailboxes { let before = plain_all mailboxes.old.map in
-        let meant = mailboxes_with_rights before name.now identifier change in
-        Changes result (plain_all mailboxes.new.map) meant }
-    ensures err { OnErr result (mailboxes.new ≡ mailboxes.old) }
-    ensures spare { mailboxes.new.spare ≡ mailboxes.old.spare }
-{
-    match mailboxes.get_mut(name) {
-        Some(mailbox) => change_rights(&mut mailbox.acl, identifier, change),
-        None => Err(WorldError::NoSuch),
-    }
-}
 
 /// The list with the rights of one identifier changed. Fails with `Limit` if it would have an entry too many.
 pub(crate) fn changed_acl(

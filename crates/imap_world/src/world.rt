@@ -8,8 +8,9 @@ ghost use Rattle.std.specs.Prelude.{IsTrue, MatchOption, OnErr, OnOk, option_cop
 ghost use Rattle.std.specs.FinMap as map;
 ghost use Rattle.imap_name_map.specs.Rows.{has_below, has_within};
 ghost use Rattle.imap_world.specs.Changing.{Answers, AnswersOrMemory, Changes};
-ghost use Rattle.imap_world.specs.Changing.{world_with_placed, world_with_rights};
+ghost use Rattle.imap_world.specs.Changing.{list_with_rights, world_with_placed, world_with_rights};
 ghost use Rattle.imap_world.specs.Effects.{after_write, after_writes, writes_for, writes_of};
+ghost use Rattle.imap_world.specs.Indexed.{IsIndexIn};
 ghost use Rattle.imap_world.specs.Kept.{AreKept, IsSound};
 ghost use Rattle.imap_world.specs.Laws.{KeepsValidities};
 ghost use Rattle.imap_world.specs.Mailbox.{AreShared, plain_all, plain_lent};
@@ -28,6 +29,9 @@ use crate::change::{Change, Write};
 use crate::copies::{copy_mailboxes, share_mailboxes};
 use crate::effect::Effect;
 use crate::error::WorldError;
+use crate::indexing::{
+    index_of, make_index_room, make_room_for_row, remove_from_index, set_list_in_index,
+};
 use crate::mailbox_entry::MailboxEntry;
 use crate::messages::{make_message_room, write_parts};
 use crate::moving::set_validities;
@@ -35,9 +39,10 @@ use crate::named_batch::NamedWrite;
 use crate::new_mailbox::NewMailbox;
 use crate::placing::{has_superior, new_row};
 use crate::restored::{are_sound, mailboxes_of, map_of, subscriptions_of};
-use crate::rights::{put_acl, set_rights};
+use crate::rights::{changed_acl, put_acl};
 use crate::subscriptions::{add_name, make_room_for, remove_name};
 use crate::world_parts::WorldParts;
+use imap_identifier_index::IdentifierIndex;
 use imap_mailbox::PartsError;
 use imap_name_map::NameMap;
 use imap_name_map::numbers::{next_number, number_of};
@@ -59,9 +64,12 @@ pub struct World {
     mailboxes: NameMap<MailboxEntry>,
     epochs: NameMap<u32>,
     subscriptions: UserMap<NameMap<()>>,
+    // What LIST starts from. Contracts see no more of it than that it is one of these mailboxes.
+    index: IdentifierIndex,
 }
 
 impl Model for World {
+    ghost use Rattle.imap_world.specs.Indexed.{IsIndexIn};
     ghost use Rattle.imap_world.specs.Kept.{AreKept, IsSound};
     ghost use Rattle.imap_world.specs.Mailbox.{plain_all};
     ghost use Rattle.imap_world.specs.Stored.{Stored, stored_code, world_of};
@@ -78,7 +86,7 @@ impl Model for World {
           mailboxes = w.mailboxes;
           epochs = w.epochs;
           subscriptions = w.subscriptions;
-        })) × AreKept (plain_all w.mailboxes.map) };
+        })) × AreKept (plain_all w.mailboxes.map) × IsIndexIn w.index (plain_all w.mailboxes.map) };
 }
 
 impl World {
@@ -92,6 +100,7 @@ impl World {
             mailboxes: NameMap::new(alloc),
             epochs: NameMap::new(alloc),
             subscriptions: UserMap::new(alloc),
+            index: IdentifierIndex::new(alloc),
         }
     }
 
@@ -108,15 +117,17 @@ impl World {
             subscriptions,
         } = parts;
         let epochs = map_of(epochs)?;
-        let mailboxes = mailboxes_of(alloc, mailboxes)?;
+        let mut mailboxes = mailboxes_of(alloc, mailboxes)?;
         if !are_sound(&mailboxes, &epochs) {
             return Err(PartsError::Bad);
         }
         let subscriptions = subscriptions_of(alloc, subscriptions)?;
+        let index = index_of(&mut mailboxes, alloc)?;
         Ok(World {
             mailboxes,
             epochs,
             subscriptions,
+            index,
         })
     }
 
@@ -137,6 +148,7 @@ impl World {
             mailboxes: copy_mailboxes(alloc, &self.mailboxes)?,
             epochs: self.epochs.try_copy(alloc)?,
             subscriptions: self.subscriptions.try_copy(alloc)?,
+            index: self.index.try_copy(alloc)?,
         })
     }
 
@@ -163,6 +175,13 @@ impl World {
         ensures { plain_all result.now.map ≡ (world_of self.now).mailboxes }
     {
         &self.mailboxes
+    }
+
+    /// What finds mailboxes by the identifiers in their lists.
+    pub fn index(&self) -> &IdentifierIndex
+        ensures { IsIndexIn result.now (world_of self.now).mailboxes }
+    {
+        &self.index
     }
 
     /// Whether there is a mailbox below the name.
@@ -207,17 +226,18 @@ impl World {
             return Err(WorldError::NoSuch);
         }
         match new_row(alloc, &self.epochs, name, acl) {
-            Ok(row) => self.add(row),
+            Ok(row) => self.add(alloc, row),
             Err(error) => Err(error),
         }
     }
 
     /// Makes room for a mailbox and writes it.
-    fn add(&mut self, row: NewMailbox) -> Result<(), WorldError>
+    fn add(&mut self, alloc: Global, row: NewMailbox) -> Result<(), WorldError>
         requires { MayPut row (world_of self.old) }
         ensures world { Changes result (world_of self.new) (Ok (with_row (world_of self.old) row)) }
         ensures err { OnErr result (world_of self.new ≡ world_of self.old) }
     {
+        self.make_room_for_row(alloc, &row)?;
         self.mailboxes.reserve(1)?;
         self.epochs.reserve(1)?;
         self.put(row);
@@ -228,6 +248,7 @@ impl World {
     /// there is no such mailbox, and with `Limit` if its list is full.
     pub fn set_acl(
         &mut self,
+        alloc: Global,
         name: &NameRef<'_>,
         identifier: Identifier,
         change: RightsChange,
@@ -236,7 +257,48 @@ impl World {
             Changes result (world_of self.new) meant }
         ensures err { OnErr result (world_of self.new ≡ world_of self.old) }
     {
-        set_rights(&mut self.mailboxes, name, identifier, change)
+        let acl = self.list_with_rights(alloc, name, &identifier, change)?;
+        self.make_room_for_list(alloc, &acl)?;
+        self.put_list(name, acl);
+        Ok(())
+    }
+
+    /// The list of a mailbox with the rights of one identifier changed.
+    fn list_with_rights(
+        &self,
+        alloc: Global,
+        name: &NameRef<'_>,
+        identifier: &Identifier,
+        change: RightsChange,
+    ) -> Result<Acl, WorldError>
+        ensures { let mailbox = map.get (world_of self.now).mailboxes name.now in
+            Answers result (list_with_rights mailbox identifier.now change) }
+    {
+        match self.mailboxes.get(name) {
+            Some(mailbox) => changed_acl(alloc, &mailbox.acl, identifier, change),
+            None => Err(WorldError::NoSuch),
+        }
+    }
+
+    /// Makes room in the index for a mailbox.
+    fn make_room_for_row(&mut self, alloc: Global, row: &NewMailbox) -> Result<(), AllocError>
+        ensures { self.new ≡ self.old }
+    {
+        make_room_for_row(&mut self.index, alloc, row, 1)
+    }
+
+    /// Makes room in the index for a mailbox with this list.
+    fn make_room_for_list(&mut self, alloc: Global, acl: &Acl) -> Result<(), AllocError>
+        ensures { self.new ≡ self.old }
+    {
+        self.index.reserve_entries(alloc, acl, 1)
+    }
+
+    /// Makes room in the index for all that is written.
+    fn make_index_room(&mut self, alloc: Global, change: &Change) -> Result<(), AllocError>
+        ensures { self.new ≡ self.old }
+    {
+        make_index_room(&mut self.index, alloc, change.writes(), change.len())
     }
 
     /// The UIDVALIDITY of the next mailbox that is made under the name: 1 more than the greatest that was
@@ -289,6 +351,7 @@ impl World {
         ensures unchanged { world_of self.new ≡ world_of self.old }
         ensures room { OnOk result (HasRoomFor change.now self.new) }
     {
+        self.make_index_room(alloc, change)?;
         let more = change.len();
         self.mailboxes.reserve(more)?;
         self.epochs.reserve(change.count()?)?;
@@ -354,9 +417,15 @@ impl World {
         ensures world { world_of self.new ≡ with_row (world_of self.old) row }
         ensures room { Leaves 1 self.old self.new }
     {
-        let validity = row.mailbox.validity;
-        self.mailboxes.insert_reserved(row.name, row.mailbox);
-        self.epochs.insert_reserved(row.epoch_name, validity);
+        let NewMailbox {
+            name,
+            epoch_name,
+            mut mailbox,
+        } = row;
+        let validity = mailbox.validity;
+        mailbox.number = self.index.add(&name, &mailbox.acl);
+        self.mailboxes.insert_reserved(name, mailbox);
+        self.epochs.insert_reserved(epoch_name, validity);
     }
 
     /// Writes the access control list of a mailbox, if it is there.
@@ -364,6 +433,7 @@ impl World {
         ensures world { world_of self.new ≡ with_acl (world_of self.old) name.now acl }
         ensures room { Leaves 0 self.old self.new }
     {
+        set_list_in_index(&mut self.index, &self.mailboxes, name, &acl);
         put_acl(&mut self.mailboxes, name, acl);
     }
 
@@ -383,6 +453,7 @@ impl World {
         ensures world { world_of self.new ≡ without (world_of self.old) name.now }
         ensures room { Leaves 0 self.old self.new }
     {
+        remove_from_index(&mut self.index, &self.mailboxes, name);
         self.mailboxes.remove(name);
     }
 
@@ -394,6 +465,8 @@ impl World {
         ensures room { Leaves (length arrivals) self.old self.new }
     {
         let (names, validities) = arrivals.into_parts();
+        let run = self.mailboxes.run_entries(old);
+        self.index.rename_run(run, validities.as_slice(), old, new);
         self.mailboxes.rename(old, new, names);
         set_validities(&mut self.mailboxes, new, &validities);
         self.epochs.insert_run(new, validities);

@@ -10,10 +10,10 @@ pub returns-in-Some-clause-ok : goal.returns-in-Some-clause-ok
 returns-in-Some-clause-ok c =
     let old = c.args.members.now in
     let user = c.args.user.now in
-    let names = c.put_name.new.names in
+    let names = c.add.new.self in
     let there : map.get old.map user ≡ Some c.in-Some.groups.now = sym c.get_mut.ensures.value ∙ ap option_copied_mut c.in-Some.is in
     let is : c.get_mut.follows.lender names ≡ with_value old user names = of_some _ _ c.in-Some.is (c.get_mut.follows.holds names) in
-    of_ok c.put_name.result c.put_name.ensures.ok (λ put.
+    of_ok c.add.result c.add.ensures.ok (λ put.
     members_put old (c.get_mut.follows.lender names) user names (ap (λ r. r.map) is)
     ∙ ap (map.insert (members_of old) user) (put ∙ ap (λ m. map.insert m (string_bytes c.args.group) tt) (sym (groups_there old user c.in-Some.groups.now there))))
 
@@ -21,10 +21,10 @@ pub returns-in-Some-clause-err : goal.returns-in-Some-clause-err
 returns-in-Some-clause-err c =
     let old = c.args.members.now in
     let user = c.args.user.now in
-    let names = c.put_name.new.names in
+    let names = c.add.new.self in
     let there : map.get old.map user ≡ Some c.in-Some.groups.now = sym c.get_mut.ensures.value ∙ ap option_copied_mut c.in-Some.is in
     let is : c.get_mut.follows.lender names ≡ with_value old user names = of_some _ _ c.in-Some.is (c.get_mut.follows.holds names) in
-    of_err c.put_name.result c.put_name.ensures.err (λ kept. members_kept old (c.get_mut.follows.lender names) user c.in-Some.groups.now names there (ap (λ r. r.map) is) kept)
+    of_err c.add.result c.add.ensures.err (λ kept. members_kept old (c.get_mut.follows.lender names) user c.in-Some.groups.now names there (ap (λ r. r.map) is) kept)
 
 pub returns-in-None-clause-ok : goal.returns-in-None-clause-ok
 returns-in-None-clause-ok c =

@@ -7,7 +7,7 @@ use Rattle.imap_world.proofs.restored.push_entry.Goals as goal
 
 pub returns : goal.returns
 returns c =
-    let e : Name × MailboxEntry = (c.args.row.name, record { validity = c.args.row.validity; acl = c.in_ok-acl.acl; messages = c.in_ok-held.held }) in (
+    let e : Name × MailboxEntry = (c.args.row.name, record { validity = c.args.row.validity; acl = c.in_ok-acl.acl; messages = c.in_ok-held.held; number = 0 }) in (
       e,
       c.in_ok-push.ensures,
       record {

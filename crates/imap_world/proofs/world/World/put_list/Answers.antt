@@ -1,4 +1,5 @@
 use Rattle.std.proofs.Common.{refl, sym, subst, arith}
+use Rattle.imap_world.specs.Indexed.{IsIndexIn}
 use Rattle.imap_world.specs.Kept.{AreKept}
 use Rattle.imap_world.specs.Mailbox.{plain_all}
 use Rattle.imap_world.specs.Ready.{Leaves}
@@ -14,6 +15,7 @@ invariant_of-self c =
     let new : Stored = record old { mailboxes = c.put_acl.new.mailboxes } in (
       list_is_sound (world_of old) (world_of new) c.args.name.now c.args.acl c.put_acl.ensures.mailboxes refl c.self.invariant.0,
       subst AreKept (sym c.put_acl.ensures.mailboxes) (kept_with_list (plain_all old.mailboxes.map) c.self.invariant.1 c.args.name.now c.args.acl _ refl),
+      subst (IsIndexIn c.set_list_in_index.new.index) (sym c.put_acl.ensures.mailboxes) (c.set_list_in_index.ensures c.self.invariant.2),
     )
 
 pub returns-clause-room : goal.returns-clause-room

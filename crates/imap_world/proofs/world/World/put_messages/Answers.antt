@@ -1,9 +1,11 @@
 use Rattle.std.proofs.Common.{refl, sym, subst, arith}
+use Rattle.imap_world.specs.Indexed.{IsIndexIn}
 use Rattle.imap_world.specs.Kept.{AreKept}
 use Rattle.imap_world.specs.Mailbox.{plain_all}
 use Rattle.imap_world.specs.Messages.{with_messages}
 use Rattle.imap_world.specs.Ready.{Leaves, MayChangeParts}
 use Rattle.imap_world.specs.Stored.{Stored, world_of}
+use Rattle.imap_world.proofs.ListsChanged.{alike, lists_parts}
 use Rattle.imap_world.proofs.Parts.{kept_parts, parts_are_sound}
 use Rattle.imap_world.proofs.Room.{mailboxes_leave}
 use Rattle.imap_world.proofs.Sound.{same_is_sound}
@@ -17,6 +19,8 @@ invariant_of-self c =
       same_is_sound (with_messages (world_of old) c.args.part c.args.other) (world_of new) c.write_parts.ensures.mailboxes refl
           (parts_are_sound (world_of old) c.args.part c.args.other c.self.invariant.0),
       subst AreKept (sym c.write_parts.ensures.mailboxes) (kept_parts (plain_all old.mailboxes.map) c.self.invariant.1 c.args.part c.args.other may),
+      subst (IsIndexIn c.self.inside.index) (sym c.write_parts.ensures.mailboxes)
+          (alike c.self.inside.index _ _ (lists_parts (plain_all old.mailboxes.map) c.args.part c.args.other) c.self.invariant.2),
     )
 
 pub returns-clause-room : goal.returns-clause-room

@@ -1,6 +1,7 @@
 use Rattle.std.proofs.Common.{◌≡◌, ◌≤◌, false, refl, subst, sym, ap, ◌∙◌, arith}
 use Rattle.std.specs.FinMap as map
 use Rattle.imap_name_map.specs.Rows.{has_below}
+use Rattle.imap_world.specs.Indexed.{IsIndexIn}
 use Rattle.imap_world.specs.Kept.{AreKept}
 use Rattle.imap_world.specs.Mailbox.{plain_all}
 use Rattle.imap_world.specs.Ready.{Leaves}
@@ -22,6 +23,7 @@ invariant_of-self c =
     ap plain_all c.remove.ensures.map ∙ plain_without old.mailboxes.map c.args.name.now in (
       removed_is_sound (world_of old) (world_of new) c.args.name.now mailboxes refl free c.self.invariant.0,
       subst AreKept (sym mailboxes) (kept_without (plain_all old.mailboxes.map) c.self.invariant.1 c.args.name.now),
+      subst (IsIndexIn c.remove_from_index.new.index) (sym mailboxes) (c.remove_from_index.ensures c.self.invariant.2),
     )
 
 pub returns-clause-room : goal.returns-clause-room

@@ -1,15 +1,27 @@
-use Rattle.std.proofs.Common.{refl}
-use Rattle.imap_world.specs.Mailbox.{plain_all}
+use Rattle.std.proofs.Common.{ap, ◌∙◌}
+use Rattle.imap_world.specs.Changing.{Changes, world_with_rights}
 use Rattle.imap_world.specs.Stored.{Stored, world_of}
-use Rattle.imap_world.proofs.Changed.{rights_are_sound, on_err_map}
-use Rattle.imap_world.proofs.KeptMessages.{kept_with_rights}
+use Rattle.imap_world.specs.Tree.{with_acl}
+use Rattle.imap_world.specs.declared.error.WorldError.TheVariants.{Memory}
+use Rattle.imap_world.proofs.Granted.{list_refused, list_without_room, list_written, passed}
 use Rattle.imap_world.proofs.world.World.set_acl.Goals as goal
 
-pub invariant_of-self : goal.invariant_of-self
-invariant_of-self c =
-    let old : Stored = record { mailboxes = c.self.inside.mailboxes; epochs = c.self.inside.epochs; subscriptions = c.self.inside.subscriptions } in
-    let new : Stored = record old { mailboxes = c.set_rights.new.mailboxes } in
-    let err = on_err_map (λ r. plain_all r.map) c.set_rights.new.mailboxes c.self.inside.mailboxes c.set_rights.result c.set_rights.ensures.err in (
-      rights_are_sound (world_of old) (world_of new) c.args.name.now c.args.identifier c.args.change refl c.self.invariant.0 c.set_rights.result c.set_rights.ensures.mailboxes err,
-      kept_with_rights (plain_all old.mailboxes.map) c.self.invariant.1 c.args.name.now c.args.identifier c.args.change (plain_all new.mailboxes.map) c.set_rights.result c.set_rights.ensures.mailboxes err,
-    )
+pub returns-in_err-acl-clause-world : goal.returns-in_err-acl-clause-world
+returns-in_err-acl-clause-world c =
+    let world = world_of c.args.self.now in
+    let meant = world_with_rights world c.args.name.now c.args.identifier c.args.change in
+    passed (λ r. Changes r world meant) c.from_residual.result c.in_err-acl.field-0.0 c.from_residual.ensures
+    (list_refused world c.args.name.now c.args.identifier c.args.change world c.in_err-acl.field-0.0 c.in_err-acl.ensures)
+
+pub returns-in_err-make_room_for_list-clause-world : goal.returns-in_err-make_room_for_list-clause-world
+returns-in_err-make_room_for_list-clause-world c =
+    let world = world_of c.args.self.now in
+    let meant = world_with_rights world c.args.name.now c.args.identifier c.args.change in
+    let after = world_of c.make_room_for_list.new.self in
+    passed (λ r. Changes r after meant) c.from_residual-in_err-make_room_for_list.result Memory c.from_residual-in_err-make_room_for_list.ensures
+    (list_without_room world c.args.name.now c.args.identifier c.args.change after c.in_ok-acl.acl c.in_ok-acl.ensures)
+
+pub returns-clause-world : goal.returns-clause-world
+returns-clause-world c =
+    list_written (world_of c.args.self.now) c.args.name.now c.args.identifier c.args.change (world_of c.put_list.new.self) c.in_ok-acl.acl c.in_ok-acl.ensures
+    (c.put_list.ensures.world ∙ ap (λ (s : Stored). with_acl (world_of s) c.args.name.now c.in_ok-acl.acl) c.make_room_for_list.ensures)
