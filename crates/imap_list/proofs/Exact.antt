@@ -74,7 +74,7 @@ matched_level tested patterns n = (
 
 -- ---- names of a view
 
-there_is : (view : View) (n : Text) → Contains (listable_names view) n ↔ IsThere view n
+pub there_is : (view : View) (n : Text) → Contains (listable_names view) n ↔ IsThere view n
 there_is view n = (λ c. forth c, λ h. back h.0 h.1 h.2 h.3 h.4)
   where
     name_shown : Name × Seen → Text

@@ -7,3 +7,4 @@ pub mod Listed
 pub mod Members
 pub mod Order
 pub mod Plain
+pub mod Started

@@ -18,3 +18,4 @@ pub mod Renaming
 pub mod SettingRights
 pub mod Unknown
 pub mod Views
+pub mod Starting

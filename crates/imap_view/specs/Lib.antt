@@ -5,5 +5,6 @@ pub mod MessagesAfter
 pub mod Readable
 pub mod RenameAfter
 pub mod Seen
+pub mod Starts
 pub mod TreeAfter
 pub mod View

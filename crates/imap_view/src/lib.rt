@@ -9,6 +9,7 @@ pub mod laws;
 mod readable;
 mod seen;
 mod seen_names;
+mod starts;
 mod taken_names;
 mod view;
 

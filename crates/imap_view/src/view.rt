@@ -31,9 +31,9 @@ use std::marker::Model;
 /// What a user may see of a world.
 #[derive(Drop)]
 pub struct View<'a> {
-    world: &'a World,
-    site: &'a Site,
-    user: &'a UserName,
+    pub(crate) world: &'a World,
+    pub(crate) site: &'a Site,
+    pub(crate) user: &'a UserName,
 }
 
 impl<'a> Model for View<'a> {

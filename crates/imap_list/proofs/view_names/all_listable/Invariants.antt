@@ -1,6 +1,6 @@
 use Rattle.std.proofs.Common.{◌≡◌, ◌++◌}
 use Rattle.imap_list.specs.ViewNames.{listable_among, shown_names, listable_names}
-use Rattle.imap_list.proofs.view_names.listable_names.Given as goal
+use Rattle.imap_list.proofs.view_names.all_listable.Given as goal
 
 abbrev pub invariant-loop-name : goal.invariant-loop-name
 invariant-loop-name l =
