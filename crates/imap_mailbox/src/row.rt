@@ -28,6 +28,7 @@ pub struct Row<'a> {
 }
 
 /// The message for a user without own changes.
+#[inline(always)]
 pub(crate) fn plain_row<'a>(message: &'a Message) -> Row<'a>
     requires { message.now.place ≤ max_events }
     ensures { row_shown result ≡ row_in [] message.now }
@@ -80,6 +81,7 @@ impl Near {
 }
 
 /// The message for a user with own changes, found from where the last one was.
+#[inline(always)]
 pub(crate) fn own_row_near<'a>(message: &'a Message, own: &OwnSeen, near: &mut Near) -> Row<'a>
     requires place { message.now.place ≤ max_events }
     requires order { AreInOrder 0 max_events (befores (map own_entry own.now.list)) }

@@ -62,6 +62,7 @@ impl<'a> Rows<'a> {
     }
 
     /// The message at `place`, quick where rows are taken one after another.
+    #[inline(always)]
     pub fn get_near(&self, place: usize, near: &mut Near) -> Row<'a>
         requires { place < length self.now }
         ensures { row_shown result ≡ slice_index_or self.now place (row_shown result) }

@@ -266,28 +266,12 @@ fn look_at(
         OnOk result (found.new.items ++ from (place + 1 + 1) (drop (place + 1) known.now.list)
         ≡ found.old.items ++ from (place + 1) (drop place known.now.list)) }
 {
-    let row = finder.find(rows, known.get(place).uid);
-    let number = number_at(known, place);
-    add_if_found(found, needles, alloc, criteria, number, &row)?;
-    Ok(())
-}
-
-/// Appends the message, if it is there and all keys find it.
-fn add_if_found(
-    found: &mut Vec<FoundMessage>,
-    needles: &mut Needles,
-    alloc: Global,
-    criteria: &Criteria<'_>,
-    number: u32,
-    row: &Option<Row<'_>>,
-) -> Result<(), AllocError>
-    requires ready { let c = criteria.now in AreReadyFor c.arguments.now.keys c.last c.last_uid c.keys.items }
-    ensures { let c = criteria.now in
-        let from = specs.found_if_there c.arguments.now c.last c.last_uid number in
-        OnOk result (found.new.items ≡ found.old.items ++ from (option_map row_shown row.now)) }
-{
-    match row {
-        Some(row) => add(found, needles, alloc, criteria, number, row),
+    match finder.index_of(rows, known.get(place).uid) {
+        Some(index) => {
+            let row = finder.row_at(rows, index);
+            let number = number_at(known, place);
+            add(found, needles, alloc, criteria, number, &row)
+        }
         None => Ok(()),
     }
 }

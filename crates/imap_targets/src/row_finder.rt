@@ -1,7 +1,8 @@
 //! Messages that are looked up one after another.
 
-ghost use Rattle.std.specs.Prelude.{◌≡◌, option_map};
+ghost use Rattle.std.specs.Prelude.{◌≡◌, ◌<◌, IfNone, IfSome, None, Some, length, option_map, slice_index_or};
 ghost use Rattle.imap_mailbox.specs.Lent.{place_in, row_shown, row_uids};
+ghost use Rattle.imap_mailbox.specs.Rows as specs;
 ghost use Rattle.imap_mailbox.specs.Summary.{AreRising};
 ghost use Rattle.imap_targets.specs.MessageNumbers.{is_unchanged, row_with};
 
@@ -29,13 +30,36 @@ impl RowFinder {
         requires { AreRising (row_uids rows.now) }
         ensures { option_map row_shown result ≡ row_with uid rows.now }
     {
+        match self.index_of(rows, uid) {
+            Some(index) => Some(self.row_at(rows, index)),
+            None => None,
+        }
+    }
+
+    /// The index of the message with the UID, if it is there.
+    pub fn index_of(&mut self, rows: &Rows<'_>, uid: u32) -> Option<usize>
+        requires { AreRising (row_uids rows.now) }
+        ensures within { IfSome result (λ index. index < length rows.now) }
+        ensures there { IfSome result (λ index.
+            (row : specs.Row) → row ≡ slice_index_or rows.now index row → row_with uid rows.now ≡ Some row) }
+        ensures gone { IfNone result (row_with uid rows.now ≡ None) }
+    {
         match index_near(rows, uid, self.index) {
             Some(index) => {
                 self.index = index.saturating_add(1);
-                Some(rows.get_near(index, &mut self.near))
+                Some(index)
             }
             None => None,
         }
+    }
+
+    /// The message at the index, quick where messages are taken one after another.
+    #[inline(always)]
+    pub fn row_at<'a>(&mut self, rows: &Rows<'a>, index: usize) -> Row<'a>
+        requires { index < length rows.now }
+        ensures { row_shown result ≡ slice_index_or rows.now index (row_shown result) }
+    {
+        rows.get_near(index, &mut self.near)
     }
 
     /// Whether the message with the UID is there with a mod-sequence of at most `number`. It takes less than
