@@ -55,6 +55,12 @@ left_there by_uid (Some since) None e = absurd (cc e)
 left_there true (Some since) (Some row) e = (refl, not-true _ e)
 left_there false (Some since) (Some row) e = (refl, not-true _ e)
 
+-- what isn't left has changed, or is gone
+gone_or_changed : (since : Option ℕ) (row : Option Row) → is_left since row ≡ false → is_changed since row ≡ false → row ≡ None
+gone_or_changed None row kept low = absurd (cc low)
+gone_or_changed (Some since) None kept low = refl
+gone_or_changed (Some since) (Some row) kept low = absurd (cc (sym (ap not low) ∙ kept))
+
 module _ (by_uid : Bool) (since : Option ℕ) (wanted : Wanted) (sets : Bool) (mailbox : Readable) (by : Numbering) (last : ℕ) (ranges : List SeqRange) (known : List KnownMessage) where
   abbrev chosen : List Numbered → List Numbered
   chosen messages = changed_of since mailbox.rows messages
@@ -165,8 +171,8 @@ module _ (by_uid : Bool) (since : Option ℕ) (wanted : Wanted) (sets : Bool) (m
         printable = before.printable;
       }
 
-      pub added : (old new : Reading) → (not by_uid && not (is_some row)) ≡ false → is_changed since row ≡ true → IsAdded wanted n row old new → IsSoFar i old → IsSoFar (i + 1) new
-      added old new kept above made before = record {
+      one_added : (old new : Reading) → (not by_uid && not (is_some row)) ≡ false → is_changed since row ≡ true → IsAdded wanted n row old new → IsSoFar i old → IsSoFar (i + 1) new
+      one_added old new kept above made before = record {
         setting = made.sets ∙ before.setting;
         numbers = (λ j. made.highest j + mailbox.own) ∙ counts_both old.sets old.own mailbox.own mailbox.highest old.highest row before.numbers ∙ ap (λ o. mailbox.highest + o) (sym made.own);
         few = subst (λ o. o ≤ max_events) (sym made.own) (counts_few old.sets old.own row before.few);
@@ -190,6 +196,32 @@ module _ (by_uid : Bool) (since : Option ℕ) (wanted : Wanted) (sets : Bool) (m
         refused = refuses_later kept ∙ before.refused;
         printable = made.printable before.printable;
       }
+
+      none_added : (old new : Reading) → IsAdded wanted n None old new → IsSoFar (i + 1) old → IsSoFar (i + 1) new
+      none_added old new made before =
+          let lines = made.lines ∙ append-nil old.lines.items in
+          let marks = made.marks ∙ append-nil old.marks.items in
+          let told = made.told ∙ append-nil old.told.items in
+          record {
+            setting = made.sets ∙ before.setting;
+            numbers = (λ j. made.highest j + mailbox.own) ∙ before.numbers ∙ ap (λ o. mailbox.highest + o) (sym made.own);
+            few = subst (λ o. o ≤ max_events) (sym made.own) before.few;
+            lines = (λ j. lines j ++ lines_from wanted sets mailbox.rows (made.highest j) (made.own j) (chosen (named_from (i + 1)))) ∙ before.lines;
+            marks = (λ j. marks j ++ marks_named sets mailbox.rows (chosen (named_from (i + 1)))) ∙ before.marks;
+            told = (λ j. told j ++ uids_told wanted sets mailbox.rows (made.own j) (chosen (named_from (i + 1)))) ∙ before.told;
+            refused = before.refused;
+            printable = made.printable before.printable;
+          }
+
+      -- it wasn't passed over
+      pub added : (old new : Reading) → (not by_uid && not (is_some row)) ≡ false → is_left since (row_with uid mailbox.rows) ≡ false → IsAdded wanted n row old new → IsSoFar i old → IsSoFar (i + 1) new
+      added old new kept unpassed made before = one_or_none (is_changed since row) refl
+        where
+          one_or_none : (b : Bool) → is_changed since row ≡ b → IsSoFar (i + 1) new
+          one_or_none true e = one_added old new kept e made before
+          one_or_none false e =
+              let gone = gone_or_changed since row (ap (is_left since) there ∙ unpassed) e in
+              none_added old new (subst (λ (r : Option Row). IsAdded wanted n r old new) gone made) (left old kept e before)
 
       pub missed : (found : Reading) → (not by_uid && not (is_some row)) ≡ true → IsSoFar i found → true ≡ is_refused by_uid mailbox.rows (messages_from by last ranges 1 known)
       missed found refuses before =

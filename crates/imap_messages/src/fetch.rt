@@ -416,9 +416,6 @@ fn read_named(
         if refuses(by_uid, &row) {
             return Ok(None);
         }
-        if !is_changed(since, &row) {
-            continue;
-        }
         reading.add_if_there(alloc, wanted, number, &row)?;
     }
     Ok(Some(reading))
@@ -431,25 +428,6 @@ fn passes_over(finder: &mut RowFinder, since: Option<u64>, rows: &Rows<'_>, uid:
 {
     match since {
         Some(since) => finder.skip_unchanged(rows, uid, since),
-        None => false,
-    }
-}
-
-/// Whether the message has a mod-sequence greater than `since`, if that is given.
-fn is_changed(since: Option<u64>, row: &Option<Row<'_>>) -> bool
-    ensures { result ≡ changed.is_changed since (option_map row_shown row.now) }
-{
-    match since {
-        Some(since) => is_above(since, row),
-        None => true,
-    }
-}
-
-fn is_above(since: u64, row: &Option<Row<'_>>) -> bool
-    ensures { result ≡ changed.is_changed (Some since) (option_map row_shown row.now) }
-{
-    match row {
-        Some(row) => since < row.number,
         None => false,
     }
 }
