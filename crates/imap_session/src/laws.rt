@@ -44,11 +44,15 @@ pub fn notices_keep_in_step()
 
 /// A client that follows EXPUNGE or VANISHED, EXISTS and FETCH lines holds what the session knows. Of messages
 /// that EXISTS alone tells it knows that they are there.
+///
+/// This is said of one step of notices. It asks that the client held all that the session knew before, the flags of
+/// each message too, which it doesn't of a message that only EXISTS told it of.
 pub fn client_follows()
     ensures { ClientFollows }
 {}
 
-/// If expunges may be told, it holds the messages of the mailbox, but for what it doesn't know of new ones.
+/// If expunges may be told, it holds the messages of the mailbox after that step, but for what it doesn't know of
+/// new ones.
 pub fn client_holds_mailbox()
     ensures { ClientHoldsMailbox }
 {}
