@@ -5,6 +5,7 @@ pub mod HiddenTrees
 pub mod Histories
 pub mod InStep
 pub mod Lent
+pub mod MadeByEvents
 pub mod MailboxLeft
 pub mod Marks
 pub mod MessagesKnown

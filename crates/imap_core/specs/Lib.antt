@@ -8,6 +8,7 @@ pub mod Histories
 pub mod InStep
 pub mod Laws
 pub mod Machine
+pub mod MadeByEvents
 pub mod Notices
 pub mod Opening
 pub mod Outcome

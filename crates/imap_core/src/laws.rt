@@ -1,10 +1,12 @@
 //! What holds at the start, of every step and of every run.
 
+ghost use Rattle.std.specs.FinMap as map;
 ghost use Rattle.imap_core.specs.Histories.{RunsGrowMessages, RunsKeepValidities};
 ghost use Rattle.imap_core.specs.InStep.{AreInStep, SessionsStayInStep};
 ghost use Rattle.imap_core.specs.Laws.{EffectsAreMade, HiddenIsAlike, HiddenSubtreesAreAbsent};
 ghost use Rattle.imap_core.specs.Laws.{MessagesAreKnown, NeverUnavailable, OtherSessionsStay, OtherUsersStay};
 ghost use Rattle.imap_core.specs.Laws.{QuietPollsChangeNothing, QuotasAreKept, RefusalsChangeNothing, StepsAreAlike};
+ghost use Rattle.imap_core.specs.MadeByEvents.{AreMadeByEvents, RunsAreMadeByEvents, StartsAreMadeByEvents};
 ghost use Rattle.imap_core.specs.OwnSteps.{GivenBackTellsNothing, IsolationAtOwnSteps, UnseenStepsAreSilent};
 ghost use Rattle.imap_core.specs.Starting.{StartsAreAlike, StartsWithInboxes};
 ghost use Rattle.imap_core.specs.Trace.{EqualViewsAreSame, Isolation, IsolationOfReplies};
@@ -141,6 +143,15 @@ pub fn validities_are_used_once()
 /// events don't fall.
 pub fn messages_grow()
     ensures { RunsGrowMessages }
+{}
+
+/// Each mailbox of a host that began without mailboxes is what events made of it, whatever steps were made: its
+/// messages, mod-sequences and gone UIDs are for each user those of the events, and a client that follows what it is
+/// told is brought up to them (RFC 7162, section 3.2.5). What begins with such mailboxes goes on with them.
+pub fn mailboxes_are_made_by_events()
+    ensures none { AreMadeByEvents map.empty }
+    ensures starts { StartsAreMadeByEvents }
+    ensures runs { RunsAreMadeByEvents }
 {}
 
 /// A step that is answered by a refusal leaves all mailboxes, subscriptions and sessions as they were, but for
