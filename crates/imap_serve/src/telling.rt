@@ -18,7 +18,7 @@ use std::alloc::Global;
 use std::io::Write;
 
 /// Replies are printed and written some at a time, as many as take about this much memory together.
-const OCTETS_AT_ONCE: u64 = 65_536;
+const OCTETS_AT_ONCE: u64 = 32_768;
 
 /// The state of a session.
 #[derive(Clone, Copy, Debug, PartialEq, Eq)]
