@@ -25,7 +25,7 @@ pub enum RowFault {
     NotCounted,
     #[error("its rows in table acl are those of no list")]
     List,
-    #[error("its rows in tables message and gone don't fit it, or one another")]
+    #[error("its rows in tables message2, body, keyword and gone don't fit it, or one another")]
     Messages,
     #[error("its rows in table mark don't fit its messages, or one another")]
     Marks,

@@ -11,10 +11,13 @@ use Rattle.imap_tables.specs.Tables.{body_tree, keyword_tree, message2_tree, mes
 
 -- ---- keywords of a message, which stand in the order of their octets
 
+abbrev pub IsSpaceless : (word : List ℕ) → Type 0
+IsSpaceless word = Has word 32 → ⊥
+
 -- it isn't empty and has no space: else the text that joins several words isn't theirs alone
 pub record IsPlain (word : List ℕ) : Type 0 where
   pub filled : word ≢ []
-  pub spaceless : Has word 32 → ⊥
+  pub spaceless : IsSpaceless word
 
 -- the words of a message, in the order of their octets
 pub record AreWords (words : List (List ℕ)) : Type 0 where

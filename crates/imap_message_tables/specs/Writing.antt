@@ -1,8 +1,9 @@
 -- What row changes write where messages stand in three tables.
 use Rattle.std.specs.Prelude.{◌≡◌, ℕ, ℤ, List, [], ◌∷◌, map, string_bytes}
+use Rattle.std.specs.List.{AllByRecursion}
 use Rattle.sqlite.specs.Tree.{Trees}
 use Rattle.imap_message_tables.specs.Parts.{CutWord, MakesParts, PutWord, parts_removed, words_but}
-use Rattle.imap_message_tables.specs.Split.{AreWords, MakesSplit, words_text}
+use Rattle.imap_message_tables.specs.Split.{AreWords, IsSpaceless, MakesSplit, words_text}
 use Rattle.imap_tables.specs.Changes.{Makes, MakesAll, MakesBelow, Then}
 use Rattle.imap_tables.specs.Edits.{Adds, AreKeywordsOf, HasHead, IsIdOf, IsMessageOf, Replaces, flagged_head}
 use Rattle.imap_tables.specs.Rows.{body_row, message2_row}
@@ -14,6 +15,12 @@ use Rattle.imap_tables.specs.declared.changes.MailboxKey.{MailboxKey}
 use Rattle.imap_tables.specs.declared.changes.MessageRow.{MessageRow}
 use Rattle.imap_tables.specs.declared.changes.RowChange.{RowChange}
 use Rattle.imap_tables.specs.declared.changes.RowChange.TheVariants as change
+
+-- these are the pieces of the text between its spaces, and an empty text has none
+pub record ArePieces (text : List ℕ) (pieces : List (List ℕ)) : Type 0 where
+  pub joined : words_text pieces ≡ text
+  pub spaceless : AllByRecursion IsSpaceless pieces
+  pub none : text ≡ [] → pieces ≡ []
 
 -- these are the keywords of the text
 pub record AreWordsIn (text : List ℕ) (words : List (List ℕ)) : Type 0 where
@@ -50,7 +57,8 @@ FlagsHead mailbox m old new =
     Replaces old new message2_tree (IsMessageOf mailbox m.uid) (flagged_head m.flags m.place)
 
 -- a message that had the keywords `before` gets flags
-abbrev pub FlagsMessage : (mailbox : ℤ) → FlagsRow → (before words : List (List ℕ)) → (old new : Trees) → Type 0
+abbrev pub FlagsMessage : (mailbox : ℤ) → FlagsRow → (before words : List (List ℕ))
+    → (old new : Trees) → Type 0
 FlagsMessage mailbox m before words =
     Then (FlagsHead mailbox m) (ChangesWords mailbox m.uid before words)
 

@@ -77,8 +77,8 @@ fn adopt_in<S: Alter>(
     move_messages(tx, alloc, messages)
 }
 
-/// Takes the tables of the first version over, which have these messages, in one transaction. If it fails, they are
-/// as before.
+/// Takes the tables of the first version over, which have these messages, in one transaction. If it
+/// fails, they are as before.
 pub fn adopt_rows<S: Alter>(
     conn: &mut Connection<S>,
     alloc: Global,

@@ -54,7 +54,8 @@ fn take_own(
 ) -> Result<Vec<String>, AllocError>
     ensures own { IfOk result (λ own.
         map string_bytes own.items ≡ texts (own_of (head_key head.now) (reverse words.old.items))) }
-    ensures rest { OnOk result (reverse words.new.items ≡ rest_of (head_key head.now) (reverse words.old.items)) }
+    ensures rest { OnOk result (reverse words.new.items
+        ≡ rest_of (head_key head.now) (reverse words.old.items)) }
 {
     let mut own = Vec::new(alloc);
     while is_own(words.as_slice(), head) {
@@ -131,8 +132,9 @@ fn zip_all(
     Ok(Some(messages))
 }
 
-/// Joins the rows of three tables, in any order, to messages. None if they don't fit: a message without a body,
-/// a body or a word without a message, a key that stands twice, or words that are not those of a message.
+/// Joins the rows of three tables, in any order, to messages. None if they don't fit: a message
+/// without a body, a body or a word without a message, a key that stands twice, or words that are
+/// not those of a message.
 pub fn join_rows(
     alloc: Global,
     mut heads: Vec<StoredHead>,

@@ -1,18 +1,20 @@
 //! The keywords of a message, as a text and one by one.
 
-ghost use Rattle.std.specs.Prelude.{◌≡◌, ◌<◌, ◌∷◌, ◌++◌, [], IfOk, IfSome, OnOk, bytes_eq, length, map, string_bytes};
+ghost use Rattle.std.specs.Prelude.{◌≡◌, ◌<◌, ◌∷◌, ◌++◌, [], IfNone, IfOk, IfSome, List, MatchOption, OnOk, bytes_eq, length, map, string_bytes, ℕ};
 ghost use Rattle.std.specs.List.{list_any};
 ghost use Rattle.imap_message_tables.specs.Parts.{is_among, words_but};
-ghost use Rattle.imap_message_tables.specs.Split.{AreWords, words_text};
-ghost use Rattle.imap_message_tables.specs.Writing.{AreWordsIn};
+ghost use Rattle.imap_message_tables.specs.Split.{IsSpaceless};
+ghost use Rattle.imap_message_tables.specs.Writing.{ArePieces, AreWordsIn};
 
 use crate::plain::{are_plain, rise};
 use std::alloc::{AllocError, Global};
 
 /// The text before the first space, and that after it.
-#[tactic(auto, using(crate::proofs::Pieces::split_cut))]
+#[tactic(auto, using(crate::proofs::Pieces::split_cut, crate::proofs::Pieces::split_none))]
 fn first_piece(text: &str) -> Option<(&str, &str)>
     ensures cut { IfSome result (λ parts. text.now ≡ parts.0.now ++ 32 ∷ parts.1.now) }
+    ensures first { IfSome result (λ parts. IsSpaceless parts.0.now) }
+    ensures whole { IfNone result (IsSpaceless text.now) }
     ensures shorter { IfSome result (λ parts. length parts.1.now < length text.now) }
 {
     text.split_once(' ')
@@ -28,9 +30,9 @@ fn push(texts: &mut Vec<String>, alloc: Global, text: &str) -> Result<(), AllocE
     Ok(())
 }
 
-/// The pieces of a text between its spaces.
+/// The pieces of a text between its spaces. An empty text has none.
 fn pieces_of(alloc: Global, text: &str) -> Result<Vec<String>, AllocError>
-    ensures { IfOk result (λ pieces. words_text (map string_bytes pieces.items) ≡ text.now) }
+    ensures { IfOk result (λ pieces. ArePieces text.now (map string_bytes pieces.items)) }
 {
     let mut pieces = Vec::new(alloc);
     if text.is_empty() {
@@ -45,11 +47,12 @@ fn pieces_of(alloc: Global, text: &str) -> Result<Vec<String>, AllocError>
     Ok(pieces)
 }
 
-/// The keywords of a text, which has a space between them. `None` if they don't rise by their octets, or one is
-/// empty.
+/// The keywords of a text, which has a space between them. `None` if they don't rise by their
+/// octets, or one is empty.
 pub(crate) fn words_of(alloc: Global, text: &str) -> Result<Option<Vec<String>>, AllocError>
-    ensures { IfOk result (λ found. IfSome found (λ words.
-        AreWordsIn text.now (map string_bytes words.items))) }
+    ensures { IfOk result (λ found. MatchOption found
+        ((words : List (List ℕ)) → AreWordsIn text.now words → ⊥)
+        (λ words. AreWordsIn text.now (map string_bytes words.items))) }
 {
     let words = pieces_of(alloc, text)?;
     if !rise(words.as_slice()) {

@@ -1,7 +1,8 @@
 //! The three tables of messages, and the same as if each message stood in one row.
 //!
-//! A database keeps what is said of a message in `message2`, its octets in `body`, and each of its keywords in
-//! `keyword`: so new flags leave the octets as they are. All that stands above speaks of one table of messages.
+//! A database keeps what is said of a message in `message2`, its octets in `body`, and each of its
+//! keywords in `keyword`: so new flags leave the octets as they are. All that stands above speaks
+//! of one table of messages.
 #![tactic(auto)]
 
 mod adopting;

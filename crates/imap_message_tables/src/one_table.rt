@@ -97,8 +97,9 @@ fn with_messages(
     }
 }
 
-/// Joins what is read of the three tables of messages to that of the others, with each message in one row. `None`
-/// if a message stands in one row already, or the rows of the three tables don't fit.
+/// Joins what is read of the three tables of messages to that of the others, with each message in
+/// one row. `None` if a message stands in one row already, or the rows of the three tables don't
+/// fit.
 pub fn join_tables(
     alloc: Global,
     stored: StoredTables,

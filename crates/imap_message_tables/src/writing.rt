@@ -224,7 +224,8 @@ fn change_flags<S: Alter>(
     put_flags(tx, mailbox, row, gone.as_slice(), added.as_slice())
 }
 
-/// Sets the flags of a message. Fails if there is no such message, or the text of its keywords is that of none.
+/// Sets the flags of a message. Fails if there is no such message, or the text of its keywords is
+/// that of none.
 pub(crate) fn flag_message<S: Alter>(
     tx: &mut Transaction<'_, S>,
     alloc: Global,

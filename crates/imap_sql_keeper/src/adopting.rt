@@ -55,8 +55,8 @@ fn have_version(rows: &[Row], version: u32) -> Result<bool, Error>
     Ok(false)
 }
 
-/// Checks that the tables say that they are of this version. Fails with `Damaged` if they don't, or if a row of `meta`
-/// can't be read. Returns the allocator of the connection.
+/// Checks that the tables say that they are of this version. Fails with `Damaged` if they don't, or
+/// if a row of `meta` can't be read. Returns the allocator of the connection.
 pub(crate) fn check_version<S: Alter>(
     conn: &mut Connection<S>,
     version: u32,
@@ -131,7 +131,8 @@ fn make_new<S: Alter>(conn: &mut Connection<S>) -> Result<(), KeepError>
     }
 }
 
-/// Finds the tables of a store, or makes them in a database that has none. Takes those of the first version over.
+/// Finds the tables of a store, or makes them in a database that has none. Takes those of the first
+/// version over.
 pub(crate) fn find_store<S: Alter>(conn: &mut Connection<S>) -> Result<(), KeepError>
     ensures rest { OnOk result (IsAtRest (state S.Store conn.new)) }
     ensures finds { HasCleanDisk (state S.Store conn.new) → IsTrue (state S.Store conn.new).is_open

@@ -19,8 +19,8 @@ use imap_world::World;
 use sqlite::{Alter, Connection};
 use std::alloc::Global;
 
-/// Reads the three tables of messages. Fails with `Damaged` only if nothing is read of one of their rows. Returns
-/// what was read of the others beside them.
+/// Reads the three tables of messages. Fails with `Damaged` only if nothing is read of one of their
+/// rows. Returns what was read of the others beside them.
 fn read_beside<S: Alter, T: Drop>(
     conn: &mut Connection<S>,
     alloc: Global,
@@ -48,7 +48,8 @@ fn read_beside<S: Alter, T: Drop>(
     }
 }
 
-/// Reads the tables but the three of messages, of this version or the first. Fails with `Damaged` only if nothing is read of one of their rows.
+/// Reads the tables but the three of messages, of this version or the first. Fails with `Damaged`
+/// only if nothing is read of one of their rows.
 pub(crate) fn read_first<S: Alter>(
     conn: &mut Connection<S>,
     alloc: Global,
@@ -100,8 +101,8 @@ pub(crate) fn read_all<S: Alter>(
     }
 }
 
-/// Reads the world that the tables hold. Fails with `Damaged` only if they hold none. Fails if the connection is shut,
-/// and not with `Damaged`.
+/// Reads the world that the tables hold. Fails with `Damaged` only if they hold none. Fails if the
+/// connection is shut, and not with `Damaged`.
 pub(crate) fn load_world<S: Alter>(
     conn: &mut Connection<S>,
     alloc: Global,

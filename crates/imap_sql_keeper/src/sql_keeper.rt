@@ -55,11 +55,11 @@ impl<S: Alter> Model for SqlKeeper<S> {
 }
 
 impl<S: Alter> SqlKeeper<S> {
-    /// Takes a database over. If nothing was made in it so far, the tables of a store are made in one
-    /// transaction. Tables of the first version, which had each message in one row, become those of this version
-    /// in one transaction, and hold the same world. Fails with `Damaged` if it has other tables, if these say that
-    /// they are of another version, or if those of the first version hold no world. A refusal returns the
-    /// connection, and has committed nothing.
+    /// Takes a database over. If nothing was made in it so far, the tables of a store are made in
+    /// one transaction. Tables of the first version, which had each message in one row, become
+    /// those of this version in one transaction, and hold the same world. Fails with `Damaged` if
+    /// it has other tables, if these say that they are of another version, or if those of the first
+    /// version hold no world. A refusal returns the connection, and has committed nothing.
     pub fn adopt(mut conn: Connection<S>) -> Result<SqlKeeper<S>, (Connection<S>, KeepError)>
         ensures finds { IfOk result (λ k. HasCleanDisk (state S.Store k.conn)
             → IsTrue (state S.Store k.conn).is_open

@@ -22,8 +22,8 @@ use imap_tables::FIRST_VERSION;
 use sqlite::{Alter, Connection};
 use std::alloc::Global;
 
-/// Checks that the tables of the first version hold a world. Fails with `Damaged` only if they hold none. Returns
-/// `alloc`.
+/// Checks that the tables of the first version hold a world. Fails with `Damaged` only if they hold
+/// none. Returns `alloc`.
 fn check_world<S: Alter>(conn: &mut Connection<S>, alloc: Global) -> Result<Global, KeepError>
     requires rest { Rests first_schema (state S.Store conn.old) }
     ensures rest { Rests first_schema (state S.Store conn.new) }
@@ -54,8 +54,8 @@ fn check_world<S: Alter>(conn: &mut Connection<S>, alloc: Global) -> Result<Glob
     }
 }
 
-/// Checks that the tables say that they are of the first version, and hold a world. Fails with `Damaged` only if they
-/// don't. Returns the allocator of the connection.
+/// Checks that the tables say that they are of the first version, and hold a world. Fails with
+/// `Damaged` only if they don't. Returns the allocator of the connection.
 fn check_first<S: Alter>(conn: &mut Connection<S>) -> Result<Global, KeepError>
     requires rest { Rests first_schema (state S.Store conn.old) }
     ensures rest { Rests first_schema (state S.Store conn.new) }
@@ -73,8 +73,8 @@ fn check_first<S: Alter>(conn: &mut Connection<S>) -> Result<Global, KeepError>
     }
 }
 
-/// Moves the messages of tables of the first version, which hold a world, to three tables. If it fails, the tables are
-/// as before.
+/// Moves the messages of tables of the first version, which hold a world, to three tables. If it
+/// fails, the tables are as before.
 fn move_rows<S: Alter>(conn: &mut Connection<S>, alloc: Global) -> Result<(), KeepError>
     requires rest { Rests first_schema (state S.Store conn.old) }
     requires first { HasCleanDisk (state S.Store conn.old) → IsTrue (state S.Store conn.old).is_open
@@ -104,8 +104,8 @@ fn move_rows<S: Alter>(conn: &mut Connection<S>, alloc: Global) -> Result<(), Ke
     }
 }
 
-/// Takes tables of the first version over, in one transaction. Fails with `Damaged` only if they don't say that they are
-/// of that version, or hold no world. If it fails, they are as before.
+/// Takes tables of the first version over, in one transaction. Fails with `Damaged` only if they
+/// don't say that they are of that version, or hold no world. If it fails, they are as before.
 pub(crate) fn take_over<S: Alter>(conn: &mut Connection<S>) -> Result<(), KeepError>
     requires rest { Rests first_schema (state S.Store conn.old) }
     ensures rest { OnOk result (IsAtRest (state S.Store conn.new)) }
