@@ -1,0 +1,6 @@
+pub mod Cutting
+pub mod Decoded
+pub mod Differ
+pub mod Entering
+pub mod Failing
+pub mod Greeted
