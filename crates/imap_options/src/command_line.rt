@@ -1,0 +1,208 @@
+//! The command line.
+
+use crate::command_line_error::CommandLineError;
+use crate::config_file::ConfigFile;
+use crate::secret::{SecretFiles, why_unread};
+use crate::serve_options::read_service;
+use crate::service::Service;
+use clap::error::ErrorKind;
+use clap::{Arg, ArgAction, ArgMatches, Command};
+use std::alloc::{AllocError, Global};
+use std::rt::{Env, Files};
+use std::{env, fs, io};
+
+/// The version of the program, as `CHANGELOG.md` has it.
+pub const VERSION: &str = "0.1.0";
+
+/// What the program is asked to do.
+#[derive(Drop)]
+pub enum Task {
+    /// To run the script on standard input.
+    Script,
+    /// To say which version of the program this is.
+    Version,
+    /// To serve users.
+    Serve {
+        /// The path of the database that keeps the mail.
+        database: String,
+        service: Service,
+    },
+}
+
+/// Reads the words that the program was started with, and the files of configuration and of secrets that they name.
+pub fn read_command_line<R: Env + Files + AllocGlobal + Eprint>(
+    rt: &R,
+) -> Result<Task, CommandLineError> {
+    let words = match env::args(rt) {
+        Ok(words) => words.collect::<Vec<String>>(rt.alloc())?,
+        Err(error) if error.kind() == io::ErrorKind::OutOfMemory => {
+            return Err(CommandLineError::Memory);
+        }
+        Err(_) => return Err(CommandLineError::Unreadable),
+    };
+    match config_name(rt.alloc(), words.as_slice())? {
+        Some(name) => {
+            let text = read_config(rt, name)?;
+            read_words_after(rt.alloc(), rt, words.as_slice(), name, text.as_str())
+        }
+        None => read_words(rt.alloc(), rt, words.as_slice()),
+    }
+}
+
+/// Returns the name of the configuration file that the words of a command line name, if they do.
+fn config_name<'a>(
+    alloc: Global,
+    words: &'a [String],
+) -> Result<Option<&'a str>, CommandLineError> {
+    if !words.iter().any(|word| word.starts_with("--config")) {
+        return Ok(None);
+    }
+    match command(alloc, false)?.try_get_matches_from(words) {
+        Ok(matches) => match matches.subcommand() {
+            Some(("serve", found)) => Ok(found.get_str("config")),
+            _ => Ok(None),
+        },
+        Err(error) => match error.kind() {
+            ErrorKind::OutOfMemory => Err(CommandLineError::Memory),
+            // What is wrong is said when all words are read.
+            _ => Ok(None),
+        },
+    }
+}
+
+fn read_config<R: Files + AllocGlobal>(rt: &R, name: &str) -> Result<String, CommandLineError> {
+    match fs::read_to_string(rt, name) {
+        Ok(text) => Ok(text),
+        Err(error) => match error.kind() {
+            io::ErrorKind::OutOfMemory => Err(CommandLineError::Memory),
+            kind => Err(CommandLineError::of_value(rt.alloc(), "config", name, why_unread(kind))),
+        },
+    }
+}
+
+/// Reads the words of a command line. The first of them names the program.
+pub fn read_words<S: SecretFiles>(
+    alloc: Global,
+    secrets: &S,
+    words: &[String],
+) -> Result<Task, CommandLineError> {
+    read_with(alloc, secrets, &ConfigFile::none(alloc), words)
+}
+
+/// Reads the words of a command line after the options in the text of a configuration file, which stand before those of
+/// the words.
+pub fn read_words_after<S: SecretFiles>(
+    alloc: Global,
+    secrets: &S,
+    words: &[String],
+    name: &str,
+    text: &str,
+) -> Result<Task, CommandLineError> {
+    let file = ConfigFile::read(alloc, name, text)?;
+    let joined = file.joined(words)?;
+    read_with(alloc, secrets, &file, joined.as_slice())
+}
+
+fn read_with<S: SecretFiles>(
+    alloc: Global,
+    secrets: &S,
+    file: &ConfigFile<'_>,
+    words: &[String],
+) -> Result<Task, CommandLineError> {
+    match command(alloc, true)?.try_get_matches_from(words) {
+        Ok(matches) => read_matches(secrets, file, &matches),
+        Err(error) => match error.kind() {
+            ErrorKind::DisplayVersion => Ok(Task::Version),
+            _ => Err(CommandLineError::from(error)),
+        },
+    }
+}
+
+/// The program's command line. `is_whole` says whether the options of `serve` that it can't do without are asked for.
+fn command<'a>(alloc: Global, is_whole: bool) -> Result<Command<'a>, AllocError> {
+    let script = Command::new(alloc, "script").about(
+        "Runs a script from standard input and writes its transcript to standard output",
+    );
+    let command = Command::new(alloc, "imapd")
+        .about("An IMAP server for shared mailboxes")
+        .version(VERSION)
+        .subcommand(script)?;
+    with_serve(alloc, command, is_whole)
+}
+
+fn read_matches<S: SecretFiles>(
+    secrets: &S,
+    file: &ConfigFile<'_>,
+    matches: &ArgMatches<'_>,
+) -> Result<Task, CommandLineError> {
+    match matches.subcommand() {
+        Some(("script", _)) => Ok(Task::Script),
+        Some(("serve", found)) => read_service(secrets, file, found),
+        _ => Err(CommandLineError::NoSubcommand),
+    }
+}
+
+/// Adds the subcommand `serve`.
+fn with_serve<'a>(
+    alloc: Global,
+    command: Command<'a>,
+    is_whole: bool,
+) -> Result<Command<'a>, AllocError> {
+    match serve_command(alloc, is_whole) {
+        Ok(serve) => command.subcommand(serve),
+        Err(error) => {
+            drop(command);
+            Err(error)
+        }
+    }
+}
+
+fn serve_command<'a>(alloc: Global, is_whole: bool) -> Result<Command<'a>, AllocError> {
+    let database = option(alloc, "db", "FILE")
+        .help("The database that keeps the mail; it is made if it is missing")
+        .required(is_whole);
+    let command = Command::new(alloc, "serve")
+        .about("Serves users over TCP and by socket files")
+        .arg(database)?;
+    let administrator = option(alloc, "admin", "NAME")
+        .help("The administrator, who owns the Shared tree")
+        .required(is_whole);
+    let command = command.arg(administrator)?;
+    let listen = option(alloc, "listen", "NAME=PORT")
+        .help(
+            "Serves a user at a port of 127.0.0.1, or with NAME=PATH at a socket file; may be repeated",
+        )
+        .required(is_whole)
+        .action(ArgAction::Append);
+    let command = command.arg(listen)?;
+    let member = option(alloc, "member", "GROUP=NAME")
+        .help("Puts a served user or the administrator into a group; may be repeated")
+        .action(ArgAction::Append);
+    let command = command.arg(member)?;
+    let secret = option(alloc, "secret", "NAME=FILE")
+        .help("Has a user's clients log in with the first line of a file; may be repeated")
+        .action(ArgAction::Append);
+    let command = command.arg(secret)?;
+    let max_messages = option(alloc, "max-messages", "N").help(
+        "How many messages a mailbox may hold",
+    );
+    let command = command.arg(max_messages)?;
+    let max_octets = option(alloc, "max-octets", "N").help("How many octets a message may have");
+    let command = command.arg(max_octets)?;
+    let log = option(alloc, "log", "LINES").help(
+        "What standard error is told: off, errors (the default) or connections",
+    );
+    let command = command.arg(log)?;
+    let config = option(alloc, "config", "FILE").help(
+        "Reads options from a file, one a line without its hyphens, before those given here",
+    );
+    command.arg(config)
+}
+
+/// An option `--NAME` that may be given once. `value` names its value in the help.
+fn option<'a>(alloc: Global, name: &'a str, value: &'a str) -> Arg<'a> {
+    Arg::new(alloc, name)
+        .long(name)
+        .value_name(value)
+        .action(ArgAction::Set)
+}
