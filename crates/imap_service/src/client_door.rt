@@ -5,13 +5,14 @@
 
 use crate::connection::Connection;
 use crate::guarded_stream::GuardedStream;
-use crate::http_request::RequestLine;
 use crate::idle_waker::{IdleWaker, IdleWakers};
+use crate::logging_in::{LOGIN_SECONDS, log_in};
 use crate::reception::Reception;
 use crate::report::Report;
 use crate::shared_stream::SharedStream;
 use crate::wakeable_stream::WakeableStream;
 use imap_host::Door;
+use imap_login::Credentials;
 use imap_names::UserName;
 use imap_serve::{End, ServeError};
 use std::alloc::Global;
@@ -35,6 +36,8 @@ pub struct ClientDoor<
     pub waker: &'a IdleWaker,
     pub report: &'a Report<'a, R>,
     pub user: &'a UserName,
+    /// What clients log in with, if they are to.
+    pub credentials: &'a Option<Credentials>,
     /// The number of the worker's session.
     pub number: usize,
     /// For how long a client may keep a reply from being written.
@@ -68,12 +71,25 @@ impl<'a, R: Net<Listener = TcpListener, Stream = TcpStream> + Wait + Clock + Epr
             self.waker,
             stream.clone()?,
         )?;
-        let guarded = GuardedStream {
-            input,
-            stream: stream.clone()?,
-            line: RequestLine::new(),
-        };
-        Ok((guarded, SharedStream { stream }))
+        let guarded = GuardedStream::new(self.alloc, input, stream.clone()?);
+        Ok((guarded, SharedStream::new(stream)))
+    }
+
+    /// Returns whether the client may be served: whether it has logged in, if it is to.
+    fn admits(
+        &self,
+        input: &mut GuardedStream<'a, R>,
+        output: &mut SharedStream,
+    ) -> io::Result<bool> {
+        match self.credentials {
+            Some(credentials) => {
+                output.set_timeout(Duration::from_secs(LOGIN_SECONDS))?;
+                let has_entered = log_in(self.rt, self.alloc, credentials, input, output)?;
+                output.set_timeout(self.write_timeout)?;
+                Ok(has_entered)
+            }
+            None => Ok(true),
+        }
     }
 }
 
@@ -84,15 +100,18 @@ impl<'a, R: Net<Listener = TcpListener, Stream = TcpStream> + Wait + Clock + Epr
     type Out = SharedStream;
 
     /// Returns the next client, or `None` if none comes any more. A client that can't be served, for want of
-    /// descriptors or memory, is let go.
+    /// descriptors or memory, is let go, and so is one that doesn't log in if it is to.
     fn next(&mut self) -> Option<(GuardedStream<'a, R>, SharedStream)> {
         for _ in self.rt.forever() {
             self.let_go();
             let client = self.reception.take(self.rt)?;
             self.has_client = true;
-            if let Ok(connection) = self.connect(client) {
+            if let Ok((mut input, mut output)) = self.connect(client) {
                 self.report.opened(self.user, self.number);
-                return Some(connection);
+                if self.admits(&mut input, &mut output).unwrap_or(false) {
+                    return Some((input, output));
+                }
+                self.report.ended(self.user, self.number, "no login");
             }
         }
         None

@@ -1,8 +1,7 @@
 //! How the program ends: its exit statuses, and what standard error is told.
 
-use crate::command_line::VERSION;
-use crate::command_line_error::CommandLineError;
-use crate::service::ServiceError;
+use crate::service_error::ServiceError;
+use imap_options::{CommandLineError, VERSION};
 use imap_script::ScriptError;
 use std::process::ExitCode;
 

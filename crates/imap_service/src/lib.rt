@@ -1,19 +1,15 @@
-//! Serving users at ports and socket files, each at one of their own, and what the program `imapd` is asked to do.
+//! Serving users at ports and socket files, each at one of their own.
 //!
-//! [`read_command_line`] returns a [`Task`]. [`run`] serves the users of a [`Service`] from what a keeper keeps: a
-//! thread for each port receives its clients ([`Reception`]), and a worker for each seat takes one after the other
-//! ([`PortDoor`], [`ClientDoor`]). A worker whose session idles waits for its connection and for its waker ([`WakeableStream`],
+//! [`run`] serves the users of a service from what a keeper keeps: a thread for each port receives its clients
+//! ([`Reception`]), and a worker for each seat takes one after the other ([`PortDoor`], [`ClientDoor`]). A client that
+//! is to log in does so before its session begins. A worker whose session idles waits for its connection and for its waker ([`WakeableStream`],
 //! [`IdleWakers`]), which wakes it when another session changed something. [`Report`] says on standard error what
 //! happens. [`report_misuse`], [`report_script_error`] and [`report_service_error`] return the exit statuses of the
 //! program.
 #![tactic(auto)]
 
 mod accept_faults;
-mod address;
 mod client_door;
-mod command_line;
-mod command_line_error;
-mod config_file;
 mod connection;
 mod descriptors;
 mod exit_status;
@@ -24,6 +20,7 @@ mod idle_waker;
 mod listener;
 mod listening;
 mod log_tail;
+mod logging_in;
 mod notify_on_change;
 mod port_door;
 mod private_files;
@@ -31,8 +28,7 @@ mod reception;
 mod refusing;
 mod report;
 mod reporting_keeper;
-mod serve_options;
-mod service;
+mod service_error;
 mod serving;
 mod shared_stream;
 mod socket_file;
@@ -41,10 +37,7 @@ mod system_clock;
 mod wakeable_stream;
 
 pub use accept_faults::AcceptFaults;
-pub use address::{Address, MAX_SOCKET_PATH, SocketPath};
 pub use client_door::ClientDoor;
-pub use command_line::{Task, VERSION, read_command_line, read_words, read_words_after};
-pub use command_line_error::CommandLineError;
 pub use connection::Connection;
 pub use descriptors::{needed, read_limit};
 pub use exit_status::{report_misuse, report_script_error, report_service_error, report_version};
@@ -58,8 +51,8 @@ pub use log_tail::{LogLook, look_at, report_unread};
 pub use port_door::{PortDoor, Receptionist};
 pub use private_files::{make_missing, make_private};
 pub use reception::{Reception, SEATS};
-pub use report::{LogLevel, Report};
-pub use service::{Port, Service, ServiceError, SocketFault, StoreFault};
+pub use report::Report;
+pub use service_error::{ServiceError, SocketFault, StoreFault};
 pub use serving::{IDLE_TICKS, posts, run};
 pub use shared_stream::SharedStream;
 pub use socket_file::listen_at_file;

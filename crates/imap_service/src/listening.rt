@@ -1,11 +1,11 @@
 //! Listening at ports of this machine and at socket files.
 
-use crate::address::Address;
 use crate::descriptors::{allowed, needed};
 use crate::listener::Listener;
 use crate::reception::Reception;
-use crate::service::{Port, ServiceError};
+use crate::service_error::ServiceError;
 use crate::socket_file::listen_at_file;
+use imap_options::{Address, Port};
 use std::io;
 use std::net::{Ipv4Addr, Net, TcpListener, TcpStream};
 use std::rt::Files;

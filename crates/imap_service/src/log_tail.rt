@@ -3,8 +3,9 @@
 //! SQLite reads a log up to the first frame whose salt or checksum is wrong, and says nothing of the rest: that may be
 //! the torn end that a crash left, or mail that was lost by a changed bit.
 
-use crate::report::{LogLevel, Report};
-use crate::service::ServiceError;
+use crate::report::Report;
+use crate::service_error::ServiceError;
+use imap_options::LogLevel;
 use std::alloc::Global;
 use std::fs;
 use std::io::{self, BufReader, Read};

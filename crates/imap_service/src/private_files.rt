@@ -1,6 +1,6 @@
 //! Files that their owner alone may read and write.
 
-use crate::service::{ServiceError, StoreFault};
+use crate::service_error::{ServiceError, StoreFault};
 use std::fs::{self, OpenOptions, Permissions};
 use std::io;
 use std::os::unix::fs::{OpenOptionsExt, PermissionsExt};

@@ -4,28 +4,7 @@
 //! of a message or a name of a mailbox.
 
 use imap_names::UserName;
-
-/// Which lines are said.
-#[derive(Clone, Copy, Debug, PartialEq, Eq)]
-pub enum LogLevel {
-    Off,
-    /// The start, saves that the store refuses, and the first that it takes again.
-    Errors,
-    /// Those, and each connection that is opened, refused or ended.
-    Connections,
-}
-
-impl LogLevel {
-    /// Reads the value of the option. Returns `None` for another word.
-    pub fn read(text: &str) -> Option<LogLevel> {
-        match text {
-            "off" => Some(LogLevel::Off),
-            "errors" => Some(LogLevel::Errors),
-            "connections" => Some(LogLevel::Connections),
-            _ => None,
-        }
-    }
-}
+use imap_options::LogLevel;
 
 /// Says lines on standard error, as far as it takes them.
 #[derive(Drop)]

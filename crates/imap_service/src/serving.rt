@@ -12,12 +12,13 @@ use crate::port_door::{PortDoor, Receptionist};
 use crate::reception::{Reception, SEATS};
 use crate::report::Report;
 use crate::reporting_keeper::ReportingKeeper;
-use crate::service::{Port, Service, ServiceError};
+use crate::service_error::ServiceError;
 use crate::system_clock::SystemClock;
 use imap_hall::Hall;
 use imap_host::{Host, Seat, crew};
 use imap_keeper::Keeper;
 use imap_names::UserName;
+use imap_options::{Port, Service};
 use imap_rights::Groups;
 use imap_world::{Limits, World};
 use std::alloc::{AllocError, Global};
@@ -283,6 +284,7 @@ pub fn posts<
                 waker,
                 report,
                 user: &port.user,
+                credentials: &port.credentials,
                 number: index % SEATS + 1,
                 write_timeout: Duration::from_secs(WRITE_SECONDS),
                 has_client: false,

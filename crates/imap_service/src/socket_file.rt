@@ -3,9 +3,9 @@
 //! A socket file gets its mode before it gets its name, so that at no moment others than its owner can connect to it.
 //! `std` makes one and gives it its mode afterwards, hence `libc`.
 
-use crate::address::SocketPath;
 use crate::private_files::OWNER_ALONE;
-use crate::service::{ServiceError, SocketFault};
+use crate::service_error::{ServiceError, SocketFault};
+use imap_options::SocketPath;
 use libc::fchmod;
 use libc::net::listen;
 use std::fs;

@@ -8,11 +8,9 @@ mod store;
 
 use crate::store::FileKeeper;
 use imap_host::PARTS;
+use imap_options::{Task, read_command_line};
 use imap_script::script;
-use imap_service::{
-    Task, read_command_line, report_misuse, report_script_error, report_service_error,
-    report_version, run,
-};
+use imap_service::{report_misuse, report_script_error, report_service_error, report_version, run};
 use std::marker::Brand;
 use std::process::ExitCode;
 use std::sync::ledger::Blank;

@@ -3,7 +3,8 @@
 //! Pages of a new store end in a sum (SQLite's `cksumvfs`), so that a changed bit is found when the store is opened. A
 //! store without sums is taken as it is.
 
-use imap_service::{LogLevel, ServiceError, StoreFault, make_missing, make_private, report_unread};
+use imap_options::LogLevel;
+use imap_service::{ServiceError, StoreFault, make_missing, make_private, report_unread};
 use imap_sql_keeper::SqlKeeper;
 use sqlite::{Connection, Error, ErrorCode, File, FileStore};
 

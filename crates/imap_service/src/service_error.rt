@@ -1,37 +1,13 @@
-//! What is served, and why serving ends.
+//! Why serving ends.
 
-use crate::address::{Address, SocketPath};
-use crate::report::LogLevel;
 use crate::store_table::StoreTable;
 use imap_hall::OpenError;
 use imap_host::SeatError;
 use imap_keeper::{Damage, KeepError, RowFault};
-use imap_names::UserName;
-use imap_rights::Groups;
-use imap_world::Limits;
+use imap_options::SocketPath;
 use std::alloc::{AllocError, AllocFailed};
 use std::io;
 use thiserror::Error;
-
-/// A user, and where the user is served: at a port of TCP, or at a socket file in the place of one.
-#[derive(Debug, Drop)]
-pub struct Port {
-    pub user: UserName,
-    pub address: Address,
-}
-
-/// What is served.
-#[derive(Drop)]
-pub struct Service {
-    pub administrator: UserName,
-    /// The users who are served, each once.
-    pub ports: Vec<Port>,
-    /// Which of these users, and whether the administrator, are in which groups.
-    pub groups: Groups,
-    pub limits: Limits,
-    /// Which lines are said while it is served.
-    pub log: LogLevel,
-}
 
 /// Why serving ended, or didn't begin.
 #[derive(Clone, Copy, Debug, Error, PartialEq, Eq)]
@@ -90,7 +66,8 @@ pub enum StoreFault {
     Disk,
     #[error("it refused to be read or changed")]
     Refused,
-    #[error("its tables are those of another program, or table meta has no row that says this version, or an earlier one is damaged")]
+    #[error("its tables are those of another program, or table meta has no row that says this version, \
+        or an earlier one is damaged")]
     OtherTables,
     #[error("its rows stand for no mailboxes")]
     Damaged,

@@ -1,0 +1,77 @@
+//! Logins of clients, before they are served.
+
+use crate::guarded_stream::GuardedStream;
+use crate::shared_stream::SharedStream;
+use imap_login::{Credentials, Login, Stage, farewell, greeting};
+use std::alloc::Global;
+use std::io::{self, ErrorKind, Read, Write};
+use std::net::{Net, TcpListener, TcpStream};
+use std::rt::Clock;
+use std::sync::Wait;
+use std::time::{Duration, Instant};
+
+/// For how long a client may take to log in.
+pub const LOGIN_SECONDS: u64 = 60;
+
+/// The most octets that one read takes.
+const PIECE_OCTETS: usize = 1024;
+
+/// Answers a client until it has logged in. Returns whether it has: else it left, gave a wrong secret too often, or took
+/// too long. What came after the login is read next.
+pub(crate) fn log_in<R: Net<Listener = TcpListener, Stream = TcpStream> + Wait + Clock>(
+    rt: &R,
+    alloc: Global,
+    credentials: &Credentials,
+    input: &mut GuardedStream<'_, R>,
+    output: &mut SharedStream,
+) -> io::Result<bool> {
+    let since = Instant::now(rt)?;
+    let mut login = Login::new(alloc);
+    output.write_all(greeting())?;
+    for _ in rt.forever() {
+        if since.elapsed(rt)? >= Duration::from_secs(LOGIN_SECONDS) {
+            output.write_all(farewell())?;
+            return Ok(false);
+        }
+        take_piece(alloc, credentials, &mut login, input, output)?;
+        match login.stage() {
+            Stage::Waiting => {}
+            Stage::Closed => return Ok(false),
+            Stage::Entered => {
+                output.drop_greeting();
+                return Ok(true);
+            }
+        }
+    }
+    unreachable!()
+}
+
+/// Reads once, and writes what the client is answered. Fails at the end of the input.
+fn take_piece<R: Net<Listener = TcpListener, Stream = TcpStream> + Wait + Clock>(
+    alloc: Global,
+    credentials: &Credentials,
+    login: &mut Login,
+    input: &mut GuardedStream<'_, R>,
+    output: &mut SharedStream,
+) -> io::Result<()> {
+    let mut piece = [0u8; PIECE_OCTETS];
+    match input.read(&mut piece) {
+        Ok(0) => Err(io::Error::from(ErrorKind::UnexpectedEof)),
+        Ok(count) => {
+            let mut text = Vec::new(alloc);
+            let unread = login.take(alloc, credentials, &piece[..count], &mut text)?;
+            input.read_first(alloc, unread)?;
+            output.write_all(text.as_slice())
+        }
+        Err(error) if is_nothing(error.kind()) => Ok(()),
+        Err(error) => Err(error),
+    }
+}
+
+/// Whether a read of this error brought nothing.
+fn is_nothing(kind: ErrorKind) -> bool {
+    matches!(
+        kind,
+        ErrorKind::WouldBlock | ErrorKind::TimedOut | ErrorKind::Interrupted
+    )
+}
