@@ -59,6 +59,13 @@ pub(crate) fn load<K: TestKeeper>(
     }
 }
 
+/// Loads the mailboxes of the database that has these octets.
+pub(crate) fn load_world<K: TestKeeper>(alloc: Global, image: &Image) -> Result<World, KeepError> {
+    let (loaded, left) = load::<K>(alloc, image)?;
+    drop(left);
+    loaded
+}
+
 /// Loads mailboxes, and returns the keeper.
 fn load_once<K: Keeper>(alloc: Global, mut keeper: K) -> (Result<World, KeepError>, K) {
     let loaded = keeper.load(alloc);

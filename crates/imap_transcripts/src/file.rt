@@ -71,6 +71,14 @@ impl Image {
         }
     }
 
+    /// A database whose file has these octets, and whose log is empty.
+    pub(crate) fn of_database(alloc: Global, octets: &[u8]) -> Result<Image, AllocError> {
+        Ok(Image {
+            log: Vec::new(alloc),
+            database: Vec::from_slice(alloc, octets)?,
+        })
+    }
+
     /// Whether the file of the database has the same octets.
     pub(crate) fn has_same_database(&self, other: &Image) -> bool {
         self.database.as_slice() == other.database.as_slice()

@@ -10,8 +10,10 @@
 //! each of the database's two files, from the first on if there are no mailboxes yet: this call fails, and all later
 //! ones. A line says what was left. `-- stop at each call from the first version` does the same over the database that
 //! the script leaves, with the tables of the first version. `-- as USER in NAME` compares what that user's sessions were sent with the run of
-//! an earlier script, and a line says whether it is equal. Any other TEXT is SQL that runs in a copy of the database at
-//! the end. A line says what can be loaded then.
+//! an earlier script, and a line says whether it is equal. Lines `-- octets HEX` and `-- zeros COUNT` are, one after
+//! another, the octets of the file of a database: the script runs over the mailboxes that this keeps, and those of its
+//! own lines don't count. Any other TEXT is SQL that runs in a copy of the database at the end, or of the one whose
+//! octets are given. A line says what can be loaded then.
 #![tactic(auto)]
 
 mod comparing_keeper;
@@ -23,6 +25,7 @@ mod past_runs;
 mod running;
 mod script_row;
 mod stops;
+mod stored;
 mod transcripts;
 
 use crate::transcripts::write_transcripts;

@@ -1,10 +1,11 @@
 //! A script with what else is done with it, and its report.
 
-use crate::database::{DatabaseKeeper, TestKeeper};
+use crate::database::{DatabaseKeeper, TestKeeper, load_world};
 use crate::faults::fault_report;
-use crate::file::TestFile;
+use crate::file::{Image, TestFile};
 use crate::running::{Found, image_after, run_in_database};
-use crate::stops::{first_stop_report, stop_report};
+use crate::stops::{first_stop_report, stop_both, stop_report};
+use crate::stored::{push_digits, push_zeros, run_stored};
 use imap_keeper::{KeepError, ListKeeper};
 use imap_script::{Scenario, ScriptError};
 use imap_world::World;
@@ -25,6 +26,8 @@ pub(crate) struct ScriptRow {
     pub(crate) comparisons: String,
     /// Lines of SQL, each of which runs by itself in a copy of the database at the end.
     faults: String,
+    /// The octets of the database over which it runs. If there are none, it runs over a new one.
+    stored: Vec<u8>,
 }
 
 impl ScriptRow {
@@ -36,11 +39,12 @@ impl ScriptRow {
             first_stops: false,
             comparisons: String::new(alloc),
             faults: String::new(alloc),
+            stored: Vec::new(alloc),
         }
     }
 
     /// Takes a line, with the LF that ends it if there is one.
-    pub(crate) fn take_line(&mut self, line: &[u8]) -> Result<(), ScriptError> {
+    pub(crate) fn take_line(&mut self, alloc: Global, line: &[u8]) -> Result<(), ScriptError> {
         let Some(text) = line.strip_prefix(b"-- ") else {
             self.script.extend_from_slice(line)?;
             return Ok(());
@@ -48,11 +52,22 @@ impl ScriptRow {
         match str::from_utf8(text) {
             Ok("stop at each call\n") => self.stops = true,
             Ok("stop at each call from the first version\n") => self.first_stops = true,
-            Ok(text) => match text.strip_prefix("as ") {
-                Some(runs) => self.comparisons.push_str(runs)?,
-                None => self.faults.push_str(text)?,
-            },
+            Ok(text) => self.take_text(alloc, text)?,
             Err(_) => return Err(ScriptError::Io),
+        }
+        Ok(())
+    }
+
+    /// Takes a line of which more than its first word tells.
+    fn take_text(&mut self, alloc: Global, text: &str) -> Result<(), ScriptError> {
+        if let Some(runs) = text.strip_prefix("as ") {
+            self.comparisons.push_str(runs)?;
+        } else if let Some(digits) = text.strip_prefix("octets ") {
+            push_digits(alloc, &mut self.stored, digits)?;
+        } else if let Some(count) = text.strip_prefix("zeros ") {
+            push_zeros(&mut self.stored, count)?;
+        } else {
+            self.faults.push_str(text)?;
         }
         Ok(())
     }
@@ -80,10 +95,46 @@ impl ScriptRow {
         scenario: &Scenario,
         world: &World,
     ) -> Result<(), ScriptError> {
+        if !self.stored.is_empty() {
+            return self.push_stored_by_file::<Fuse<Memory>>(alloc, report, scenario);
+        }
         let transcript = run_in_memory(alloc, scenario, world)?;
         report.extend_from_slice(transcript.as_slice())?;
-        push_difference(alloc, report, scenario, world, transcript.as_slice())?;
+        let found = run_in_database(alloc, scenario, world);
+        push_difference(alloc, report, found, transcript.as_slice())?;
         self.push_reports_by_file::<Fuse<Memory>>(alloc, report, scenario, world)
+    }
+
+    /// Appends the transcript over the database whose octets are given, and the reports of all runs over it.
+    fn push_stored<K: TestKeeper>(
+        &self,
+        alloc: Global,
+        report: &mut Vec<u8>,
+        scenario: &Scenario,
+    ) -> Result<(), ScriptError> {
+        let image = Image::of_database(alloc, self.stored.as_slice())?;
+        let world = load_world::<K>(alloc, &image).map_err(script_error)?;
+        let transcript = run_in_memory(alloc, scenario, &world)?;
+        report.extend_from_slice(transcript.as_slice())?;
+        let found = run_stored::<K>(alloc, &image, scenario, &world);
+        push_difference(alloc, report, found, transcript.as_slice())?;
+        let lines = fault_report::<K>(alloc, &image, self.faults.as_str());
+        report.extend_from_slice(lines.map_err(script_error)?.as_bytes())?;
+        if self.stops {
+            let line = stop_both::<K>(alloc, &image, scenario, &world);
+            report.extend_from_slice(line.map_err(script_error)?.as_bytes())?;
+        }
+        Ok(())
+    }
+
+    /// Appends the same, over files of a kind.
+    fn push_stored_by_file<F: TestFile>(
+        &self,
+        alloc: Global,
+        report: &mut Vec<u8>,
+        scenario: &Scenario,
+    ) -> Result<(), ScriptError> {
+        self.push_stored::<DatabaseKeeper<F>>(alloc, report, scenario)
     }
 
     /// Appends the reports of changes by SQL and of calls that failed.
@@ -135,21 +186,19 @@ fn run_in_memory(
     Ok(transcript)
 }
 
-/// Runs the script over a database. Appends its transcript there unless it is `wanted`, and how often the
-/// database had other mailboxes than it was to keep.
+/// Appends the transcript of a run over a database unless it is `wanted`, and how often the database had other
+/// mailboxes than it was to keep.
 fn push_difference(
     alloc: Global,
     report: &mut Vec<u8>,
-    scenario: &Scenario,
-    world: &World,
+    found: Result<Found, KeepError>,
     wanted: &[u8],
 ) -> Result<(), ScriptError> {
-    let found = run_in_database(alloc, scenario, world).map_err(script_error)?;
     let Found {
         mut transcript,
         ended,
         comparison,
-    } = found;
+    } = found.map_err(script_error)?;
     let (others, unread) = (comparison.others, comparison.unread);
     drop(comparison);
     push_end(alloc, &mut transcript, ended)?;

@@ -1,6 +1,6 @@
 //! Each call of the files of a database fails in turn, and all later calls with it.
 
-use crate::database::{Opened, TestKeeper, load, new_keeper};
+use crate::database::{Opened, TestKeeper, load, load_world, new_keeper};
 use crate::file::{Calls, Image, Left};
 use crate::running::{Found, image_after, image_of, run_compared};
 use imap_keeper::KeepError;
@@ -68,15 +68,14 @@ pub(crate) fn first_stop_report<K: TestKeeper>(
     world: &World,
 ) -> Result<&'static str, KeepError> {
     let image = image_after::<K>(alloc, scenario, world)?;
-    let (loaded, left) = load::<K>(alloc, &image)?;
-    drop(left);
-    let world = loaded?;
+    let world = load_world::<K>(alloc, &image)?;
     let first = K::execute(alloc, &image, TO_FIRST)?;
     stop_both::<K>(alloc, &first, scenario, &world)
 }
 
-/// Has each call of each of the files fail in turn.
-fn stop_both<K: TestKeeper>(
+/// Runs the script over the database that has these octets, and that keeps `world`. Has each call of each of its files
+/// fail in turn.
+pub(crate) fn stop_both<K: TestKeeper>(
     alloc: Global,
     image: &Image,
     scenario: &Scenario,

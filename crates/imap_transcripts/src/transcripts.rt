@@ -26,7 +26,7 @@ pub(crate) fn write_transcripts<R: AllocGlobal, I: Read + Drop, O: Write + Drop>
             write_octets(&mut output, line)?;
             row = Some(ScriptRow::new(alloc, name_in(alloc, line)?));
         } else if let Some(begun) = &mut row {
-            begun.take_line(line)?;
+            begun.take_line(alloc, line)?;
         }
     }
     write_report(alloc, row, &mut past, &mut output)
