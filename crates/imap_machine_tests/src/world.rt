@@ -53,7 +53,7 @@ pub(crate) fn give(
         return Err(WorldError::Memory);
     };
     match read_rights(letters.as_bytes()) {
-        Some(rights) => world.set_acl(&name.as_ref(), identifier, rights),
+        Some(rights) => world.set_acl(alloc, &name.as_ref(), identifier, rights),
         None => Err(WorldError::Cannot),
     }
 }

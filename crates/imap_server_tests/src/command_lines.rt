@@ -2,10 +2,12 @@
 
 use crate::wanted::{expect, expect_text};
 use imap_keeper::RowFault;
+use imap_options::{
+    CommandLineError, LogLevel, SecretFault, SecretFiles, Service, Task, read_words,
+};
 use imap_script::ScriptError;
 use imap_service::{
-    CommandLineError, LogLevel, Service, ServiceError, StoreFault, StoreTable, Task, read_words,
-    report_misuse, report_script_error, report_service_error,
+    ServiceError, StoreFault, StoreTable, report_misuse, report_script_error, report_service_error,
 };
 use std::alloc::{AllocError, Global};
 use std::io::ErrorKind;
@@ -19,10 +21,28 @@ pub(crate) fn words(alloc: Global, texts: &[&str]) -> Result<Vec<String>, AllocE
     Ok(words)
 }
 
+/// Files of secrets: two with one, and three without.
+#[derive(Drop)]
+pub(crate) struct Kept {
+    pub(crate) alloc: Global,
+}
+
+impl SecretFiles for Kept {
+    fn read(&self, path: &str) -> Result<String, SecretFault> {
+        match path {
+            "s3cret" | "/s=3" => Ok(String::from_str(self.alloc, "s3cret\r\nmore\n")?),
+            "empty" => Ok(String::new(self.alloc)),
+            "blank" => Ok(String::from_str(self.alloc, "\ns3cret\n")?),
+            "nul" => Ok(String::from_str(self.alloc, "s3\0cret\n")?),
+            _ => Err(SecretFault::Unread("there is no such file")),
+        }
+    }
+}
+
 /// What these words ask for.
 fn task(alloc: Global, texts: &[&str]) -> Result<Task, CommandLineError> {
     match words(alloc, texts) {
-        Ok(words) => read_words(alloc, &words),
+        Ok(words) => read_words(alloc, &Kept { alloc }, &words),
         Err(_) => Err(CommandLineError::Memory),
     }
 }
@@ -41,6 +61,9 @@ fn shown_service(alloc: Global, database: &str, service: &Service) -> Result<Vec
     for port in &service.ports {
         let shown = format!(in alloc; " {}={}", port.user.as_str(), port.address)?;
         text.push_str(shown.as_str())?;
+        if port.credentials.is_some() {
+            text.push_str(" secret")?;
+        }
     }
     Ok(text.into_bytes())
 }
@@ -118,6 +141,20 @@ fn reads_command_lines(rt: HostRuntime) {
             ],
             b"x root 100000 33554432 ann=/run/ann=1 a=b=./c bob=1143",
         ),
+        (
+            &[
+                "imapd",
+                "serve",
+                "--db=x",
+                "--admin=root",
+                "--listen=ann=1",
+                "--listen=a=b=2",
+                "--listen=bob=3",
+                "--secret=a=b=/s=3",
+                "--secret=ann=s3cret",
+            ],
+            b"x root 100000 33554432 ann=1 secret a=b=2 secret bob=3",
+        ),
     ];
     for &(texts, wanted) in ROWS {
         expect(&rt, shown(rt.alloc(), texts), wanted);
@@ -187,7 +224,7 @@ fn refuses_command_lines(rt: HostRuntime) {
 /// Options, of which each is refused beside `--admin root --listen ann=1143`.
 #[test]
 fn refuses_options(rt: HostRuntime) {
-    const ROWS: [&str; 24] = [
+    const ROWS: [&str; 32] = [
         "--log=all",
         "--log=",
         "--listen=bob",
@@ -212,6 +249,14 @@ fn refuses_options(rt: HostRuntime) {
         "--member=a/b=ann",
         "--member=-x=ann",
         "--member=e\u{301}=ann",
+        "--secret=s3cret",
+        "--secret=ann=",
+        "--secret==s3cret",
+        "--secret=root=s3cret",
+        "--secret=ann=none",
+        "--secret=ann=empty",
+        "--secret=ann=blank",
+        "--secret=ann=nul",
     ];
     for &option in &ROWS {
         let texts = [
@@ -283,7 +328,7 @@ fn said(alloc: Global, texts: &[&str]) -> Result<String, AllocError> {
 #[test]
 fn says_what_is_wrong(rt: HostRuntime) {
     const SERVE: [&str; 4] = ["imapd", "serve", "--db=x", "--admin=root"];
-    const ROWS: [(&str, &str); 6] = [
+    const ROWS: [(&str, &str); 8] = [
         (
             "--listen=ann=0",
             "imapd: bad command line\nimapd: --listen ann=0: NAME=PORT is wanted, PORT from 1 to 65535\n",
@@ -307,6 +352,14 @@ fn says_what_is_wrong(rt: HostRuntime) {
         (
             "--member=a b=bob",
             "imapd: bad command line\nimapd: --member a b: this is no name of a group\n",
+        ),
+        (
+            "--secret=bob=/none",
+            "imapd: bad command line\nimapd: --secret bob=/none: there is no such file\n",
+        ),
+        (
+            "--secret=ann=s3cret",
+            "imapd: bad command line\nimapd: --secret ann=s3cret: this is no user who is served\n",
         ),
     ];
     for &(option, wanted) in &ROWS {

@@ -1,14 +1,14 @@
 //! Configuration files.
 
-use crate::command_lines::{shown_task, words};
+use crate::command_lines::{Kept, shown_task, words};
 use crate::wanted::{expect, expect_text};
-use imap_service::{CommandLineError, Task, read_words_after};
+use imap_options::{CommandLineError, Task, read_words_after};
 use std::alloc::{AllocError, Global};
 
 /// What these words ask for after the options of a file `x.conf`.
 fn task(alloc: Global, text: &str, texts: &[&str]) -> Result<Task, CommandLineError> {
     match words(alloc, texts) {
-        Ok(words) => read_words_after(alloc, &words, "x.conf", text),
+        Ok(words) => read_words_after(alloc, &Kept { alloc }, &words, "x.conf", text),
         Err(_) => Err(CommandLineError::Memory),
     }
 }
@@ -28,6 +28,11 @@ const ROWS: &[(&str, &[&str], &[u8])] = &[
         "member staff=ann\nmax-messages 7\nmax-octets 8\n#log off",
         &["--db=x", "--admin=root", "--listen=ann=1"],
         b"x root 7 8 ann=1",
+    ),
+    (
+        "secret ann=s3cret",
+        &["--db=x", "--admin=root", "--listen=ann=1"],
+        b"x root 100000 33554432 ann=1 secret",
     ),
     ("", &["--db=x", "--admin=root"], b"none"),
     (
@@ -86,6 +91,10 @@ fn says_which_line_is_wrong(rt: HostRuntime) {
         (
             "member staff=bob\n\nmember staff=cat",
             "line 3: member cat: this is neither a user who is served nor the administrator",
+        ),
+        (
+            "secret bob=s3cret\nsecret bob=/s=3",
+            "line 2: secret bob=/s=3: the user has a secret before",
         ),
         (
             "max-octets 0",

@@ -6,10 +6,12 @@ use crate::hosts::{hall, host, user};
 use crate::owned::{both, push};
 use imap_host::{Door, Host, PARTS, Seat};
 use imap_keeper::{Keeper, ListKeeper};
+use imap_login::Credentials;
 use imap_names::UserName;
+use imap_options::{Address, LogLevel, Port};
 use imap_service::{
-    Address, ClientDoor, Connection, IdleWakers, Listener, LogLevel, Port, PortDoor, Reception,
-    Receptionist, Report, SEATS, listen_at, posts,
+    ClientDoor, Connection, IdleWakers, Listener, PortDoor, Reception, Receptionist, Report, SEATS,
+    listen_at, posts,
 };
 use std::alloc::{AllocError, Global};
 use std::io::{self, Read, Write};
@@ -138,6 +140,16 @@ fn a_seventeenth_client_is_refused(rt: HostRuntime) {
 
 /// What is done with the connection of one client.
 pub(crate) trait Deed {
+    /// What the client sends before its session begins.
+    fn first(&self) -> &'static [u8] {
+        b""
+    }
+
+    /// What the client logs in with.
+    fn credentials(&self, _alloc: Global) -> io::Result<Option<Credentials>> {
+        Ok(None)
+    }
+
     /// Whether it came out as it should.
     fn is_done<C: Read + Write, I: Read, O: Write>(
         &self,
@@ -192,7 +204,7 @@ impl Deed for Unread {
 }
 
 /// Does it with one client over TCP.
-fn done<
+pub(crate) fn done<
     D: Deed,
     R: Net<Listener = TcpListener, Stream = TcpStream> + Wait + Clock + Eprint + Sync + AllocGlobal,
 >(rt: &R, deed: &D) -> io::Result<bool> {
@@ -216,7 +228,14 @@ pub(crate) fn done_with<
     let made = both(reception(rt.alloc(), listener), named(rt.alloc(), "ann"));
     let (reception, user) = made?;
     reception.admit(rt, &user, &Report::new(rt, LogLevel::Off), stream);
-    let done = done_at(rt, deed, &reception, &user, &mut client);
+    let done = match deed.credentials(rt.alloc()) {
+        Ok(credentials) => {
+            let done = done_at(rt, deed, &reception, &user, &credentials, &mut client);
+            drop(credentials);
+            done
+        }
+        Err(error) => Err(error),
+    };
     drop(reception);
     drop(user);
     drop(client);
@@ -228,7 +247,15 @@ fn done_at<
     D: Deed,
     C: Read + Write,
     R: Net<Listener = TcpListener, Stream = TcpStream> + Wait + Clock + Eprint + Sync + AllocGlobal,
->(rt: &R, deed: &D, reception: &Reception, user: &UserName, client: &mut C) -> io::Result<bool> {
+>(
+    rt: &R,
+    deed: &D,
+    reception: &Reception,
+    user: &UserName,
+    credentials: &Option<Credentials>,
+    client: &mut C,
+) -> io::Result<bool> {
+    client.write_all(deed.first())?;
     let wakers = IdleWakers::new(rt.alloc(), 1)?;
     let report = Report::new(rt, LogLevel::Off);
     let [waker, ..] = wakers.as_slice() else {
@@ -242,6 +269,7 @@ fn done_at<
         waker,
         report: &report,
         user,
+        credentials,
         number: 1,
         write_timeout: Duration::from_millis(100),
         has_client: false,
@@ -290,7 +318,11 @@ fn ports(alloc: Global) -> Result<Vec<Port>, AllocError> {
 fn port(alloc: Global, text: &str, number: u16) -> Result<Port, AllocError> {
     let user = user(alloc, text)?;
     let address = Address::Tcp(number);
-    Ok(Port { user, address })
+    Ok(Port {
+        user,
+        address,
+        credentials: None,
+    })
 }
 
 /// Two receptions, and their ports.

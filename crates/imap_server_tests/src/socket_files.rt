@@ -1,9 +1,8 @@
 //! Socket files: who may connect, what is replaced and what is not, and clients that come in by them.
 
 use crate::peers::{Deed, Unread, Web, done_with};
-use imap_service::{
-    Connection, Listener, MAX_SOCKET_PATH, ServiceError, SocketFault, SocketPath, listen_at_file,
-};
+use imap_options::{MAX_SOCKET_PATH, SocketPath};
+use imap_service::{Connection, Listener, ServiceError, SocketFault, listen_at_file};
 use std::fs;
 use std::io::{self, ErrorKind};
 use std::net::{Net, TcpListener, TcpStream};
