@@ -25,7 +25,7 @@ from messages import CRATES, run
 USES = "imap_batch imap_keeper imap_lex imap_mailbox imap_names imap_sql_keeper imap_syntax imap_world sqlite"
 MORE = "imap_batch imap_name_map imap_names imap_rights imap_world"
 STORE = "imap_keeper imap_message_tables imap_records imap_restore imap_sql_keeper imap_tables"
-PART = int(sys.argv[2]) if __name__ == "__main__" and len(sys.argv) > 2 else 1
+PART = int(sys.argv[2]) if len(sys.argv) > 2 else 1
 SIZES = (200, 20_000, 100_000)
 MANY = 2_000
 MICROSECONDS, MILLISECONDS = 1e6, 1e3
