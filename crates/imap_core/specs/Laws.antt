@@ -105,8 +105,8 @@ unselected state who = record {
   accounts = accounts_with state.accounts who (session.Select nothing_enabled None);
 }
 
--- What a session is told of its mailbox is what notices in the replies tell. They stand before the last line, which
--- isn't BAD, and tell of every message that changed: the refused command told of none itself.
+-- What a session is told of its mailbox is what notices in the replies tell. They stand before the last line,
+-- which isn't BAD, and tell of every message that changed: the refused command told of none itself.
 pub record IsToldInLines (view : View) (own : SessionState) (replies : List Response) (t : Telling) : Type 0 where
   pub expunges : Bool
   pub before : List Response

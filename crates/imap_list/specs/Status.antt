@@ -1,7 +1,6 @@
 -- STATUS (RFC 9051, sections 6.3.11 and 7.3.4; RFC 7162, section 3.1.7).
 use Rattle.std.specs.Prelude.{ℕ, min, Bool, true, false, List, [], ◌∷◌, length, map as map_list}
 use Rattle.std.specs.Prelude.{Option, Some, None, option_map}
-use Rattle.std.specs.Prelude.{if◌then◌else◌}
 use Rattle.std.specs.List.{list_any}
 use Rattle.imap_answer.specs.Access.{missing_right_refusal}
 use Rattle.imap_answer.specs.Answer.{Answer, done_after, enabling, refusal}
