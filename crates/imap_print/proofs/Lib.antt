@@ -6,4 +6,4 @@ pub mod Fewest
 pub mod Reader
 pub mod OneLine
 pub mod Plain
-pub mod Pieces
+pub mod Piecewise

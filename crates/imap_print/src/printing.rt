@@ -29,7 +29,7 @@ use imap_lex::Octets;
 use imap_syntax::{Atom, Items, push_between};
 use mailboxes::{push_acl, push_list, push_list_rights, push_my_rights, push_status};
 use numbers::push_set;
-use pieces::Pieces;
+pub use pieces::Pieces;
 use searched::push_search;
 use std::alloc::{AllocError, Global};
 use words::push_given;
@@ -57,12 +57,13 @@ fn print_all(alloc: Global, responses: &[Response]) -> Result<Pieces, AllocError
 {
     let mut out = Pieces::new(alloc);
     for response in responses {
-        push_line(&mut out, response)?;
+        print_line(&mut out, response)?;
     }
     Ok(out)
 }
 
-fn push_line(out: &mut Pieces, response: &Response) -> Result<(), AllocError>
+/// Appends the octets of the response, a line that CRLF ends.
+pub fn print_line(out: &mut Pieces, response: &Response) -> Result<(), AllocError>
     ensures { OnOk result (octets_of out.new ≡ octets_of out.old ++ line response.now) }
 {
     push_text(out, response)?;

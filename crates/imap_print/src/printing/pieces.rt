@@ -14,14 +14,15 @@ const MIN_SHARED_OCTETS: usize = 16_384;
 
 /// Printed octets: those of the pieces, then those of the text.
 #[derive(Drop)]
-pub(super) struct Pieces {
+pub struct Pieces {
     alloc: Global,
     done: Vec<Octets>,
     pub(super) text: Vec<u8>,
 }
 
 impl Pieces {
-    pub(super) fn new(alloc: Global) -> Pieces
+    /// No octets.
+    pub fn new(alloc: Global) -> Pieces
         ensures { octets_of result ≡ [] }
     {
         Pieces {
@@ -29,6 +30,13 @@ impl Pieces {
             done: Vec::new(alloc),
             text: Vec::new(alloc),
         }
+    }
+
+    /// Appends a copy of the octets.
+    pub fn push_octets(&mut self, octets: &[u8]) -> Result<(), AllocError>
+        ensures { OnOk result (octets_of self.new ≡ octets_of self.old ++ octets.now) }
+    {
+        self.text.extend_from_slice(octets)
     }
 
     /// Appends the parts one after another.
@@ -69,7 +77,7 @@ impl Pieces {
     }
 
     /// Returns the pieces.
-    pub(super) fn into_pieces(self) -> Result<Items<Octets>, AllocError>
+    pub fn into_pieces(self) -> Result<Items<Octets>, AllocError>
         ensures { IfOk result (λ pieces. concat pieces ≡ octets_of self) }
     {
         let mut pieces = self;

@@ -5,7 +5,7 @@ use Rattle.imap_print.specs.declared.fetch.FetchedSection.{FetchedSection}
 use Rattle.imap_print.specs.Fetched.{body_text}
 use Rattle.imap_print.specs.Pieces.{octets_of}
 use Rattle.imap_print.specs.Words.{space}
-use Rattle.imap_print.proofs.Pieces.{more_text}
+use Rattle.imap_print.proofs.Piecewise.{more_text}
 use Rattle.imap_print.proofs.Wording.{goes_on_word, goes_on-append}
 use Rattle.imap_print.proofs.printing.fetched.push_bodies.Goals as goal
 

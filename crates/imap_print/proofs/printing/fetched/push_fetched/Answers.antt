@@ -2,7 +2,7 @@ use Rattle.std.proofs.Common.{[], ◌∷◌, ◌++◌}
 use Rattle.std.specs.List.{concat}
 use Rattle.imap_print.specs.Fetched.{fetched_words}
 use Rattle.imap_print.specs.Pieces.{octets_of}
-use Rattle.imap_print.proofs.Pieces.{more_text}
+use Rattle.imap_print.proofs.Piecewise.{more_text}
 use Rattle.imap_print.proofs.Wording.{enclosed}
 use Rattle.imap_print.proofs.printing.fetched.push_fetched.Goals as goal
 
