@@ -1,0 +1,11 @@
+pub mod Appended
+pub mod Commands
+pub mod FirstWord
+pub mod Lines
+pub mod OneFrame
+pub mod Pushes
+pub mod Rev1Rules
+pub mod Sections
+pub mod Spelt
+pub mod Strings
+pub mod Tails

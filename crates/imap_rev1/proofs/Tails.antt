@@ -1,0 +1,120 @@
+-- Words that are written in place of others leave lines and their marks.
+use Rattle.std.proofs.Common.{◌≡◌, ◌≢◌, ◌∙◌, ap, sym, refl, ℕ, Bool, true, false, cond, ◌||◌, List, [], ◌∷◌, ◌++◌, append_assoc, append-nil, arith}
+use Rattle.std.specs.Prelude.{codes, ◌==◌}
+use Rattle.std.specs.Char.{is_ascii_alphabetic}
+use Rattle.std.specs.List.{list_all}
+use Rattle.std.specs.Str.{str_to_ascii_lowercase}
+use Rattle.std.proofs.lemmas.Bool.Decides.{nat_tests}
+use Rattle.std.proofs.lemmas.List.Folds.{list_all-append}
+use Rattle.imap_lex.specs.Mark.{LineTail, text, with_octet, with_octets}
+use Rattle.imap_lex.proofs.Tails.{with_octets-append}
+use Rattle.imap_print.specs.Lines.{is_plain}
+use Rattle.imap_syntax.specs.Rule.{ConsistsOf}
+use Rattle.imap_syntax.proofs.Tables.{all_pass, consists_from, either_case_letter, is_some, filled_from}
+use Rattle.imap_syntax.proofs.Words.{passes_alike, filled_alike, same_bytes}
+use Rattle.imap_syntax.proofs.Writing.{both_true}
+use Rattle.imap_rev1.specs.declared.named.Named.{Named}
+use Rattle.imap_rev1.specs.declared.named.Named.TheVariants as named
+use Rattle.imap_rev1.specs.declared.scan.Scan.{Scan}
+use Rattle.imap_rev1.specs.Named.{is_word}
+use Rattle.imap_rev1.specs.Scan.{is_in_word, exchanged, item_for, word_for, is_item, written_word, after_word, after_octet, written}
+
+-- ---- words of letters
+
+letter_tail : (t : LineTail) (b : ℕ) → is_ascii_alphabetic b ≡ true → with_octet t b ≡ text
+letter_tail t b h = grind (arith, nat_tests)
+
+letters_tail : (t : LineTail) (word : List ℕ) → ConsistsOf is_ascii_alphabetic word → word ≢ [] → with_octets t word ≡ text
+letters_tail t [] h filled = absurd (filled refl)
+letters_tail t (b ∷ []) h filled = letter_tail t b h.0
+letters_tail t (b ∷ c ∷ word) h filled = letters_tail (with_octet t b) (c ∷ word) h.1 (λ e. cc)
+
+-- what is the word in some case leaves no mark that is begun
+pub word_tail : (t : LineTail) (word octets : List ℕ) → all_pass is_ascii_alphabetic word ≡ true → is_some word ≡ true → is_word word octets ≡ true → with_octets t octets ≡ text
+word_tail t word octets letters some h =
+    let same : str_to_ascii_lowercase octets ≡ str_to_ascii_lowercase word = same_bytes _ _ h in
+    letters_tail t octets (passes_alike is_ascii_alphabetic either_case_letter octets word same (consists_from is_ascii_alphabetic word letters)) (filled_alike octets word same (filled_from word some))
+
+-- ---- what is written in place of a word
+
+-- the octets leave a line as these do
+pub record Alike (octets new : List ℕ) : Type 0 where
+  pub tail : (t : LineTail) → with_octets t new ≡ with_octets t octets
+  pub plain : list_all is_plain octets ≡ true → list_all is_plain new ≡ true
+
+same_alike : (octets : List ℕ) → Alike octets octets
+same_alike octets = record { tail = λ t. refl; plain = λ h. h }
+
+other_alike : (word other octets : List ℕ) → all_pass is_ascii_alphabetic word ≡ true → is_some word ≡ true → is_word word octets ≡ true → ((t : LineTail) → with_octets t other ≡ text) → list_all is_plain other ≡ true → Alike octets other
+other_alike word other octets letters some h tail plain = record { tail = λ t. tail t ∙ sym (word_tail t word octets letters some h); plain = λ _. plain }
+
+exchanged_by : (word other octets : List ℕ) (b : Bool) → is_word word octets ≡ b → all_pass is_ascii_alphabetic word ≡ true → is_some word ≡ true → ((t : LineTail) → with_octets t other ≡ text) → list_all is_plain other ≡ true → Alike octets (cond b other octets)
+exchanged_by word other octets true h letters some tail plain = other_alike word other octets letters some h tail plain
+exchanged_by word other octets false h letters some tail plain = same_alike octets
+
+exchanged_alike : (word other octets : List ℕ) → all_pass is_ascii_alphabetic word ≡ true → is_some word ≡ true → ((t : LineTail) → with_octets t other ≡ text) → list_all is_plain other ≡ true → Alike octets (exchanged word other octets)
+exchanged_alike word other octets letters some tail plain = exchanged_by word other octets (is_word word octets) refl letters some tail plain
+
+key_alike_by : (octets : List ℕ) (new recent old : Bool) → is_word (codes "NEW") octets ≡ new → is_word (codes "RECENT") octets ≡ recent → is_word (codes "OLD") octets ≡ old
+    → Alike octets (cond (new || recent) (codes "NOT ALL") (cond old (codes "ALL") octets))
+key_alike_by octets true recent old e f g = other_alike (codes "NEW") (codes "NOT ALL") octets refl refl e (λ t. refl) refl
+key_alike_by octets false true old e f g = other_alike (codes "RECENT") (codes "NOT ALL") octets refl refl f (λ t. refl) refl
+key_alike_by octets false false true e f g = other_alike (codes "OLD") (codes "ALL") octets refl refl g (λ t. refl) refl
+key_alike_by octets false false false e f g = same_alike octets
+
+item_alike : (is_item : Bool) (octets : List ℕ) → Alike octets (item_for is_item octets)
+item_alike true octets = exchanged_alike (codes "RECENT") (codes "MESSAGES") octets refl refl (λ t. refl) refl
+item_alike false octets = same_alike octets
+
+word_alike : (command : Named) (is_item : Bool) (octets : List ℕ) → Alike octets (word_for command is_item octets)
+word_alike named.Check is_item octets = exchanged_alike (codes "CHECK") (codes "NOOP") octets refl refl (λ t. refl) refl
+word_alike named.Lsub is_item octets = exchanged_alike (codes "LSUB") (codes "LIST (SUBSCRIBED)") octets refl refl (λ t. refl) refl
+word_alike named.Search is_item octets = key_alike_by octets _ _ _ refl refl refl
+word_alike named.Status is_item octets = item_alike is_item octets
+word_alike named.List is_item octets = item_alike is_item octets
+word_alike named.Select is_item octets = same_alike octets
+word_alike named.Other is_item octets = same_alike octets
+
+written_alike_by : (b : Bool) (scan : Scan) (octets : List ℕ) → Alike octets (cond b (word_for scan.named (is_item scan) octets) octets)
+written_alike_by true scan octets = word_alike scan.named (is_item scan) octets
+written_alike_by false scan octets = same_alike octets
+
+pub written_word_alike : (scan : Scan) (octets : List ℕ) → Alike octets (written_word scan octets)
+written_word_alike scan octets = written_alike_by (scan.passes == 0) scan octets
+
+-- ---- a text
+
+plain_parts : (octet : ℕ) (octets : List ℕ) → list_all is_plain (octet ∷ octets) ≡ true → (is_plain octet ≡ true) × (list_all is_plain octets ≡ true)
+plain_parts octet octets h = both_true (is_plain octet) (list_all is_plain octets) h
+
+plain-append : (a b : List ℕ) → list_all is_plain a ≡ true → list_all is_plain b ≡ true → list_all is_plain (a ++ b) ≡ true
+plain-append a b h k = list_all-append is_plain a b ∙ rw (h, k) refl
+
+plain_front : (a b : List ℕ) → list_all is_plain (a ++ b) ≡ true → (list_all is_plain a ≡ true) × (list_all is_plain b ≡ true)
+plain_front a b h = both_true (list_all is_plain a) (list_all is_plain b) (sym (list_all-append is_plain a b) ∙ h)
+
+between_alike : (word new octets later : List ℕ) (octet : ℕ) → Alike word new → Alike octets later → Alike (word ++ octet ∷ octets) (new ++ octet ∷ later)
+between_alike word new octets later octet h k = record {
+  tail = λ t.
+      with_octets-append t new (octet ∷ later)
+      ∙ ap (λ (s : LineTail). with_octets (with_octet s octet) later) (h.tail t)
+      ∙ k.tail (with_octet (with_octets t word) octet)
+      ∙ sym (with_octets-append t word (octet ∷ octets));
+  plain = λ p.
+      let parts = plain_front word (octet ∷ octets) p in
+      let rest = plain_parts octet octets parts.1 in
+      plain-append new (octet ∷ later) (h.plain parts.0) (rw (rest.0, k.plain rest.1) refl);
+}
+
+end_alike : (word new : List ℕ) → Alike word new → Alike (word ++ []) new
+end_alike word new h = rw append-nil h
+
+-- the octets of a word and further octets, and what is written in their place
+pub text_alike : (scan : Scan) (word octets : List ℕ) → Alike (word ++ octets) (written scan word octets)
+text_alike scan word [] = end_alike word (written_word scan word) (written_word_alike scan word)
+text_alike scan word (octet ∷ octets) = by (is_in_word scan octet) (text_alike scan (word ++ octet ∷ []) octets) (text_alike (after_octet (after_word scan word) octet) [] octets)
+  where
+    by : (b : Bool) → Alike ((word ++ octet ∷ []) ++ octets) (written scan (word ++ octet ∷ []) octets) → Alike ([] ++ octets) (written (after_octet (after_word scan word) octet) [] octets)
+        → Alike (word ++ octet ∷ octets) (cond b (written scan (word ++ octet ∷ []) octets) (written_word scan word ++ octet ∷ written (after_octet (after_word scan word) octet) [] octets))
+    by true h k = rw append_assoc at h
+    by false h k = between_alike word (written_word scan word) octets (written (after_octet (after_word scan word) octet) [] octets) octet (written_word_alike scan word) k
