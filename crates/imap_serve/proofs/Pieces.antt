@@ -1,15 +1,16 @@
--- Replies that are printed and written in pieces.
-use Rattle.std.proofs.Common.{◌≡◌, ◌∙◌, ◌+◌, ◌<◌, get_or, length, sym, ap, refl, ℕ, List, [], ◌∷◌, ◌++◌, take, drop, Option, append_assoc, append-nil, subst}
+-- Replies that are told and written in pieces.
+use Rattle.std.proofs.Common.{◌≡◌, ◌∙◌, ◌+◌, ◌<◌, get_or, length, sym, ap, refl, ℕ, List, [], ◌∷◌, ◌++◌, take, drop, flat_map, Option, append_assoc, append-nil, subst}
 use Rattle.std.proofs.lemmas.List.{take-append-drop, take_more}
 use Rattle.std.proofs.lemmas.List.Folds.{concat-append}
 use Rattle.std.proofs.Math.Seq.{take-add}
 use Rattle.std.specs.Io.KnownBytes.{Appends}
 use Rattle.std.specs.List.{concat}
 use Rattle.imap_print.specs.declared.response.Response.{Response}
-use Rattle.imap_print.specs.Printed.{line, printed}
+use Rattle.imap_lex.specs.declared.frame.Frame.{Frame}
+use Rattle.imap_dialect.specs.Telling.{IsRule, Telling, retold}
 use Rattle.imap_serve.specs.Reading.{AppendsPart}
 use Rattle.imap_serve.proofs.Bytes.{appends_more}
-use Rattle.imap_serve.proofs.Scenes.{flat_map_more}
+use Rattle.imap_serve.proofs.Turns.{flat_map_more}
 
 front_own : (xs ys : List ℕ) → xs ≡ take (length xs) (xs ++ ys)
 front_own [] ys = refl
@@ -25,22 +26,40 @@ part_more a b xs ys whole h is =
     part_of a b (take h.0 xs) (drop h.0 xs ++ ys) whole h.1
     (sym (append_assoc (take h.0 xs) (drop h.0 xs) ys) ∙ (ap (λ l. l ++ ys) (take-append-drop h.0 xs) ∙ is))
 
-printed_parts : (n : ℕ) (xs : List Response) → printed (take n xs) ++ printed (drop n xs) ≡ printed xs
-printed_parts n xs = sym (flat_map_more line (take n xs) (drop n xs)) ∙ ap printed (take-append-drop n xs)
+module _ {X : Type 0} (f : X → List ℕ) where
+  all_parts : (n : ℕ) (xs : List X) → flat_map f (take n xs) ++ flat_map f (drop n xs) ≡ flat_map f xs
+  all_parts n xs = sym (flat_map_more f (take n xs) (drop n xs)) ∙ ap (flat_map f) (take-append-drop n xs)
 
-pub part_of_piece : (a b : Option (List ℕ)) (n : ℕ) (xs : List Response) → AppendsPart a b (printed (take n xs)) → AppendsPart a b (printed xs)
-part_of_piece a b n xs h = part_more a b (printed (take n xs)) (printed (drop n xs)) (printed xs) h (printed_parts n xs)
+  pub part_of_piece : (a b : Option (List ℕ)) (n : ℕ) (xs : List X) → AppendsPart a b (flat_map f (take n xs)) → AppendsPart a b (flat_map f xs)
+  part_of_piece a b n xs h = part_more a b (flat_map f (take n xs)) (flat_map f (drop n xs)) (flat_map f xs) h (all_parts n xs)
 
-module _ (a b c : Option (List ℕ)) (done : ℕ) (xs : List Response) (h : Appends a b (printed (take done xs))) where
-  -- one more piece was written
-  pub pieces_more : (n : ℕ) → Appends b c (printed (take n (drop done xs))) → Appends a c (printed (take (done + n) xs))
-  pieces_more n k = subst (Appends a c) (sym (flat_map_more line (take done xs) (take n (drop done xs))) ∙ ap printed (sym (take-add done n xs))) (appends_more a b c (printed (take done xs)) (printed (take n (drop done xs))) h k)
+  module _ (a b c : Option (List ℕ)) (done : ℕ) (xs : List X) (h : Appends a b (flat_map f (take done xs))) where
+    -- one more piece was written
+    pub pieces_more : (n : ℕ) → Appends b c (flat_map f (take n (drop done xs))) → Appends a c (flat_map f (take (done + n) xs))
+    pieces_more n k = subst (Appends a c) (sym (flat_map_more f (take done xs) (take n (drop done xs))) ∙ ap (flat_map f) (sym (take-add done n xs))) (appends_more a b c (flat_map f (take done xs)) (flat_map f (take n (drop done xs))) h k)
 
-  -- a part of one more piece was written
-  pub pieces_part : AppendsPart b c (printed (drop done xs)) → AppendsPart a c (printed xs)
-  pieces_part k = part_of a c (printed (take done xs) ++ take k.0 (printed (drop done xs))) (drop k.0 (printed (drop done xs))) (printed xs)
-      (appends_more a b c (printed (take done xs)) (take k.0 (printed (drop done xs))) h k.1)
-      (append_assoc (printed (take done xs)) (take k.0 (printed (drop done xs))) (drop k.0 (printed (drop done xs))) ∙ (ap (λ l. printed (take done xs) ++ l) (take-append-drop k.0 (printed (drop done xs))) ∙ printed_parts done xs))
+    -- a part of one more piece was written
+    pub pieces_part : AppendsPart b c (flat_map f (drop done xs)) → AppendsPart a c (flat_map f xs)
+    pieces_part k = part_of a c (flat_map f (take done xs) ++ take k.0 (flat_map f (drop done xs))) (drop k.0 (flat_map f (drop done xs))) (flat_map f xs)
+        (appends_more a b c (flat_map f (take done xs)) (take k.0 (flat_map f (drop done xs))) h k.1)
+        (append_assoc (flat_map f (take done xs)) (take k.0 (flat_map f (drop done xs))) (drop k.0 (flat_map f (drop done xs))) ∙ (ap (λ l. flat_map f (take done xs) ++ l) (take-append-drop k.0 (flat_map f (drop done xs))) ∙ all_parts done xs))
+
+-- ---- told by a rule
+
+-- the same told of each is the same of all
+flat_map_same : {X : Type 0} (f h : X → List ℕ) (xs : List X) → ((x : X) → f x ≡ h x) → flat_map f xs ≡ flat_map h xs
+flat_map_same f h [] same = refl
+flat_map_same f h (x ∷ xs) same = ap (λ l. l ++ flat_map f xs) (same x) ∙ ap (λ l. h x ++ l) (flat_map_same f h xs same)
+
+module _ {S : Type 0} (f : Response → List ℕ) (t : Telling S) (state : S) (by : Option Frame) (xs : List Response) (rule : IsRule f t state by) where
+  ruled : flat_map f xs ≡ retold t state by xs
+  ruled = flat_map_same f (t.told state by) xs rule
+
+  pub ruled_all : (a b : Option (List ℕ)) → Appends a b (flat_map f xs) → Appends a b (retold t state by xs)
+  ruled_all a b h = subst (Appends a b) ruled h
+
+  pub ruled_part : (a b : Option (List ℕ)) → AppendsPart a b (flat_map f xs) → AppendsPart a b (retold t state by xs)
+  ruled_part a b h = subst (AppendsPart a b) ruled h
 
 -- ---- pieces of octets
 

@@ -1,6 +1,7 @@
 //! Steps for the frames of a session, and their replies.
 
-ghost use Rattle.std.specs.Prelude.{◌≡◌, [], ◌∷◌, false, map, true, IfErr, IfOk, OnErr, OnOk};
+ghost use Rattle.std.specs.Prelude.{◌≡◌, [], ◌∷◌, false, map, true, IfErr, IfOk, OnErr, OnOk, option_copied};
+ghost use Rattle.std.specs.Prelude.{Some};
 ghost use Rattle.imap_lex.specs.Framing.{run};
 ghost use Rattle.imap_lex.specs.declared.frame.Frame.TheVariants.{Whole};
 ghost use Rattle.imap_core.specs.declared.step.Act.TheVariants.{Do};
@@ -8,14 +9,17 @@ ghost use Rattle.imap_core.specs.Frames.{act_of_command, rejected};
 ghost use Rattle.imap_serve.specs.Asked.{ask_of};
 ghost use Rattle.imap_serve.specs.Events.{asks_of_act, is_poll};
 ghost use Rattle.imap_serve.specs.Reading.{unasked};
-ghost use Rattle.imap_serve.specs.Served.{Breaks, GoesOrCloses, IsCaused, IsRefused, scene, site};
+ghost use Rattle.imap_serve.specs.Served.{IsCaused, IsRefused};
+ghost use Rattle.imap_serve.specs.Told.{Breaks, GoesOrCloses, scene, site};
+ghost use Rattle.imap_serve.specs.Turns.{Fits, cues_by, frame as cue};
 
 use crate::error::ServeError;
 use crate::gate::{Gate, wait_for};
 use crate::moments::Moments;
-use crate::telling::{Flow, say, tell};
+use crate::telling::{Flow, reply, tell};
 use crate::watched::Watched;
 use imap_core::{Act, Moment, SessionId, Step};
+use imap_dialect::Dialect;
 use imap_hall::{HallError, Room};
 use imap_lex::{Frame, Framer, LexError, Octets, Tag};
 use imap_print::{Farewell, Response};
@@ -25,26 +29,31 @@ use std::io::Write;
 
 /// Makes a step, and writes its replies. A poll asks that the session idles.
 #[tactic(auto, using(crate::proofs::Scenes::made_all, crate::proofs::Scenes::made_part, crate::proofs::Scenes::not_made, crate::proofs::Scenes::refused_here, crate::proofs::Scenes::caused_writing, crate::proofs::Scenes::not_refused))]
-fn answer<R: Room, O: Write>(
+fn answer<R: Room, D: Dialect, O: Write>(
     alloc: Global,
     room: &mut R,
+    dialect: &mut D,
+    by: Option<&Frame>,
     step: &Step,
     flow: Flow,
     output: &mut Watched<O>,
 ) -> Result<Flow, ServeError>
-    requires { is_poll step.now.act ≡ true → flow.idles ≡ true }
-    ensures ok { IfOk result (λ next. GoesOrCloses next.closed (site step.now.who R.keeps_all)
+    requires fits { Fits D.telling dialect.old (option_copied by) (asks_of_act step.now.act) }
+    requires polls { is_poll step.now.act ≡ true → flow.idles ≡ true }
+    ensures ok { IfOk result (λ next. GoesOrCloses next.closed (site step.now.who R.keeps_all D.telling)
         flow.idles next.idles
-        (scene (R.entries room.old) (O.contents output.old.inner))
-        (scene (R.entries room.new) (O.contents output.new.inner)) (asks_of_act step.now.act)) }
-    ensures err { OnErr result (Breaks (site step.now.who R.keeps_all) flow.idles
-        (scene (R.entries room.old) (O.contents output.old.inner))
-        (scene (R.entries room.new) (O.contents output.new.inner)) (asks_of_act step.now.act)) }
+        (scene (R.entries room.old) (O.contents output.old.inner) dialect.old)
+        (scene (R.entries room.new) (O.contents output.new.inner) dialect.new)
+        (cues_by (option_copied by.entry) (asks_of_act step.now.act))) }
+    ensures err { OnErr result (Breaks (site step.now.who R.keeps_all D.telling) flow.idles
+        (scene (R.entries room.old) (O.contents output.old.inner) dialect.old)
+        (scene (R.entries room.new) (O.contents output.new.inner) dialect.new)
+        (cues_by (option_copied by.entry) (asks_of_act step.now.act))) }
     ensures cause { IfErr result (λ e. IsCaused e unasked output.new.log) }
     ensures refused { IfErr result (λ e. IsRefused R.refuses e room.new) }
 {
     match room.step(alloc, step) {
-        Ok(receipt) => match tell(alloc, &receipt, flow.made(&step.act), output) {
+        Ok(receipt) => match tell(alloc, dialect, by, &receipt, flow.made(&step.act), output) {
             Ok(flow) => Ok(flow),
             Err(error) => Err(error),
         },
@@ -53,31 +62,37 @@ fn answer<R: Room, O: Write>(
     }
 }
 
-/// Makes an act of the session, and writes the replies. A poll asks that the session idles.
+/// Makes an act of the session, and writes the replies to the frame, or to nothing. A poll asks that the session
+/// idles.
 #[tactic(auto, using(crate::proofs::Scenes::breaks_off))]
-pub(crate) fn make<R: Room, O: Write>(
+pub(crate) fn make<R: Room, D: Dialect, O: Write>(
     alloc: Global,
     room: &mut R,
     who: &SessionId,
+    dialect: &mut D,
+    by: Option<&Frame>,
     at: Moment,
     act: Act,
     flow: Flow,
     output: &mut Watched<O>,
 ) -> Result<Flow, ServeError>
-    requires { is_poll act ≡ true → flow.idles ≡ true }
-    ensures ok { IfOk result (λ next. GoesOrCloses next.closed (site who.now R.keeps_all)
+    requires fits { Fits D.telling dialect.old (option_copied by) (asks_of_act act) }
+    requires polls { is_poll act ≡ true → flow.idles ≡ true }
+    ensures ok { IfOk result (λ next. GoesOrCloses next.closed (site who.now R.keeps_all D.telling)
         flow.idles next.idles
-        (scene (R.entries room.old) (O.contents output.old.inner))
-        (scene (R.entries room.new) (O.contents output.new.inner)) (asks_of_act act)) }
-    ensures err { OnErr result (Breaks (site who.now R.keeps_all) flow.idles
-        (scene (R.entries room.old) (O.contents output.old.inner))
-        (scene (R.entries room.new) (O.contents output.new.inner)) (asks_of_act act)) }
+        (scene (R.entries room.old) (O.contents output.old.inner) dialect.old)
+        (scene (R.entries room.new) (O.contents output.new.inner) dialect.new)
+        (cues_by (option_copied by.entry) (asks_of_act act))) }
+    ensures err { OnErr result (Breaks (site who.now R.keeps_all D.telling) flow.idles
+        (scene (R.entries room.old) (O.contents output.old.inner) dialect.old)
+        (scene (R.entries room.new) (O.contents output.new.inner) dialect.new)
+        (cues_by (option_copied by.entry) (asks_of_act act))) }
     ensures cause { IfErr result (λ e. IsCaused e unasked output.new.log) }
     ensures refused { IfErr result (λ e. IsRefused R.refuses e room.new) }
 {
     match step_of(who, at, act) {
         Ok(step) => {
-            let answered = answer(alloc, room, &step, flow, output);
+            let answered = answer(alloc, room, dialect, by, &step, flow, output);
             drop(step);
             answered
         }
@@ -94,26 +109,29 @@ pub(crate) fn step_of(who: &SessionId, at: Moment, act: Act) -> Result<Step, All
     Ok(Step { who, at, act })
 }
 
-/// Makes a request in the room once the gate lets it through, and writes the replies.
+/// Makes a request in the room once the gate lets it through, and writes the replies to the client's frame.
 #[tactic(auto, using(crate::proofs::Scenes::no_poll))]
-fn request<R: Room, O: Write, C: Moments, G: Gate>(
+fn request<R: Room, D: Dialect, O: Write, C: Moments, G: Gate>(
     alloc: Global,
     room: &mut R,
     who: &SessionId,
     clock: &C,
     gate: &G,
+    dialect: &mut D,
+    by: &Frame,
     request: Act,
     flow: Flow,
     output: &mut Watched<O>,
 ) -> Result<Flow, ServeError>
-    requires { is_poll request ≡ false }
-    ensures ok { IfOk result (λ next. GoesOrCloses next.closed (site who.now R.keeps_all)
+    requires fits { Fits D.telling dialect.old (Some by.now) (asks_of_act request) }
+    requires polls { is_poll request ≡ false }
+    ensures ok { IfOk result (λ next. GoesOrCloses next.closed (site who.now R.keeps_all D.telling)
         flow.idles next.idles
-        (scene (R.entries room.old) (O.contents output.old.inner))
-        (scene (R.entries room.new) (O.contents output.new.inner)) (asks_of_act request)) }
-    ensures err { OnErr result (Breaks (site who.now R.keeps_all) flow.idles
-        (scene (R.entries room.old) (O.contents output.old.inner))
-        (scene (R.entries room.new) (O.contents output.new.inner)) (asks_of_act request)) }
+        (scene (R.entries room.old) (O.contents output.old.inner) dialect.old)
+        (scene (R.entries room.new) (O.contents output.new.inner) dialect.new) (cue by.now ∷ [])) }
+    ensures err { OnErr result (Breaks (site who.now R.keeps_all D.telling) flow.idles
+        (scene (R.entries room.old) (O.contents output.old.inner) dialect.old)
+        (scene (R.entries room.new) (O.contents output.new.inner) dialect.new) (cue by.now ∷ [])) }
     ensures cause { IfErr result (λ e. IsCaused e unasked output.new.log) }
     ensures refused { IfErr result (λ e. IsRefused R.refuses e room.new) }
 {
@@ -124,7 +142,17 @@ fn request<R: Room, O: Write, C: Moments, G: Gate>(
         idles: flow.idles,
         calls: call,
     };
-    match make(alloc, room, who, clock.now(), request, flow, output) {
+    match make(
+        alloc,
+        room,
+        who,
+        dialect,
+        Some(by),
+        clock.now(),
+        request,
+        flow,
+        output,
+    ) {
         Ok(flow) => {
             gate.answered(who, call);
             Ok(flow)
@@ -134,7 +162,7 @@ fn request<R: Room, O: Write, C: Moments, G: Gate>(
 }
 
 /// Returns the act of a command that came whole.
-#[tactic(auto, using(crate::proofs::Scenes::command_asked, crate::proofs::Scenes::command_is_no_poll))]
+#[tactic(auto, using(crate::proofs::Scenes::command_act, crate::proofs::Scenes::command_is_no_poll))]
 fn act_of_command(alloc: Global, octets: &Octets) -> Result<Act, AllocError>
     ensures act { IfOk result (λ act. act ≡ act_of_command octets.now) }
     ensures asks { IfOk result (λ act. asks_of_act act ≡ ask_of (Whole octets.now) ∷ []) }
@@ -150,38 +178,45 @@ fn act_of_rejected(alloc: Global, tag: &Option<Tag>) -> Result<Act, AllocError>
     Ok(Act::of_rejected(tag.try_copy(alloc)?))
 }
 
-/// Does what a frame asks for.
-#[tactic(auto, using(crate::proofs::Scenes::breaks_off, crate::proofs::Scenes::ready_all, crate::proofs::Scenes::ready_part, crate::proofs::Scenes::hangup_all, crate::proofs::Scenes::hangup_part, crate::proofs::Scenes::caused_writing, crate::proofs::Scenes::not_refused))]
-fn take_frame<R: Room, O: Write, C: Moments, G: Gate>(
+/// Does what a frame asks for, which the dialect made of the client's, and writes the replies to the client's.
+#[tactic(auto, using(crate::proofs::Scenes::breaks_off, crate::proofs::Scenes::frame_asked, crate::proofs::Scenes::rejected_asked, crate::proofs::Scenes::ready_all, crate::proofs::Scenes::ready_part, crate::proofs::Scenes::hangup_all, crate::proofs::Scenes::hangup_part, crate::proofs::Scenes::caused_writing, crate::proofs::Scenes::not_refused))]
+fn take_rewritten<R: Room, D: Dialect, O: Write, C: Moments, G: Gate>(
     alloc: Global,
     room: &mut R,
     who: &SessionId,
     clock: &C,
     gate: &G,
+    dialect: &mut D,
+    by: &Frame,
     frame: &Frame,
     flow: Flow,
     output: &mut Watched<O>,
 ) -> Result<Flow, ServeError>
-    ensures ok { IfOk result (λ next. GoesOrCloses next.closed (site who.now R.keeps_all)
+    requires { frame.now ≡ D.telling.rewritten dialect.old by.now }
+    ensures ok { IfOk result (λ next. GoesOrCloses next.closed (site who.now R.keeps_all D.telling)
         flow.idles next.idles
-        (scene (R.entries room.old) (O.contents output.old.inner))
-        (scene (R.entries room.new) (O.contents output.new.inner)) (ask_of frame.now ∷ [])) }
-    ensures err { OnErr result (Breaks (site who.now R.keeps_all) flow.idles
-        (scene (R.entries room.old) (O.contents output.old.inner))
-        (scene (R.entries room.new) (O.contents output.new.inner)) (ask_of frame.now ∷ [])) }
+        (scene (R.entries room.old) (O.contents output.old.inner) dialect.old)
+        (scene (R.entries room.new) (O.contents output.new.inner) dialect.new) (cue by.now ∷ [])) }
+    ensures err { OnErr result (Breaks (site who.now R.keeps_all D.telling) flow.idles
+        (scene (R.entries room.old) (O.contents output.old.inner) dialect.old)
+        (scene (R.entries room.new) (O.contents output.new.inner) dialect.new) (cue by.now ∷ [])) }
     ensures cause { IfErr result (λ e. IsCaused e unasked output.new.log) }
     ensures refused { IfErr result (λ e. IsRefused R.refuses e room.new) }
 {
     match frame {
         Frame::Whole(octets) => match act_of_command(alloc, octets) {
-            Ok(act) => request(alloc, room, who, clock, gate, act, flow, output),
+            Ok(act) => request(
+                alloc, room, who, clock, gate, dialect, by, act, flow, output,
+            ),
             Err(_) => Err(ServeError::Memory),
         },
         Frame::Reject(tag) => match act_of_rejected(alloc, tag) {
-            Ok(act) => request(alloc, room, who, clock, gate, act, flow, output),
+            Ok(act) => request(
+                alloc, room, who, clock, gate, dialect, by, act, flow, output,
+            ),
             Err(_) => Err(ServeError::Memory),
         },
-        Frame::Continue => match say(alloc, output, &[Response::Ready]) {
+        Frame::Continue => match reply(alloc, dialect, Some(by), output, &[Response::Ready]) {
             Ok(()) => Ok(Flow {
                 closed: false,
                 idles: flow.idles,
@@ -189,36 +224,83 @@ fn take_frame<R: Room, O: Write, C: Moments, G: Gate>(
             }),
             Err(error) => Err(error),
         },
-        Frame::Hangup => match say(alloc, output, &[Response::Bye(Farewell::LimitReached)]) {
-            Ok(()) => Ok(Flow {
-                closed: true,
-                idles: flow.idles,
-                calls: flow.calls,
-            }),
-            Err(error) => Err(error),
-        },
+        Frame::Hangup => {
+            match reply(
+                alloc,
+                dialect,
+                Some(by),
+                output,
+                &[Response::Bye(Farewell::LimitReached)],
+            ) {
+                Ok(()) => Ok(Flow {
+                    closed: true,
+                    idles: flow.idles,
+                    calls: flow.calls,
+                }),
+                Err(error) => Err(error),
+            }
+        }
     }
 }
 
-/// Does what frames ask for, until one closes the session.
-#[tactic(auto, using(crate::proofs::Scenes::goes_nowhere, crate::proofs::Scenes::frames_more, crate::proofs::Scenes::frames_close, crate::proofs::Scenes::frames_break))]
-fn take_frames<R: Room, O: Write, C: Moments, G: Gate>(
+/// Does what a frame asks for, as the dialect rewrites it.
+#[tactic(auto, using(crate::proofs::Scenes::breaks_off))]
+fn take_frame<R: Room, D: Dialect, O: Write, C: Moments, G: Gate>(
     alloc: Global,
     room: &mut R,
     who: &SessionId,
     clock: &C,
     gate: &G,
+    dialect: &mut D,
+    frame: &Frame,
+    flow: Flow,
+    output: &mut Watched<O>,
+) -> Result<Flow, ServeError>
+    ensures ok { IfOk result (λ next. GoesOrCloses next.closed (site who.now R.keeps_all D.telling)
+        flow.idles next.idles
+        (scene (R.entries room.old) (O.contents output.old.inner) dialect.old)
+        (scene (R.entries room.new) (O.contents output.new.inner) dialect.new) (cue frame.now ∷ [])) }
+    ensures err { OnErr result (Breaks (site who.now R.keeps_all D.telling) flow.idles
+        (scene (R.entries room.old) (O.contents output.old.inner) dialect.old)
+        (scene (R.entries room.new) (O.contents output.new.inner) dialect.new) (cue frame.now ∷ [])) }
+    ensures cause { IfErr result (λ e. IsCaused e unasked output.new.log) }
+    ensures refused { IfErr result (λ e. IsRefused R.refuses e room.new) }
+{
+    match dialect.rewrite(alloc, frame) {
+        Ok(Some(other)) => {
+            let taken = take_rewritten(
+                alloc, room, who, clock, gate, dialect, frame, &other, flow, output,
+            );
+            drop(other);
+            taken
+        }
+        Ok(None) => take_rewritten(
+            alloc, room, who, clock, gate, dialect, frame, frame, flow, output,
+        ),
+        Err(_) => Err(ServeError::Memory),
+    }
+}
+
+/// Does what frames ask for, until one closes the session.
+#[tactic(auto, using(crate::proofs::Scenes::goes_nowhere, crate::proofs::Scenes::frames_more, crate::proofs::Scenes::frames_close, crate::proofs::Scenes::frames_break))]
+fn take_frames<R: Room, D: Dialect, O: Write, C: Moments, G: Gate>(
+    alloc: Global,
+    room: &mut R,
+    who: &SessionId,
+    clock: &C,
+    gate: &G,
+    dialect: &mut D,
     frames: &[Frame],
     flow: Flow,
     output: &mut Watched<O>,
 ) -> Result<Flow, ServeError>
-    ensures ok { IfOk result (λ next. GoesOrCloses next.closed (site who.now R.keeps_all)
+    ensures ok { IfOk result (λ next. GoesOrCloses next.closed (site who.now R.keeps_all D.telling)
         flow.idles next.idles
-        (scene (R.entries room.old) (O.contents output.old.inner))
-        (scene (R.entries room.new) (O.contents output.new.inner)) (map ask_of frames.now)) }
-    ensures err { OnErr result (Breaks (site who.now R.keeps_all) flow.idles
-        (scene (R.entries room.old) (O.contents output.old.inner))
-        (scene (R.entries room.new) (O.contents output.new.inner)) (map ask_of frames.now)) }
+        (scene (R.entries room.old) (O.contents output.old.inner) dialect.old)
+        (scene (R.entries room.new) (O.contents output.new.inner) dialect.new) (map cue frames.now)) }
+    ensures err { OnErr result (Breaks (site who.now R.keeps_all D.telling) flow.idles
+        (scene (R.entries room.old) (O.contents output.old.inner) dialect.old)
+        (scene (R.entries room.new) (O.contents output.new.inner) dialect.new) (map cue frames.now)) }
     ensures cause { IfErr result (λ e. IsCaused e unasked output.new.log) }
     ensures refused { IfErr result (λ e. IsRefused R.refuses e room.new) }
 {
@@ -230,7 +312,7 @@ fn take_frames<R: Room, O: Write, C: Moments, G: Gate>(
             idles,
             calls,
         };
-        match take_frame(alloc, room, who, clock, gate, frame, flow, output) {
+        match take_frame(alloc, room, who, clock, gate, dialect, frame, flow, output) {
             Ok(flow) => {
                 if flow.closed {
                     return Ok(flow);
@@ -250,27 +332,28 @@ fn take_frames<R: Room, O: Write, C: Moments, G: Gate>(
 
 /// Does what `piece` asks for, which follows the octets that the framer holds.
 #[tactic(auto, using(crate::proofs::Scenes::breaks_off, crate::proofs::Scenes::nothing_framed, crate::proofs::Scenes::stays_hung_up))]
-pub(crate) fn take_piece<R: Room, O: Write, C: Moments, G: Gate>(
+pub(crate) fn take_piece<R: Room, D: Dialect, O: Write, C: Moments, G: Gate>(
     alloc: Global,
     room: &mut R,
     who: &SessionId,
     clock: &C,
     gate: &G,
+    dialect: &mut D,
     framer: &mut Framer,
     piece: &[u8],
     flow: Flow,
     output: &mut Watched<O>,
 ) -> Result<Flow, ServeError>
-    ensures ok { IfOk result (λ next. GoesOrCloses next.closed (site who.now R.keeps_all)
+    ensures ok { IfOk result (λ next. GoesOrCloses next.closed (site who.now R.keeps_all D.telling)
         flow.idles next.idles
-        (scene (R.entries room.old) (O.contents output.old.inner))
-        (scene (R.entries room.new) (O.contents output.new.inner))
-        (map ask_of (run framer.old piece.now).frames)) }
+        (scene (R.entries room.old) (O.contents output.old.inner) dialect.old)
+        (scene (R.entries room.new) (O.contents output.new.inner) dialect.new)
+        (map cue (run framer.old piece.now).frames)) }
     ensures next { OnOk result (framer.new ≡ (run framer.old piece.now).next) }
-    ensures err { OnErr result (Breaks (site who.now R.keeps_all) flow.idles
-        (scene (R.entries room.old) (O.contents output.old.inner))
-        (scene (R.entries room.new) (O.contents output.new.inner))
-        (map ask_of (run framer.old piece.now).frames)) }
+    ensures err { OnErr result (Breaks (site who.now R.keeps_all D.telling) flow.idles
+        (scene (R.entries room.old) (O.contents output.old.inner) dialect.old)
+        (scene (R.entries room.new) (O.contents output.new.inner) dialect.new)
+        (map cue (run framer.old piece.now).frames)) }
     ensures cause { IfErr result (λ e. IsCaused e unasked output.new.log) }
     ensures refused { IfErr result (λ e. IsRefused R.refuses e room.new) }
 {
@@ -281,6 +364,7 @@ pub(crate) fn take_piece<R: Room, O: Write, C: Moments, G: Gate>(
             who,
             clock,
             gate,
+            dialect,
             frames.as_slice(),
             flow,
             output,

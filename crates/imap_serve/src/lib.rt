@@ -3,13 +3,18 @@
 //! [`serve`] opens the session, talks until the input or the session ends, and leaves. `specs/Served.antt` says
 //! what it writes: the replies of the entries that its room made, a continuation request wherever a client waits
 //! to send a literal, and the last lines of sessions that end. Where the input was cut makes no difference.
+//!
+//! [`serve_in`] does the same in a dialect, which rewrites the commands and says the octets of the replies, as
+//! `specs/Told.antt` says.
 #![tactic(auto)]
 
 mod error;
 mod exchange;
 mod gate;
+pub mod laws;
 mod moments;
 mod serving;
+mod standard;
 mod talking;
 mod telling;
 mod watched;
@@ -17,5 +22,6 @@ mod watched;
 pub use error::{End, ServeError};
 pub use gate::{Gate, OpenGate};
 pub use moments::Moments;
-pub use serving::serve;
+pub use serving::serve_in;
+pub use standard::serve;
 pub use watched::Watched;

@@ -7,8 +7,10 @@ ghost use Rattle.std.specs.Prelude.{◌≡◌, ◌≤◌, false, IfErr, IfOk, On
 ghost use Rattle.imap_core.specs.declared.step.Act.TheVariants as specs;
 ghost use Rattle.imap_serve.specs.declared.error.End.TheVariants.{Idle};
 ghost use Rattle.imap_serve.specs.Reading.{unasked};
-ghost use Rattle.imap_serve.specs.Served.{Breaks, BrokeOffAfter, EndedAfter, GivesUp, GoesOrCloses, IsAllRead};
-ghost use Rattle.imap_serve.specs.Served.{IsCaused, IsLastRead, IsRefused, Leaves, Serves, opening, scene, site};
+ghost use Rattle.imap_serve.specs.Served as plain;
+ghost use Rattle.imap_serve.specs.Served.{IsAllRead, IsCaused, IsLastRead, IsRefused, Leaves};
+ghost use Rattle.imap_serve.specs.Told.{Breaks, BrokeOffAfter, EndedAfter, GivesUp, GoesOrCloses, Serves};
+ghost use Rattle.imap_serve.specs.Told.{scene, site, to_open};
 
 use crate::error::{End, ServeError};
 use crate::exchange::{make, step_of};
@@ -18,25 +20,28 @@ use crate::talking::talk;
 use crate::telling::Flow;
 use crate::watched::Watched;
 use imap_core::{Act, SessionId, Step};
+use imap_dialect::Dialect;
 use imap_hall::Room;
 use std::alloc::Global;
 use std::io::{Read, Write};
 use std::sync::Wait;
 
 /// Opens the session, and writes the greeting.
-fn open_session<R: Room, O: Write, C: Moments>(
+fn open_session<R: Room, D: Dialect, O: Write, C: Moments>(
     alloc: Global,
     room: &mut R,
     who: &SessionId,
     clock: &C,
+    dialect: &mut D,
     output: &mut Watched<O>,
 ) -> Result<Flow, ServeError>
-    ensures ok { IfOk result (λ next. GoesOrCloses next.closed (site who.now R.keeps_all) false next.idles
-        (scene (R.entries room.old) (O.contents output.old.inner))
-        (scene (R.entries room.new) (O.contents output.new.inner)) opening) }
-    ensures err { OnErr result (Breaks (site who.now R.keeps_all) false
-        (scene (R.entries room.old) (O.contents output.old.inner))
-        (scene (R.entries room.new) (O.contents output.new.inner)) opening) }
+    ensures ok { IfOk result (λ next. GoesOrCloses next.closed (site who.now R.keeps_all D.telling)
+        false next.idles
+        (scene (R.entries room.old) (O.contents output.old.inner) dialect.old)
+        (scene (R.entries room.new) (O.contents output.new.inner) dialect.new) to_open) }
+    ensures err { OnErr result (Breaks (site who.now R.keeps_all D.telling) false
+        (scene (R.entries room.old) (O.contents output.old.inner) dialect.old)
+        (scene (R.entries room.new) (O.contents output.new.inner) dialect.new) to_open) }
     ensures cause { IfErr result (λ e. IsCaused e unasked output.new.log) }
     ensures refused { IfErr result (λ e. IsRefused R.refuses e room.new) }
 {
@@ -45,45 +50,56 @@ fn open_session<R: Room, O: Write, C: Moments>(
         idles: false,
         calls: 0,
     };
-    make(alloc, room, who, clock.now(), Act::Open, flow, output)
+    make(
+        alloc,
+        room,
+        who,
+        dialect,
+        None,
+        clock.now(),
+        Act::Open,
+        flow,
+        output,
+    )
 }
 
 /// Opens the session, and does what its octets ask for until it ends.
 #[tactic(auto, using(crate::proofs::Scenes::opened_closes, crate::proofs::Scenes::opened_breaks, crate::proofs::Scenes::opened_ended, crate::proofs::Scenes::opened_broke, crate::proofs::Scenes::caused_writer))]
-fn converse<R: Room, I: Read, O: Write, C: Moments, G: Gate, W: Wait>(
+fn converse<R: Room, D: Dialect, I: Read, O: Write, C: Moments, G: Gate, W: Wait>(
     rt: &W,
     alloc: Global,
     room: &mut R,
     who: &SessionId,
     clock: &C,
     gate: &G,
+    dialect: &mut D,
     max_octets: u64,
     idle_turns: u64,
     input: &mut Watched<I>,
     output: &mut Watched<O>,
 ) -> Result<End, ServeError>
-    ensures ended { IfOk result (λ end. EndedAfter max_octets end (site who.now R.keeps_all) false
+    ensures ended { IfOk result (λ end. EndedAfter max_octets end (site who.now R.keeps_all D.telling) false
         (I.remaining input.old.inner) (I.remaining input.new.inner)
-        (scene (R.entries room.old) (O.contents output.old.inner))
-        (scene (R.entries room.new) (O.contents output.new.inner)) opening) }
-    ensures broke { IfErr result (λ e. BrokeOffAfter max_octets e (site who.now R.keeps_all) false
+        (scene (R.entries room.old) (O.contents output.old.inner) dialect.old)
+        (scene (R.entries room.new) (O.contents output.new.inner) dialect.new) to_open) }
+    ensures broke { IfErr result (λ e. BrokeOffAfter max_octets e (site who.now R.keeps_all D.telling) false
         (I.remaining input.old.inner) (I.remaining input.new.inner)
-        (scene (R.entries room.old) (O.contents output.old.inner))
-        (scene (R.entries room.new) (O.contents output.new.inner)) opening) }
+        (scene (R.entries room.old) (O.contents output.old.inner) dialect.old)
+        (scene (R.entries room.new) (O.contents output.new.inner) dialect.new) to_open) }
     ensures cause { IfErr result (λ e. IsCaused e input.new.log output.new.log) }
     ensures refused { IfErr result (λ e. IsRefused R.refuses e room.new) }
     ensures read { IfOk result (λ end. IsAllRead end (I.remaining input.new.inner)) }
     ensures last { IfOk result (λ end. IsLastRead end input.new.log.last) }
     ensures idle { IfOk result (λ end. end ≡ Idle → idle_turns ≤ input.new.quiet) }
 {
-    match open_session(alloc, room, who, clock, output) {
+    match open_session(alloc, room, who, clock, dialect, output) {
         Ok(flow) => {
             if flow.closed {
                 return Ok(End::Closed);
             }
             match talk(
-                rt, alloc, room, who, clock, gate, max_octets, idle_turns, flow.idles, input,
-                output,
+                rt, alloc, room, who, clock, gate, dialect, max_octets, idle_turns, flow.idles,
+                input, output,
             ) {
                 Ok(end) => Ok(end),
                 Err(error) => Err(error),
@@ -96,7 +112,7 @@ fn converse<R: Room, I: Read, O: Write, C: Moments, G: Gate, W: Wait>(
 /// Asks the room for the step Leave. If the room refuses that, the next Open begins the session anew.
 fn leave<R: Room, C: Moments>(alloc: Global, room: &mut R, clock: &C, step: Step)
     requires { step.act ≡ specs.Leave }
-    ensures { Leaves R.entries R.refuses (site step.who R.keeps_all) room.old room.new }
+    ensures { Leaves R.entries R.refuses (plain.site step.who R.keeps_all) room.old room.new }
 {
     let mut step = step;
     step.at = clock.now();
@@ -107,7 +123,7 @@ fn leave<R: Room, C: Moments>(alloc: Global, room: &mut R, clock: &C, step: Step
 #[tactic(auto, using(crate::proofs::Scenes::left, crate::proofs::Scenes::stayed))]
 fn leave_by<R: Room>(alloc: Global, room: &mut R, step: &Step)
     requires { step.now.act ≡ specs.Leave }
-    ensures { Leaves R.entries R.refuses (site step.now.who R.keeps_all) room.old room.new }
+    ensures { Leaves R.entries R.refuses (plain.site step.now.who R.keeps_all) room.old room.new }
 {
     match room.step(alloc, step) {
         Ok(_) => {}
@@ -116,31 +132,35 @@ fn leave_by<R: Room>(alloc: Global, room: &mut R, step: &Step)
 }
 
 /// Serves a session over a connection: opens it, writes the greeting, does what the input asks for, and leaves.
+/// The frames are done as the dialect rewrites them, and the replies written as it tells them.
 ///
 /// A read that fails with `WouldBlock` or `TimedOut` brought nothing: an idling session is then told what changed
-/// (RFC 2177). After `idle_turns` of these in a row the session is closed. The literals of a command may have `max_octets` octets
-/// together.
+/// (RFC 2177). After `idle_turns` of these in a row the session is closed. The literals of a command may have
+/// `max_octets` octets together.
 ///
 /// After a failure a beginning of the replies was written; all of them if the reader failed.
 #[tactic(auto, using(crate::proofs::Scenes::serves, crate::proofs::Scenes::gives_up, crate::proofs::Scenes::never_began))]
-pub fn serve<R: Room, I: Read, O: Write, C: Moments, G: Gate, W: Wait>(
+pub fn serve_in<R: Room, D: Dialect, I: Read, O: Write, C: Moments, G: Gate, W: Wait>(
     rt: &W,
     alloc: Global,
     room: &mut R,
     who: &SessionId,
     clock: &C,
     gate: &G,
+    dialect: &mut D,
     max_octets: u64,
     idle_turns: u64,
     input: &mut Watched<I>,
     output: &mut Watched<O>,
 ) -> Result<End, ServeError>
-    ensures ended { IfOk result (λ end. Serves R.entries R.refuses max_octets end (site who.now R.keeps_all)
+    ensures ended { IfOk result (λ end. Serves R.entries R.refuses max_octets end
+        (site who.now R.keeps_all D.telling)
         (I.remaining input.old.inner) (I.remaining input.new.inner) room.old room.new
-        (O.contents output.old.inner) (O.contents output.new.inner)) }
-    ensures broke { IfErr result (λ e. GivesUp R.entries R.refuses max_octets e (site who.now R.keeps_all)
+        (O.contents output.old.inner) (O.contents output.new.inner) dialect.old dialect.new) }
+    ensures broke { IfErr result (λ e. GivesUp R.entries R.refuses max_octets e
+        (site who.now R.keeps_all D.telling)
         (I.remaining input.old.inner) (I.remaining input.new.inner) room.old room.new
-        (O.contents output.old.inner) (O.contents output.new.inner)) }
+        (O.contents output.old.inner) (O.contents output.new.inner) dialect.old dialect.new) }
     ensures cause { IfErr result (λ e. IsCaused e input.new.log output.new.log) }
     ensures read { IfOk result (λ end. IsAllRead end (I.remaining input.new.inner)) }
     ensures last { IfOk result (λ end. IsLastRead end input.new.log.last) }
@@ -150,7 +170,7 @@ pub fn serve<R: Room, I: Read, O: Write, C: Moments, G: Gate, W: Wait>(
         return Err(ServeError::Memory);
     };
     match converse(
-        rt, alloc, room, who, clock, gate, max_octets, idle_turns, input, output,
+        rt, alloc, room, who, clock, gate, dialect, max_octets, idle_turns, input, output,
     ) {
         Ok(end) => {
             leave(alloc, room, clock, step);

@@ -3,8 +3,8 @@
 ghost use Rattle.std.specs.Prelude.{◌≡◌, ◌≤◌, [], true, IfErr, IfOk, OnErr};
 ghost use Rattle.imap_serve.specs.declared.error.End.TheVariants.{Idle};
 ghost use Rattle.imap_serve.specs.Reading.{unasked};
-ghost use Rattle.imap_serve.specs.Served.{Breaks, BrokeOffAfter, EndedAfter, GoesOrCloses, IsAllRead, IsCaused};
-ghost use Rattle.imap_serve.specs.Served.{IsLastRead, IsRefused, scene, site};
+ghost use Rattle.imap_serve.specs.Served.{IsAllRead, IsCaused, IsLastRead, IsRefused};
+ghost use Rattle.imap_serve.specs.Told.{Breaks, BrokeOffAfter, EndedAfter, GoesOrCloses, scene, site};
 
 use crate::error::{End, ServeError};
 use crate::exchange::{make, take_piece};
@@ -13,6 +13,7 @@ use crate::moments::Moments;
 use crate::telling::{Flow, say};
 use crate::watched::{Taken, Watched};
 use imap_core::{Act, SessionId};
+use imap_dialect::Dialect;
 use imap_hall::Room;
 use imap_lex::Framer;
 use imap_print::{Farewell, Response};
@@ -24,52 +25,64 @@ use std::sync::Wait;
 const PIECE_OCTETS: usize = 4096;
 
 /// Tells a session what changed, which idles (RFC 2177).
-fn poll<R: Room, O: Write, C: Moments>(
+fn poll<R: Room, D: Dialect, O: Write, C: Moments>(
     alloc: Global,
     room: &mut R,
     who: &SessionId,
     clock: &C,
+    dialect: &mut D,
     flow: Flow,
     output: &mut Watched<O>,
 ) -> Result<Flow, ServeError>
     requires { flow.idles ≡ true }
-    ensures ok { IfOk result (λ next. GoesOrCloses next.closed (site who.now R.keeps_all)
+    ensures ok { IfOk result (λ next. GoesOrCloses next.closed (site who.now R.keeps_all D.telling)
         flow.idles next.idles
-        (scene (R.entries room.old) (O.contents output.old.inner))
-        (scene (R.entries room.new) (O.contents output.new.inner)) []) }
-    ensures err { OnErr result (Breaks (site who.now R.keeps_all) flow.idles
-        (scene (R.entries room.old) (O.contents output.old.inner))
-        (scene (R.entries room.new) (O.contents output.new.inner)) []) }
+        (scene (R.entries room.old) (O.contents output.old.inner) dialect.old)
+        (scene (R.entries room.new) (O.contents output.new.inner) dialect.new) []) }
+    ensures err { OnErr result (Breaks (site who.now R.keeps_all D.telling) flow.idles
+        (scene (R.entries room.old) (O.contents output.old.inner) dialect.old)
+        (scene (R.entries room.new) (O.contents output.new.inner) dialect.new) []) }
     ensures cause { IfErr result (λ e. IsCaused e unasked output.new.log) }
     ensures refused { IfErr result (λ e. IsRefused R.refuses e room.new) }
 {
-    make(alloc, room, who, clock.now(), Act::Poll, flow, output)
+    make(
+        alloc,
+        room,
+        who,
+        dialect,
+        None,
+        clock.now(),
+        Act::Poll,
+        flow,
+        output,
+    )
 }
 
 /// Reads, and does what the octets ask for, until the input ends, the session is closed, or nothing came for too
 /// long. `idles` says whether the session idles at the beginning.
 #[tactic(auto, using(crate::proofs::Scenes::heard_nothing, crate::proofs::Scenes::heard_more, crate::proofs::Scenes::heard_all, crate::proofs::Scenes::heard_unread, crate::proofs::Scenes::heard_still, crate::proofs::Scenes::heard_poll, crate::proofs::Scenes::caused_writer, crate::proofs::Scenes::caused_writing, crate::proofs::Scenes::not_refused))]
-pub(crate) fn talk<R: Room, I: Read, O: Write, C: Moments, G: Gate, W: Wait>(
+pub(crate) fn talk<R: Room, D: Dialect, I: Read, O: Write, C: Moments, G: Gate, W: Wait>(
     rt: &W,
     alloc: Global,
     room: &mut R,
     who: &SessionId,
     clock: &C,
     gate: &G,
+    dialect: &mut D,
     max_octets: u64,
     idle_turns: u64,
     idles: bool,
     input: &mut Watched<I>,
     output: &mut Watched<O>,
 ) -> Result<End, ServeError>
-    ensures ended { IfOk result (λ end. EndedAfter max_octets end (site who.now R.keeps_all) idles
+    ensures ended { IfOk result (λ end. EndedAfter max_octets end (site who.now R.keeps_all D.telling) idles
         (I.remaining input.old.inner) (I.remaining input.new.inner)
-        (scene (R.entries room.old) (O.contents output.old.inner))
-        (scene (R.entries room.new) (O.contents output.new.inner)) []) }
-    ensures broke { IfErr result (λ e. BrokeOffAfter max_octets e (site who.now R.keeps_all) idles
+        (scene (R.entries room.old) (O.contents output.old.inner) dialect.old)
+        (scene (R.entries room.new) (O.contents output.new.inner) dialect.new) []) }
+    ensures broke { IfErr result (λ e. BrokeOffAfter max_octets e (site who.now R.keeps_all D.telling) idles
         (I.remaining input.old.inner) (I.remaining input.new.inner)
-        (scene (R.entries room.old) (O.contents output.old.inner))
-        (scene (R.entries room.new) (O.contents output.new.inner)) []) }
+        (scene (R.entries room.old) (O.contents output.old.inner) dialect.old)
+        (scene (R.entries room.new) (O.contents output.new.inner) dialect.new) []) }
     ensures cause { IfErr result (λ e. IsCaused e input.new.log output.new.log) }
     ensures refused { IfErr result (λ e. IsRefused R.refuses e room.new) }
     ensures read { IfOk result (λ end. IsAllRead end (I.remaining input.new.inner)) }
@@ -96,6 +109,7 @@ pub(crate) fn talk<R: Room, I: Read, O: Write, C: Moments, G: Gate, W: Wait>(
                     who,
                     clock,
                     gate,
+                    dialect,
                     &mut framer,
                     &piece[..count],
                     flow,
@@ -113,7 +127,13 @@ pub(crate) fn talk<R: Room, I: Read, O: Write, C: Moments, G: Gate, W: Wait>(
             }
             Ok(Taken::Occasion) => {
                 if input.quiet() >= idle_turns {
-                    match say(alloc, output, &[Response::Bye(Farewell::IdleTooLong)]) {
+                    match say(
+                        alloc,
+                        dialect,
+                        None,
+                        output,
+                        &[Response::Bye(Farewell::IdleTooLong)],
+                    ) {
                         Ok(()) => return Ok(End::Idle),
                         Err(error) => return Err(error),
                     }
@@ -121,7 +141,7 @@ pub(crate) fn talk<R: Room, I: Read, O: Write, C: Moments, G: Gate, W: Wait>(
                 let now = room.change_count();
                 if idles && now != polled {
                     polled = now;
-                    match poll(alloc, room, who, clock, flow, output) {
+                    match poll(alloc, room, who, clock, dialect, flow, output) {
                         Ok(flow) => {
                             if flow.closed {
                                 return Ok(End::Closed);

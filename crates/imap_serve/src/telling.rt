@@ -1,9 +1,11 @@
-//! Replies are printed and written.
+//! Replies are told in a dialect and written.
 
-ghost use Rattle.std.specs.Prelude.{◌≡◌, ◌&&◌, ◌||◌, ◌<◌, ◌≤◌, length, take, IfErr, IfOk, OnErr, OnOk};
+ghost use Rattle.std.specs.Prelude.{◌≡◌, ◌&&◌, ◌||◌, ◌<◌, ◌≤◌, flat_map, length, take, option_copied};
+ghost use Rattle.std.specs.Prelude.{IfErr, IfOk, OnErr, OnOk};
 ghost use Rattle.std.specs.Io.KnownBytes.{Appends};
 ghost use Rattle.std.specs.List.{concat};
-ghost use Rattle.imap_print.specs.Printed.{printed};
+ghost use Rattle.imap_print.specs.Pieces.{octets_of};
+ghost use Rattle.imap_dialect.specs.Telling.{after, retold};
 ghost use Rattle.imap_serve.specs.Events.{begin_idle, close, is_bye, is_idling, is_poll};
 ghost use Rattle.imap_serve.specs.Reading.{AppendsPart, HasNotWritten};
 ghost use Rattle.imap_serve.specs.Served.{IsCausedWriting};
@@ -11,13 +13,15 @@ ghost use Rattle.imap_serve.specs.Served.{IsCausedWriting};
 use crate::error::ServeError;
 use crate::watched::{Failed, Watched};
 use imap_core::Act;
+use imap_dialect::Dialect;
 use imap_hall::{Receipt, reply_octets};
-use imap_lex::Octets;
-use imap_print::{Response, print_pieces};
-use std::alloc::Global;
+use imap_lex::{Frame, Octets};
+use imap_print::{Pieces, Response};
+use imap_syntax::Items;
+use std::alloc::{AllocError, Global};
 use std::io::Write;
 
-/// Replies are printed and written some at a time, as many as take about this much memory together.
+/// Replies are told and written some at a time, as many as take about this much memory together.
 const OCTETS_AT_ONCE: u64 = 32_768;
 
 /// The state of a session.
@@ -44,21 +48,47 @@ impl Flow {
     }
 }
 
-/// Prints and writes replies, a piece after the other. After a write that failed nothing more is printed.
-pub(crate) fn say<O: Write>(
+/// Tells replies to a frame, or to nothing, and writes them.
+#[tactic(auto, using(crate::proofs::Pieces::ruled_all, crate::proofs::Pieces::ruled_part))]
+pub(crate) fn say<D: Dialect, O: Write>(
     alloc: Global,
+    dialect: &D,
+    by: Option<&Frame>,
     output: &mut Watched<O>,
     replies: &[Response],
 ) -> Result<(), ServeError>
-    ensures ok { OnOk result
-        (Appends (O.contents output.old.inner) (O.contents output.new.inner) (printed replies.now)) }
-    ensures err { OnErr result
-        (AppendsPart (O.contents output.old.inner) (O.contents output.new.inner) (printed replies.now)) }
+    ensures ok { OnOk result (Appends (O.contents output.old.inner) (O.contents output.new.inner)
+        (retold D.telling dialect.now (option_copied by.entry) replies.now)) }
+    ensures err { OnErr result (AppendsPart (O.contents output.old.inner) (O.contents output.new.inner)
+        (retold D.telling dialect.now (option_copied by.entry) replies.now)) }
+    ensures cause { IfErr result (λ e. IsCausedWriting e output.new.log) }
+{
+    match dialect.rule(alloc, by) {
+        Ok(rule) => match say_by::<D, O>(alloc, &rule, output, replies) {
+            Ok(()) => Ok(()),
+            Err(error) => Err(error),
+        },
+        Err(_) => Err(ServeError::Memory),
+    }
+}
+
+/// Tells replies by a rule and writes them, a piece after the other. After a write that failed nothing more is
+/// told.
+fn say_by<D: Dialect, O: Write>(
+    alloc: Global,
+    rule: &D::Rule,
+    output: &mut Watched<O>,
+    replies: &[Response],
+) -> Result<(), ServeError>
+    ensures ok { OnOk result (Appends (O.contents output.old.inner) (O.contents output.new.inner)
+        (flat_map (D.octets rule.now) replies.now)) }
+    ensures err { OnErr result (AppendsPart (O.contents output.old.inner) (O.contents output.new.inner)
+        (flat_map (D.octets rule.now) replies.now)) }
     ensures cause { IfErr result (λ e. IsCausedWriting e output.new.log) }
 {
     let mut done = 0;
     while done < replies.len() {
-        match say_first(alloc, output, &replies[done..]) {
+        match say_first::<D, O>(alloc, rule, output, &replies[done..]) {
             Ok(count) => done += count,
             Err(error) => return Err(error),
         }
@@ -66,28 +96,55 @@ pub(crate) fn say<O: Write>(
     Ok(())
 }
 
-/// Prints and writes the first of the replies, and returns how many.
-fn say_first<O: Write>(
+/// Tells and writes the first of the replies, and returns how many.
+fn say_first<D: Dialect, O: Write>(
     alloc: Global,
+    rule: &D::Rule,
     output: &mut Watched<O>,
     replies: &[Response],
 ) -> Result<usize, ServeError>
     requires { 0 < length replies.now }
     ensures ok { IfOk result (λ n.
-        Appends (O.contents output.old.inner) (O.contents output.new.inner) (printed (take n replies.now))
+        Appends (O.contents output.old.inner) (O.contents output.new.inner)
+        (flat_map (D.octets rule.now) (take n replies.now))
         × (0 < n) × (n ≤ length replies.now)) }
-    ensures err { OnErr result
-        (AppendsPart (O.contents output.old.inner) (O.contents output.new.inner) (printed replies.now)) }
+    ensures err { OnErr result (AppendsPart (O.contents output.old.inner) (O.contents output.new.inner)
+        (flat_map (D.octets rule.now) replies.now)) }
     ensures cause { IfErr result (λ e. IsCausedWriting e output.new.log) }
 {
     let count = count_at_once(replies);
-    match print_pieces(alloc, &replies[..count]) {
+    match tell_pieces::<D>(alloc, rule, &replies[..count]) {
         Ok(pieces) => match write_pieces(output, pieces.as_slice()) {
             Ok(()) => Ok(count),
             Err(_) => Err(ServeError::Write),
         },
         Err(_) => Err(ServeError::Memory),
     }
+}
+
+/// The octets of the replies by a rule, in pieces.
+fn tell_pieces<D: Dialect>(
+    alloc: Global,
+    rule: &D::Rule,
+    replies: &[Response],
+) -> Result<Items<Octets>, AllocError>
+    ensures { IfOk result (λ pieces. concat pieces ≡ flat_map (D.octets rule.now) replies.now) }
+{
+    tell_all::<D>(alloc, rule, replies)?.into_pieces()
+}
+
+fn tell_all<D: Dialect>(
+    alloc: Global,
+    rule: &D::Rule,
+    replies: &[Response],
+) -> Result<Pieces, AllocError>
+    ensures { IfOk result (λ out. octets_of out ≡ flat_map (D.octets rule.now) replies.now) }
+{
+    let mut out = Pieces::new(alloc);
+    for reply in replies {
+        D::tell(rule, reply, &mut out)?;
+    }
+    Ok(out)
 }
 
 /// Writes the pieces one after another. After a write that failed nothing more is written.
@@ -104,7 +161,7 @@ fn write_pieces<O: Write>(output: &mut Watched<O>, pieces: &[Octets]) -> Result<
     Ok(())
 }
 
-/// Returns how many of the replies are printed at once: as many as take [`OCTETS_AT_ONCE`] together.
+/// Returns how many of the replies are told at once: as many as take [`OCTETS_AT_ONCE`] together.
 fn count_at_once(replies: &[Response]) -> usize
     requires { 0 < length replies.now }
     ensures { (0 < result) × (result ≤ length replies.now) }
@@ -121,19 +178,58 @@ fn count_at_once(replies: &[Response]) -> usize
     count
 }
 
-/// Writes the replies of a receipt.
-pub(crate) fn tell<O: Write>(
+/// Tells replies to a frame, or to nothing, and writes them. Then the dialect goes on after them.
+pub(crate) fn reply<D: Dialect, O: Write>(
     alloc: Global,
+    dialect: &mut D,
+    by: Option<&Frame>,
+    output: &mut Watched<O>,
+    replies: &[Response],
+) -> Result<(), ServeError>
+    ensures ok { OnOk result (Appends (O.contents output.old.inner) (O.contents output.new.inner)
+        (retold D.telling dialect.old (option_copied by.entry) replies.now)) }
+    ensures moved { OnOk result
+        (dialect.new ≡ after D.telling dialect.old (option_copied by.entry) replies.now) }
+    ensures err { OnErr result (AppendsPart (O.contents output.old.inner) (O.contents output.new.inner)
+        (retold D.telling dialect.old (option_copied by.entry) replies.now)) }
+    ensures cause { IfErr result (λ e. IsCausedWriting e output.new.log) }
+{
+    match say(alloc, dialect, by, output, replies) {
+        Ok(()) => {
+            go_on(dialect, by, replies);
+            Ok(())
+        }
+        Err(error) => Err(error),
+    }
+}
+
+/// The dialect goes on after the replies to a frame, or to nothing.
+fn go_on<D: Dialect>(dialect: &mut D, by: Option<&Frame>, replies: &[Response])
+    ensures { dialect.new ≡ after D.telling dialect.old (option_copied by.entry) replies.now }
+{
+    match by {
+        Some(frame) => dialect.advance(frame, replies),
+        None => {}
+    }
+}
+
+/// Tells the replies of a receipt, and the dialect goes on after them.
+pub(crate) fn tell<D: Dialect, O: Write>(
+    alloc: Global,
+    dialect: &mut D,
+    by: Option<&Frame>,
     receipt: &Receipt,
     flow: Flow,
     output: &mut Watched<O>,
 ) -> Result<Flow, ServeError>
     ensures ok { OnOk result (Appends (O.contents output.old.inner) (O.contents output.new.inner)
-        (printed receipt.now.replies)) }
+        (retold D.telling dialect.old (option_copied by.entry) receipt.now.replies)) }
     ensures closed { IfOk result (λ next. next.closed ≡ close receipt.now.replies) }
     ensures idles { IfOk result (λ next. next.idles ≡ flow.idles || begin_idle receipt.now.replies) }
+    ensures moved { OnOk result
+        (dialect.new ≡ after D.telling dialect.old (option_copied by.entry) receipt.now.replies) }
     ensures err { OnErr result (AppendsPart (O.contents output.old.inner) (O.contents output.new.inner)
-        (printed receipt.now.replies)) }
+        (retold D.telling dialect.old (option_copied by.entry) receipt.now.replies)) }
     ensures cause { IfErr result (λ e. IsCausedWriting e output.new.log) }
 {
     let replies = receipt.replies.as_slice();
@@ -142,7 +238,7 @@ pub(crate) fn tell<O: Write>(
         idles: flow.idles || begin_idle(replies),
         calls: flow.calls,
     };
-    match say(alloc, output, replies) {
+    match reply(alloc, dialect, by, output, replies) {
         Ok(()) => Ok(next),
         Err(error) => Err(error),
     }

@@ -3,36 +3,36 @@ use Rattle.std.specs.Io.KnownBytes.{Consumes}
 use Rattle.imap_lex.specs.Framing.{run}
 use Rattle.imap_serve.specs.declared.watched.Taken.TheVariants as taken
 use Rattle.imap_serve.specs.Reading.{Takes, unasked}
-use Rattle.imap_serve.specs.Asked.{ask_of}
-use Rattle.imap_serve.specs.Served.{Scene, scene, Site, site, Closes, GoesOrCloses}
+use Rattle.imap_serve.specs.Told.{Scene, scene, Site, site, Closes, GoesOrCloses}
+use Rattle.imap_serve.specs.Turns.{frame}
 use Rattle.imap_serve.proofs.Scenes.{caused_writing, heard_closes, heard_breaks, heard_poll_closes, heard_poll_breaks, heard_idles, idle_all, idle_part}
 use Rattle.imap_serve.proofs.talking.talk.Goals as goal
 
 pub returns-then-flow-clause-ended : goal.returns-then-flow-clause-ended
 returns-then-flow-clause-ended g c =
-    let s : Site = site c.args.who.now g.R.Room.keeps_all in
+    let s : Site _ = site c.args.who.now g.R.Room.keeps_all g.D.Dialect.telling in
     let p = c.args.idles in
     let q = c.loop.idles in
-    let a : Scene = scene (g.R.Room.entries c.args.room.now) (g.O.Write.contents c.args.output.now.inner) in
-    let b : Scene = scene (g.R.Room.entries c.loop.room) (g.O.Write.contents c.loop.output.inner) in
-    let d : Scene = scene (g.R.Room.entries c.take_piece.new.room) (g.O.Write.contents c.take_piece.new.output.inner) in
+    let a : Scene _ = scene (g.R.Room.entries c.args.room.now) (g.O.Write.contents c.args.output.now.inner) c.args.dialect.now in
+    let b : Scene _ = scene (g.R.Room.entries c.loop.room) (g.O.Write.contents c.loop.output.inner) c.loop.dialect in
+    let d : Scene _ = scene (g.R.Room.entries c.take_piece.new.room) (g.O.Write.contents c.take_piece.new.output.inner) c.take_piece.new.dialect in
     let i = g.I.Read.remaining c.args.input.now.inner in
     let j = g.I.Read.remaining c.loop.input.inner in
     let k = g.I.Read.remaining c.read.new.self.inner in
     let f = c.loop.framer in
     let ys = take c.in-Ok-Octets.count c.read.new.buf in
     let took : Takes (taken.Octets c.in-Ok-Octets.count) j k c.read.new.buf = subst (λ t. Takes t j k c.read.new.buf) c.in-Ok-Octets.field-0-is c.in-Ok-Octets.ensures.ok in
-    let last : Closes s q b d (map ask_of (run f ys).frames) = subst (λ closed. GoesOrCloses closed s q c.in-Ok.flow.idles b d (map ask_of (run f ys).frames)) c.if-flow.true c.in-Ok.ensures.ok in
+    let last : Closes s q b d (map frame (run f ys).frames) = subst (λ closed. GoesOrCloses closed s q c.in-Ok.flow.idles b d (map frame (run f ys).frames)) c.if-flow.true c.in-Ok.ensures.ok in
     heard_closes c.args.max_octets s p q i j k a b d f ys c.loop.invariant.2 took.0 last
 
 pub returns-in-Err-take_piece-clause-broke : goal.returns-in-Err-take_piece-clause-broke
 returns-in-Err-take_piece-clause-broke g c =
-    let s : Site = site c.args.who.now g.R.Room.keeps_all in
+    let s : Site _ = site c.args.who.now g.R.Room.keeps_all g.D.Dialect.telling in
     let p = c.args.idles in
     let q = c.loop.idles in
-    let a : Scene = scene (g.R.Room.entries c.args.room.now) (g.O.Write.contents c.args.output.now.inner) in
-    let b : Scene = scene (g.R.Room.entries c.loop.room) (g.O.Write.contents c.loop.output.inner) in
-    let d : Scene = scene (g.R.Room.entries c.take_piece.new.room) (g.O.Write.contents c.take_piece.new.output.inner) in
+    let a : Scene _ = scene (g.R.Room.entries c.args.room.now) (g.O.Write.contents c.args.output.now.inner) c.args.dialect.now in
+    let b : Scene _ = scene (g.R.Room.entries c.loop.room) (g.O.Write.contents c.loop.output.inner) c.loop.dialect in
+    let d : Scene _ = scene (g.R.Room.entries c.take_piece.new.room) (g.O.Write.contents c.take_piece.new.output.inner) c.take_piece.new.dialect in
     let i = g.I.Read.remaining c.args.input.now.inner in
     let j = g.I.Read.remaining c.loop.input.inner in
     let k = g.I.Read.remaining c.read.new.self.inner in
@@ -42,10 +42,10 @@ returns-in-Err-take_piece-clause-broke g c =
 
 pub returns-in-Ok-say-clause-ended : goal.returns-in-Ok-say-clause-ended
 returns-in-Ok-say-clause-ended g c =
-    let s : Site = site c.args.who.now g.R.Room.keeps_all in
+    let s : Site _ = site c.args.who.now g.R.Room.keeps_all g.D.Dialect.telling in
     let p = c.args.idles in
     let q = c.loop.idles in
-    let a : Scene = scene (g.R.Room.entries c.args.room.now) (g.O.Write.contents c.args.output.now.inner) in
+    let a : Scene _ = scene (g.R.Room.entries c.args.room.now) (g.O.Write.contents c.args.output.now.inner) c.args.dialect.now in
     let told = g.R.Room.entries c.loop.room in
     let before = g.O.Write.contents c.loop.output.inner in
     let after = g.O.Write.contents c.say.new.output.inner in
@@ -53,14 +53,14 @@ returns-in-Ok-say-clause-ended g c =
     let j = g.I.Read.remaining c.loop.input.inner in
     let k = g.I.Read.remaining c.read.new.self.inner in
     let read : Consumes j k [] = subst (λ t. Takes t j k c.read.new.buf) c.in-Ok-Occasion.field-0-is c.in-Ok-Occasion.ensures.ok in
-    heard_idles c.args.max_octets s p q i j k a (scene told before) c.loop.framer c.loop.invariant.2 read (scene told after) (idle_all s q told before after c.in-Ok-say.ensures.ok)
+    heard_idles c.args.max_octets s p q i j k a (scene told before c.loop.dialect) c.loop.framer c.loop.invariant.2 read (scene told after c.loop.dialect) (idle_all s q told before after c.loop.dialect c.loop.dialect c.in-Ok-say.ensures.ok)
 
 pub returns-in-Err-say-clause-broke : goal.returns-in-Err-say-clause-broke
 returns-in-Err-say-clause-broke g c =
-    let s : Site = site c.args.who.now g.R.Room.keeps_all in
+    let s : Site _ = site c.args.who.now g.R.Room.keeps_all g.D.Dialect.telling in
     let p = c.args.idles in
     let q = c.loop.idles in
-    let a : Scene = scene (g.R.Room.entries c.args.room.now) (g.O.Write.contents c.args.output.now.inner) in
+    let a : Scene _ = scene (g.R.Room.entries c.args.room.now) (g.O.Write.contents c.args.output.now.inner) c.args.dialect.now in
     let told = g.R.Room.entries c.loop.room in
     let before = g.O.Write.contents c.loop.output.inner in
     let after = g.O.Write.contents c.say.new.output.inner in
@@ -68,16 +68,16 @@ returns-in-Err-say-clause-broke g c =
     let j = g.I.Read.remaining c.loop.input.inner in
     let k = g.I.Read.remaining c.read.new.self.inner in
     let read : Consumes j k [] = subst (λ t. Takes t j k c.read.new.buf) c.in-Ok-Occasion.field-0-is c.in-Ok-Occasion.ensures.ok in
-    heard_poll_breaks c.args.max_octets s p q i j k a (scene told before) c.loop.framer c.loop.invariant.2 read (scene told after) c.in-Err-say.error c.say.new.output.log (caused_writing c.in-Err-say.error unasked c.say.new.output.log c.in-Err-say.ensures.cause) (idle_part s q told before after c.in-Err-say.ensures.err)
+    heard_poll_breaks c.args.max_octets s p q i j k a (scene told before c.loop.dialect) c.loop.framer c.loop.invariant.2 read (scene told after c.loop.dialect) c.in-Err-say.error c.say.new.output.log (caused_writing c.in-Err-say.error unasked c.say.new.output.log c.in-Err-say.ensures.cause) (idle_part s q told before after c.loop.dialect c.loop.dialect c.in-Err-say.ensures.err)
 
 pub returns-then-flow-2-clause-ended : goal.returns-then-flow-2-clause-ended
 returns-then-flow-2-clause-ended g c =
-    let s : Site = site c.args.who.now g.R.Room.keeps_all in
+    let s : Site _ = site c.args.who.now g.R.Room.keeps_all g.D.Dialect.telling in
     let p = c.args.idles in
     let q = c.loop.idles in
-    let a : Scene = scene (g.R.Room.entries c.args.room.now) (g.O.Write.contents c.args.output.now.inner) in
-    let b : Scene = scene (g.R.Room.entries c.loop.room) (g.O.Write.contents c.loop.output.inner) in
-    let d : Scene = scene (g.R.Room.entries c.poll.new.room) (g.O.Write.contents c.poll.new.output.inner) in
+    let a : Scene _ = scene (g.R.Room.entries c.args.room.now) (g.O.Write.contents c.args.output.now.inner) c.args.dialect.now in
+    let b : Scene _ = scene (g.R.Room.entries c.loop.room) (g.O.Write.contents c.loop.output.inner) c.loop.dialect in
+    let d : Scene _ = scene (g.R.Room.entries c.poll.new.room) (g.O.Write.contents c.poll.new.output.inner) c.poll.new.dialect in
     let i = g.I.Read.remaining c.args.input.now.inner in
     let j = g.I.Read.remaining c.loop.input.inner in
     let k = g.I.Read.remaining c.read.new.self.inner in
@@ -87,12 +87,12 @@ returns-then-flow-2-clause-ended g c =
 
 pub returns-in-Err-poll-clause-broke : goal.returns-in-Err-poll-clause-broke
 returns-in-Err-poll-clause-broke g c =
-    let s : Site = site c.args.who.now g.R.Room.keeps_all in
+    let s : Site _ = site c.args.who.now g.R.Room.keeps_all g.D.Dialect.telling in
     let p = c.args.idles in
     let q = c.loop.idles in
-    let a : Scene = scene (g.R.Room.entries c.args.room.now) (g.O.Write.contents c.args.output.now.inner) in
-    let b : Scene = scene (g.R.Room.entries c.loop.room) (g.O.Write.contents c.loop.output.inner) in
-    let d : Scene = scene (g.R.Room.entries c.poll.new.room) (g.O.Write.contents c.poll.new.output.inner) in
+    let a : Scene _ = scene (g.R.Room.entries c.args.room.now) (g.O.Write.contents c.args.output.now.inner) c.args.dialect.now in
+    let b : Scene _ = scene (g.R.Room.entries c.loop.room) (g.O.Write.contents c.loop.output.inner) c.loop.dialect in
+    let d : Scene _ = scene (g.R.Room.entries c.poll.new.room) (g.O.Write.contents c.poll.new.output.inner) c.poll.new.dialect in
     let i = g.I.Read.remaining c.args.input.now.inner in
     let j = g.I.Read.remaining c.loop.input.inner in
     let k = g.I.Read.remaining c.read.new.self.inner in
