@@ -115,11 +115,11 @@ pub pair_send : (A B : RattleType) → IsSend A → IsSend B → IsSend (TupleAt
 pair_send A B a b = search sendable depth 60
 
 -- what the closure of a worker captures
-module _ (name : List ℕ) (R H P C G : RattleType) (l m n o p : NamedLft) (r : builtin.One R.mir) (h : builtin.One H.mir) (q : builtin.One P.mir) (c : builtin.One C.mir) (g : builtin.One G.mir) where
+module _ (name : List ℕ) (R H P C G T : RattleType) (l m n o p s : NamedLft) (r : builtin.One R.mir) (h : builtin.One H.mir) (q : builtin.One P.mir) (c : builtin.One C.mir) (g : builtin.One G.mir) (t : builtin.One T.mir) where
   abbrev pub captured : RattleType
   captured = TupleAt name (
       (shr_ref_field l R r).row ∷ global_row ∷ (shr_ref_field m H h).row ∷ (mut_ref_field n P q).row
-      ∷ (shr_ref_field o C c).row ∷ (shr_ref_field p G g).row ∷ u64-field.row ∷ u64-field.row ∷ [])
+      ∷ (shr_ref_field o C c).row ∷ (shr_ref_field p G g).row ∷ (shr_ref_field s T t).row ∷ u64-field.row ∷ u64-field.row ∷ [])
 
-  pub captured_send : IsSync R → IsSync H → IsSend P → IsSync C → IsSync G → IsSend captured
-  captured_send rs hs ps cs gs = search (sendable, crosses) depth 60 fits 20000
+  pub captured_send : IsSync R → IsSync H → IsSend P → IsSync C → IsSync G → IsSync T → IsSend captured
+  captured_send rs hs ps cs gs ts = search (sendable, crosses) depth 60 fits 20000

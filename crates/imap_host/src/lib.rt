@@ -25,4 +25,4 @@ pub use host::{Host, OpenHost, PARTS};
 pub use host_state::{HostState, ReceiptPair};
 pub use seat::{Kept, Seat, SeatError};
 pub use settling::SettleError;
-pub use workers::{CrewError, crew};
+pub use workers::{CrewError, crew, crew_in};

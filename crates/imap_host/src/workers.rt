@@ -7,8 +7,9 @@ use crate::desk::Desk;
 use crate::door::Door;
 use crate::host::Host;
 use crate::seat::Seat;
+use imap_dialect::{Dialect, Standard};
 use imap_keeper::Keeper;
-use imap_serve::{End, Gate, Moments, ServeError, Watched, serve};
+use imap_serve::{End, Gate, Moments, ServeError, Watched, serve_in};
 use std::alloc::Global;
 use std::io::{Read, Write};
 use std::slice::IterMut;
@@ -25,8 +26,17 @@ pub enum CrewError {
     Start,
 }
 
-/// Serves a connection as a session of the seat. Returns how the session ended.
-fn serve_one<K: Keeper, L: Ledger, I: Read + Drop, O: Write + Drop, C: Moments, G: Gate, R: Wait>(
+/// Serves a connection as a session of the seat, told in the dialect. Returns how the session ended.
+fn serve_one<
+    K: Keeper,
+    L: Ledger,
+    I: Read + Drop,
+    O: Write + Drop,
+    C: Moments,
+    G: Gate,
+    R: Wait,
+    T: Dialect,
+>(
     rt: &R,
     alloc: Global,
     host: &Host<K, L>,
@@ -34,6 +44,7 @@ fn serve_one<K: Keeper, L: Ledger, I: Read + Drop, O: Write + Drop, C: Moments, 
     connection: (I, O),
     clock: &C,
     gate: &G,
+    dialect: &mut T,
     max_octets: u64,
     idle_turns: u64,
 ) -> Result<End, ServeError> {
@@ -42,13 +53,14 @@ fn serve_one<K: Keeper, L: Ledger, I: Read + Drop, O: Write + Drop, C: Moments, 
     let mut output = Watched::new(output);
     let who = seat.who.try_copy()?;
     let mut desk = Desk { rt, host, seat };
-    serve(
+    serve_in(
         rt,
         alloc,
         &mut desk,
         &who,
         clock,
         gate,
+        dialect,
         max_octets,
         idle_turns,
         &mut input,
@@ -56,14 +68,15 @@ fn serve_one<K: Keeper, L: Ledger, I: Read + Drop, O: Write + Drop, C: Moments, 
     )
 }
 
-/// Serves the connections of a door one after the other.
-fn work<K: Keeper, L: Ledger, D: Door, C: Moments, G: Gate, R: Wait>(
+/// Serves the connections of a door one after the other. Each begins in the same state of the dialect.
+fn work<K: Keeper, L: Ledger, D: Door, C: Moments, G: Gate, R: Wait, T: Dialect + Copy>(
     rt: &R,
     alloc: Global,
     host: &Host<K, L>,
     post: &mut (Seat<L>, D),
     clock: &C,
     gate: &G,
+    dialect: &T,
     max_octets: u64,
     idle_turns: u64,
 ) {
@@ -71,6 +84,7 @@ fn work<K: Keeper, L: Ledger, D: Door, C: Moments, G: Gate, R: Wait>(
         let Some(connection) = post.1.next() else {
             break;
         };
+        let mut own = *dialect;
         let end = serve_one(
             rt,
             alloc,
@@ -79,6 +93,7 @@ fn work<K: Keeper, L: Ledger, D: Door, C: Moments, G: Gate, R: Wait>(
             connection,
             clock,
             gate,
+            &mut own,
             max_octets,
             idle_turns,
         );
@@ -99,6 +114,7 @@ fn start<
     C: Moments + Sync,
     G: Gate + Sync,
     R: Threads + Wait + Sync,
+    T: Dialect + Copy + Sync,
 >(
     scope: &Scope<'s, &'e ()>,
     rt: &'r R,
@@ -107,11 +123,14 @@ fn start<
     post: &'p mut (Seat<L>, D),
     clock: &'r C,
     gate: &'r G,
+    dialect: &'r T,
     max_octets: u64,
     idle_turns: u64,
 ) -> bool {
     scope
-        .spawn(move || work(rt, alloc, host, post, clock, gate, max_octets, idle_turns))
+        .spawn(move || work(
+            rt, alloc, host, post, clock, gate, dialect, max_octets, idle_turns,
+        ))
         .is_ok()
 }
 
@@ -127,6 +146,7 @@ fn start_all<
     C: Moments + Sync,
     G: Gate + Sync,
     R: Threads + Wait + Sync,
+    T: Dialect + Copy + Sync,
 >(
     scope: &Scope<'s, &'e ()>,
     rt: &'r R,
@@ -135,12 +155,13 @@ fn start_all<
     posts: IterMut<'p, (Seat<L>, D)>,
     clock: &'r C,
     gate: &'r G,
+    dialect: &'r T,
     max_octets: u64,
     idle_turns: u64,
 ) -> bool {
     for post in posts {
         if !start(
-            scope, rt, alloc, host, post, clock, gate, max_octets, idle_turns,
+            scope, rt, alloc, host, post, clock, gate, dialect, max_octets, idle_turns,
         ) {
             return false;
         }
@@ -150,9 +171,43 @@ fn start_all<
 
 /// Runs a worker for each post, and returns when all doors have ended. A worker serves the connections of its door
 /// one after the other, however each ends. The literals of a command may have `max_octets` octets
-/// together. A session ends after `idle_turns` reads in a row that brought nothing.
+/// together. A session ends after `idle_turns` reads in a row that brought nothing. Each session is told in the
+/// dialect, from the same state on.
 ///
 /// Fails with `Start` if a worker can't be started. The workers that were started have then ended.
+pub fn crew_in<
+    K: Keeper + Send,
+    L: Ledger + Send + Sync,
+    D: Door + Send,
+    C: Moments + Sync,
+    G: Gate + Sync,
+    R: Threads + Wait + Sync,
+    T: Dialect + Copy + Sync,
+>(
+    rt: &R,
+    alloc: Global,
+    host: &Host<K, L>,
+    posts: &mut [(Seat<L>, D)],
+    clock: &C,
+    gate: &G,
+    dialect: &T,
+    max_octets: u64,
+    idle_turns: u64,
+) -> Result<(), CrewError> {
+    let each = posts.iter_mut();
+    let started = thread::scope(thread::scope_env(), rt, move |scope| {
+        start_all(
+            scope, rt, alloc, host, each, clock, gate, dialect, max_octets, idle_turns,
+        )
+    });
+    if started {
+        Ok(())
+    } else {
+        Err(CrewError::Start)
+    }
+}
+
+/// As [`crew_in`], in the server's own dialect.
 pub fn crew<
     K: Keeper + Send,
     L: Ledger + Send + Sync,
@@ -170,15 +225,7 @@ pub fn crew<
     max_octets: u64,
     idle_turns: u64,
 ) -> Result<(), CrewError> {
-    let each = posts.iter_mut();
-    let started = thread::scope(thread::scope_env(), rt, move |scope| {
-        start_all(
-            scope, rt, alloc, host, each, clock, gate, max_octets, idle_turns,
-        )
-    });
-    if started {
-        Ok(())
-    } else {
-        Err(CrewError::Start)
-    }
+    crew_in(
+        rt, alloc, host, posts, clock, gate, &Standard, max_octets, idle_turns,
+    )
 }

@@ -6,3 +6,6 @@ work-requires-send-D-In g c κs within = search (sendable, param_send) depth 60 
 
 pub work-requires-send-D-Out : goal.work-requires-send-D-Out
 work-requires-send-D-Out g c κs within = search (sendable, param_send) depth 60 fits 20000
+
+pub work-requires-send-T-Rule : goal.work-requires-send-T-Rule
+work-requires-send-T-Rule g c κs within = search (sendable, param_send) depth 60 fits 20000
