@@ -183,12 +183,21 @@ fn serve_command<'a>(alloc: Global, is_whole: bool) -> Result<Command<'a>, Alloc
         .help("Has a user's clients log in with the first line of a file; may be repeated")
         .action(ArgAction::Append);
     let command = command.arg(secret)?;
+    with_manner(alloc, command)
+}
+
+/// Adds the options that say how mail is served.
+fn with_manner<'a>(alloc: Global, command: Command<'a>) -> Result<Command<'a>, AllocError> {
     let max_messages = option(alloc, "max-messages", "N").help(
         "How many messages a mailbox may hold",
     );
     let command = command.arg(max_messages)?;
     let max_octets = option(alloc, "max-octets", "N").help("How many octets a message may have");
     let command = command.arg(max_octets)?;
+    let dialect = option(alloc, "dialect", "NAME").help(
+        "What clients are spoken to in: rev2 (the default), or rev1 for those that know no IMAP4rev2",
+    );
+    let command = command.arg(dialect)?;
     let log = option(alloc, "log", "LINES").help(
         "What standard error is told: off, errors (the default) or connections",
     );

@@ -1,6 +1,7 @@
 //! What is served.
 
 use crate::address::Address;
+use crate::dialect_name::DialectName;
 use crate::log_level::LogLevel;
 use imap_login::Credentials;
 use imap_names::UserName;
@@ -25,6 +26,7 @@ pub struct Service {
     /// Which of these users, and whether the administrator, are in which groups.
     pub groups: Groups,
     pub limits: Limits,
+    pub dialect: DialectName,
     /// Which lines are said while it is served.
     pub log: LogLevel,
 }

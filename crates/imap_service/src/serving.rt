@@ -14,11 +14,13 @@ use crate::report::Report;
 use crate::reporting_keeper::ReportingKeeper;
 use crate::service_error::ServiceError;
 use crate::system_clock::SystemClock;
+use imap_dialect::{Dialect, Standard};
 use imap_hall::Hall;
-use imap_host::{Host, Seat, crew};
+use imap_host::{Host, Seat, crew_in};
 use imap_keeper::Keeper;
 use imap_names::UserName;
-use imap_options::{Port, Service};
+use imap_options::{DialectName, Port, Service};
+use imap_rev1::Rev1;
 use imap_rights::Groups;
 use imap_world::{Limits, World};
 use std::alloc::{AllocError, Global};
@@ -59,6 +61,7 @@ pub fn run<
         ports,
         groups,
         limits,
+        dialect,
         log,
     } = service;
     let report = Report::new(rt, log);
@@ -71,6 +74,7 @@ pub fn run<
         rt,
         report: &report,
         ports: ports.as_slice(),
+        dialect,
         max_octets: limits.max_octets,
         since,
     };
@@ -88,6 +92,7 @@ struct Setting<'a, R: Eprint> {
     rt: &'a R,
     report: &'a Report<'a, R>,
     ports: &'a [Port],
+    dialect: DialectName,
     max_octets: u64,
     since: Option<Instant>,
 }
@@ -241,19 +246,47 @@ fn serve_posts<
     wakers: &'a IdleWakers,
     mut posts: Vec<(Seat<L>, PortDoor<'a, R>)>,
 ) -> ServiceError {
-    let rt = setting.rt;
+    let each = posts.as_mut_slice();
+    match setting.dialect {
+        DialectName::Rev2 => serve_in(setting, host, wakers, each, &Standard),
+        DialectName::Rev1 => serve_in(setting, host, wakers, each, &Rev1::new()),
+    }
     // Whether all threads ran or not, no connection comes any more.
-    let _ran = crew(
+    ServiceError::NoConnection
+}
+
+/// Runs a thread for each post, whose clients are spoken to in the dialect.
+fn serve_in<
+    'a,
+    K: Keeper + Send,
+    L: Ledger + Send + Sync,
+    R: Net<Listener = TcpListener, Stream = TcpStream>
+        + Threads
+        + Wait
+        + Clock
+        + Eprint
+        + AllocGlobal
+        + Sync,
+    T: Dialect + Copy + Sync,
+>(
+    setting: &'a Setting<'a, R>,
+    host: &Host<K, L>,
+    wakers: &'a IdleWakers,
+    posts: &mut [(Seat<L>, PortDoor<'a, R>)],
+    dialect: &T,
+) {
+    let rt = setting.rt;
+    let _ran = crew_in(
         rt,
         rt.alloc(),
         host,
-        posts.as_mut_slice(),
+        posts,
         &SystemClock { rt },
         &NotifyOnChange::new(rt, host.changes(), wakers),
+        dialect,
         setting.max_octets,
         IDLE_TICKS,
     );
-    ServiceError::NoConnection
 }
 
 /// Returns the posts of the reception at each port's index: first those that serve, sixteen for each port with a waker
