@@ -6,7 +6,14 @@
 use imap_options::LogLevel;
 use imap_service::{ServiceError, StoreFault, make_missing, make_private, report_unread};
 use imap_sql_keeper::SqlKeeper;
-use sqlite::{Connection, Error, ErrorCode, File, FileStore};
+use sqlite::{Connection, Error, ErrorCode, File, FileStore, Options, Unknown};
+use sqlite_std_file::OpenError;
+use std::hash::{BuildHasher, RandomState};
+use std::io::ErrorKind;
+
+/// How many pages that were read, and how many that were written, are kept in memory. The mailboxes are there besides, so
+/// that few pages are read again.
+const PAGES: usize = 500;
 
 /// A keeper in a file.
 pub(crate) type FileKeeper = SqlKeeper<FileStore<File>>;
@@ -51,9 +58,39 @@ fn put_log_back(rt: &HostRuntime, path: &str) -> Result<(), ServiceError> {
 }
 
 fn connect(rt: &HostRuntime, path: &str) -> Result<Connection<FileStore<File>>, ServiceError> {
-    match Connection::open_with_sums(rt, path) {
+    let options = options(rt)?;
+    let files = match sqlite_std_file::open(rt, path, Unknown) {
+        Ok(files) => files,
+        Err(error) => return Err(file_fault(error)),
+    };
+    match Connection::open_files_with(rt.alloc(), files, options, true) {
         Ok(conn) => Ok(conn),
-        Err(error) => Err(fault(error)),
+        Err((error, left)) => {
+            drop(left);
+            Err(fault(error))
+        }
+    }
+}
+
+fn options(rt: &HostRuntime) -> Result<Options, ServiceError> {
+    let seed = match RandomState::new(rt) {
+        Ok(state) => state.hash_one(&0u8),
+        Err(_) => return Err(ServiceError::Store(StoreFault::CannotOpen)),
+    };
+    Ok(Options {
+        cache_pages: PAGES,
+        spill_pages: PAGES,
+        ..Options::new(seed)
+    })
+}
+
+/// Why the files of a database can't be opened.
+fn file_fault(error: OpenError) -> ServiceError {
+    match error {
+        OpenError::OutOfMemory => ServiceError::Memory,
+        OpenError::Busy => ServiceError::Store(StoreFault::InUse),
+        OpenError::Io(error) if error.kind() == ErrorKind::OutOfMemory => ServiceError::Memory,
+        OpenError::Io(_) | OpenError::HotJournal => ServiceError::Store(StoreFault::CannotOpen),
     }
 }
 
