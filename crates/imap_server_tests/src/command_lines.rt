@@ -3,7 +3,7 @@
 use crate::wanted::{expect, expect_text};
 use imap_keeper::RowFault;
 use imap_options::{
-    CommandLineError, LogLevel, SecretFault, SecretFiles, Service, Task, read_words,
+    CommandLineError, DialectName, LogLevel, SecretFault, SecretFiles, Service, Task, read_words,
 };
 use imap_script::ScriptError;
 use imap_service::{
@@ -58,6 +58,9 @@ fn shown_service(alloc: Global, database: &str, service: &Service) -> Result<Vec
     if service.log == LogLevel::Connections {
         text.push_str(" connections")?;
     }
+    if service.dialect == DialectName::Rev1 {
+        text.push_str(" rev1")?;
+    }
     for port in &service.ports {
         let shown = format!(in alloc; " {}={}", port.user.as_str(), port.address)?;
         text.push_str(shown.as_str())?;
@@ -109,9 +112,10 @@ fn reads_command_lines(rt: HostRuntime) {
                 "--listen=root=065535",
                 "--max-messages=1",
                 "--log=connections",
+                "--dialect=rev1",
                 "--db=/x y",
             ],
-            b"/x y root 1 1073741824 connections a=b=1 root=65535",
+            b"/x y root 1 1073741824 connections rev1 a=b=1 root=65535",
         ),
         (
             &[
@@ -328,7 +332,7 @@ fn said(alloc: Global, texts: &[&str]) -> Result<String, AllocError> {
 #[test]
 fn says_what_is_wrong(rt: HostRuntime) {
     const SERVE: [&str; 4] = ["imapd", "serve", "--db=x", "--admin=root"];
-    const ROWS: [(&str, &str); 8] = [
+    const ROWS: [(&str, &str); 9] = [
         (
             "--listen=ann=0",
             "imapd: bad command line\nimapd: --listen ann=0: NAME=PORT is wanted, PORT from 1 to 65535\n",
@@ -340,6 +344,10 @@ fn says_what_is_wrong(rt: HostRuntime) {
         (
             "--listen=-a=1",
             "imapd: bad command line\nimapd: --listen -a: this is no name of a user\n",
+        ),
+        (
+            "--dialect=rev3",
+            "imapd: bad command line\nimapd: --dialect rev3: rev1 or rev2 is wanted\n",
         ),
         (
             "--log=all",

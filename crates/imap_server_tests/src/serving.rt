@@ -32,7 +32,7 @@ pub(crate) fn ann(alloc: Global) -> Result<UserName, AllocError> {
 }
 
 /// ann's session of this number.
-fn session(alloc: Global, number: u32) -> Result<SessionId, AllocError> {
+pub(crate) fn session(alloc: Global, number: u32) -> Result<SessionId, AllocError> {
     let number = SessionNumber::new(number).ok_or(AllocError)?;
     Ok(SessionId {
         user: ann(alloc)?,

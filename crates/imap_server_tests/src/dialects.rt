@@ -1,0 +1,118 @@
+//! Sessions that are told in IMAP4rev1.
+
+use crate::connection::{Behaviour, OCTETS, Sink, Source, WHOLE};
+use crate::serving::{IDLE_TICKS, Standing, new_hall, session};
+use crate::wanted::expect;
+use imap_rev1::Rev1;
+use imap_script::DEFAULT_LIMITS;
+use imap_serve::{OpenGate, Watched, serve_in};
+use std::alloc::AllocError;
+use std::sync::Wait;
+
+/// What a new host tells ann's session over this text.
+fn told<W: Wait + AllocGlobal>(
+    rt: &W,
+    text: &[u8],
+    behaviour: Behaviour,
+) -> Result<Vec<u8>, AllocError> {
+    let alloc = rt.alloc();
+    let mut hall = new_hall(alloc)?;
+    let who = session(alloc, 1)?;
+    let mut input = Watched::new(Source::new(text, behaviour));
+    let mut output = Watched::new(Sink::new(alloc, behaviour));
+    let ended = serve_in(
+        rt,
+        alloc,
+        &mut hall,
+        &who,
+        &Standing,
+        &OpenGate,
+        &mut Rev1::new(),
+        DEFAULT_LIMITS.max_octets,
+        IDLE_TICKS,
+        &mut input,
+        &mut output,
+    );
+    drop(hall);
+    let Sink { taken, .. } = output.into_inner();
+    if ended.is_ok() {
+        Ok(taken)
+    } else {
+        Err(AllocError)
+    }
+}
+
+/// What a client sends, and all that it is told (RFC 3501, sections 6.1.1, 6.3.1, 6.3.9, 6.3.10, 6.4.1 and 6.4.4).
+const SENT: &[u8] = b"a1 CAPABILITY\r\n\
+a2 CHECK\r\n\
+a3 APPEND INBOX (\\Seen) {1+}\r\nx\r\n\
+a4 SELECT INBOX\r\n\
+a5 SEARCH SEEN\r\n\
+a6 uid search new\r\n\
+a7 SEARCH RETURN (COUNT) ALL\r\n\
+a8 LIST \"\" *\r\n\
+a9 LSUB \"\" *\r\n\
+b1 SUBSCRIBE INBOX\r\n\
+b2 LSUB \"\" *\r\n\
+b3 STATUS INBOX (MESSAGES RECENT UIDNEXT)\r\n\
+b4 check x\r\n\
+b5 ENABLE IMAP4rev2\r\n\
+b6 SEARCH SEEN\r\n\
+b7 CHECK\r\n\
+b8 SELECT INBOX\r\n\
+b9 LOGOUT\r\n";
+
+const TOLD: &[u8] =
+    b"* PREAUTH [CAPABILITY IMAP4rev1 IMAP4rev2 ACL RIGHTS=texk UIDPLUS MOVE UNSELECT NAMESPACE \
+ESEARCH LITERAL- CHILDREN LIST-EXTENDED LIST-STATUS CONDSTORE ENABLE IDLE QRESYNC] shared mailbox profile ready\r\n\
+* CAPABILITY IMAP4rev1 IMAP4rev2 ACL RIGHTS=texk UIDPLUS MOVE UNSELECT NAMESPACE ESEARCH LITERAL- CHILDREN \
+LIST-EXTENDED LIST-STATUS CONDSTORE ENABLE IDLE QRESYNC\r\n\
+a1 OK done\r\n\
+a2 OK done\r\n\
+a3 OK [APPENDUID 1 1] done\r\n\
+* FLAGS (\\Answered \\Deleted \\Draft \\Flagged \\Seen)\r\n\
+* 1 EXISTS\r\n\
+* 0 RECENT\r\n\
+* LIST (\\HasNoChildren) \"/\" INBOX\r\n\
+* OK [PERMANENTFLAGS (\\Answered \\Deleted \\Draft \\Flagged \\Seen \\*)] flags kept\r\n\
+* OK [UIDVALIDITY 1] validity\r\n\
+* OK [UIDNEXT 2] next\r\n\
+* OK [HIGHESTMODSEQ 3] highest\r\n\
+a4 OK [READ-WRITE] done\r\n\
+* SEARCH 1\r\n\
+a5 OK done\r\n\
+* SEARCH\r\n\
+a6 OK done\r\n\
+* ESEARCH (TAG \"a7\") COUNT 1\r\n\
+a7 OK done\r\n\
+* LIST (\\HasNoChildren) \"/\" INBOX\r\n\
+a8 OK done\r\n\
+a9 OK done\r\n\
+b1 OK done\r\n\
+* LSUB () \"/\" INBOX\r\n\
+b2 OK done\r\n\
+* STATUS INBOX (MESSAGES 1 RECENT 0 UIDNEXT 2)\r\n\
+b3 OK done\r\n\
+b4 BAD malformed command\r\n\
+* ENABLED IMAP4rev2\r\n\
+b5 OK done\r\n\
+* ESEARCH (TAG \"b6\") ALL 1\r\n\
+b6 OK done\r\n\
+b7 OK done\r\n\
+* OK [CLOSED] closed\r\n\
+* FLAGS (\\Answered \\Deleted \\Draft \\Flagged \\Seen)\r\n\
+* 1 EXISTS\r\n\
+* LIST (\\HasNoChildren) \"/\" INBOX\r\n\
+* OK [PERMANENTFLAGS (\\Answered \\Deleted \\Draft \\Flagged \\Seen \\*)] flags kept\r\n\
+* OK [UIDVALIDITY 1] validity\r\n\
+* OK [UIDNEXT 2] next\r\n\
+* OK [HIGHESTMODSEQ 3] highest\r\n\
+b8 OK [READ-WRITE] done\r\n\
+* BYE logging out\r\n\
+b9 OK done\r\n";
+
+#[test]
+fn clients_of_rev1_are_told(rt: HostRuntime) {
+    expect(&rt, told(&rt, SENT, WHOLE), TOLD);
+    expect(&rt, told(&rt, SENT, OCTETS), TOLD);
+}
