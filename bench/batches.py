@@ -8,7 +8,7 @@ the crates that it stands on; what these have in `out/` is used again. Each time
 its value included: the difference of a run that makes it many times and one that makes it never, the best of five.
 """
 
-from messages import CRATES, microseconds, run
+from messages import microseconds, run
 
 USES = "imap_batch imap_lex imap_mailbox imap_names imap_syntax"
 
@@ -22,4 +22,4 @@ def tell(program):
             print(f"| {size:,} | {many:,} | " + " | ".join(f"{one:.2f}" for one in took) + " |", flush=True)
 
 
-run(tell, "bench/batches.txt", f"{CRATES} imap_batch imap_names", USES)
+run(tell, "bench/batches.txt", USES)

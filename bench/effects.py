@@ -12,10 +12,9 @@ five. The octets of a copy are the difference of the most memory that a run had 
 import os
 import subprocess
 
-from messages import CRATES, microseconds, run
+from messages import microseconds, run
 
 USES = "imap_batch imap_lex imap_mailbox imap_names imap_rights imap_syntax imap_world"
-MORE = "imap_batch imap_name_map imap_names imap_rights imap_world"
 KINDS = ("add", "flag", "seen", "expunge", "two")
 SIZES = (200, 2_000, 20_000)
 
@@ -69,4 +68,4 @@ def tell(program):
         print()
 
 
-run(tell, "bench/effects.txt", f"{CRATES} {MORE}", USES)
+run(tell, "bench/effects.txt", USES)

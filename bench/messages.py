@@ -15,19 +15,30 @@ import sys
 import tempfile
 import time
 
-CRATES = "imap_lex imap_mailbox imap_modseq imap_nfc imap_syntax imap_text imap_user_map imap_values"
 USES = "imap_lex imap_mailbox imap_syntax imap_text"
 RUNS = 5
 
 
-def build(folder, text, crates, uses):
-    """Builds the program in the file `text` in the folder, beside copies of the crates, and returns its path."""
+def below(names):
+    """The lines of `crates.txt` of these crates of the repository, and of those on which they stand."""
     with open("crates.txt", encoding="utf-8") as file:
-        lines = file.read()
+        lines = {line.split(":")[0]: line for line in file if ":" in line and not line.startswith("#")}
+    found, left = {}, names.split()
+    while left:
+        name = left.pop()
+        if name in lines and name not in found:
+            found[name] = lines[name]
+            left += lines[name].split(":")[1].split()
+    return found
+
+
+def build(folder, text, uses):
+    """Builds the program in the file `text` in the folder, beside copies of the crates below, and returns its path."""
+    crates = below(uses)
     with open(f"{folder}/crates.txt", "w", encoding="utf-8") as file:
-        file.write("".join(line + "\n" for line in lines.splitlines() if line.split(":")[0] in crates.split()))
+        file.write("".join(crates.values()))
         file.write(f"imap_bench: {uses}\n")
-    for crate in crates.split():
+    for crate in crates:
         shutil.copytree(f"crates/{crate}", f"{folder}/crates/{crate}", dirs_exist_ok=True)
     os.makedirs(f"{folder}/crates/imap_bench/src", exist_ok=True)
     shutil.copy(text, f"{folder}/crates/imap_bench/src/main.rt")
@@ -63,15 +74,15 @@ def tell(program):
         print(f"| {size:,} | {microseconds(program, f'search {size}', 10_000_000 // size):.0f} |", flush=True)
 
 
-def run(tell, text, crates, uses):
+def run(tell, text, uses):
     """Builds the program in the folder that is named, or in one that is removed afterwards, and tells its times."""
     if len(sys.argv) > 1:
         os.makedirs(sys.argv[1], exist_ok=True)
-        tell(build(sys.argv[1], text, crates, uses))
+        tell(build(sys.argv[1], text, uses))
     else:
         with tempfile.TemporaryDirectory() as folder:
-            tell(build(folder, text, crates, uses))
+            tell(build(folder, text, uses))
 
 
 if __name__ == "__main__":
-    run(tell, "bench/messages.txt", CRATES, USES)
+    run(tell, "bench/messages.txt", USES)

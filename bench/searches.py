@@ -18,19 +18,6 @@ KEYS = {
 SIZES = (200, 2_000, 20_000)
 
 
-def below(names):
-    """The crates of the repository on which these stand, and they themselves."""
-    with open("crates.txt", encoding="utf-8") as file:
-        uses = dict(line.split(":", 1) for line in file if ":" in line and not line.startswith("#"))
-    found, left = [], names.split()
-    while left:
-        name = left.pop()
-        if name in uses and name not in found:
-            found.append(name)
-            left += uses[name].split()
-    return " ".join(found)
-
-
 def tell(program):
     print("| Key | " + " | ".join(f"{size:,} messages" for size in SIZES) + " |\n|---|" + "---|" * len(SIZES), flush=True)
     for key, words in KEYS.items():
@@ -39,4 +26,4 @@ def tell(program):
 
 
 if __name__ == "__main__":
-    run(tell, "bench/searches.txt", below(USES), USES)
+    run(tell, "bench/searches.txt", USES)

@@ -20,11 +20,9 @@ import tempfile
 import time
 
 import database
-from messages import CRATES, run
+from messages import run
 
 USES = "imap_batch imap_keeper imap_lex imap_mailbox imap_names imap_sql_keeper imap_syntax imap_world sqlite"
-MORE = "imap_batch imap_name_map imap_names imap_rights imap_world"
-STORE = "imap_keeper imap_message_tables imap_records imap_restore imap_sql_keeper imap_tables"
 PART = int(sys.argv[2]) if len(sys.argv) > 2 else 1
 SIZES = (200, 20_000, 100_000)
 MANY = 2_000
@@ -167,4 +165,4 @@ def tell(program):
 
 
 if __name__ == "__main__":
-    run(tell, "bench/store.txt", f"{CRATES} {MORE} {STORE}", USES)
+    run(tell, "bench/store.txt", USES)
