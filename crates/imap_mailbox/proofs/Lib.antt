@@ -24,6 +24,8 @@ pub mod Bounds
 pub mod Last
 pub mod LatestUids
 pub mod FirstAbove
+pub mod Recently
+pub mod FirstOf
 pub mod Sizes
 pub mod BroughtUp
 pub mod DecidedShown

@@ -14,6 +14,8 @@ pub mod Counted
 pub mod Held
 pub mod Lent
 pub mod Above
+pub mod Recent
+pub mod Looked
 pub mod Order
 pub mod Client
 pub mod Shown

@@ -27,6 +27,7 @@ use crate::message::{GoneMessage, Message, find_message, remove_message, set_mes
 use crate::own::{OwnSeen, SeenChange};
 use crate::own_lists::own_lists;
 use crate::parts::{MailboxParts, PartsError};
+use crate::recent_events::RecentEvents;
 use crate::restored::{check_messages, sort_by_place, sort_by_uid};
 use crate::rows::Rows;
 use imap_lex::Octets;
@@ -48,6 +49,8 @@ pub struct Mailbox {
     next: u32,
     shared: u64,
     own: UserMap<OwnSeen>,
+    // Contracts see no more of it than that rows are found by it.
+    recent: RecentEvents,
 }
 
 impl Model for Mailbox {
@@ -55,6 +58,7 @@ impl Model for Mailbox {
     ghost use Rattle.std.specs.Vec.{vec_capacity};
     ghost use Rattle.imap_mailbox.specs.Counted.{AreCounted};
     ghost use Rattle.imap_mailbox.specs.Held.{Held, held_code, summary_with, IsKept};
+    ghost use Rattle.imap_mailbox.specs.Recent.{AreNoted};
 
     ghost Value = { Held };
 
@@ -71,7 +75,7 @@ impl Model for Mailbox {
     } };
 
     ghost invariant = { λ m. IsKept (summary_with m.messages.items m.gone.items m.next m.shared m.own)
-        × AreCounted m.messages.items m.own };
+        × AreCounted m.messages.items m.own × AreNoted m.shared m.messages.items m.recent };
 }
 
 impl Mailbox {
@@ -85,6 +89,7 @@ impl Mailbox {
             next: 1,
             shared: 0,
             own: UserMap::new(alloc),
+            recent: RecentEvents::new(alloc, 0),
         }
     }
 
@@ -115,6 +120,7 @@ impl Mailbox {
             next,
             shared,
             own,
+            recent: RecentEvents::new(alloc, shared),
         })
     }
 
@@ -125,12 +131,14 @@ impl Mailbox {
         let messages = copy_messages(alloc, &self.messages)?;
         let gone = copy_items(alloc, &self.gone)?;
         let own = self.own.try_copy(alloc)?;
+        let recent = self.recent.try_copy(alloc)?;
         Ok(Mailbox {
             messages,
             gone,
             next: self.next,
             shared: self.shared,
             own,
+            recent,
         })
     }
 
@@ -162,6 +170,7 @@ impl Mailbox {
         ensures add_room { self.old.add_room ≤ self.new.add_room }
         ensures expunge_room { self.old.expunge_room ≤ self.new.expunge_room }
     {
+        self.recent.make_room()?;
         self.messages.reserve(added)?;
         self.gone.reserve(expunged)
     }
@@ -188,6 +197,7 @@ impl Mailbox {
             flags,
             place,
         });
+        self.recent.note(uid);
         self.next = uid + 1;
         self.shared = place + 1;
         uid
@@ -243,6 +253,7 @@ impl Mailbox {
         let next = push_gone(&mut self.gone, &self.messages, uids, place);
         let (_, gone) = self.gone.split_at(first);
         forget_gone(&mut self.own, gone);
+        self.recent.note_all(gone);
         remove_messages(&mut self.messages, &Rising { uids });
         self.shared = next;
     }
@@ -273,6 +284,7 @@ impl Mailbox {
     {
         let place = self.shared;
         set_message_flags(&mut self.messages, uid, flags, place);
+        self.recent.note(uid);
         self.shared = place + 1;
     }
 
@@ -291,6 +303,7 @@ impl Mailbox {
         remove_message(&mut self.messages, uid);
         self.gone.push_reserved(gone);
         forget_gone(&mut self.own, &[gone]);
+        self.recent.note(uid);
         self.shared = place + 1;
     }
 
@@ -444,6 +457,7 @@ impl Mailbox {
         Rows {
             messages: &self.messages,
             own: self.own.get(user),
+            recent: &self.recent,
         }
     }
 

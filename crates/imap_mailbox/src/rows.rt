@@ -1,6 +1,6 @@
 //! The messages of a mailbox as a user has them.
 
-ghost use Rattle.std.specs.Prelude.{◌≡◌, ◌<◌, ◌≤◌, length, min, nat_lt, slice_index_or};
+ghost use Rattle.std.specs.Prelude.{◌≡◌, ◌<◌, ◌≤◌, length, min, nat_lt, slice_index_or, IfSome};
 ghost use Rattle.std.specs.List.{prefix_len};
 ghost use Rattle.imap_mailbox.specs.Rows as specs;
 ghost use Rattle.imap_mailbox.specs.Above.{IsFirstAbove};
@@ -9,17 +9,24 @@ ghost use Rattle.imap_mailbox.specs.Status.{deleted_in, unseen_in, size_in, max_
 
 use crate::above::{first_own_above, first_plain_above};
 use crate::flags::SharedFlags;
+use crate::last_events::{first_of_changes, first_of_uids, last_own_uids, last_uids};
+use crate::late::last_changes;
 use crate::message::{Message, count_lower, find_message};
 use crate::own::OwnSeen;
+use crate::recent_events::RecentEvents;
 use crate::row::{Near, Row, own_is_above, own_row, own_row_near, plain_row};
 use crate::status::{count_deleted, sum_sizes};
 use std::marker::Model;
+
+/// A walk of fewer messages is quicker than a look at those of last events.
+const FEW_MESSAGES: usize = 256;
 
 /// The messages of a mailbox as a user has them, in the order of UIDs. They are lent from the mailbox.
 #[derive(Drop)]
 pub struct Rows<'a> {
     pub(crate) messages: &'a Vec<Message>,
     pub(crate) own: Option<&'a OwnSeen>,
+    pub(crate) recent: &'a RecentEvents,
 }
 
 impl<'a> Model for Rows<'a> {
@@ -30,6 +37,7 @@ impl<'a> Model for Rows<'a> {
     ghost use Rattle.std.specs.Prelude.{option_copied};
     ghost use Rattle.imap_mailbox.specs.Counted.{IsCounted};
     ghost use Rattle.imap_mailbox.specs.Lent.{row_code, own_lent, IsLent};
+    ghost use Rattle.imap_mailbox.specs.Recent.{AreRecent};
 
     ghost Value = { List Row };
 
@@ -38,7 +46,8 @@ impl<'a> Model for Rows<'a> {
     ghost view = { λ r. map (row_in (own_lent r.own)) r.messages.now.items };
 
     ghost invariant = { λ r. IsLent r.messages.now.items (own_lent r.own)
-        × IsCounted r.messages.now.items (option_copied r.own) };
+        × IsCounted r.messages.now.items (option_copied r.own)
+        × AreRecent r.recent.now r.messages.now.items };
 }
 
 impl<'a> Rows<'a> {
@@ -111,9 +120,45 @@ impl<'a> Rows<'a> {
         requires within { end ≤ length self.now }
         ensures { IsFirstAbove number start end result self.now }
     {
+        if end - start < FEW_MESSAGES {
+            return self.first_by_walk(start, end, number);
+        }
+        match self.first_by_events(start, end, number) {
+            Some(place) => place,
+            None => self.first_by_walk(start, end, number),
+        }
+    }
+
+    /// The same, by a look at each message.
+    fn first_by_walk(&self, start: usize, end: usize, number: u64) -> usize
+        requires order { start ≤ end }
+        requires within { end ≤ length self.now }
+        ensures { IsFirstAbove number start end result self.now }
+    {
         match self.own {
             Some(own) => first_own_above(self.messages, own, start, end, number),
             None => first_plain_above(self.messages, start, end, number),
+        }
+    }
+
+    /// The same, by a look at the messages of last events. `None` if too many of these may be above `number`,
+    /// or if some of them were forgotten.
+    fn first_by_events(&self, start: usize, end: usize, number: u64) -> Option<usize>
+        requires order { start ≤ end }
+        requires within { end ≤ length self.now }
+        ensures { IfSome result (λ place. IsFirstAbove number start end place self.now) }
+    {
+        match self.own {
+            Some(own) => {
+                let changes = last_changes(own.as_slice(), number)?;
+                let uids = last_own_uids(self.recent, own, number)?;
+                let first = first_of_uids(self, uids, start, end, number);
+                Some(first_of_changes(self, changes, start, first, number))
+            }
+            None => {
+                let uids = last_uids(self.recent, number)?;
+                Some(first_of_uids(self, uids, start, end, number))
+            }
         }
     }
 

@@ -8,6 +8,8 @@ use Rattle.imap_mailbox.specs.Held.{Held, summary_with, IsKept}
 use Rattle.imap_mailbox.specs.Calls.{arrival}
 use Rattle.imap_mailbox.proofs.AllCounted.{new_counted}
 use Rattle.imap_mailbox.proofs.Keeping.{kept_step}
+use Rattle.imap_mailbox.proofs.Recently.{added_noted}
+use Rattle.imap_mailbox.specs.Recent.{AreNoted}
 use Rattle.imap_mailbox.proofs.mailbox.Mailbox.add_reserved.Goals as goal
 
 pub invariant_of-self : goal.invariant_of-self
@@ -19,4 +21,9 @@ invariant_of-self c =
           (kept_step (Added (arrival c.self.inside.next c.args.date c.args.octets c.args.flags)) (summary_with c.self.inside.messages.items c.self.inside.gone.items c.self.inside.next c.self.inside.shared c.self.inside.own) refl tt c.requires.keywords few kept),
       subst (λ messages. AreCounted messages c.self.inside.own) (sym c.push_reserved.ensures.items)
           (new_counted c.self.inside.own c.self.inside.next c.self.inside.shared c.self.inside.messages.items message kept.sound.fits (omega arith) c.self.invariant.1),
+      subst (λ messages. AreNoted (c.self.inside.shared + 1) messages c.note.new.self) (sym c.push_reserved.ensures.items)
+          (added_noted c.self.inside.recent c.note.new.self c.self.inside.next c.note.ensures c.self.inside.shared message c.self.inside.messages.items refl refl c.self.invariant.2),
     )
+
+pub note-requires : goal.note-requires
+note-requires c = subst (λ n. n < max_events) (sym c.self.invariant.2.ends) (subst (λ (h : Held). h.shared < max_events) (sym c.self.view_is) c.requires.few)

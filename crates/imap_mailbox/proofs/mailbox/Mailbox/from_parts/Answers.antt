@@ -6,6 +6,7 @@ use Rattle.imap_mailbox.specs.Restored.{AreMessages, Checks, FitAll}
 use Rattle.imap_mailbox.specs.Counted.{AreCounted}
 use Rattle.imap_mailbox.specs.Summary.{AreRising, uids_in}
 use Rattle.imap_mailbox.proofs.FromParts.{rising_of, kept_of, bad_messages, bad_own, asked_moved, passed}
+use Rattle.imap_mailbox.proofs.Recently.{nothing_noted}
 use Rattle.imap_mailbox.proofs.mailbox.Mailbox.from_parts.Goals as goal
 
 pub returns-in_err-check_messages : goal.returns-in_err-check_messages
@@ -27,11 +28,13 @@ invariant_of-result c =
     let parts = c.args.parts in
     let asked : AreMessages parts.next parts.shared parts.messages.items parts.gone.items =
     subst (λ (ms : List Message). AreMessages parts.next parts.shared ms parts.gone.items) c.deref.ensures.value
-    (subst (λ (gs : List GoneMessage). AreMessages parts.next parts.shared c.deref.result.now gs) c.deref-2.ensures.value c.in_ok-check_messages.ensures) in (
-      kept_of parts.next parts.shared c.sort_by_uid.new.messages.items c.sort_by_place.new.gone.items c.count_all.new.own c.sort_by_uid.ensures.sorted c.sort_by_place.ensures.sorted
-          (asked_moved parts.next parts.shared parts.messages.items c.sort_by_uid.new.messages.items parts.gone.items c.sort_by_place.new.gone.items c.sort_by_uid.ensures.same c.sort_by_place.ensures.same asked)
-          (subst (FitAll parts.next parts.shared) (sym c.count_all.ensures.lists) c.in_ok-own.ensures.1),
+    (subst (λ (gs : List GoneMessage). AreMessages parts.next parts.shared c.deref.result.now gs) c.deref-2.ensures.value c.in_ok-check_messages.ensures) in
+    let kept = kept_of parts.next parts.shared c.sort_by_uid.new.messages.items c.sort_by_place.new.gone.items c.count_all.new.own c.sort_by_uid.ensures.sorted c.sort_by_place.ensures.sorted
+    (asked_moved parts.next parts.shared parts.messages.items c.sort_by_uid.new.messages.items parts.gone.items c.sort_by_place.new.gone.items c.sort_by_uid.ensures.same c.sort_by_place.ensures.same asked)
+    (subst (FitAll parts.next parts.shared) (sym c.count_all.ensures.lists) c.in_ok-own.ensures.1) in (
+      kept,
       subst (λ (ms : List Message). AreCounted ms c.count_all.new.own) c.deref-3.ensures.value c.count_all.ensures.counted,
+      nothing_noted parts.shared c.sort_by_uid.new.messages.items c.new.result c.new.ensures kept.sound.place,
     )
 
 pub count_all-requires : goal.count_all-requires

@@ -6,6 +6,8 @@ use Rattle.imap_mailbox.specs.Summary.{uids_in}
 use Rattle.imap_mailbox.proofs.AllCounted.{same_counted}
 use Rattle.imap_mailbox.proofs.Fitting.{put_uid}
 use Rattle.imap_mailbox.proofs.Keeping.{kept_step}
+use Rattle.imap_mailbox.proofs.Recently.{set_noted}
+use Rattle.imap_mailbox.specs.Recent.{AreNoted}
 use Rattle.imap_mailbox.proofs.mailbox.Mailbox.put_flags.Goals as goal
 
 pub invariant_of-self : goal.invariant_of-self
@@ -15,4 +17,9 @@ invariant_of-self c =
           (kept_step (FlagsSet c.args.uid c.args.flags) (summary_with c.self.inside.messages.items c.self.inside.gone.items c.self.inside.next c.self.inside.shared c.self.inside.own) tt tt c.requires.keywords few c.self.invariant.0),
       same_counted c.self.inside.own c.self.inside.messages.items c.set_message_flags.new.messages.items
           (ap uids_in c.set_message_flags.ensures.items ∙ put_uid c.args.uid c.args.flags c.self.inside.shared c.self.inside.messages.items) c.self.invariant.1,
+      subst (λ messages. AreNoted (c.self.inside.shared + 1) messages c.note.new.self) (sym c.set_message_flags.ensures.items)
+          (set_noted c.self.inside.recent c.note.new.self c.args.uid c.note.ensures c.self.inside.shared c.args.flags c.self.inside.messages.items c.self.invariant.2),
     )
+
+pub note-requires : goal.note-requires
+note-requires c = subst (λ n. n < max_events) (sym c.self.invariant.2.ends) (subst (λ (h : Held). h.shared < max_events) (sym c.self.view_is) c.requires.few)

@@ -18,4 +18,5 @@ invariant_of-self c =
       subst IsKept (λ i. record { messages = c.self.inside.messages.items; gone = c.self.inside.gone.items; next = c.self.inside.next; shared = c.self.inside.shared; own = sym c.mark_own.ensures.lists i })
           (kept_marked c.args.user.now c.args.uid c.args.seen s known few c.self.invariant.0),
       c.mark_own.ensures.counted c.self.inside.messages.items (1, c.self.inside.next, uids) there c.self.invariant.1,
+      c.self.invariant.2,
     )

@@ -9,6 +9,8 @@ use Rattle.imap_mailbox.specs.Held.{Held, summary_in, summary_with, IsKept}
 use Rattle.imap_mailbox.proofs.AllCounted.{gone_counted}
 use Rattle.imap_mailbox.proofs.SeenCounts.{seen_without}
 use Rattle.imap_mailbox.proofs.Keeping.{kept_step}
+use Rattle.imap_mailbox.proofs.Recently.{kept_message, left_noted, one_more}
+use Rattle.imap_mailbox.specs.Recent.{AreNoted}
 use Rattle.imap_mailbox.proofs.mailbox.Mailbox.remove.Goals as goal
 
 pub invariant_of-self : goal.invariant_of-self
@@ -21,4 +23,10 @@ invariant_of-self c =
       subst IsKept (λ i. record { messages = sym c.remove_message.ensures.items i; gone = sym c.push_reserved.ensures.items i; next = c.self.inside.next; shared = c.self.inside.shared + 1; own = sym c.forget_gone.ensures.lists i })
           (kept_step (Expunged c.args.uid) (summary_with c.self.inside.messages.items c.self.inside.gone.items c.self.inside.next c.self.inside.shared c.self.inside.own) tt there tt few c.self.invariant.0),
       gone_counted c.self.inside.own c.forget_gone.new.own (c.args.uid ∷ []) c.forget_gone.ensures.counts messages c.remove_message.new.messages.items fewer c.self.invariant.1,
+      subst (λ messages. AreNoted (c.self.inside.shared + 1) messages c.note.new.self) (sym c.remove_message.ensures.items)
+          (left_noted c.self.inside.recent c.note.new.self c.self.inside.shared 1 _ messages (one_more c.self.inside.recent c.note.new.self c.args.uid c.note.ensures)
+          (kept_message c.self.inside.recent c.note.new.self c.args.uid c.note.ensures) c.self.invariant.2),
     )
+
+pub note-requires : goal.note-requires
+note-requires c = subst (λ n. n < max_events) (sym c.self.invariant.2.ends) (subst (λ (h : Held). h.shared < max_events) (sym c.self.view_is) c.requires.few)
