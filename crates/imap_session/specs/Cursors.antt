@@ -20,10 +20,11 @@ pub record IsKnownRun (n : ℕ) (known : List KnownMessage) (rows : List Row) : 
   pub few : n ≤ length known
   pub same : take n known ≡ map told_of (take n rows)
 
--- the known messages have the UIDs of the first rows
-pub record AreFirst (known : List KnownMessage) (rows : List Row) : Type 0 where
-  pub few : length known ≤ length rows
-  pub same : (i : ℕ) (k : KnownMessage) (r : Row) → i < length known
+-- the first n known messages have the UIDs of the first n rows
+pub record AreFirst (n : ℕ) (known : List KnownMessage) (rows : List Row) : Type 0 where
+  pub few : n ≤ length known
+  pub there : n ≤ length rows
+  pub same : (i : ℕ) (k : KnownMessage) (r : Row) → i < n
       → (slice_index_or known i k).uid ≡ (slice_index_or rows i r).uid
 
 -- the mod-sequences of the first n rows aren't above the number

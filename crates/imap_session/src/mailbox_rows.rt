@@ -1,6 +1,6 @@
 //! The messages that are there.
 
-ghost use Rattle.std.specs.Prelude.{◌≡◌, ◌≢◌, ◌+◌, ◌-◌, ◌<◌, ◌≤◌, ℕ, drop, length, None, IfSome};
+ghost use Rattle.std.specs.Prelude.{◌≡◌, ◌+◌, ◌^◌, ◌<◌, ◌≤◌, ℕ, drop, length, IsTrue};
 ghost use Rattle.imap_mailbox.specs.Brought.{Agree};
 ghost use Rattle.imap_session.specs.Cursors.{AreFirst};
 
@@ -39,26 +39,41 @@ impl<'a> MailboxRows<'a> {
     }
 }
 
-/// The place after the known messages from `place` on, if they are all there, one after another from the row
-/// at `start` on. They are if the last of them stands where it would then, as each row before it is known.
-fn end_if_there(rows: &Rows<'_>, start: usize, known: &KnownList, place: usize) -> Option<usize>
-    ensures end { IfSome result (λ end. (end ≡ start + (length known.now.list - place)) × (start < end)
-        × (end ≤ length rows.now)) }
-    ensures there { result ≢ None → (number : ℕ)
+/// Whether the next `len` known messages, from `place` on, are the rows from `start` on. They are if the last of them
+/// stands where it would then, as each row before it is known.
+fn are_there(rows: &Rows<'_>, start: usize, known: &KnownList, place: usize, len: usize) -> bool
+    requires some { 0 < len }
+    requires few { place + len ≤ length known.now.list }
+    requires fits { place + len < 2 ^ 64 }
+    ensures within { IsTrue result → start + len ≤ length rows.now }
+    ensures there { IsTrue result → (number : ℕ)
         → Agree number (drop place known.now.list) (drop start rows.now)
-        → AreFirst (drop place known.now.list) (drop start rows.now) }
+        → AreFirst len (drop place known.now.list) (drop start rows.now) }
 {
-    let count = known.len().saturating_sub(place);
-    if count == 0 || rows.len().saturating_sub(start) < count {
-        return None;
+    if rows.len().saturating_sub(start) < len {
+        return false;
     }
-    let last = known.get(known.len() - 1).uid;
-    let end = start + count;
-    if last == rows.uid(end - 1) && rows.place_from(last) == end - 1 {
-        Some(end)
-    } else {
-        None
+    let last = known.get(place + len - 1).uid;
+    let end = start + len - 1;
+    last == rows.uid(end) && rows.place_from(last) == end
+}
+
+/// The number of known messages, from `place` on, that are found to be the rows from `start` on: all that are left, or
+/// a half of them, or a half of that, down to none.
+fn len_there(rows: &Rows<'_>, start: usize, known: &KnownList, place: usize) -> usize
+    ensures within { 0 < result → start + result ≤ length rows.now }
+    ensures there { (number : ℕ)
+        → Agree number (drop place known.now.list) (drop start rows.now)
+        → AreFirst result (drop place known.now.list) (drop start rows.now) }
+{
+    let mut len = known.len().saturating_sub(place);
+    while len > 0 {
+        if are_there(rows, start, known, place, len) {
+            return len;
+        }
+        len /= 2;
     }
+    0
 }
 
 impl<'a> RowCursor for MailboxRows<'a> {
@@ -83,21 +98,19 @@ impl<'a> RowCursor for MailboxRows<'a> {
         true
     }
 
-    /// Looks at one message after another, up to the first that changed or is gone. If none is gone, it looks
-    /// at their mod-sequences alone.
+    /// Looks at the mod-sequences of known messages that are there, up to the first that changed. Of all known messages,
+    /// if they are there; else of half of them, or fewer.
     fn skip_known(&mut self, known: &KnownList, place: usize, number: u64) -> usize {
-        if let Some(end) = end_if_there(self.rows, self.place, known, place) {
-            let next = self.rows.skip_unchanged(self.place, end, number);
-            let run = next - self.place;
-            self.place = next;
-            return run;
+        let len = len_there(self.rows, self.place, known, place);
+        if len == 0 {
+            return 0;
         }
-        for at in place..known.len() {
-            if !self.skip_unchanged(known.get(at).uid, number) {
-                return at - place;
-            }
-        }
-        known.len().saturating_sub(place)
+        let next = self
+            .rows
+            .skip_unchanged(self.place, self.place.saturating_add(len), number);
+        let run = next - self.place;
+        self.place = next;
+        run
     }
 
     fn message(&self, alloc: Global) -> Result<KnownMessage, AllocError> {
