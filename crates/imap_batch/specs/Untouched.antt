@@ -1,6 +1,7 @@
 -- Rows that a batch leaves as they are, one after another.
-use Rattle.std.specs.Prelude.{◌≡◌, ℕ, ◌-◌, ◌<◌, ◌≤◌, List, [], ◌∷◌, length, take, drop, Some}
-use Rattle.imap_mailbox.specs.Rows.{Row}
+use Rattle.std.specs.Prelude.{◌≡◌, ℕ, ◌-◌, ◌<◌, ◌≤◌, false, List, [], ◌∷◌, length, take, drop, slice_index_or}
+use Rattle.std.specs.Prelude.{Option, Some, None}
+use Rattle.imap_mailbox.specs.Rows.{Row, is_among}
 use Rattle.imap_mailbox.specs.Order.{AreAtMost}
 use Rattle.imap_batch.specs.declared.batch.FlagUpdate.{FlagUpdate}
 use Rattle.imap_batch.specs.Planned.{first_uid}
@@ -17,3 +18,15 @@ pub record IsRunTo (number uid len : ℕ) (rows : List Row) : Type 0 where
 abbrev pub IsBeforeMarks : (uid : ℕ) → List FlagUpdate → Type 0
 IsBeforeMarks uid [] = Unit {0}
 IsBeforeMarks uid (k ∷ marks) = uid < k.uid
+
+-- the UID is less than this one, if there is one
+abbrev pub IsBefore : (uid : ℕ) → Option ℕ → Type 0
+IsBefore uid None = Unit {0}
+IsBefore uid (Some first) = uid < first
+
+-- the rows from `place` on and before `end` come before all marks, and none is expunged
+pub record AreLeft (marks : List FlagUpdate) (uids : List ℕ) (place end : ℕ) (rows : List Row) : Type 0 where
+  pub unmarked : (i : ℕ) (r : Row) → place ≤ i → i < end → r ≡ slice_index_or rows i r
+      → IsBeforeMarks r.uid marks
+  pub staying : (i : ℕ) (r : Row) → place ≤ i → i < end → r ≡ slice_index_or rows i r
+      → is_among r.uid uids ≡ false

@@ -7,7 +7,7 @@ ghost use Rattle.imap_mailbox.specs.Rows as specs;
 ghost use Rattle.imap_batch.specs.Batch.{one_if};
 ghost use Rattle.imap_batch.specs.Planned.{own_after, row_with_flags, row_with_seen, row_marked};
 ghost use Rattle.imap_batch.specs.Planned.{marked_by, with_first, CanMark};
-ghost use Rattle.imap_batch.specs.Untouched.{IsBeforeMarks};
+ghost use Rattle.imap_batch.specs.Untouched.{IsBefore, IsBeforeMarks};
 
 use crate::batch::FlagUpdate;
 use imap_mailbox::{Row, SharedFlags};
@@ -150,13 +150,13 @@ pub(crate) fn is_marked(uid: u32, marks: &MarksLeft) -> bool
     }
 }
 
-/// Whether the first of the marks is of a greater UID, if there is one.
-pub(crate) fn is_before_marks(uid: u32, marks: &MarksLeft<'_>) -> bool
-    ensures { result ≡ true → IsBeforeMarks uid marks.now.marks.now }
+/// Returns the UID of the first of the marks, if there is one.
+pub(crate) fn first_mark(marks: &MarksLeft<'_>) -> Option<u32>
+    ensures { (uid : ℕ) → IsBefore uid result → IsBeforeMarks uid marks.now.marks.now }
 {
     match marks.marks.first() {
-        Some(mark) => uid < mark.uid,
-        None => true,
+        Some(mark) => Some(mark.uid),
+        None => None,
     }
 }
 

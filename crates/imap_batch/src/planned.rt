@@ -1,20 +1,20 @@
 //! The messages of a mailbox as a batch will leave them, before it is written.
 
-ghost use Rattle.std.specs.Prelude.{◌≡◌, ◌<◌, ◌≤◌, ◌+◌, [], ◌∷◌, List, drop, length, nat_lt, true, false};
-ghost use Rattle.std.specs.Prelude.{MatchOption};
+ghost use Rattle.std.specs.Prelude.{◌≡◌, ◌<◌, ◌≤◌, ◌+◌, ℕ, [], ◌∷◌, List, drop, length, nat_lt, true, false};
+ghost use Rattle.std.specs.Prelude.{MatchOption, slice_index_or};
 ghost use Rattle.imap_modseq.specs.Numbers.{max_events};
 ghost use Rattle.imap_mailbox.specs.Held.{summary_in};
-ghost use Rattle.imap_mailbox.specs.Lent.{row_shown};
+ghost use Rattle.imap_mailbox.specs.Lent.{row_shown, row_uids};
 ghost use Rattle.imap_mailbox.specs.Rows as specs;
 ghost use Rattle.imap_mailbox.specs.Rows.{is_among};
 ghost use Rattle.imap_mailbox.specs.Summary.{AreRising, rows_of};
 ghost use Rattle.imap_batch.specs.Written.{with_batch, MayWrite};
 ghost use Rattle.imap_batch.specs.Planned.{own_after_all, rows_left, marked_by, first_uid, StartsLeft, CanMark};
-ghost use Rattle.imap_batch.specs.Untouched.{IsRunTo};
+ghost use Rattle.imap_batch.specs.Untouched.{AreLeft, IsBefore, IsRunTo};
 
 use crate::added_left::{AddedLeft, next_added};
 use crate::batch::NewMessage;
-use crate::marks_left::{MarksLeft, is_before_marks, is_marked, marks_after, with_first};
+use crate::marks_left::{MarksLeft, first_mark, is_marked, marks_after, with_first};
 use crate::write::BatchWrite;
 use crate::writing::added_seen_count;
 use imap_mailbox::{Mailbox, Row, Rows};
@@ -148,54 +148,100 @@ impl<'a> Planned<'a> {
     }
 
     /// Returns how many of the next messages [`skip_untouched`](Planned::skip_untouched) may skip: those before the
-    /// first that is marked, if the batch expunges none and no message had a mod-sequence above `number`. It takes
-    /// one search that halves.
+    /// first that is marked, expunged or has a mod-sequence above `number`. It takes no walk, if
+    /// [`Rows::skip_unchanged`](imap_mailbox::Rows::skip_unchanged) takes none.
     pub fn untouched_len(&self, number: u64) -> usize
         ensures { result ≤ length self.now }
     {
-        if number < self.highest || !self.expunged.is_empty() || self.place >= self.rows.len() {
+        if self.place >= self.rows.len() {
             return 0;
         }
-        match self.marks.marks.first() {
-            Some(mark) => rows_before(&self.rows, self.place, mark.uid),
-            None => self.rows.len() - self.place,
+        let end = untouched_end(&self.rows, self.place, &self.marks, self.expunged);
+        if number >= self.highest {
+            return end - self.place;
         }
+        self.rows.skip_unchanged(self.place, end, number) - self.place
     }
 
     /// Moves past the next `len` messages if the batch leaves them as they are, none has a mod-sequence above
-    /// `number`, and the last has the UID `last`. Returns whether it did. It looks at the last of them alone, and
-    /// moves past none if the batch expunges any message or if any message had a mod-sequence above `number`.
+    /// `number`, and the last has the UID `last`. Returns whether it did.
     pub fn skip_untouched(&mut self, len: usize, last: u32, number: u64) -> bool
         ensures run { result ≡ true → IsRunTo number last len self.old }
         ensures skipped { result ≡ true → self.new ≡ drop len self.old }
         ensures same { result ≡ false → self.new ≡ self.old }
     {
-        if len == 0 || number < self.highest || !self.expunged.is_empty() {
-            return false;
-        }
         let left = self.rows.len().saturating_sub(self.place);
-        if left < len {
+        if len == 0 || left < len {
             return false;
         }
-        let place = self.place + len - 1;
-        let uid = self.rows.uid(place);
-        if uid != last || !is_before_marks(uid, &self.marks) {
+        let end = self.place + len;
+        if self.rows.uid(end - 1) != last {
             return false;
         }
-        self.place = place + 1;
+        if untouched_end(&self.rows, self.place, &self.marks, self.expunged) < end {
+            return false;
+        }
+        if self.rows.skip_unchanged(self.place, end, number) < end {
+            return false;
+        }
+        let (place, marks) = first_left(&self.rows, end, &self.marks, self.expunged);
+        self.place = place;
+        self.marks = marks;
         true
     }
 }
 
-/// Returns the number of rows from `place` on before the UID.
-fn rows_before(rows: &Rows<'_>, place: usize, uid: u32) -> usize
-    requires { place < length rows.now }
-    ensures { place + result ≤ length rows.now }
+/// Returns the place of the first row from `place` on that is marked or expunged, or the number of rows. It takes
+/// searches that halve.
+fn untouched_end(rows: &Rows<'_>, place: usize, marks: &MarksLeft<'_>, expunged: &[u32]) -> usize
+    requires place { place < length rows.now }
+    requires rising { AreRising (row_uids rows.now) }
+    requires expunged { AreRising expunged.now }
+    ensures after { place ≤ result }
+    ensures within { result ≤ length rows.now }
+    ensures left { AreLeft marks.now.marks.now expunged.now place result rows.now }
 {
-    if rows.uid(place) == uid {
-        return 0;
+    let uid = rows.uid(place);
+    if is_marked(uid, marks) {
+        return place;
     }
-    rows.place_from(uid).saturating_sub(place)
+    let marked = end_before(rows, place, first_mark(marks));
+    let gone = end_before(rows, place, first_from(expunged, uid));
+    if marked < gone { marked } else { gone }
+}
+
+/// Returns the place of the first row from `place` on that has the UID or a greater one, or the number of rows.
+fn end_before(rows: &Rows<'_>, place: usize, uid: Option<u32>) -> usize
+    requires { place < length rows.now }
+    ensures after { place ≤ result }
+    ensures within { result ≤ length rows.now }
+    ensures below { (i : ℕ) (row : specs.Row) → place ≤ i → i < result → row ≡ slice_index_or rows.now i row
+        → IsBefore row.uid uid }
+{
+    match uid {
+        Some(uid) => {
+            let end = rows.place_from(uid);
+            if end < place { place } else { end }
+        }
+        None => rows.len(),
+    }
+}
+
+/// Returns the first of the UIDs that is `low` or more, by a search that halves.
+fn first_from(uids: &[u32], low: u32) -> Option<u32>
+    requires { AreRising uids.now }
+    ensures { (uid : ℕ) → low ≤ uid → IsBefore uid result → is_among uid uids.now ≡ false }
+{
+    match uids.binary_search(&low) {
+        Ok(_) => Some(low),
+        Err(place) => {
+            if place < uids.len() {
+                Some(uids[place])
+            } else {
+                None
+            }
+        }
+    }
 }
 
 /// Returns the number of own changes after all messages were added.
