@@ -19,10 +19,10 @@ use imap_syntax::DateTime;
 pub struct Row<'a> {
     pub uid: u32,
     pub date: DateTime,
+    /// The user's own `\Seen`; after the date's last octets, so that a row has no gap to fill.
+    pub seen: bool,
     pub octets: &'a Octets,
     pub flags: &'a SharedFlags,
-    /// The user's own `\Seen`.
-    pub seen: bool,
     /// The mod-sequence (RFC 7162, section 3.1).
     pub number: u64,
 }

@@ -240,7 +240,7 @@ fn messages_that_a_batch_leaves_are_skipped_at_once(rt: HostRuntime) {
     let runs = runs_beside_a_mark(rt.alloc(), &mut mailbox);
     drop(mailbox);
     const WANTED: Runs = Runs {
-        lens: [2, 0],
+        lens: [2, 2],
         skipped: [false, true],
         next: Some(3),
         marked: false,
