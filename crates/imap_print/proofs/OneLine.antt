@@ -39,7 +39,7 @@ use Rattle.imap_print.specs.Words.{before_each, joined, given, given_by}
 use Rattle.imap_print.specs.Strings.{name_text}
 use Rattle.imap_print.specs.Sets.{Range, runs, range_text, set_text}
 use Rattle.imap_print.specs.Flags.{system_flags, flag_words, flags_text, permanent_text, every_system_flag}
-use Rattle.imap_print.specs.Fetched.{section_text, origin_text, body_text, fetched_words, fetched_text}
+use Rattle.imap_print.specs.Fetched.{section_text, origin_text, body_text, item_words, fetched_words, fetched_text}
 use Rattle.imap_print.specs.Mailboxes.{children_words, attributes_text, value_text, values_text, entry_text, grantable_text}
 use Rattle.imap_print.specs.Printed.{farewell_text, refusal_text, tag_text, copied_text, code_text, done_text, enabled_words, earlier_text, results_words, line_text, printed}
 use Rattle.imap_print.specs.Lines.{IsPlain, IsHeld, section_names, flags_keywords, given_tag, texts, literals, EachIsOneLine, AllAreRead}
@@ -48,7 +48,7 @@ use Rattle.imap_syntax.proofs.Writing.{both_true}
 
 -- ---- numbers and sets
 
-number_settles : (n : ℕ) → Settles (decimal n)
+pub number_settles : (n : ℕ) → Settles (decimal n)
 number_settles n = quiet_settles (quiet_decimal n)
 
 range_by : (range : Range) (b : Bool) → Quiet (cond b (decimal range.first) (decimal range.first ++ codes ":" ++ decimal range.last))
@@ -177,7 +177,7 @@ names_settle : (names : List (List ℕ)) → AllByRecursion IsPlain names → Al
 names_settle [] h = tt
 names_settle (name ∷ names) h = (name_settles name h.0, names_settle names h.1)
 
-section_settles : (s : Section) → AllByRecursion IsPlain (section_names s) → Settles (section_text s)
+pub section_settles : (s : Section) → AllByRecursion IsPlain (section_names s) → Settles (section_text s)
 section_settles section.Whole h = settled _ refl
 section_settles section.Header h = settled _ refl
 section_settles section.Text h = settled _ refl
@@ -188,7 +188,7 @@ origin_settles : (origin : Option ℕ) → Settles (origin_text origin)
 origin_settles None = settled _ refl
 origin_settles (Some n) = settles-append (settles-append (settled (codes "<") refl) (number_settles n)) (settled (codes ">") refl)
 
-body_settles : (body : FetchedSection) → AllByRecursion IsPlain (section_names body.section) → IsHeld (concat body.octets) → Settles (body_text body)
+pub body_settles : (body : FetchedSection) → AllByRecursion IsPlain (section_names body.section) → IsHeld (concat body.octets) → Settles (body_text body)
 body_settles body h held =
     settles-append
     (settles-append (settles-append (settles-append (settles-append (settled (codes "BODY[") refl) (section_settles body.section h)) (settled (codes "]") refl)) (origin_settles body.origin)) (settled (codes " ") refl))
@@ -198,7 +198,7 @@ parted : {A : Type 0} (P : A → Type 0) (xs ys : List A) → AllByRecursion P (
 parted P [] ys h = (tt, h)
 parted P (x ∷ xs) ys h = let more = parted P xs ys h.1 in ((h.0, more.0), more.1)
 
-bodies_settle : (bodies : List FetchedSection) → AllByRecursion IsPlain (flat_map (λ body. section_names body.section) bodies) → AllByRecursion IsHeld (map (λ body. concat body.octets) bodies) → AllSettle (map body_text bodies)
+pub bodies_settle : (bodies : List FetchedSection) → AllByRecursion IsPlain (flat_map (λ body. section_names body.section) bodies) → AllByRecursion IsHeld (map (λ body. concat body.octets) bodies) → AllSettle (map body_text bodies)
 bodies_settle [] h held = tt
 bodies_settle (body ∷ bodies) h held =
     let names = parted IsPlain (section_names body.section) (flat_map (λ b. section_names b.section) bodies) h in
@@ -274,20 +274,21 @@ named_settles name s o = given_by_settles (λ n. name ++ decimal n) (λ n. settl
 mod_seq_settles : (o : Option ℕ) → AllSettle (given_by (λ n. codes "MODSEQ (" ++ decimal n ++ codes ")") o)
 mod_seq_settles o = given_by_settles _ (λ n. settles-append (settles-append (settled (codes "MODSEQ (") refl) (number_settles n)) (settled (codes ")") refl)) o
 
+pub items_settle : (items : FetchedItems) → AllByRecursion IsPlain (flags_keywords items.flags) → AllSettle (item_words items)
+items_settle items plain =
+    all_settle-append _ _
+    (all_settle-append _ _
+    (all_settle-append _ _
+    (all_settle-append _ _ (named_settles (codes "UID ") (settled _ refl) items.uid) (fetched_flags_settle items.flags plain))
+    (dated_settles items.internal_date))
+    (named_settles (codes "RFC822.SIZE ") (settled _ refl) items.size))
+    (mod_seq_settles items.mod_seq)
+
 fetched_settles : (items : FetchedItems) → AllByRecursion IsPlain (flags_keywords items.flags ++ flat_map (λ body. section_names body.section) items.sections) → AllByRecursion IsHeld (map (λ body. concat body.octets) items.sections)
     → Settles (fetched_text items)
 fetched_settles items h held =
     let plain = parted IsPlain (flags_keywords items.flags) (flat_map (λ body. section_names body.section) items.sections) h in
-    words_settle (fetched_words items)
-    (all_settle-append _ _
-    (all_settle-append _ _
-    (all_settle-append _ _
-    (all_settle-append _ _
-    (all_settle-append _ _ (named_settles (codes "UID ") (settled _ refl) items.uid) (fetched_flags_settle items.flags plain.0))
-    (dated_settles items.internal_date))
-    (named_settles (codes "RFC822.SIZE ") (settled _ refl) items.size))
-    (mod_seq_settles items.mod_seq))
-    (bodies_settle items.sections plain.1 held))
+    words_settle (fetched_words items) (all_settle-append _ _ (items_settle items plain.0) (bodies_settle items.sections plain.1 held))
 
 results_settle : (results : SearchResults) → AllSettle (results_words results)
 results_settle results =

@@ -52,6 +52,10 @@ item_words items =
     ++ given_by (λ size. codes "RFC822.SIZE " ++ decimal size) items.size
     ++ mod_seq_words items.mod_seq
 
+-- what stands before the words of a message
+abbrev pub fetch_front : (number : ℕ) → List ℕ
+fetch_front number = codes "* " ++ decimal number ++ codes " FETCH ("
+
 -- the words of a message, in this order
 abbrev pub fetched_words : FetchedItems → List (List ℕ)
 fetched_words items = item_words items ++ map body_text items.sections

@@ -31,7 +31,9 @@ pub use list::{Children, ListAttributes};
 pub use literal_parts::LiteralParts;
 pub use numbering::NumberSet;
 pub use printable::{fetch_is_printable, flags_are_printable, permanent_flags_are_printable};
-pub use printing::{Pieces, print, print_line, print_pieces};
+pub use printing::{
+    Pieces, print, print_fetch_front, print_line, print_literal, print_pieces, print_section,
+};
 pub use response::{Code, Farewell, Refusal, Response};
 pub use search::SearchResults;
 pub use status::StatusValue;

@@ -24,6 +24,7 @@ use crate::numbering::NumberSet;
 use crate::response::Response;
 use codes::{push_bye, push_capability, push_done, push_greeting, push_moved, push_refused};
 use fetched::push_fetched;
+pub use fetched::{print_fetch_front, print_literal, print_section};
 use flags::{push_all_flags, push_permanent};
 use imap_lex::Octets;
 use imap_syntax::{Atom, Items, push_between};

@@ -5,7 +5,8 @@ ghost use Rattle.std.specs.List.{concat};
 ghost use Rattle.imap_print.specs.Words.{GoesOn};
 ghost use Rattle.imap_print.specs.Fetched.{section_text, origin_text, body_text};
 ghost use Rattle.imap_print.specs.Fetched.{flags_words, date_words, mod_seq_words};
-ghost use Rattle.imap_print.specs.Fetched.{fetched_words, fetched_text, item_words};
+ghost use Rattle.imap_print.specs.Fetched.{fetch_front, fetched_words, fetched_text, item_words};
+ghost use Rattle.imap_syntax.specs.Written.{literal_text};
 ghost use Rattle.imap_print.specs.Pieces.{octets_of};
 
 use super::flags::push_flags;
@@ -14,8 +15,9 @@ use super::strings::push_names;
 use super::words::{push_named, push_space, widened};
 use crate::fetch::{FetchedItems, FetchedSection};
 use crate::flag::FlagSet;
+use crate::literal_parts::LiteralParts;
 use imap_query::Section;
-use imap_syntax::{DateTime, push_date_time, push_number};
+use imap_syntax::{DateTime, push_between, push_date_time, push_number};
 use std::alloc::AllocError;
 
 fn push_section(out: &mut Vec<u8>, section: &Section) -> Result<(), AllocError>
@@ -47,25 +49,35 @@ fn push_origin(out: &mut Vec<u8>, origin: Option<u64>) -> Result<(), AllocError>
     Ok(())
 }
 
-/// Appends all of the section but its octets, which are to follow.
-fn push_body_front(out: &mut Vec<u8>, body: &FetchedSection) -> Result<(), AllocError>
-    ensures { OnOk result (out.new.items ++ concat body.now.octets ≡ out.old.items ++ body_text body.now) }
+/// Appends the name of the section and a space. The literal of its octets is to follow.
+fn push_body_name(out: &mut Vec<u8>, body: &FetchedSection) -> Result<(), AllocError>
+    ensures { OnOk result (out.new.items ++ literal_text (concat body.now.octets)
+        ≡ out.old.items ++ body_text body.now) }
 {
     out.extend_from_slice(b"BODY[")?;
     push_section(out, &body.section)?;
     out.push(b']')?;
     push_origin(out, body.origin)?;
-    out.extend_from_slice(b" {")?;
-    push_number(out, body.octets.len())?;
-    out.extend_from_slice(b"}\r\n")?;
+    out.push(b' ')?;
     Ok(())
 }
 
-fn push_body(out: &mut Pieces, body: &FetchedSection) -> Result<(), AllocError>
+/// Appends a section: its name and its octets as a literal.
+pub fn print_section(out: &mut Pieces, body: &FetchedSection) -> Result<(), AllocError>
     ensures { OnOk result (octets_of out.new ≡ octets_of out.old ++ body_text body.now) }
 {
-    push_body_front(&mut out.text, body)?;
-    out.push_parts(body.octets.as_slice())
+    push_body_name(&mut out.text, body)?;
+    print_literal(out, &body.octets)
+}
+
+/// Appends octets as a literal (RFC 9051, section 4.3).
+pub fn print_literal(out: &mut Pieces, octets: &LiteralParts) -> Result<(), AllocError>
+    ensures { OnOk result (octets_of out.new ≡ octets_of out.old ++ literal_text (concat octets.now)) }
+{
+    out.text.push(b'{')?;
+    push_number(&mut out.text, octets.len())?;
+    out.text.extend_from_slice(b"}\r\n")?;
+    out.push_parts(octets.as_slice())
 }
 
 fn push_fetched_flags(
@@ -126,7 +138,7 @@ fn push_bodies(out: &mut Pieces, begun: bool, bodies: &[FetchedSection]) -> Resu
     let mut begun = begun;
     for body in bodies {
         push_space(&mut out.text, begun)?;
-        push_body(out, body)?;
+        print_section(out, body)?;
         begun = true;
     }
     Ok(begun)
@@ -141,6 +153,20 @@ fn push_item_words(out: &mut Vec<u8>, items: &FetchedItems) -> Result<bool, Allo
     let begun = push_internal_date(out, begun, items.internal_date)?;
     let begun = push_named(out, begun, b"RFC822.SIZE ", items.size)?;
     push_mod_seq(out, begun, items.mod_seq)
+}
+
+/// Appends what stands before the sections of a message: its number, the opening parenthesis, and its items but
+/// the sections. Returns whether there is an item by now. `)` and CRLF end the line.
+pub fn print_fetch_front(
+    out: &mut Pieces,
+    number: u32,
+    items: &FetchedItems,
+) -> Result<bool, AllocError>
+    ensures { IfOk result (λ now.
+        GoesOn (octets_of out.old ++ fetch_front number) false (item_words items.now) (octets_of out.new) now) }
+{
+    push_between(&mut out.text, b"* ", u64::from(number), b" FETCH (")?;
+    push_item_words(&mut out.text, items)
 }
 
 fn push_fetched_words(out: &mut Pieces, items: &FetchedItems) -> Result<bool, AllocError>

@@ -1,11 +1,13 @@
 //! Printed octets, among which are parts of messages that aren't copied.
 
-ghost use Rattle.std.specs.Prelude.{◌≡◌, ◌++◌, [], IfOk, OnOk};
+ghost use Rattle.std.specs.Prelude.{◌≡◌, ◌++◌, [], IfOk, OnOk, decimal};
 ghost use Rattle.std.specs.List.{concat};
 ghost use Rattle.imap_print.specs.Pieces.{octets_of};
+ghost use Rattle.imap_print.specs.Strings.{name_text};
 
+use super::strings::push_name;
 use imap_lex::Octets;
-use imap_syntax::Items;
+use imap_syntax::{Items, push_number};
 use std::alloc::{AllocError, Global};
 use std::mem;
 
@@ -37,6 +39,20 @@ impl Pieces {
         ensures { OnOk result (octets_of self.new ≡ octets_of self.old ++ octets.now) }
     {
         self.text.extend_from_slice(octets)
+    }
+
+    /// Appends a number in digits, without leading zeros.
+    pub fn push_number(&mut self, number: u64) -> Result<(), AllocError>
+        ensures { OnOk result (octets_of self.new ≡ octets_of self.old ++ decimal number) }
+    {
+        push_number(&mut self.text, number)
+    }
+
+    /// Appends a name, in quotes if it is no atom string or reads as NIL (RFC 9051, section 9, `astring`).
+    pub fn push_name(&mut self, name: &[u8]) -> Result<(), AllocError>
+        ensures { OnOk result (octets_of self.new ≡ octets_of self.old ++ name_text name.now) }
+    {
+        push_name(&mut self.text, name)
     }
 
     /// Appends the parts one after another.

@@ -17,4 +17,4 @@ loop-body-preserved c =
     rw (map_more body_text c.args.bodies.now c.loop-body.body-index c.body-item.result (omega arith))
     (goes_on-append c.loop-body.invariant
     (goes_on_word (octets_of out) c.loop-body.begun _ spaced _ (more_text out.done.items out.text.items text (space c.loop-body.begun) c.in_ok-push_space.ensures)
-    (c.in_ok-push_body.ensures ∙ ap (λ (body : FetchedSection). spaced ++ body_text body) c.body-item.is)))
+    (c.in_ok-print_section.ensures ∙ ap (λ (body : FetchedSection). spaced ++ body_text body) c.body-item.is)))
