@@ -16,7 +16,7 @@ use Rattle.imap_core.specs.declared.sessions.SessionEffect.TheVariants as sessio
 use Rattle.imap_core.specs.declared.machine.Prepared.{Prepared}
 use Rattle.imap_core.specs.declared.step.Step.{Step}
 use Rattle.imap_core.specs.Accounts.{held_in}
-use Rattle.imap_core.specs.Held.{HasKnownRoom, added_by}
+use Rattle.imap_core.specs.Held.{HasKnownRoom, room_for_any}
 use Rattle.imap_core.specs.InStep.{IsMachineKept, session_at}
 use Rattle.imap_core.specs.Machine.{State, Machine, accounts_after, answer, outcome}
 use Rattle.imap_session.specs.State.{IsTellingFor, SessionState}
@@ -76,9 +76,9 @@ MayTell (Some state) session.End = Unit {0}
 abbrev pub room_needed : SessionEffect → ℕ
 room_needed session.Keep = 0
 room_needed session.Open = 0
-room_needed (session.Note more told) = added_by told
+room_needed (session.Note more told) = room_for_any told
 room_needed (session.Select more selection) = 0
-room_needed (session.Idle tag told) = added_by told
+room_needed (session.Idle tag told) = room_for_any told
 room_needed session.End = 0
 
 -- The step finds it in the state: replies, session and change are those of its definition.

@@ -69,7 +69,7 @@ pub(crate) fn open_session<'a>(
     own_sessions(accounts, &who.user)?.get(who.number)
 }
 
-/// Makes room for `more` messages in the known list of a session, if it is open.
+/// Makes the room `more` in the known list of a session, if it is open.
 pub(crate) fn reserve_known(
     accounts: &mut UserMap<OwnSessions>,
     who: &SessionId,

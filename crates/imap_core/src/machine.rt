@@ -321,7 +321,7 @@ impl Core {
         with_notices(alloc, &planned, session, pending)
     }
 
-    /// Makes room for `more` messages in the known list of a session, if it is open.
+    /// Makes the room `more` in the known list of a session, if it is open.
     fn make_room(&mut self, who: &SessionId, more: usize) -> Result<(), AllocError>
         ensures unchanged { self.new.state ≡ self.old.state }
         ensures stored { self.new.stored ≡ self.old.stored }

@@ -1,7 +1,7 @@
 //! A session with the room of its known list.
 
 ghost use Rattle.std.specs.Prelude.{◌≡◌, ◌≤◌, IfSome, OnOk};
-ghost use Rattle.imap_core.specs.Held.{added_by};
+ghost use Rattle.imap_core.specs.Held.{room_for_any};
 ghost use Rattle.imap_core.specs.Sessions.{with_idle};
 ghost use Rattle.imap_session.specs.State as specs;
 ghost use Rattle.imap_session.specs.State.{HasRoomFor, IsTellingFor, state_of};
@@ -14,7 +14,7 @@ use imap_values::TryCopy;
 use std::alloc::{AllocError, Global};
 use std::marker::Model;
 
-/// An open session, and for how many more messages room was made in the known list of its mailbox.
+/// An open session, and the room that was made in the known list of its mailbox.
 #[derive(Drop)]
 pub(crate) struct OpenSession {
     session: Session,
@@ -56,7 +56,7 @@ impl OpenSession {
     /// The room is counted anew.
     pub(crate) fn note(&mut self, more: EnabledCapabilities, told: Option<KnownUpdate>)
         requires told { IfSome told (λ t. IsTellingFor t self.old.state.selected) }
-        requires room { added_by told ≤ self.old.room }
+        requires room { room_for_any told ≤ self.old.room }
         ensures { self.new.state ≡ specs.with_enabled more (session_after told self.old.state) }
     {
         self.tell(told);
@@ -67,22 +67,25 @@ impl OpenSession {
     /// is there. The room is counted anew.
     pub(crate) fn idle(&mut self, tag: Option<Tag>, told: Option<KnownUpdate>)
         requires told { IfSome told (λ t. IsTellingFor t self.old.state.selected) }
-        requires room { added_by told ≤ self.old.room }
+        requires room { room_for_any told ≤ self.old.room }
         ensures { self.new.state ≡ with_idle tag (session_after told self.old.state) }
     {
         self.tell(told);
         self.session.idle = tag;
     }
 
-    /// Notes what the session is told of its mailbox.
+    /// Notes what the session is told of its mailbox. Copies share the known list from then on.
     fn tell(&mut self, told: Option<KnownUpdate>)
         requires told { IfSome told (λ t. IsTellingFor t self.old.state.selected) }
-        requires room { added_by told ≤ self.old.room }
+        requires room { room_for_any told ≤ self.old.room }
         ensures state { self.new.state ≡ session_after told self.old.state }
         ensures room { self.new.room ≡ 0 }
     {
         match told {
-            Some(told) => self.session.tell(told),
+            Some(told) => {
+                self.session.tell(told);
+                self.session.share();
+            }
             None => {}
         }
         self.room = 0;
@@ -97,7 +100,7 @@ impl OpenSession {
         self.session.select(selection);
     }
 
-    /// Makes room for `more` messages in the known list, if a mailbox is selected.
+    /// Makes the room `more` in the known list, if a mailbox is selected.
     pub(crate) fn reserve(&mut self, more: usize) -> Result<(), AllocError>
         ensures state { self.new.state ≡ self.old.state }
         ensures ok { OnOk result (more ≤ self.new.room) }

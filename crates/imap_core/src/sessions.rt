@@ -38,12 +38,13 @@ pub enum SessionEffect {
     End,
 }
 
-/// The number of messages that are added to the known list of the session.
+/// The room that is needed in the known list of the session.
 pub(crate) fn room_needed(effect: &SessionEffect) -> usize
     ensures { result ≡ room_needed effect.now }
 {
     match effect {
-        SessionEffect::Note(_, Some(told)) | SessionEffect::Idle(_, Some(told)) => told.added_len(),
+        SessionEffect::Note(_, Some(told)) | SessionEffect::Idle(_, Some(told)) =>
+            told.room_needed(),
         _ => 0,
     }
 }
@@ -122,7 +123,7 @@ impl OwnSessions {
         }
     }
 
-    /// Makes room for `more` messages in the known list of the session with the number, if it is open.
+    /// Makes the room `more` in the known list of the session with the number, if it is open.
     pub fn reserve(&mut self, number: SessionNumber, more: usize) -> Result<(), AllocError>
         ensures unchanged { own_of self.new ≡ own_of self.old }
         ensures ok { OnOk result (HasKnownRoom more (map.get self.new number)) }

@@ -8,7 +8,8 @@ use Rattle.imap_mailbox.specs.Summary.{Rises}
 use Rattle.imap_mailbox.specs.Brought.{known_uids}
 use Rattle.imap_session.specs.declared.entry.Entry.{Entry}
 
--- `room` is the number of messages that may be added without memory
+-- What may be done without memory: nothing in no room. One is for a change of the list, and one for each message
+-- that may be added
 pub record HeldList : Type 0 where
   pub list : List KnownMessage
   pub room : ℕ

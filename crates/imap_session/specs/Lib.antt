@@ -11,6 +11,7 @@ pub mod Following
 pub mod Walked
 pub mod Laws
 pub mod Select
+pub mod Shared
 pub mod State
 pub mod Telling
 pub mod Told

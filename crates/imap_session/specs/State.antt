@@ -1,5 +1,5 @@
 -- An open session, and what becomes of it (RFC 9051, section 3).
-use Rattle.std.specs.Prelude.{ℕ, ◌≤◌, Bool, ◌||◌, List, length, Option, Some, None, option_map, refl}
+use Rattle.std.specs.Prelude.{ℕ, ◌≤◌, Bool, ◌||◌, List, Option, Some, None, option_map, refl}
 use Rattle.std.specs.Coded.{Coded, code_by, coded×, coded_ℕ, coded_bool, coded_list, coded_option}
 use Rattle.imap_mailbox.specs.contracts.known.KnownMessage as known_message
 use Rattle.imap_print.specs.contracts.enabled.EnabledCapabilities as enabled
@@ -9,7 +9,7 @@ use Rattle.imap_names.specs.Name.{Name}
 use Rattle.imap_print.specs.declared.enabled.EnabledCapabilities.{EnabledCapabilities}
 use Rattle.imap_session.specs.declared.session.Selected.{Selected}
 use Rattle.imap_session.specs.declared.session.Session.{Session}
-use Rattle.imap_session.specs.Telling.{Telling, IsTellingOf, known_with}
+use Rattle.imap_session.specs.Telling.{Telling, IsTellingOf, known_with, room_for}
 
 -- ---- a session as definitions see it: without room
 
@@ -104,7 +104,7 @@ IsTellingFor t (Some s) = IsTellingOf s.known t
 
 -- ---- room
 
--- the number of messages that may be added to the known list without memory
+-- the room of the known list: what a change takes is in `room_for`
 abbrev pub room_in : Option Selected → ℕ
 room_in None = 0
 room_in (Some s) = s.known.room
@@ -112,12 +112,12 @@ room_in (Some s) = s.known.room
 abbrev pub room_of : Session → ℕ
 room_of session = room_in session.selected
 
--- if no mailbox is selected, none are added
-abbrev pub HasRoomFor : (more room : ℕ) → Option Selection → Type 0
-HasRoomFor more room None = Unit {0}
-HasRoomFor more room (Some s) = more ≤ room
+-- if no mailbox is selected, none is needed
+abbrev pub HasRoomFor : (needed room : ℕ) → Option Selection → Type 0
+HasRoomFor needed room None = Unit {0}
+HasRoomFor needed room (Some s) = needed ≤ room
 
 -- it takes no memory in this room
 pub record IsTellingReady (t : Telling) (room : ℕ) (selected : Option Selection) : Type 0 where
   pub change : IsTellingFor t selected
-  pub fits : HasRoomFor (length t.added) room selected
+  pub fits : HasRoomFor (room_for t) room selected

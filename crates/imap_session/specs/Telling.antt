@@ -1,6 +1,6 @@
 -- What a session is told of its mailbox at the end of a command, and then knows: a change of the known list,
 -- by places in the list from before, and the mod-sequence up to which the session was then told all.
-use Rattle.std.specs.Prelude.{ℕ, ◌==◌, Bool, ◌&&◌, List, [], length, map, Option, Some, None}
+use Rattle.std.specs.Prelude.{ℕ, suc, ◌==◌, Bool, ◌&&◌, List, [], length, map, Option, Some, None}
 use Rattle.std.specs.Prelude.{refl, if◌then◌else◌}
 use Rattle.std.specs.Coded.{Coded, code_by, coded×, coded_ℕ, coded_list}
 use Rattle.imap_mailbox.specs.contracts.known.KnownMessage as known_message
@@ -43,6 +43,10 @@ if_any t = if is_empty t then None else Some t
 -- the known list afterwards
 abbrev pub known_with : Telling → List KnownMessage → List KnownMessage
 known_with t known = applied t.changed t.gone t.added known
+
+-- the room that it takes: one for the change of the known list, and one for each message that comes
+abbrev pub room_for : Telling → ℕ
+room_for t = suc (length t.added)
 
 -- its places are those of messages, and the UIDs rise afterwards
 abbrev pub IsTellingOf : (known : List KnownMessage) → Telling → Type 0

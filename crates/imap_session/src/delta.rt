@@ -2,7 +2,8 @@
 
 ghost use Rattle.std.specs.Prelude.{◌≡◌, ◌+◌, ◌≤◌, ◌++◌, ◌<◌, true, false, length, not, slice_set, vec_len};
 ghost use Rattle.std.specs.Vec.{vec_capacity};
-ghost use Rattle.imap_session.specs.Delta.{with_changes, without_places, AreChangedBelow, ArePlacesBelow};
+ghost use Rattle.imap_session.specs.Delta.{with_changes, without_places, list_after, AreChangedBelow, ArePlacesBelow};
+ghost use Rattle.imap_session.specs.Delta.{IsChangeOf};
 ghost use Rattle.imap_session.specs.Held.{list_in, are_staying, leaving_from};
 
 use crate::entry::{Entry, mark};
@@ -42,7 +43,7 @@ fn put(entries: &mut Vec<Entry>, change: ChangedMessage)
 }
 
 /// Puts each changed message at its place.
-pub(crate) fn put_all(entries: &mut Vec<Entry>, changed: Vec<ChangedMessage>)
+fn put_all(entries: &mut Vec<Entry>, changed: Vec<ChangedMessage>)
     requires places { AreChangedBelow (length entries.old.items) changed.items }
     requires staying { are_staying entries.old.items ≡ true }
     ensures list { list_in entries.new.items ≡ with_changes changed.items (list_in entries.old.items) }
@@ -68,7 +69,7 @@ fn mark_all(entries: &mut Vec<Entry>, places: &[usize])
 }
 
 /// Removes the entries at these places, in one pass.
-pub(crate) fn remove_all(entries: &mut Vec<Entry>, places: &[usize])
+fn remove_all(entries: &mut Vec<Entry>, places: &[usize])
     requires places { ArePlacesBelow (length entries.old.items) places.now }
     requires staying { are_staying entries.old.items ≡ true }
     ensures list { list_in entries.new.items ≡ without_places 0 places.now (list_in entries.old.items) }
@@ -88,7 +89,7 @@ pub(crate) fn remove_all(entries: &mut Vec<Entry>, places: &[usize])
 }
 
 /// Appends the messages, in room that is there.
-pub(crate) fn push_all(entries: &mut Vec<Entry>, added: Vec<KnownMessage>)
+fn push_all(entries: &mut Vec<Entry>, added: Vec<KnownMessage>)
     requires room { vec_len entries.old + length added.items ≤ vec_capacity entries.old }
     requires staying { are_staying entries.old.items ≡ true }
     ensures list { list_in entries.new.items ≡ list_in entries.old.items ++ added.items }
@@ -102,4 +103,24 @@ pub(crate) fn push_all(entries: &mut Vec<Entry>, added: Vec<KnownMessage>)
             leaving: false,
         });
     }
+}
+
+/// Makes a change, in room that is there.
+pub(crate) fn change_entries(entries: &mut Vec<Entry>, delta: Delta)
+    requires change { IsChangeOf (list_in entries.old.items) delta }
+    requires staying { are_staying entries.old.items ≡ true }
+    requires room { vec_len entries.old + length delta.added.items ≤ vec_capacity entries.old }
+    ensures list { list_in entries.new.items ≡ list_after delta (list_in entries.old.items) }
+    ensures staying { are_staying entries.new.items ≡ true }
+    ensures len { vec_len entries.new ≤ vec_len entries.old + length delta.added.items }
+    ensures capacity { vec_capacity entries.new ≡ vec_capacity entries.old }
+{
+    let Delta {
+        changed,
+        gone,
+        added,
+    } = delta;
+    put_all(entries, changed);
+    remove_all(entries, gone.as_slice());
+    push_all(entries, added);
 }

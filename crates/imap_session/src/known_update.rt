@@ -1,7 +1,7 @@
 //! What a session is told of its mailbox, and then knows.
 
 ghost use Rattle.std.specs.Prelude.{◌≡◌, ◌+◌, ◌≤◌, length};
-ghost use Rattle.imap_session.specs.Telling.{IsTellingOf, if_any, is_empty, known_with, telling_of};
+ghost use Rattle.imap_session.specs.Telling.{IsTellingOf, if_any, is_empty, known_with, room_for, telling_of};
 
 use crate::delta::Delta;
 use crate::known_list::KnownList;
@@ -43,17 +43,17 @@ impl KnownUpdate {
         none_changed && (none_gone && none_added)
     }
 
-    /// Returns the number of messages that come.
-    pub fn added_len(&self) -> usize
-        ensures { result ≡ length self.now.added }
+    /// Returns the room that the change takes: one more than the number of messages that come.
+    pub fn room_needed(&self) -> usize
+        ensures { result ≡ room_for self.now }
     {
-        self.delta.added.len()
+        self.delta.added.len() + 1
     }
 
     /// Makes the change of the known list, in room that is there, and returns the mod-sequence.
     pub(crate) fn apply(self, known: &mut KnownList) -> u64
         requires change { IsTellingOf known.old.list self }
-        requires room { length self.added ≤ known.old.room }
+        requires room { room_for self ≤ known.old.room }
         ensures list { known.new.list ≡ known_with self known.old.list }
         ensures room { known.old.room ≤ known.new.room + length self.added }
         ensures up_to { result ≡ self.up_to }

@@ -26,6 +26,7 @@ mod select;
 mod selection;
 mod session;
 mod session_notices;
+mod shared_entries;
 mod walk;
 
 pub use delta::{ChangedMessage, Delta};

@@ -41,7 +41,7 @@ pub fn notices_plain(
     if known.len().saturating_add(rows.len()) >= TOO_MANY {
         return Ok(None);
     }
-    let lines = all_lines(alloc, known.entries.as_slice(), rows, options)?;
+    let lines = all_lines(alloc, known.entries(), rows, options)?;
     Ok(Some(lines))
 }
 

@@ -94,13 +94,20 @@ impl Session {
         self.selected = selection.into_selected();
     }
 
-    /// Makes room for `more` messages in the known list, if a mailbox is selected.
-    pub fn reserve(&mut self, more: usize) -> Result<(), AllocError>
+    /// Makes room in the known list, as [`KnownUpdate::room_needed`] tells, if a mailbox is selected.
+    pub fn reserve(&mut self, room: usize) -> Result<(), AllocError>
         ensures state { state_of self.new ≡ state_of self.old }
-        ensures ok { OnOk result (HasRoomFor more (room_of self.new) (state_of self.new).selected) }
+        ensures ok { OnOk result (HasRoomFor room (room_of self.new) (state_of self.new).selected) }
         ensures room { room_of self.old ≤ room_of self.new }
     {
-        reserve(&mut self.selected, more)
+        reserve(&mut self.selected, room)
+    }
+
+    /// Lets copies share the known list until it changes, and gives up its room.
+    pub fn share(&mut self)
+        ensures { state_of self.new ≡ state_of self.old }
+    {
+        share(&mut self.selected);
     }
 
     /// Notes what the session is told of its mailbox, in room that is there.
@@ -136,24 +143,39 @@ fn copy_one(alloc: Global, selected: &Selected) -> Result<Selected, AllocError>
     })
 }
 
-fn reserve(selected: &mut Option<Selected>, more: usize) -> Result<(), AllocError>
+fn reserve(selected: &mut Option<Selected>, room: usize) -> Result<(), AllocError>
     ensures state { option_map selection_of selected.new ≡ option_map selection_of selected.old }
     ensures ok { let selection = option_map selection_of selected.new in
-        OnOk result (HasRoomFor more (room_in selected.new) selection) }
+        OnOk result (HasRoomFor room (room_in selected.new) selection) }
     ensures room { room_in selected.old ≤ room_in selected.new }
 {
     match selected {
-        Some(selected) => reserve_in(selected, more),
+        Some(selected) => reserve_in(selected, room),
         None => Ok(()),
     }
 }
 
-fn reserve_in(selected: &mut Selected, more: usize) -> Result<(), AllocError>
+fn reserve_in(selected: &mut Selected, room: usize) -> Result<(), AllocError>
     ensures state { selection_of selected.new ≡ selection_of selected.old }
-    ensures ok { OnOk result (more ≤ selected.new.known.room) }
+    ensures ok { OnOk result (room ≤ selected.new.known.room) }
     ensures room { selected.old.known.room ≤ selected.new.known.room }
 {
-    selected.known.reserve(more)
+    selected.known.reserve(room)
+}
+
+fn share(selected: &mut Option<Selected>)
+    ensures { option_map selection_of selected.new ≡ option_map selection_of selected.old }
+{
+    match selected {
+        Some(selected) => share_known(selected),
+        None => {}
+    }
+}
+
+fn share_known(selected: &mut Selected)
+    ensures { selection_of selected.new ≡ selection_of selected.old }
+{
+    selected.known.share();
 }
 
 fn tell(selected: &mut Option<Selected>, told: KnownUpdate)
