@@ -164,4 +164,5 @@ def main():
     print("| one flag, of which 15 sessions are told | " + " | ".join(f"{told(program, count):,.0f}" for count in SIZES) + " |")
 
 
-main()
+if __name__ == "__main__":
+    main()

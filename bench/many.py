@@ -145,7 +145,7 @@ def time_turns(program, folder):
     with serving(program, path) as server:
         started = time.perf_counter() - start
         sessions = [Session(FIRST_PORT), Session(FIRST_PORT)]
-        begun = resident(server)
+        begun, most = resident(server), resident(server, "VmHWM")
         first, second = waits_of(sessions, (3 * TURN + TURN // 2) // 2)
         lengths = [(end - begin) * 1e6 for begin, end in first + second]
         turns = [(wait, second) for wait in first] + [(wait, first) for wait in second]
@@ -156,7 +156,8 @@ def time_turns(program, folder):
         for word, (wait, others) in zip(("longest", "second", "third", "fourth", "fifth", "sixth"), turns):
             show(f"the {word} of {len(lengths):,}", (wait[1] - wait[0]) * 1e6, beside(wait, others) * 1e6)
         ended = resident(server)
-        print(f"\nThe server starts in {started:.1f} s. {begun:.0f} MiB are resident then, and {ended:.0f} after the calls.")
+        print(f"\nThe server starts in {started:.1f} s. {begun:.0f} MiB are resident then, at most {most:.0f} were, and there are")
+        print(f"{ended:.0f} after the calls.")
 
 
 def time_first_changes(program, folder):
@@ -180,10 +181,30 @@ def time_first_changes(program, folder):
             show(f"the first `STORE` after a turn, in a mailbox of {size:,} messages, median of 5", *medians)
 
 
+def time_known_lists(program, folder):
+    """How long a turn of the journal keeps a NOOP waiting while each session of a user has selected one mailbox of many messages."""
+    path = f"{folder}/mail.db"
+    with serving(program, path):
+        pass
+    database.fill(path, [MAILBOXES * EACH])
+    with serving(program, path) as server:
+        sessions = [Session(FIRST_PORT) for _ in range(SEATS)]
+        begun = resident(server)
+        for session in sessions:
+            session.ask(b"SELECT Shared/Box")
+        known = resident(server) - begun
+        waits = waits_of(sessions[:2], (3 * TURN + TURN // 2) // 2)
+        lengths = sorted((end - begin for one in waits for begin, end in one), reverse=True)
+        print("\n| What | microseconds |\n|---|---|")
+        show(f"the longest `NOOP` with {SEATS} sessions that have selected one mailbox of {MAILBOXES * EACH:,} messages", lengths[0] * 1e6)
+        show("the fourth", lengths[3] * 1e6)
+        print(f"\nThe {SEATS} sessions took {known:.0f} MiB when they selected it.", flush=True)
+
+
 def main():
     program = sys.argv[1]
     print("| What | microseconds |\n|---|---|", flush=True)
-    for measure in (time_sessions, show_memory, time_turns, time_first_changes):
+    for measure in (time_sessions, show_memory, time_turns, time_first_changes, time_known_lists):
         with tempfile.TemporaryDirectory() as folder:
             measure(program, folder)
 

@@ -108,10 +108,10 @@ def medians_beside(rounds, actions):
     return [statistics.median(own) for own in times]
 
 
-def resident(server):
-    """MiB of memory that the server has."""
+def resident(server, line="VmRSS"):
+    """MiB of memory that the server has. With the line `VmHWM`, the most that it has had."""
     with open(f"/proc/{server.pid}/status", encoding="ascii") as file:
-        return next(int(line.split()[1]) for line in file if line.startswith("VmRSS")) / 1024
+        return next(int(found.split()[1]) for found in file if found.startswith(line)) / 1024
 
 
 def show(what, *microseconds):
