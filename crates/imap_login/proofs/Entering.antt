@@ -33,8 +33,7 @@ closed_still e = absurd cc
 abbrev failed_by : (tag : List ℕ) (p : Progress) → Bool → Answer
 failed_by tag p more =
     if more
-    then answer (tagged tag outcome.AuthenticationFailed)
-    (record { stage = p.stage; tries = p.tries - 1; pending = p.pending })
+    then answer (tagged tag outcome.AuthenticationFailed) (record p { tries = p.tries - 1 })
     else answer (tagged tag outcome.AuthenticationFailed ++ limit_reached) (at_stage stage.Closed p)
 
 stays_out : (tag : List ℕ) (p : Progress) (more : Bool) → p.stage ≡ stage.Waiting → (failed_by tag p more).next.stage ≡ stage.Entered → ⊥

@@ -86,4 +86,4 @@ few_fail known [] p going = omega arith
 few_fail known (f ∷ fs) p going = first_fails known f fs p (is_waiting p.stage) refl going (few_fail known fs)
 
 pub fails_three_times : FailsThreeTimes
-fails_three_times known fs = few_fail known fs first_progress (λ e. omega arith)
+fails_three_times known capabilities fs = few_fail known fs (first_progress capabilities) (λ e. omega arith)

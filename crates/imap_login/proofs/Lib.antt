@@ -1,3 +1,4 @@
+pub mod Appended
 pub mod Cutting
 pub mod Decoded
 pub mod Differ

@@ -13,6 +13,9 @@ use Rattle.imap_login.specs.Credentials.{Known, are_right, is_right_message, pla
 use Rattle.imap_login.specs.Differences.{are_same}
 use Rattle.imap_login.specs.Login.{first_progress, frame_answer, heard, initial_message, is_waiting}
 use Rattle.imap_login.specs.Login.{line_message, max_failures, with_text, Heard, LoginState}
+use Rattle.imap_login.specs.Replies.{session_greeting}
+use Rattle.imap_print.specs.declared.response.Response.TheVariants as response
+use Rattle.imap_print.specs.Printed.{capabilities, line}
 
 -- two texts are the same where they differ nowhere
 abbrev pub SameIsEqual : Type 0
@@ -99,7 +102,9 @@ failures known (f ∷ fs) p =
 
 -- Whatever a client sends, three are answered at most.
 abbrev pub FailsThreeTimes : Type 0
-FailsThreeTimes = (known : Known) (fs : List Frame) → failures known fs first_progress ≤ max_failures
+FailsThreeTimes =
+    (known : Known) (capabilities : List ℕ) (fs : List Frame) →
+    failures known fs (first_progress capabilities) ≤ max_failures
 
 -- ---- pieces
 
@@ -114,3 +119,9 @@ followed known first octets =
 abbrev pub AnyCut : Type 0
 AnyCut = (known : Known) (state : LoginState) (first second : List ℕ) →
     heard known state (first ++ second) ≡ followed known (heard known state first) second
+
+-- ---- greetings
+
+-- The first line of a session is the greeting that the server prints, in its own words.
+abbrev pub GreetsAsPrinted : Type 0
+GreetsAsPrinted = session_greeting capabilities ≡ line response.Greeting

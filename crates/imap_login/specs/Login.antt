@@ -17,14 +17,19 @@ use Rattle.imap_login.specs.declared.progress.Stage.TheVariants as stage
 use Rattle.imap_login.specs.Asked.{asked_of}
 use Rattle.imap_login.specs.Credentials.{Known, are_right, is_right_message}
 use Rattle.imap_login.specs.Replies.{capability_line, challenge, limit_reached, logging_out, ready}
-use Rattle.imap_login.specs.Replies.{tagged, untagged}
+use Rattle.imap_login.specs.Replies.{tagged, untagged, welcome}
 
 -- how many logins of a connection may fail
 abbrev pub max_failures : ℕ
 max_failures = 3
 
-abbrev pub first_progress : Progress
-first_progress = record { stage = stage.Waiting; tries = max_failures; pending = None }
+abbrev pub first_progress : (capabilities : List ℕ) → Progress
+first_progress capabilities = record {
+  stage = stage.Waiting;
+  tries = max_failures;
+  pending = None;
+  capabilities = capabilities;
+}
 
 -- what a frame is answered, and how far the login has come then
 pub record Answer : Type 0 where
@@ -35,23 +40,22 @@ abbrev pub answer : List ℕ → Progress → Answer
 answer text next = record { text = text; next = next }
 
 abbrev pub at_stage : Stage → Progress → Progress
-at_stage reached p = record { stage = reached; tries = p.tries; pending = p.pending }
+at_stage reached p = record p { stage = reached }
 
 -- an AUTHENTICATE with this tag awaits its response, or none does
 abbrev pub awaiting : Option (List ℕ) → Progress → Progress
-awaiting tag p = record { stage = p.stage; tries = p.tries; pending = tag }
+awaiting tag p = record p { pending = tag }
 
 -- one try less; after the last one the connection ends
 abbrev pub failed : (tag : List ℕ) → Progress → Answer
 failed tag p =
     if nat_lt 1 p.tries
-    then answer (tagged tag outcome.AuthenticationFailed)
-    (record { stage = p.stage; tries = p.tries - 1; pending = p.pending })
+    then answer (tagged tag outcome.AuthenticationFailed) (record p { tries = p.tries - 1 })
     else answer (tagged tag outcome.AuthenticationFailed ++ limit_reached) (at_stage stage.Closed p)
 
 -- a name and a secret were given, or a message of PLAIN: the right ones or not
 abbrev pub judged : (right : Bool) → (tag : List ℕ) → Progress → Answer
-judged true tag p = answer (tagged tag outcome.Welcome) (at_stage stage.Entered p)
+judged true tag p = answer (welcome p.capabilities tag) (at_stage stage.Entered p)
 judged false tag p = failed tag p
 
 -- ---- AUTHENTICATE PLAIN
@@ -81,7 +85,8 @@ plain_answer known tag None p = answer challenge (awaiting (Some tag) p)
 -- ---- frames
 
 abbrev pub asked_answer : Known → (tag : List ℕ) → Asked → Progress → Answer
-asked_answer known tag asked.Capability p = answer (capability_line ++ tagged tag outcome.Done) p
+asked_answer known tag asked.Capability p =
+    answer (capability_line p.capabilities ++ tagged tag outcome.Done) p
 asked_answer known tag asked.Noop p = answer (tagged tag outcome.Done) p
 asked_answer known tag asked.Logout p =
     answer (logging_out ++ tagged tag outcome.Done) (at_stage stage.Closed p)
@@ -122,8 +127,9 @@ pub record LoginState : Type 0 where
   pub progress : Progress
 
 -- the literals of a command may have as many octets as the rest of it
-abbrev pub first_state : LoginState
-first_state = record { framing = beginning max_command_octets; progress = first_progress }
+abbrev pub first_state : (capabilities : List ℕ) → LoginState
+first_state capabilities =
+    record { framing = beginning max_command_octets; progress = first_progress capabilities }
 
 -- what octets are answered, and those that are left once the login has ended
 pub record Heard : Type 0 where

@@ -1,6 +1,6 @@
 //! Laws of every login.
 
-ghost use Rattle.imap_login.specs.Laws.{AnyCut, EntersByLogin, FailsThreeTimes, SameIsEqual};
+ghost use Rattle.imap_login.specs.Laws.{AnyCut, EntersByLogin, FailsThreeTimes, GreetsAsPrinted, SameIsEqual};
 
 /// Two texts are the same if they differ at no place.
 pub fn same_is_equal()
@@ -20,4 +20,9 @@ pub fn fails_three_times()
 /// Where the octets of a client are cut makes no difference.
 pub fn any_cut()
     ensures { AnyCut }
+{}
+
+/// The first line of a session is the greeting that the server prints, in its own words.
+pub fn greets_as_printed()
+    ensures { GreetsAsPrinted }
 {}

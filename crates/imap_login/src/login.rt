@@ -3,6 +3,7 @@
 ghost use Rattle.std.specs.Prelude.{◌≡◌, ◌++◌, IfOk, OnOk};
 ghost use Rattle.imap_login.specs.Login.{first_state, heard, octet_answer, octet_state};
 
+use crate::capabilities::Capabilities;
 use crate::credentials::Credentials;
 use crate::progress::{Progress, Stage};
 use imap_lex::{Framer, LexError, MAX_COMMAND_OCTETS};
@@ -25,13 +26,13 @@ impl Model for Login {
 }
 
 impl Login {
-    /// Returns a login of which no octets have come.
-    pub fn new(alloc: Global) -> Login
-        ensures { result ≡ first_state }
+    /// Returns a login of which no octets have come, to a server that can do this.
+    pub fn new(alloc: Global, capabilities: Capabilities) -> Login
+        ensures { result ≡ first_state capabilities }
     {
         Login {
             framer: Framer::new(alloc, MAX_COMMAND_OCTETS as u64),
-            progress: Progress::new(),
+            progress: Progress::new(capabilities),
         }
     }
 

@@ -1,4 +1,4 @@
-//! What a command of a client that logs in comes to.
+//! What a command of a client that logs in comes to, if it doesn't enter by it.
 
 ghost use Rattle.std.specs.Prelude.{◌≡◌};
 ghost use Rattle.imap_login.specs.Replies.{outcome_text};
@@ -7,8 +7,6 @@ ghost use Rattle.imap_login.specs.Replies.{outcome_text};
 #[derive(Clone, Copy, Debug, PartialEq, Eq)]
 pub(crate) enum Outcome {
     Done,
-    /// The client has entered.
-    Welcome,
     /// The name or the secret is wrong (RFC 5530).
     AuthenticationFailed,
     /// The mechanism isn't there.
@@ -26,9 +24,6 @@ impl Outcome {
     {
         match self {
             Outcome::Done => "OK done",
-            Outcome::Welcome => {
-                "OK [CAPABILITY IMAP4rev2 ACL RIGHTS=texk CONDSTORE ENABLE IDLE QRESYNC] done"
-            }
             Outcome::AuthenticationFailed => "NO [AUTHENTICATIONFAILED] name or secret is wrong",
             Outcome::Cannot => "NO [CANNOT] not possible",
             Outcome::Malformed => "BAD malformed command",

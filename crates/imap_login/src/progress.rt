@@ -9,11 +9,12 @@ ghost use Rattle.imap_login.specs.Login.{frames_answer, initial_message, is_wait
 ghost use Rattle.imap_login.specs.Login.{message_answer, plain_answer, whole_answer};
 
 use crate::asked::{Asked, asked_of};
+use crate::capabilities::Capabilities;
 use crate::credentials::Credentials;
 use crate::outcome::Outcome;
 use crate::replies::{
     push_capability, push_challenge, push_limit_reached, push_logging_out, push_ready, push_tagged,
-    push_untagged,
+    push_untagged, push_welcome,
 };
 use base64::DecodeAllocError;
 use base64::engine::general_purpose::STANDARD;
@@ -52,16 +53,19 @@ pub(crate) struct Progress {
     tries: u32,
     /// The tag of an AUTHENTICATE whose response has not come.
     pending: Option<Tag>,
+    /// What the server can do.
+    capabilities: Capabilities,
 }
 
 impl Progress {
-    pub(crate) fn new() -> Progress
-        ensures { result ≡ first_progress }
+    pub(crate) fn new(capabilities: Capabilities) -> Progress
+        ensures { result ≡ first_progress capabilities }
     {
         Progress {
             stage: Stage::Waiting,
             tries: MAX_FAILURES,
             pending: None,
+            capabilities,
         }
     }
 
@@ -86,7 +90,7 @@ impl Progress {
         ensures next { OnOk result (self.new ≡ (judged right tag.now self.old).next) }
     {
         if right {
-            push_tagged(out, tag, Outcome::Welcome)?;
+            push_welcome(out, &self.capabilities, tag)?;
             self.stage = Stage::Entered;
             return Ok(());
         }
@@ -159,7 +163,7 @@ impl Progress {
     {
         match asked {
             Asked::Capability => {
-                push_capability(out)?;
+                push_capability(out, &self.capabilities)?;
                 push_tagged(out, tag.as_slice(), Outcome::Done)
             }
             Asked::Noop => push_tagged(out, tag.as_slice(), Outcome::Done),

@@ -1,23 +1,54 @@
 //! The lines of a login.
 
 ghost use Rattle.std.specs.Prelude.{◌≡◌, ◌≤◌, ◌++◌, length, OnOk};
-ghost use Rattle.imap_login.specs.Replies.{capability_line, challenge, greeting, idle_too_long};
+ghost use Rattle.imap_login.specs.Replies.{capability_line, challenge, front_length, greeting, idle_too_long};
 ghost use Rattle.imap_login.specs.Replies.{limit_reached, logging_out, ready, session_greeting, tagged, untagged};
+ghost use Rattle.imap_login.specs.Replies.{welcome};
 
+use crate::capabilities::Capabilities;
 use crate::outcome::Outcome;
 use std::alloc::AllocError;
 
-/// The first line of a session that begins without a login.
-const SESSION_GREETING: &[u8] =
-    b"* PREAUTH [CAPABILITY IMAP4rev2 ACL RIGHTS=texk CONDSTORE ENABLE IDLE QRESYNC] \
-    shared mailbox profile ready\r\n";
-
-/// Returns the first line of a connection whose client is to log in (RFC 9051, section 7.1.1).
-pub fn greeting() -> &'static [u8]
-    ensures { result.now ≡ greeting }
+/// Appends the capabilities between two texts.
+fn push_between(
+    out: &mut Vec<u8>,
+    before: &[u8],
+    capabilities: &Capabilities,
+    after: &[u8],
+) -> Result<(), AllocError>
+    ensures { OnOk result
+        (out.new.items ≡ out.old.items ++ (before.now ++ capabilities.now ++ after.now)) }
 {
-    b"* OK [CAPABILITY IMAP4rev2 ACL RIGHTS=texk CONDSTORE ENABLE IDLE QRESYNC AUTH=PLAIN SASL-IR] \
-    shared mailbox profile ready\r\n"
+    out.extend_from_slice(before)?;
+    out.extend_from_slice(capabilities.as_bytes())?;
+    out.extend_from_slice(after)
+}
+
+/// Appends the first line of a connection whose client is to log in (RFC 9051, section 7.1.1).
+pub fn push_greeting(out: &mut Vec<u8>, capabilities: &Capabilities) -> Result<(), AllocError>
+    ensures { OnOk result (out.new.items ≡ out.old.items ++ greeting capabilities.now) }
+{
+    push_between(
+        out,
+        b"* OK [CAPABILITY ",
+        capabilities,
+        b" AUTH=PLAIN SASL-IR] shared mailbox profile ready\r\n",
+    )
+}
+
+/// Appends the first line of a session that begins without a login (RFC 9051, section 7.1.4).
+pub fn push_session_greeting(
+    out: &mut Vec<u8>,
+    capabilities: &Capabilities,
+) -> Result<(), AllocError>
+    ensures { OnOk result (out.new.items ≡ out.old.items ++ session_greeting capabilities.now) }
+{
+    push_between(
+        out,
+        b"* PREAUTH [CAPABILITY ",
+        capabilities,
+        b"] shared mailbox profile ready\r\n",
+    )
 }
 
 /// Returns the last line to a client that takes too long.
@@ -27,14 +58,14 @@ pub fn farewell() -> &'static [u8]
     b"* BYE idle too long\r\n"
 }
 
-/// Returns how many octets the greeting of a session has, if these begin with it, else 0.
+/// Returns how many octets the line has, if `octets` begin with it, else 0.
 #[tactic(auto, using(crate::proofs::Greeted::starts_within))]
-pub fn session_greeting(octets: &[u8]) -> usize
-    ensures length { result ≡ session_greeting octets.now }
+pub fn front_length(line: &[u8], octets: &[u8]) -> usize
+    ensures length { result ≡ front_length line.now octets.now }
     ensures within { result ≤ length octets.now }
 {
-    if octets.starts_with(SESSION_GREETING) {
-        SESSION_GREETING.len()
+    if octets.starts_with(line) {
+        line.len()
     } else {
         0
     }
@@ -50,17 +81,36 @@ pub(crate) fn push_tagged(out: &mut Vec<u8>, tag: &[u8], outcome: Outcome) -> Re
     out.extend_from_slice(b"\r\n")
 }
 
+/// Appends the last line to the login that is right, whose tag this is.
+pub(crate) fn push_welcome(
+    out: &mut Vec<u8>,
+    capabilities: &Capabilities,
+    tag: &[u8],
+) -> Result<(), AllocError>
+    ensures { OnOk result (out.new.items ≡ out.old.items ++ welcome capabilities.now tag.now) }
+{
+    out.extend_from_slice(tag)?;
+    push_between(out, b" OK [CAPABILITY ", capabilities, b"] done\r\n")?;
+    Ok(())
+}
+
 pub(crate) fn push_untagged(out: &mut Vec<u8>) -> Result<(), AllocError>
     ensures { OnOk result (out.new.items ≡ out.old.items ++ untagged) }
 {
     out.extend_from_slice(b"* BAD not in this state\r\n")
 }
 
-pub(crate) fn push_capability(out: &mut Vec<u8>) -> Result<(), AllocError>
-    ensures { OnOk result (out.new.items ≡ out.old.items ++ capability_line) }
+pub(crate) fn push_capability(
+    out: &mut Vec<u8>,
+    capabilities: &Capabilities,
+) -> Result<(), AllocError>
+    ensures { OnOk result (out.new.items ≡ out.old.items ++ capability_line capabilities.now) }
 {
-    out.extend_from_slice(
-        b"* CAPABILITY IMAP4rev2 ACL RIGHTS=texk CONDSTORE ENABLE IDLE QRESYNC AUTH=PLAIN SASL-IR\r\n",
+    push_between(
+        out,
+        b"* CAPABILITY ",
+        capabilities,
+        b" AUTH=PLAIN SASL-IR\r\n",
     )
 }
 

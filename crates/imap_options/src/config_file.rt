@@ -4,7 +4,7 @@ use crate::command_line_error::CommandLineError;
 use std::alloc::{AllocError, Global};
 
 /// The options that a file may give, and whether it may give them again.
-const OPTIONS: [(&str, bool); 8] = [
+const OPTIONS: [(&str, bool); 9] = [
     ("db", false),
     ("admin", false),
     ("listen", true),
@@ -12,6 +12,7 @@ const OPTIONS: [(&str, bool); 8] = [
     ("secret", true),
     ("max-messages", false),
     ("max-octets", false),
+    ("dialect", false),
     ("log", false),
 ];
 

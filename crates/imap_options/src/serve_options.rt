@@ -26,14 +26,14 @@ pub(crate) fn read_service<S: SecretFiles>(
     let administrator = read_user(file, "admin", 0, found.get_str("admin").unwrap_or(""))?;
     let limits = read_limits(file, found)?;
     let log = read_log(file, found.get_str("log").unwrap_or("errors"))?;
-    let secret_files = found.get_strs("secret").unwrap_or(&[]);
-    let dialect = read_dialect(
-        file,
-        found.get_str("dialect").unwrap_or("rev2"),
-        secret_files,
-    )?;
+    let dialect = read_dialect(file, found.get_str("dialect").unwrap_or("rev2"))?;
     let ports = read_ports(file, found.get_strs("listen").unwrap_or(&[]))?;
-    let ports = read_secrets(secrets, file, secret_files, ports)?;
+    let ports = read_secrets(
+        secrets,
+        file,
+        found.get_strs("secret").unwrap_or(&[]),
+        ports,
+    )?;
     let members = found.get_strs("member").unwrap_or(&[]);
     let groups = read_groups(file, members, &administrator, ports.as_slice())?;
     let service = Service {
@@ -75,19 +75,11 @@ fn read_log(file: &ConfigFile<'_>, text: &str) -> Result<LogLevel, CommandLineEr
     }
 }
 
-/// Reads the dialect. Logins are asked for in the server's own alone.
-fn read_dialect(
-    file: &ConfigFile<'_>,
-    text: &str,
-    secret_files: &[&str],
-) -> Result<DialectName, CommandLineError> {
-    let Some(dialect) = DialectName::read(text) else {
-        return Err(file.fault("dialect", 0, text, "rev1 or rev2 is wanted"));
-    };
-    if dialect == DialectName::Rev1 && !secret_files.is_empty() {
-        return Err(file.fault("dialect", 0, text, "rev2 is wanted where users log in"));
+fn read_dialect(file: &ConfigFile<'_>, text: &str) -> Result<DialectName, CommandLineError> {
+    match DialectName::read(text) {
+        Some(dialect) => Ok(dialect),
+        None => Err(file.fault("dialect", 0, text, "rev1 or rev2 is wanted")),
     }
-    Ok(dialect)
 }
 
 /// Reads the users with their ports. No user is named twice.

@@ -159,6 +159,18 @@ fn reads_command_lines(rt: HostRuntime) {
             ],
             b"x root 100000 33554432 ann=1 secret a=b=2 secret bob=3",
         ),
+        (
+            &[
+                "imapd",
+                "serve",
+                "--db=x",
+                "--admin=root",
+                "--listen=ann=1",
+                "--secret=ann=s3cret",
+                "--dialect=rev1",
+            ],
+            b"x root 100000 33554432 rev1 ann=1 secret",
+        ),
     ];
     for &(texts, wanted) in ROWS {
         expect(&rt, shown(rt.alloc(), texts), wanted);

@@ -30,9 +30,9 @@ const ROWS: &[(&str, &[&str], &[u8])] = &[
         b"x root 7 8 ann=1",
     ),
     (
-        "secret ann=s3cret",
+        "secret ann=s3cret\ndialect rev1",
         &["--db=x", "--admin=root", "--listen=ann=1"],
-        b"x root 100000 33554432 ann=1 secret",
+        b"x root 100000 33554432 rev1 ann=1 secret",
     ),
     ("", &["--db=x", "--admin=root"], b"none"),
     (

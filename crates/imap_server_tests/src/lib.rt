@@ -52,6 +52,8 @@ mod socket_files;
 #[cfg(test)]
 mod sockets;
 #[cfg(test)]
+mod spoken_dialects;
+#[cfg(test)]
 mod store_refusals;
 #[cfg(test)]
 mod wanted;

@@ -4,7 +4,7 @@ ghost use Rattle.std.specs.Prelude.{◌<◌};
 
 use crate::peers::{Deed, done};
 use crate::wanted::expect;
-use imap_login::{Credentials, Login, Stage, greeting};
+use imap_login::{Capabilities, Credentials, Login, Stage};
 use std::alloc::{AllocError, Global};
 use std::io::{self, Read, Write};
 
@@ -14,7 +14,7 @@ fn answered(alloc: Global, sent: &[u8], size: usize) -> Result<Vec<u8>, AllocErr
     requires { 0 < size }
 {
     let credentials = Credentials::new(alloc, b"ann", b"s3cret")?;
-    let mut login = Login::new(alloc);
+    let mut login = Login::new(alloc, Capabilities::standard());
     let mut text = Vec::new(alloc);
     let mut left = Vec::new(alloc);
     for piece in sent.chunks(size) {
@@ -160,8 +160,9 @@ impl Deed for Entering {
         input: &mut I,
         output: &mut O,
     ) -> io::Result<bool> {
-        const WELCOME: &[u8] =
-            b"a1 OK [CAPABILITY IMAP4rev2 ACL RIGHTS=texk CONDSTORE ENABLE IDLE QRESYNC] done\r\na2 OK done\r\n";
+        const WANTED: &[u8] =
+            b"* OK [CAPABILITY IMAP4rev2 ACL RIGHTS=texk CONDSTORE ENABLE IDLE QRESYNC AUTH=PLAIN SASL-IR] shared mailbox profile ready\r\n\
+a1 OK [CAPABILITY IMAP4rev2 ACL RIGHTS=texk CONDSTORE ENABLE IDLE QRESYNC] done\r\na2 OK done\r\n";
         output.write_all(
             b"* PREAUTH [CAPABILITY IMAP4rev2 ACL RIGHTS=texk CONDSTORE ENABLE IDLE QRESYNC] shared mailbox profile ready\r\n",
         )?;
@@ -169,9 +170,9 @@ impl Deed for Entering {
         let mut sent = [0u8; 9];
         input.read_exact(&mut sent)?;
         let mut told = Vec::new(alloc);
-        told.resize(greeting().len() + WELCOME.len(), 0)?;
+        told.resize(WANTED.len(), 0)?;
         client.read_exact(told.as_mut_slice())?;
-        Ok(sent == *b"a2 NOOP\r\n" && told.starts_with(greeting()) && told.ends_with(WELCOME))
+        Ok(sent == *b"a2 NOOP\r\n" && told.as_slice() == WANTED)
     }
 }
 

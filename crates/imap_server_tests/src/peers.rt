@@ -8,7 +8,7 @@ use imap_host::{Door, Host, PARTS, Seat};
 use imap_keeper::{Keeper, ListKeeper};
 use imap_login::Credentials;
 use imap_names::UserName;
-use imap_options::{Address, LogLevel, Port};
+use imap_options::{Address, DialectName, LogLevel, Port};
 use imap_service::{
     ClientDoor, Connection, IdleWakers, Listener, PortDoor, Reception, Receptionist, Report, SEATS,
     listen_at, posts,
@@ -25,7 +25,9 @@ use std::time::Duration;
 const GOODBYE: &[u8] = b"* BYE limit reached\r\n";
 
 /// A port of this machine.
-fn listener<R: Net<Listener = TcpListener, Stream = TcpStream>>(rt: &R) -> io::Result<TcpListener> {
+pub(crate) fn listener<R: Net<Listener = TcpListener, Stream = TcpStream>>(
+    rt: &R,
+) -> io::Result<TcpListener> {
     match listen_at(rt, 0) {
         Ok(listener) => Ok(listener),
         Err(_) => Err(io::Error::from(io::ErrorKind::AddrInUse)),
@@ -33,7 +35,7 @@ fn listener<R: Net<Listener = TcpListener, Stream = TcpStream>>(rt: &R) -> io::R
 }
 
 /// A client of the listener, and its connection.
-fn connection<R: Net<Listener = TcpListener, Stream = TcpStream>>(
+pub(crate) fn connection<R: Net<Listener = TcpListener, Stream = TcpStream>>(
     rt: &R,
     listener: &TcpListener,
 ) -> io::Result<(TcpStream, TcpStream)> {
@@ -42,16 +44,16 @@ fn connection<R: Net<Listener = TcpListener, Stream = TcpStream>>(
     Ok((client, stream))
 }
 
-fn named(alloc: Global, text: &str) -> io::Result<UserName> {
+pub(crate) fn named(alloc: Global, text: &str) -> io::Result<UserName> {
     Ok(user(alloc, text)?)
 }
 
-fn reception(alloc: Global, listener: Listener) -> io::Result<Reception> {
+pub(crate) fn reception(alloc: Global, listener: Listener) -> io::Result<Reception> {
     Ok(Reception::new(alloc, listener)?)
 }
 
 /// What a client is told until the connection ends.
-fn told(alloc: Global, client: &mut TcpStream) -> io::Result<Vec<u8>> {
+pub(crate) fn told(alloc: Global, client: &mut TcpStream) -> io::Result<Vec<u8>> {
     let mut text = Vec::new(alloc);
     client.read_to_end(&mut text)?;
     Ok(text)
@@ -148,6 +150,11 @@ pub(crate) trait Deed {
     /// What the client logs in with.
     fn credentials(&self, _alloc: Global) -> io::Result<Option<Credentials>> {
         Ok(None)
+    }
+
+    /// What the client is spoken to in.
+    fn dialect(&self) -> DialectName {
+        DialectName::Rev2
     }
 
     /// Whether it came out as it should.
@@ -270,6 +277,7 @@ fn done_at<
         report: &report,
         user,
         credentials,
+        dialect: deed.dialect(),
         number: 1,
         write_timeout: Duration::from_millis(100),
         has_client: false,
@@ -370,7 +378,15 @@ fn are_seated_at<
 >(rt: &R, host: &mut Host<K, L>, ports: &[Port], receptions: &[Reception]) -> io::Result<bool> {
     let wakers = IdleWakers::new(rt.alloc(), 2 * SEATS)?;
     let report = Report::new(rt, LogLevel::Off);
-    match posts(rt, &report, host, ports, receptions, &wakers) {
+    match posts(
+        rt,
+        &report,
+        host,
+        ports,
+        receptions,
+        &wakers,
+        DialectName::Rev2,
+    ) {
         Ok(posts) => {
             let are_seated = are_posts(posts.as_slice(), receptions);
             drop(posts);

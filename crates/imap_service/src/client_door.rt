@@ -14,6 +14,7 @@ use crate::wakeable_stream::WakeableStream;
 use imap_host::Door;
 use imap_login::Credentials;
 use imap_names::UserName;
+use imap_options::DialectName;
 use imap_serve::{End, ServeError};
 use std::alloc::Global;
 use std::io;
@@ -38,6 +39,8 @@ pub struct ClientDoor<
     pub user: &'a UserName,
     /// What clients log in with, if they are to.
     pub credentials: &'a Option<Credentials>,
+    /// What clients are spoken to in.
+    pub dialect: DialectName,
     /// The number of the worker's session.
     pub number: usize,
     /// For how long a client may keep a reply from being written.
@@ -84,7 +87,14 @@ impl<'a, R: Net<Listener = TcpListener, Stream = TcpStream> + Wait + Clock + Epr
         match self.credentials {
             Some(credentials) => {
                 output.set_timeout(Duration::from_secs(LOGIN_SECONDS))?;
-                let has_entered = log_in(self.rt, self.alloc, credentials, input, output)?;
+                let has_entered = log_in(
+                    self.rt,
+                    self.alloc,
+                    credentials,
+                    self.dialect,
+                    input,
+                    output,
+                )?;
                 output.set_timeout(self.write_timeout)?;
                 Ok(has_entered)
             }

@@ -2,7 +2,10 @@
 
 use crate::guarded_stream::GuardedStream;
 use crate::shared_stream::SharedStream;
-use imap_login::{Credentials, Login, Stage, farewell, greeting};
+use imap_login::{
+    Capabilities, Credentials, Login, Stage, farewell, push_greeting, push_session_greeting,
+};
+use imap_options::DialectName;
 use std::alloc::Global;
 use std::io::{self, ErrorKind, Read, Write};
 use std::net::{Net, TcpListener, TcpStream};
@@ -16,18 +19,27 @@ pub const LOGIN_SECONDS: u64 = 60;
 /// The most octets that one read takes.
 const PIECE_OCTETS: usize = 1024;
 
+/// Returns what the server can do, in the words of the dialect.
+fn capabilities_in(dialect: DialectName) -> Capabilities {
+    match dialect {
+        DialectName::Rev2 => Capabilities::standard(),
+        DialectName::Rev1 => Capabilities::new(imap_rev1::capabilities()),
+    }
+}
+
 /// Answers a client until it has logged in. Returns whether it has: else it left, gave a wrong secret too often, or took
-/// too long. What came after the login is read next.
+/// too long. What came after the login is read next. The session that follows is told in the dialect.
 pub(crate) fn log_in<R: Net<Listener = TcpListener, Stream = TcpStream> + Wait + Clock>(
     rt: &R,
     alloc: Global,
     credentials: &Credentials,
+    dialect: DialectName,
     input: &mut GuardedStream<'_, R>,
     output: &mut SharedStream,
 ) -> io::Result<bool> {
     let since = Instant::now(rt)?;
-    let mut login = Login::new(alloc);
-    output.write_all(greeting())?;
+    let mut login = Login::new(alloc, capabilities_in(dialect));
+    greet(alloc, dialect, output)?;
     for _ in rt.forever() {
         if since.elapsed(rt)? >= Duration::from_secs(LOGIN_SECONDS) {
             output.write_all(farewell())?;
@@ -38,12 +50,31 @@ pub(crate) fn log_in<R: Net<Listener = TcpListener, Stream = TcpStream> + Wait +
             Stage::Waiting => {}
             Stage::Closed => return Ok(false),
             Stage::Entered => {
-                output.drop_greeting();
+                leave_out_greeting(alloc, dialect, output)?;
                 return Ok(true);
             }
         }
     }
     unreachable!()
+}
+
+/// Writes the first line of the connection.
+fn greet(alloc: Global, dialect: DialectName, output: &mut SharedStream) -> io::Result<()> {
+    let mut line = Vec::new(alloc);
+    push_greeting(&mut line, &capabilities_in(dialect))?;
+    output.write_all(line.as_slice())
+}
+
+/// Leaves out the greeting of the session that begins now: its client has logged in, and was told so.
+fn leave_out_greeting(
+    alloc: Global,
+    dialect: DialectName,
+    output: &mut SharedStream,
+) -> io::Result<()> {
+    let mut line = Vec::new(alloc);
+    push_session_greeting(&mut line, &capabilities_in(dialect))?;
+    output.leave_out(line);
+    Ok(())
 }
 
 /// Reads once, and writes what the client is answered. Fails at the end of the input.

@@ -128,7 +128,7 @@ impl Reception {
     }
 
     /// No client comes any more.
-    pub(crate) fn close<R: Wait>(&self, rt: &R) {
+    pub fn close<R: Wait>(&self, rt: &R) {
         self.queue.lock(rt).is_closed = true;
         self.arrived.notify_all();
     }

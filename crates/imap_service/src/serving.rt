@@ -220,6 +220,7 @@ fn serve_wakeable<
             setting.ports,
             receptions,
             &wakers,
+            setting.dialect,
         ) {
             Ok(posts) => serve_posts(setting, host, &wakers, posts),
             Err(error) => error,
@@ -246,17 +247,47 @@ fn serve_posts<
     wakers: &'a IdleWakers,
     mut posts: Vec<(Seat<L>, PortDoor<'a, R>)>,
 ) -> ServiceError {
-    let each = posts.as_mut_slice();
-    match setting.dialect {
-        DialectName::Rev2 => serve_in(setting, host, wakers, each, &Standard),
-        DialectName::Rev1 => serve_in(setting, host, wakers, each, &Rev1::new()),
-    }
+    serve_in(
+        setting.rt,
+        host,
+        wakers,
+        posts.as_mut_slice(),
+        setting.dialect,
+        setting.max_octets,
+    );
     // Whether all threads ran or not, no connection comes any more.
     ServiceError::NoConnection
 }
 
-/// Runs a thread for each post, whose clients are spoken to in the dialect.
-fn serve_in<
+/// Runs a thread for each post, whose clients are spoken to in the dialect of this name and may send this many octets
+/// in a message, until no connection comes any more.
+pub fn serve_in<
+    'a,
+    K: Keeper + Send,
+    L: Ledger + Send + Sync,
+    R: Net<Listener = TcpListener, Stream = TcpStream>
+        + Threads
+        + Wait
+        + Clock
+        + Eprint
+        + AllocGlobal
+        + Sync,
+>(
+    rt: &'a R,
+    host: &Host<K, L>,
+    wakers: &'a IdleWakers,
+    posts: &mut [(Seat<L>, PortDoor<'a, R>)],
+    dialect: DialectName,
+    max_octets: u64,
+) {
+    match dialect {
+        DialectName::Rev2 => run_crew(rt, host, wakers, posts, &Standard, max_octets),
+        DialectName::Rev1 => run_crew(rt, host, wakers, posts, &Rev1::new(), max_octets),
+    }
+}
+
+/// The same for a dialect.
+fn run_crew<
     'a,
     K: Keeper + Send,
     L: Ledger + Send + Sync,
@@ -269,13 +300,13 @@ fn serve_in<
         + Sync,
     T: Dialect + Copy + Sync,
 >(
-    setting: &'a Setting<'a, R>,
+    rt: &'a R,
     host: &Host<K, L>,
     wakers: &'a IdleWakers,
     posts: &mut [(Seat<L>, PortDoor<'a, R>)],
     dialect: &T,
+    max_octets: u64,
 ) {
-    let rt = setting.rt;
     let _ran = crew_in(
         rt,
         rt.alloc(),
@@ -284,13 +315,13 @@ fn serve_in<
         &SystemClock { rt },
         &NotifyOnChange::new(rt, host.changes(), wakers),
         dialect,
-        setting.max_octets,
+        max_octets,
         IDLE_TICKS,
     );
 }
 
 /// Returns the posts of the reception at each port's index: first those that serve, sixteen for each port with a waker
-/// each, and then one for each port that receives its clients.
+/// each, and then one for each port that receives its clients. Who logs in is spoken to in the dialect.
 pub fn posts<
     'a,
     K: Keeper,
@@ -303,6 +334,7 @@ pub fn posts<
     ports: &'a [Port],
     receptions: &'a [Reception],
     wakers: &'a IdleWakers,
+    dialect: DialectName,
 ) -> Result<Vec<(Seat<L>, PortDoor<'a, R>)>, ServiceError> {
     let alloc = rt.alloc();
     let mut posts = Vec::new(alloc);
@@ -318,6 +350,7 @@ pub fn posts<
                 report,
                 user: &port.user,
                 credentials: &port.credentials,
+                dialect,
                 number: index % SEATS + 1,
                 write_timeout: Duration::from_secs(WRITE_SECONDS),
                 has_client: false,

@@ -1,7 +1,7 @@
 //! What is written to a connection.
 
 use crate::connection::Connection;
-use imap_login::session_greeting;
+use imap_login::front_length;
 use std::io::{self, Write};
 use std::sync::Arc;
 use std::time::Duration;
@@ -10,8 +10,8 @@ use std::time::Duration;
 #[derive(Drop)]
 pub struct SharedStream {
     stream: Arc<Connection>,
-    /// Whether the greeting of the session is left out, with which its first write begins.
-    drops_greeting: bool,
+    /// The line that is left out, if the next write begins with it.
+    left_out: Option<Vec<u8>>,
 }
 
 impl SharedStream {
@@ -19,13 +19,13 @@ impl SharedStream {
     pub(crate) fn new(stream: Arc<Connection>) -> SharedStream {
         SharedStream {
             stream,
-            drops_greeting: false,
+            left_out: None,
         }
     }
 
-    /// Leaves out the greeting of the session that begins now: its client has logged in, and was told so.
-    pub(crate) fn drop_greeting(&mut self) {
-        self.drops_greeting = true;
+    /// Leaves out this line, if the next write begins with it.
+    pub(crate) fn leave_out(&mut self, line: Vec<u8>) {
+        self.left_out = Some(line);
     }
 
     /// A write that waits longer fails.
@@ -36,9 +36,8 @@ impl SharedStream {
 
 impl Write for SharedStream {
     fn write(&mut self, buf: &[u8]) -> io::Result<usize> {
-        if self.drops_greeting {
-            self.drops_greeting = false;
-            let count = session_greeting(buf);
+        if let Some(line) = self.left_out.take() {
+            let count = front_length(line.as_slice(), buf);
             if count > 0 {
                 return Ok(count);
             }

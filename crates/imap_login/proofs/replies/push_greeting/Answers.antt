@@ -1,0 +1,4 @@
+use Rattle.imap_login.proofs.replies.push_greeting.Goals as goal
+
+pub returns : goal.returns
+returns c = c.push_between.ensures
