@@ -128,7 +128,14 @@ fn serve<
     });
     let mut posts = posts(rt.alloc(), host, door)?;
     let each = posts.as_mut_slice();
-    serve_in(rt, host, &wakers, each, dialect, DEFAULT_LIMITS.max_octets);
+    serve_in(
+        rt,
+        &*host,
+        &wakers,
+        each,
+        dialect,
+        DEFAULT_LIMITS.max_octets,
+    );
     drop(posts);
     Ok(())
 }
