@@ -12,11 +12,11 @@ use Rattle.imap_lex.proofs.Marks.{marks_are_found, marks_are_read}
 use Rattle.imap_lex.proofs.Tails.{with_octets-append}
 use Rattle.imap_print.specs.Lines.{is_plain}
 use Rattle.imap_syntax.proofs.Writing.{both_true}
-use Rattle.imap_rev1.specs.declared.scan.Scan.{Scan}
-use Rattle.imap_rev1.specs.Scan.{written}
-use Rattle.imap_rev1.specs.Rewritten.{line_text, are_plain, written_line, after_line, announced, literal_length, section_length, written_section, written_after}
+use Rattle.imap_rev1_frames.specs.declared.scan.Scan.{Scan}
+use Rattle.imap_rev1_frames.specs.Scan.{written}
+use Rattle.imap_rev1_frames.specs.Rewritten.{line_text, are_plain, written_line, after_line, announced, literal_length, section_length, written_section, written_after}
 use Rattle.imap_rev1.specs.Laws.{Becomes}
-use Rattle.imap_rev1.proofs.Sections.{written_next}
+use Rattle.imap_rev1_frames.proofs.Sections.{written_next}
 use Rattle.imap_rev1.proofs.Tails.{Alike, text_alike}
 
 -- ---- lists

@@ -11,12 +11,12 @@ use Rattle.imap_lex.specs.LineEnd.{line_length}
 use Rattle.imap_lex.proofs.FirstLine.{lines_are_read}
 use Rattle.imap_print.specs.Lines.{is_plain}
 use Rattle.imap_syntax.proofs.Writing.{both_true}
-use Rattle.imap_rev1.specs.declared.named.Named.{Named}
-use Rattle.imap_rev1.specs.declared.scan.Scan.{Scan}
-use Rattle.imap_rev1.specs.Scan.{start, is_outside, is_word_octet, is_in_word, written_word, after_word, after_octet, written}
-use Rattle.imap_rev1.specs.Rewritten.{line_text, are_plain, written_line, after_line, literal_length, section_length, written_after}
+use Rattle.imap_rev1_frames.specs.declared.named.Named.{Named}
+use Rattle.imap_rev1_frames.specs.declared.scan.Scan.{Scan}
+use Rattle.imap_rev1_frames.specs.Scan.{start, is_outside, is_word_octet, is_in_word, written_word, after_word, after_octet, written}
+use Rattle.imap_rev1_frames.specs.Rewritten.{line_text, are_plain, written_line, after_line, literal_length, section_length, written_after}
 use Rattle.imap_rev1.proofs.Commands.{take_front, drop_front, text_of}
-use Rattle.imap_rev1.proofs.Sections.{written_end, written_next}
+use Rattle.imap_rev1_frames.proofs.Sections.{written_end, written_next}
 
 -- ---- tags
 

@@ -1,11 +1,13 @@
 pub mod Appended
+pub mod Asking
 pub mod Commands
+pub mod Fetches
 pub mod FirstWord
+pub mod Labelled
 pub mod Lines
+pub mod Listed
 pub mod OneFrame
-pub mod Pushes
 pub mod Rev1Rules
-pub mod Sections
 pub mod Spelt
 pub mod Strings
 pub mod Tails

@@ -1,8 +1,9 @@
 -- Each reply is told in lines that a client reads.
 use Rattle.std.proofs.Common.{◌≡◌, ◌∙◌, ℕ, Bool, true, false, cond, List, [], ◌∷◌, ◌++◌, Option, Some, None, refl, flat_map, ap, append_assoc, append-nil, subst, drop}
 use Rattle.std.specs.Prelude.{codes}
-use Rattle.std.specs.List.{concat, AllByRecursion}
+use Rattle.std.specs.List.{concat, AllByRecursion, list_any}
 use Rattle.imap_lex.specs.Framing.{crlf}
+use Rattle.imap_print.specs.declared.fetch.FetchedItems.{FetchedItems}
 use Rattle.imap_print.specs.declared.list.ListAttributes.{ListAttributes}
 use Rattle.imap_print.specs.declared.response.Response.{Response}
 use Rattle.imap_print.specs.declared.response.Response.TheVariants as response
@@ -16,8 +17,12 @@ use Rattle.imap_print.proofs.OneLine.{each_is_one_line as printed_line}
 use Rattle.imap_query.specs.declared.status.StatusItem.{StatusItem}
 use Rattle.imap_query.specs.declared.status.StatusItem.TheVariants as item
 use Rattle.imap_query.specs.StatusWords.{status_name}
+use Rattle.imap_rev1_frames.specs.declared.asked.Asked.{Asked}
 use Rattle.imap_rev1.specs.declared.rev1.Rules.{Rules}
 use Rattle.imap_rev1.specs.Rev1.{rev1, rules_for, lines_by, told_by, recent_text, greeting_text, capability_text, search_text, numbers_text, set_numbers, mod_seq_text, lsub_text, item_text, items_words, first_recent, status_text, is_search, is_select, is_lsub}
+use Rattle.imap_rev1_frames.specs.Asked.{is_labelled}
+use Rattle.imap_rev1.specs.Labels.{fetch_text}
+use Rattle.imap_rev1.proofs.Labelled.{fetch_settles}
 use Rattle.imap_rev1.specs.Laws.{EachIsOneLine, AllAreRead, IsOneLine}
 use Rattle.imap_dialect.specs.Telling.{retold}
 
@@ -50,9 +55,9 @@ item_settles : (is_recent : Bool) (value : StatusValue) → Settles (item_text i
 item_settles true value = settled _ refl
 item_settles false value = value_settles value
 
-items_settle : (recents : List Bool) (values : List StatusValue) → AllSettle (items_words recents values)
-items_settle recents [] = tt
-items_settle recents (value ∷ values) = (item_settles (first_recent recents) value, items_settle (drop 1 recents) values)
+items_settle : (asked : List Asked) (values : List StatusValue) → AllSettle (items_words asked values)
+items_settle asked [] = tt
+items_settle asked (value ∷ values) = (item_settles (first_recent asked) value, items_settle (drop 1 asked) values)
 
 -- ---- lines
 
@@ -74,10 +79,15 @@ list_one : (b : Bool) (attributes : ListAttributes) (mailbox : List ℕ) → IsP
 list_one true attributes mailbox h = settled_one (lsub_text mailbox) (settles-append (settled (codes "* LSUB () \"/\" ") refl) (name_settles mailbox h.plain.0))
 list_one false attributes mailbox h = printed_one (response.List attributes mailbox) h
 
-status_one : (recents : List Bool) (mailbox : List ℕ) (values : List StatusValue) → IsPrintable (response.Status mailbox values) → AllByRecursion IsOneLine ((status_text recents mailbox values ++ crlf) ∷ [])
-status_one recents mailbox values h =
-    settled_one (status_text recents mailbox values)
-    (settles-append (settles-append (settles-append (settled (codes "* STATUS ") refl) (name_settles mailbox h.plain.0)) (settled (codes " ") refl)) (words_settle (items_words recents values) (items_settle recents values)))
+status_one : (asked : List Asked) (mailbox : List ℕ) (values : List StatusValue) → IsPrintable (response.Status mailbox values) → AllByRecursion IsOneLine ((status_text asked mailbox values ++ crlf) ∷ [])
+status_one asked mailbox values h =
+    settled_one (status_text asked mailbox values)
+    (settles-append (settles-append (settles-append (settled (codes "* STATUS ") refl) (name_settles mailbox h.plain.0)) (settled (codes " ") refl)) (words_settle (items_words asked values) (items_settle asked values)))
+
+fetch_one : (b : Bool) (all : List Asked) (number : ℕ) (items : FetchedItems) → IsPrintable (response.Fetch number items)
+    → AllByRecursion IsOneLine (cond b ((fetch_text all number items ++ crlf) ∷ []) (line (response.Fetch number items) ∷ []))
+fetch_one true all number items h = settled_one (fetch_text all number items) (fetch_settles all number items h)
+fetch_one false all number items h = printed_one (response.Fetch number items) h
 
 told_one : (rules : Rules) (reply : Response) → IsPrintable reply → AllByRecursion IsOneLine (lines_by rules reply)
 told_one rules response.Greeting h = settled_one greeting_text (settled _ refl)
@@ -85,7 +95,7 @@ told_one rules response.Capability h = settled_one capability_text (settled _ re
 told_one rules (response.Search tag uid results) h = search_one (is_search rules.named) tag uid results h
 told_one rules (response.Exists n) h = exists_one (is_select rules.named) n h
 told_one rules (response.List attributes mailbox) h = list_one (is_lsub rules.named) attributes mailbox h
-told_one rules (response.Status mailbox values) h = status_one rules.recents mailbox values h
+told_one rules (response.Status mailbox values) h = status_one rules.asked mailbox values h
 told_one rules (response.Bye a) h = printed_one (response.Bye a) h
 told_one rules (response.Done a b) h = printed_one (response.Done a b) h
 told_one rules (response.Refused a b) h = printed_one (response.Refused a b) h
@@ -106,7 +116,7 @@ told_one rules (response.UidValidity a) h = printed_one (response.UidValidity a)
 told_one rules (response.UidNext a) h = printed_one (response.UidNext a) h
 told_one rules (response.HighestModSeq a) h = printed_one (response.HighestModSeq a) h
 told_one rules (response.Moved a) h = printed_one (response.Moved a) h
-told_one rules (response.Fetch a b) h = printed_one (response.Fetch a b) h
+told_one rules (response.Fetch number items) h = fetch_one (list_any is_labelled rules.asked) rules.asked number items h
 
 pub each_is_one_line : EachIsOneLine
 each_is_one_line state by reply h = told_one (rules_for state by) reply h
@@ -128,7 +138,7 @@ lines_are rules response.Capability = append-nil _
 lines_are rules (response.Search tag uid results) = one_by (is_search rules.named) (search_text results ++ crlf) (line (response.Search tag uid results))
 lines_are rules (response.Exists n) = two_by (is_select rules.named) (line (response.Exists n)) (recent_text ++ crlf) (line (response.Exists n))
 lines_are rules (response.List attributes mailbox) = one_by (is_lsub rules.named) (lsub_text mailbox ++ crlf) (line (response.List attributes mailbox))
-lines_are rules (response.Status mailbox values) = append-nil (status_text rules.recents mailbox values ++ crlf)
+lines_are rules (response.Status mailbox values) = append-nil (status_text rules.asked mailbox values ++ crlf)
 lines_are rules (response.Bye a) = append-nil (line (response.Bye a))
 lines_are rules (response.Done a b) = append-nil (line (response.Done a b))
 lines_are rules (response.Refused a b) = append-nil (line (response.Refused a b))
@@ -149,7 +159,7 @@ lines_are rules (response.UidValidity a) = append-nil (line (response.UidValidit
 lines_are rules (response.UidNext a) = append-nil (line (response.UidNext a))
 lines_are rules (response.HighestModSeq a) = append-nil (line (response.HighestModSeq a))
 lines_are rules (response.Moved a) = append-nil (line (response.Moved a))
-lines_are rules (response.Fetch a b) = append-nil (line (response.Fetch a b))
+lines_are rules (response.Fetch number items) = one_by (list_any is_labelled rules.asked) (fetch_text rules.asked number items ++ crlf) (line (response.Fetch number items))
 
 read_more : (lines more : List (List ℕ)) (stream : List ℕ) → AllByRecursion IsOneLine lines → AreReadFrom more stream → AreReadFrom (lines ++ more) (concat lines ++ stream)
 read_more [] more stream h k = k

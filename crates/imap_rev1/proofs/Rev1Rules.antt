@@ -14,13 +14,14 @@ use Rattle.imap_print.specs.Words.{in_parentheses}
 use Rattle.imap_print.specs.declared.response.Response.{Response}
 use Rattle.imap_print.specs.declared.response.Response.TheVariants as response
 use Rattle.imap_print.specs.declared.status.StatusValue.{StatusValue}
-use Rattle.imap_rev1.specs.declared.named.Named.{Named}
-use Rattle.imap_rev1.specs.declared.named.Named.TheVariants as named
+use Rattle.imap_rev1_frames.specs.declared.asked.Asked.{Asked}
+use Rattle.imap_rev1_frames.specs.declared.named.Named.{Named}
+use Rattle.imap_rev1_frames.specs.declared.named.Named.TheVariants as named
 use Rattle.imap_rev1.specs.declared.rev1.Rev1.{Rev1}
 use Rattle.imap_rev1.specs.declared.rev1.Rules.{Rules}
-use Rattle.imap_rev1.specs.Named.{after_tag, begins, is_word, named_in, named_by, is_rewritten}
-use Rattle.imap_rev1.specs.Scan.{start}
-use Rattle.imap_rev1.specs.Rewritten.{command_for, item_recents, recents_by}
+use Rattle.imap_rev1_frames.specs.Named.{after_tag, begins, is_fetch, is_word, named_in, named_by, is_rewritten}
+use Rattle.imap_rev1_frames.specs.Scan.{start}
+use Rattle.imap_rev1_frames.specs.Rewritten.{command_for, command_asked, asked_by}
 use Rattle.imap_rev1.specs.Rev1.{told_by, items_words, status_text, enables_rev2}
 use Rattle.imap_rev1.specs.Laws.{HandsOthersOn, KeepsTags, IsCommand, Becomes, StaysCommand, PrintsOthers, is_retold, names_capabilities, PrintsConditions, EndsByRev2, is_until_rev2, StaysUntilEnabled, StaysEnabled}
 use Rattle.imap_rev1.proofs.Commands.{command_stays}
@@ -60,30 +61,30 @@ stays_command state octets sections last is = stays_by (named_in state.rev2 octe
 
 -- ---- replies
 
-no_recents : (values : List StatusValue) → items_words [] values ≡ map value_text values
-no_recents [] = refl
-no_recents (value ∷ values) = ap (λ (l : List (List ℕ)). value_text value ∷ l) (no_recents values)
+none_asked : (values : List StatusValue) → items_words [] values ≡ map value_text values
+none_asked [] = refl
+none_asked (value ∷ values) = ap (λ (l : List (List ℕ)). value_text value ∷ l) (none_asked values)
 
 abbrev line_with : (mailbox : List ℕ) → List (List ℕ) → List ℕ
 line_with mailbox words = (codes "* STATUS " ++ name_text mailbox ++ codes " " ++ in_parentheses words) ++ crlf
 
 status_printed : (mailbox : List ℕ) (values : List StatusValue) → status_text [] mailbox values ++ crlf ≡ line (response.Status mailbox values)
-status_printed mailbox values = ap (line_with mailbox) (no_recents values)
+status_printed mailbox values = ap (line_with mailbox) (none_asked values)
 
-item_recents_none : (command : Named) (octets : List ℕ) → is_retold command ≡ false → item_recents command octets ≡ []
-item_recents_none named.Check octets h = refl
-item_recents_none named.Other octets h = refl
-item_recents_none _ octets h = absurd cc
+command_asked_none : (command : Named) (octets : List ℕ) → is_retold command ≡ false → command_asked command octets ≡ []
+command_asked_none named.Check octets h = refl
+command_asked_none named.Other octets h = refl
+command_asked_none _ octets h = absurd cc
 
-no_recents_by : (command : Named) (by : Option Frame) → is_retold command ≡ false → recents_by command by ≡ []
-no_recents_by command None h = refl
-no_recents_by command (Some (frame.Whole octets)) h = item_recents_none command octets h
-no_recents_by command (Some frame.Continue) h = refl
-no_recents_by command (Some (frame.Reject tag)) h = refl
-no_recents_by command (Some frame.Hangup) h = refl
+none_asked_by : (command : Named) (by : Option Frame) → is_retold command ≡ false → asked_by command by ≡ []
+none_asked_by command None h = refl
+none_asked_by command (Some (frame.Whole octets)) h = command_asked_none command octets h
+none_asked_by command (Some frame.Continue) h = refl
+none_asked_by command (Some (frame.Reject tag)) h = refl
+none_asked_by command (Some frame.Hangup) h = refl
 
-abbrev record_rules : Named → List Bool → Rules
-record_rules command recents = record { named = command; recents = recents }
+abbrev record_rules : Named → List Asked → Rules
+record_rules command all = record { named = command; asked = all }
 
 check_told : (reply : Response) → names_capabilities reply ≡ false → told_by (record_rules named.Check []) reply ≡ line reply
 check_told response.Greeting h = absurd cc
@@ -105,7 +106,7 @@ plain_told _ reply h other = absurd cc
 pub prints_others : PrintsOthers
 prints_others state by reply h other =
     let command = named_by state.rev2 by in
-    ap (λ (r : List Bool). told_by (record_rules command r) reply) (no_recents_by command by h) ∙ plain_told command reply h other
+    ap (λ (r : List Asked). told_by (record_rules command r) reply) (none_asked_by command by h) ∙ plain_told command reply h other
 
 pub prints_conditions : PrintsConditions
 prints_conditions state by (response.Bye farewell) h = refl
@@ -115,14 +116,15 @@ prints_conditions state by _ h = absurd cc
 
 -- ---- ENABLE
 
-ended_by : (a b : Bool) → is_until_rev2 (cond a named.Check (cond b named.Lsub named.Other)) ≡ false
-ended_by true b = refl
-ended_by false true = refl
-ended_by false false = refl
+ended_by : (a b c : Bool) → is_until_rev2 (cond a named.Check (cond b named.Lsub (cond c named.Fetch named.Other))) ≡ false
+ended_by true b c = refl
+ended_by false true c = refl
+ended_by false false true = refl
+ended_by false false false = refl
 
 pub ends_by_rev2 : EndsByRev2
 ends_by_rev2 None = refl
-ends_by_rev2 (Some (frame.Whole octets)) = ended_by (is_word (codes "CHECK\r\n") (after_tag octets)) (begins (codes "LSUB ") (after_tag octets))
+ends_by_rev2 (Some (frame.Whole octets)) = ended_by (is_word (codes "CHECK\r\n") (after_tag octets)) (begins (codes "LSUB ") (after_tag octets)) (is_fetch (after_tag octets))
 ends_by_rev2 (Some frame.Continue) = refl
 ends_by_rev2 (Some (frame.Reject tag)) = refl
 ends_by_rev2 (Some frame.Hangup) = refl

@@ -1,5 +1,5 @@
 -- CHECK, LSUB and the keys of SEARCH, as they are written.
-use Rattle.std.proofs.Common.{◌≡◌, ◌∙◌, ap, sym, refl, ℕ, ◌-◌, Bool, true, false, cond, not, ◌&&◌, List, [], ◌∷◌, ◌++◌, append_assoc, append-nil, length, length-append, drop, map, arith, Some, None, zero, suc, ◌≤◌, take, Option}
+use Rattle.std.proofs.Common.{◌≡◌, ◌∙◌, ap, sym, refl, ℕ, ◌-◌, Bool, true, false, cond, not, ◌&&◌, List, [], ◌∷◌, ◌++◌, append_assoc, append-nil, length, length-append, drop, map, arith, Some, None}
 use Rattle.std.specs.Prelude.{codes, min, ◌==◌}
 use Rattle.std.specs.List.{list_all, AllByRecursion}
 use Rattle.std.proofs.lemmas.List.Folds.{list_all-append}
@@ -10,33 +10,27 @@ use Rattle.imap_lex.specs.Framing.{crlf}
 use Rattle.imap_lex.specs.Mark.{line_mark, mark_at, text}
 use Rattle.imap_lex.specs.Stream.{IsLastLine}
 use Rattle.imap_lex.specs.declared.frame.Frame.TheVariants as frame
-use Rattle.imap_lex.specs.LineEnd.{line_length}
-use Rattle.imap_lex.proofs.FirstLine.{lines_are_found}
 use Rattle.imap_lex.proofs.Marks.{marks_are_found}
 use Rattle.imap_lex.proofs.Tails.{with_octets-append}
 use Rattle.imap_print.specs.Lines.{is_plain}
-use Rattle.imap_print.specs.Words.{before_each, joined}
-use Rattle.imap_print.specs.declared.status.StatusValue.{StatusValue}
+use Rattle.imap_print.specs.Words.{before_each}
 use Rattle.imap_syntax.proofs.Writing.{both_true}
-use Rattle.imap_rev1.specs.declared.named.Named.{Named}
-use Rattle.imap_rev1.specs.declared.named.Named.TheVariants as named
-use Rattle.imap_rev1.specs.declared.scan.Scan.{Scan}
-use Rattle.imap_rev1.specs.declared.scan.Depth.{Depth}
-use Rattle.imap_rev1.specs.declared.scan.Depth.TheVariants as depth
-use Rattle.imap_rev1.specs.declared.scan.Quoting.{Quoting}
-use Rattle.imap_rev1.specs.declared.scan.Quoting.TheVariants as quoting
-use Rattle.imap_rev1.specs.Named.{after_space, begins, is_word, named_command, named_in, named_until_rev2, is_rewritten}
-use Rattle.imap_rev1.specs.Scan.{start, is_outside, is_word_octet, is_in_word, key_for, exchanged, word_for, is_item, written_word, word_recent, option_list, passed, after_key, after_named, after_word, after_octet, after_quoting, deeper, less_deep, written, recents}
-use Rattle.imap_rev1.specs.Rev1.{status_text}
-use Rattle.imap_rev1.specs.Rewritten.{line_text, are_plain, written_line, line_recents, after_line, section_length, command_for, recents_after, item_recents, rewritten_octets}
-use Rattle.imap_rev1.specs.Laws.{ChecksByNoop, lsub_octets, ListsSubscribed, IsKeyWord, search_octets, SearchesByKeys, IsPlainWord, status_arguments, status_octets, AsksMessages, TellsRecent}
+use Rattle.imap_rev1_frames.specs.declared.named.Named.{Named}
+use Rattle.imap_rev1_frames.specs.declared.named.Named.TheVariants as named
+use Rattle.imap_rev1_frames.specs.declared.scan.Scan.{Scan}
+use Rattle.imap_rev1_frames.specs.declared.scan.Depth.TheVariants as depth
+use Rattle.imap_rev1_frames.specs.declared.scan.Quoting.{Quoting}
+use Rattle.imap_rev1_frames.specs.declared.scan.Quoting.TheVariants as quoting
+use Rattle.imap_rev1_frames.specs.Named.{after_space, begins, is_fetch, is_word, named_command, named_in, named_until_rev2, is_rewritten}
+use Rattle.imap_rev1_frames.specs.Scan.{start, is_word_octet, is_in_word, key_for, word_for, is_item, written_word, passed, after_key, after_named, after_word, after_octet, after_quoting, deeper, less_deep, written}
+use Rattle.imap_rev1_frames.specs.Rewritten.{line_text, are_plain, written_line, command_for, rewritten_octets}
+use Rattle.imap_rev1.specs.Laws.{ChecksByNoop, lsub_octets, ListsSubscribed, IsKeyWord, search_octets, SearchesByKeys}
 use Rattle.imap_rev1.proofs.Commands.{drop_front, take_front, plain_line, last_written}
-use Rattle.imap_rev1.proofs.FirstWord.{count, tag_in_word, tag_stays}
-use Rattle.imap_rev1.proofs.Sections.{recents_next}
+use Rattle.imap_rev1.proofs.FirstWord.{count, tag_stays}
 
 -- ---- a plain last line
 
-text_of_line : (octets : List ℕ) → line_text (octets ++ crlf) ≡ octets
+pub text_of_line : (octets : List ℕ) → line_text (octets ++ crlf) ≡ octets
 text_of_line octets =
     let len : length octets ≡ length (octets ++ crlf) - 2 = omega (arith, length-append octets crlf) in
     take_front octets crlf (length (octets ++ crlf) - 2) len
@@ -52,14 +46,14 @@ line_written scan octets plain =
 abbrev tagged : Named → Scan
 tagged command = record { named = command; passes = 0; depth = depth.None; quoting = quoting.Outside }
 
-tag_chars : (tag : List ℕ) → IsTag tag → (length tag == 0 ≡ false) × (list_all is_tag_char tag ≡ true)
+pub tag_chars : (tag : List ℕ) → IsTag tag → (length tag == 0 ≡ false) × (list_all is_tag_char tag ≡ true)
 tag_chars tag is = by (length tag == 0) (list_all is_tag_char tag) is
   where
     by : (b c : Bool) → (not b && c) ≡ true → (b ≡ false) × (c ≡ true)
     by true c h = absurd cc
     by false c h = (refl, h)
 
-after_first : (command : Named) (tag : List ℕ) → length tag == 0 ≡ false → after_octet (after_word (start command) tag) 32 ≡ tagged command
+pub after_first : (command : Named) (tag : List ℕ) → length tag == 0 ≡ false → after_octet (after_word (start command) tag) 32 ≡ tagged command
 after_first command tag some = ap (λ b. after_octet (cond b (start command) (passed (start command))) 32) some
 
 tag_written : (command : Named) (tag octets : List ℕ) → IsTag tag → written (start command) [] (tag ++ 32 ∷ octets) ≡ tag ++ 32 ∷ written (tagged command) [] octets
@@ -80,18 +74,18 @@ tag_plain : (tag : List ℕ) → list_all is_tag_char tag ≡ true → list_all 
 tag_plain [] h = refl
 tag_plain (b ∷ tag) h = let parts = both_true (is_tag_char b) (list_all is_tag_char tag) h in rw (tag_plain_octet b parts.0, tag_plain tag parts.1) refl
 
-plain_after_tag : (tag octets : List ℕ) → IsTag tag → list_all is_plain octets ≡ true → list_all is_plain (tag ++ octets) ≡ true
+pub plain_after_tag : (tag octets : List ℕ) → IsTag tag → list_all is_plain octets ≡ true → list_all is_plain (tag ++ octets) ≡ true
 plain_after_tag tag octets is h = list_all-append is_plain tag octets ∙ rw (tag_plain tag (tag_chars tag is).1, h) refl
 
 -- a command of one plain line
-one_line : (command : Named) (tag octets : List ℕ) → IsTag tag → list_all is_plain octets ≡ true → IsLastLine ((tag ++ 32 ∷ octets) ++ crlf) → command_for command ((tag ++ 32 ∷ octets) ++ crlf) ≡ (tag ++ 32 ∷ written (tagged command) [] octets) ++ crlf
+pub one_line : (command : Named) (tag octets : List ℕ) → IsTag tag → list_all is_plain octets ≡ true → IsLastLine ((tag ++ 32 ∷ octets) ++ crlf) → command_for command ((tag ++ 32 ∷ octets) ++ crlf) ≡ (tag ++ 32 ∷ written (tagged command) [] octets) ++ crlf
 one_line command tag octets is plain last =
     let whole : list_all is_plain (tag ++ 32 ∷ octets) ≡ true = plain_after_tag tag (32 ∷ octets) is plain in
     last_written (start command) ((tag ++ 32 ∷ octets) ++ crlf) last
     ∙ line_written (start command) (tag ++ 32 ∷ octets) whole
     ∙ ap (λ (l : List ℕ). l ++ crlf) (tag_written command tag octets is)
 
-rewritten_as : (rev2 : Bool) (octets new : List ℕ) (command : Named) → named_in rev2 octets ≡ command → is_rewritten command ≡ true → command_for command octets ≡ new → rewritten_octets rev2 octets ≡ new
+pub rewritten_as : (rev2 : Bool) (octets new : List ℕ) (command : Named) → named_in rev2 octets ≡ command → is_rewritten command ≡ true → command_for command octets ≡ new → rewritten_octets rev2 octets ≡ new
 rewritten_as rev2 octets new command e h f =
     ap (λ (c : Named). cond (is_rewritten c) (command_for c octets) octets) e ∙ ap (λ b. cond b (command_for command octets) octets) h ∙ f
 
@@ -166,7 +160,7 @@ begins_with word rest =
     ap (is_word word) (take_front word rest (min (length (word ++ rest)) (length word)) len)
 
 lsub_named : (rev2 : Bool) (rest : List ℕ) → named_command rev2 (codes "LSUB " ++ rest) ≡ named.Lsub
-lsub_named rev2 rest = ap (λ (b : Bool). cond b named.Lsub (cond rev2 named.Other (named_until_rev2 (codes "LSUB " ++ rest)))) (begins_with (codes "LSUB ") rest)
+lsub_named rev2 rest = ap (λ (b : Bool). cond b named.Lsub (cond (is_fetch (codes "LSUB " ++ rest)) named.Fetch (cond rev2 named.Other (named_until_rev2 (codes "LSUB " ++ rest))))) (begins_with (codes "LSUB ") rest)
 
 pub lists_subscribed : ListsSubscribed
 lists_subscribed state tag operands is last plain =
@@ -207,151 +201,3 @@ searches_by_keys state tag keys is h last plain found =
     let new : written (tagged named.Search) [] octets ≡ codes "SEARCH" ++ before_each 32 (map key_for keys) = word_read [] (codes "SEARCH") (before_each 32 keys) refl ∙ keys_written (codes "SEARCH") keys search_word h in
     ap frame.Whole (rewritten_as state.rev2 (search_octets tag keys) (search_octets tag (map key_for keys)) named.Search found refl
     (one_line named.Search tag octets is all last ∙ ap (λ (l : List ℕ). (tag ++ 32 ∷ l) ++ crlf) new))
-
--- ---- STATUS
-
--- in so many parentheses
-abbrev within : Depth → Scan
-within level = record { named = named.Status; passes = 0; depth = level; quoting = quoting.Outside }
-
-status_word_read : (level : Depth) (word next octets : List ℕ) → list_all is_word_octet next ≡ true → written (within level) word (next ++ octets) ≡ written (within level) (word ++ next) octets
-status_word_read level word [] octets h = ap (λ (w : List ℕ). written (within level) w octets) (sym (append-nil word))
-status_word_read level word (b ∷ next) octets h =
-    let parts = both_true (is_word_octet b) (list_all is_word_octet next) h in
-    rw parts.0 (status_word_read level (word ++ b ∷ []) next octets parts.1 ∙ ap (λ (w : List ℕ). written (within level) w octets) (append_assoc word (b ∷ []) next))
-
-recents_word_read : (level : Depth) (word next octets : List ℕ) → list_all is_word_octet next ≡ true → recents (within level) word (next ++ octets) ≡ recents (within level) (word ++ next) octets
-recents_word_read level word [] octets h = ap (λ (w : List ℕ). recents (within level) w octets) (sym (append-nil word))
-recents_word_read level word (b ∷ next) octets h =
-    let parts = both_true (is_word_octet b) (list_all is_word_octet next) h in
-    rw parts.0 (recents_word_read level (word ++ b ∷ []) next octets parts.1 ∙ ap (λ (w : List ℕ). recents (within level) w octets) (append_assoc word (b ∷ []) next))
-
-same_scan : (level : Depth) (word : List ℕ) (b : Bool) → cond b (within level) (within level) ≡ within level
-same_scan level word true = refl
-same_scan level word false = refl
-
-after_status_word : (level : Depth) (word : List ℕ) → after_word (within level) word ≡ within level
-after_status_word level word = same_scan level word (length word == 0)
-
-abbrev asked : List ℕ → List ℕ
-asked word = exchanged (codes "RECENT") (codes "MESSAGES") word
-
-items_written : (item : List ℕ) (items : List (List ℕ)) → AllByRecursion IsPlainWord items → written (within depth.One) item (before_each 32 items ++ codes ")") ≡ (asked item ++ before_each 32 (map asked items)) ++ codes ")"
-items_written item [] h = ap (λ (s : Scan). asked item ++ 41 ∷ written (after_octet s 41) [] []) (after_status_word depth.One item) ∙ ap (λ (l : List ℕ). l ++ codes ")") (sym (append-nil (asked item)))
-items_written item (next ∷ items) h =
-    ap (λ (s : Scan). asked item ++ 32 ∷ written (after_octet s 32) [] ((next ++ before_each 32 items) ++ codes ")")) (after_status_word depth.One item)
-    ∙ ap (λ (l : List ℕ). asked item ++ 32 ∷ written (within depth.One) [] l) (append_assoc next (before_each 32 items) (codes ")"))
-    ∙ ap (λ (l : List ℕ). asked item ++ 32 ∷ l) (status_word_read depth.One [] next (before_each 32 items ++ codes ")") h.0.octets ∙ items_written next items h.1)
-    ∙ sym (append_assoc (asked item) (32 ∷ (asked next ++ before_each 32 (map asked items))) (codes ")"))
-
-list_written : (items : List (List ℕ)) → AllByRecursion IsPlainWord items → written (within depth.One) [] (joined 32 items ++ codes ")") ≡ joined 32 (map asked items) ++ codes ")"
-list_written [] h = refl
-list_written (item ∷ items) h =
-    ap (written (within depth.One) []) (append_assoc item (before_each 32 items) (codes ")"))
-    ∙ status_word_read depth.One [] item (before_each 32 items ++ codes ")") h.0.octets
-    ∙ items_written item items h.1
-
-arguments_written : (mailbox : List ℕ) (items : List (List ℕ)) → IsPlainWord mailbox → AllByRecursion IsPlainWord items
-    → written (within depth.None) [] (codes "STATUS " ++ status_arguments mailbox items) ≡ codes "STATUS " ++ status_arguments mailbox (map asked items)
-arguments_written mailbox items is h =
-    let list = joined 32 items ++ codes ")" in
-    ap (λ (l : List ℕ). codes "STATUS " ++ l)
-    (status_word_read depth.None [] mailbox (codes " (" ++ list) is.octets
-    ∙ ap (λ (s : Scan). mailbox ++ 32 ∷ written (after_octet s 32) [] (40 ∷ list)) (after_status_word depth.None mailbox)
-    ∙ ap (λ (l : List ℕ). mailbox ++ (codes " (" ++ l)) (list_written items h))
-
-pub asks_messages : AsksMessages
-asks_messages state tag mailbox items is mailbox_is h last plain found =
-    let octets = codes "STATUS " ++ status_arguments mailbox items in
-    ap frame.Whole (rewritten_as state.rev2 (status_octets tag mailbox items) (status_octets tag mailbox (map asked items)) named.Status found refl
-    (one_line named.Status tag octets is plain last ∙ ap (λ (l : List ℕ). (tag ++ 32 ∷ l) ++ crlf) (arguments_written mailbox items mailbox_is h)))
-
--- ---- the values of STATUS
-
-abbrev recent : List ℕ → Bool
-recent word = is_word (codes "RECENT") word
-
-some_recent : (item : List ℕ) → (length item == 0) ≡ false → word_recent (within depth.One) item ≡ Some (recent item)
-some_recent item some = ap (λ b. cond (not b && true) (Some (recent item)) None) some
-
-items_recents : (item : List ℕ) (items : List (List ℕ)) → (length item == 0) ≡ false → AllByRecursion IsPlainWord items → recents (within depth.One) item (before_each 32 items ++ codes ")") ≡ recent item ∷ map recent items
-items_recents item [] some h =
-    ap (λ (s : Scan). option_list (word_recent (within depth.One) item) ++ recents (after_octet s 41) [] []) (after_status_word depth.One item)
-    ∙ ap (λ (o : Option Bool). option_list o ++ []) (some_recent item some)
-items_recents item (next ∷ items) some h =
-    ap (λ (s : Scan). option_list (word_recent (within depth.One) item) ++ recents (after_octet s 32) [] ((next ++ before_each 32 items) ++ codes ")")) (after_status_word depth.One item)
-    ∙ ap (λ (o : Option Bool). option_list o ++ recents (within depth.One) [] ((next ++ before_each 32 items) ++ codes ")")) (some_recent item some)
-    ∙ ap (λ (l : List ℕ). recent item ∷ recents (within depth.One) [] l) (append_assoc next (before_each 32 items) (codes ")"))
-    ∙ ap (λ (l : List Bool). recent item ∷ l) (recents_word_read depth.One [] next (before_each 32 items ++ codes ")") h.0.octets ∙ items_recents next items h.0.some h.1)
-
-list_recents : (items : List (List ℕ)) → AllByRecursion IsPlainWord items → recents (within depth.One) [] (joined 32 items ++ codes ")") ≡ map recent items
-list_recents [] h = refl
-list_recents (item ∷ items) h =
-    ap (recents (within depth.One) []) (append_assoc item (before_each 32 items) (codes ")"))
-    ∙ recents_word_read depth.One [] item (before_each 32 items ++ codes ")") h.0.octets
-    ∙ items_recents item items h.0.some h.1
-
-no_recent : (word : List ℕ) (b : Bool) → cond (not b && false) (Some (recent word)) None ≡ None
-no_recent word true = refl
-no_recent word false = refl
-
-arguments_recents : (mailbox : List ℕ) (items : List (List ℕ)) → IsPlainWord mailbox → AllByRecursion IsPlainWord items
-    → recents (within depth.None) [] (codes "STATUS " ++ status_arguments mailbox items) ≡ map recent items
-arguments_recents mailbox items is h =
-    let list = joined 32 items ++ codes ")" in
-    recents_word_read depth.None [] mailbox (codes " (" ++ list) is.octets
-    ∙ ap (λ (o : Option Bool). option_list o ++ recents (after_octet (after_word (within depth.None) mailbox) 32) [] (40 ∷ list)) (no_recent mailbox (length mailbox == 0))
-    ∙ ap (λ (s : Scan). recents (after_octet s 32) [] (40 ∷ list)) (after_status_word depth.None mailbox)
-    ∙ list_recents items h
-
--- the words of a tag are no items
-tag_recents : (scan : Scan) (word tag octets : List ℕ) → is_outside scan.quoting ≡ true → list_all is_tag_char tag ≡ true → recents scan word (tag ++ octets) ≡ recents scan (word ++ tag) octets
-tag_recents scan word [] octets is h = ap (λ (w : List ℕ). recents scan w octets) (sym (append-nil word))
-tag_recents scan word (b ∷ tag) octets is h =
-    let parts = both_true (is_tag_char b) (list_all is_tag_char tag) h in
-    let inside : is_in_word scan b ≡ true = rw (is, tag_in_word b parts.0) refl in
-    rw inside (tag_recents scan (word ++ b ∷ []) tag octets is parts.1 ∙ ap (λ (w : List ℕ). recents scan w octets) (append_assoc word (b ∷ []) tag))
-
-first_recents : (tag octets : List ℕ) → IsTag tag → recents (start named.Status) [] (tag ++ 32 ∷ octets) ≡ recents (within depth.None) [] octets
-first_recents tag octets is =
-    let parts = tag_chars tag is in
-    tag_recents (start named.Status) [] tag (32 ∷ octets) refl parts.1
-    ∙ ap (λ (o : Option Bool). option_list o ++ recents (after_octet (after_word (start named.Status) tag) 32) [] octets) (no_recent tag (length tag == 0))
-    ∙ ap (λ (s : Scan). recents s [] octets) (after_first named.Status tag parts.0)
-
-line_recents_of : (scan : Scan) (octets : List ℕ) → list_all is_plain octets ≡ true → line_recents scan (octets ++ crlf) ≡ recents scan [] octets
-line_recents_of scan octets plain =
-    ap (λ (t : List ℕ). cond (are_plain t) (recents scan [] t) []) (text_of_line octets) ∙ ap (λ b. cond b (recents scan [] octets) []) plain
-
-drop_all : (octets : List ℕ) (n : ℕ) → length octets ≤ n → drop n octets ≡ []
-drop_all [] zero h = refl
-drop_all [] (suc n) h = refl
-drop_all (octet ∷ octets) zero h = absurd (omega arith)
-drop_all (octet ∷ octets) (suc n) h = drop_all octets n (omega arith)
-
-last_recents : (scan : Scan) (last : List ℕ) → IsLastLine last → recents_after 0 scan last ≡ line_recents scan last
-last_recents scan last is =
-    let len = length last in
-    let found : line_length last ≡ Some len = ap line_length (sym (append-nil last)) ∙ lines_are_found last [] is.is_line in
-    let whole : take len last ≡ last = ap (take len) (sym (append-nil last)) ∙ take_front last [] len refl in
-    let count = section_length len last in
-    let none : drop count last ≡ [] = drop_all last count (omega arith) in
-    recents_next scan last len found
-    ∙ ap (λ (l : List ℕ). line_recents scan (take len last) ++ recents_after 0 (after_line scan (take len last)) l) none
-    ∙ append-nil (line_recents scan (take len last))
-    ∙ ap (line_recents scan) whole
-
-told_as : (rev2 : Bool) (octets name : List ℕ) (values : List StatusValue) (marks : List Bool) → named_in rev2 octets ≡ named.Status → recents_after 0 (start named.Status) octets ≡ marks
-    → status_text (item_recents (named_in rev2 octets) octets) name values ++ crlf ≡ status_text marks name values ++ crlf
-told_as rev2 octets name values marks e f =
-    ap (λ (c : Named). status_text (item_recents c octets) name values ++ crlf) e ∙ ap (λ (m : List Bool). status_text m name values ++ crlf) f
-
-pub tells_recent : TellsRecent
-tells_recent state tag mailbox items name values is mailbox_is h last plain found =
-    let octets = codes "STATUS " ++ status_arguments mailbox items in
-    let whole : list_all is_plain (tag ++ 32 ∷ octets) ≡ true = plain_after_tag tag (32 ∷ octets) is plain in
-    told_as state.rev2 (status_octets tag mailbox items) name values (map recent items) found
-    (last_recents (start named.Status) (status_octets tag mailbox items) last
-    ∙ line_recents_of (start named.Status) (tag ++ 32 ∷ octets) whole
-    ∙ first_recents tag octets is
-    ∙ arguments_recents mailbox items mailbox_is h)

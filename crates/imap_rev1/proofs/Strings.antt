@@ -3,12 +3,12 @@ use Rattle.std.proofs.Common.{◌≡◌, ◌∙◌, ap, sym, refl, ℕ, Bool, tr
 use Rattle.std.specs.Prelude.{◌==◌}
 use Rattle.imap_syntax.specs.Lexical.{is_quoted_special}
 use Rattle.imap_syntax.specs.Written.{escaped, quoted_text}
-use Rattle.imap_rev1.specs.declared.named.Named.{Named}
-use Rattle.imap_rev1.specs.declared.named.Named.TheVariants as named
-use Rattle.imap_rev1.specs.declared.scan.Quoting.{Quoting}
-use Rattle.imap_rev1.specs.declared.scan.Quoting.TheVariants as quoting
-use Rattle.imap_rev1.specs.declared.scan.Scan.{Scan}
-use Rattle.imap_rev1.specs.Scan.{is_outside, word_for, item_for, is_item, written_word, passed, after_inside, after_octet, after_quoting, next_line, written}
+use Rattle.imap_rev1_frames.specs.declared.named.Named.{Named}
+use Rattle.imap_rev1_frames.specs.declared.named.Named.TheVariants as named
+use Rattle.imap_rev1_frames.specs.declared.scan.Quoting.{Quoting}
+use Rattle.imap_rev1_frames.specs.declared.scan.Quoting.TheVariants as quoting
+use Rattle.imap_rev1_frames.specs.declared.scan.Scan.{Scan}
+use Rattle.imap_rev1_frames.specs.Scan.{is_outside, word_for, item_for, fetch_item_for, is_item, written_word, passed, after_inside, after_octet, after_quoting, next_line, written}
 use Rattle.imap_rev1.specs.Laws.{StringsStay}
 
 -- ---- no word
@@ -17,12 +17,17 @@ no_item : (is_item : Bool) → item_for is_item [] ≡ []
 no_item true = refl
 no_item false = refl
 
+no_fetch_item : (is_item : Bool) → fetch_item_for is_item [] ≡ []
+no_fetch_item true = refl
+no_fetch_item false = refl
+
 no_word_for : (command : Named) (is_item : Bool) → word_for command is_item [] ≡ []
 no_word_for named.Check is_item = refl
 no_word_for named.Lsub is_item = refl
 no_word_for named.Search is_item = refl
 no_word_for named.Status is_item = no_item is_item
 no_word_for named.List is_item = no_item is_item
+no_word_for named.Fetch is_item = no_fetch_item is_item
 no_word_for named.Select is_item = refl
 no_word_for named.Other is_item = refl
 
@@ -30,7 +35,7 @@ no_word_by : (scan : Scan) (b : Bool) → cond b (word_for scan.named (is_item s
 no_word_by scan true = no_word_for scan.named (is_item scan)
 no_word_by scan false = refl
 
-no_word : (scan : Scan) → written_word scan [] ≡ []
+pub no_word : (scan : Scan) → written_word scan [] ≡ []
 no_word scan = no_word_by scan (scan.passes == 0)
 
 -- ---- octets in quotes

@@ -1,7 +1,7 @@
 -- Words that are written in place of others leave lines and their marks.
-use Rattle.std.proofs.Common.{◌≡◌, ◌≢◌, ◌∙◌, ap, sym, refl, ℕ, Bool, true, false, cond, ◌||◌, List, [], ◌∷◌, ◌++◌, append_assoc, append-nil, arith}
+use Rattle.std.proofs.Common.{◌≡◌, ◌∙◌, ap, sym, refl, ℕ, Bool, true, false, cond, ◌||◌, List, [], ◌∷◌, ◌++◌, append_assoc, append-nil, arith, Some, None}
 use Rattle.std.specs.Prelude.{codes, ◌==◌}
-use Rattle.std.specs.Char.{is_ascii_alphabetic}
+use Rattle.std.specs.Char.{is_ascii_alphabetic, is_ascii_digit, to_ascii_lowercase}
 use Rattle.std.specs.List.{list_all}
 use Rattle.std.specs.Str.{str_to_ascii_lowercase}
 use Rattle.std.proofs.lemmas.Bool.Decides.{nat_tests}
@@ -10,30 +10,58 @@ use Rattle.imap_lex.specs.Mark.{LineTail, text, with_octet, with_octets}
 use Rattle.imap_lex.proofs.Tails.{with_octets-append}
 use Rattle.imap_print.specs.Lines.{is_plain}
 use Rattle.imap_syntax.specs.Rule.{ConsistsOf}
-use Rattle.imap_syntax.proofs.Tables.{all_pass, consists_from, either_case_letter, is_some, filled_from}
-use Rattle.imap_syntax.proofs.Words.{passes_alike, filled_alike, same_bytes}
+use Rattle.imap_syntax.proofs.Tables.{all_pass, consists_from, either_case_letter}
+use Rattle.imap_syntax.proofs.Words.{passes_alike, same_bytes}
 use Rattle.imap_syntax.proofs.Writing.{both_true}
-use Rattle.imap_rev1.specs.declared.named.Named.{Named}
-use Rattle.imap_rev1.specs.declared.named.Named.TheVariants as named
-use Rattle.imap_rev1.specs.declared.scan.Scan.{Scan}
-use Rattle.imap_rev1.specs.Named.{is_word}
-use Rattle.imap_rev1.specs.Scan.{is_in_word, exchanged, item_for, word_for, is_item, written_word, after_word, after_octet, written}
+use Rattle.imap_rev1_frames.specs.declared.named.Named.{Named}
+use Rattle.imap_rev1_frames.specs.declared.named.Named.TheVariants as named
+use Rattle.imap_rev1_frames.specs.declared.scan.Scan.{Scan}
+use Rattle.imap_rev1_frames.specs.declared.asked.Label.TheVariants as label
+use Rattle.imap_rev1_frames.specs.Asked.{section_by}
+use Rattle.imap_rev1_frames.specs.Named.{is_word}
+use Rattle.imap_rev1_frames.specs.Scan.{is_in_word, exchanged, item_for, fetch_item_for, word_for, is_item, written_word, after_word, after_octet, written}
 
--- ---- words of letters
+-- ---- words that begin with a letter
 
 letter_tail : (t : LineTail) (b : ℕ) → is_ascii_alphabetic b ≡ true → with_octet t b ≡ text
 letter_tail t b h = grind (arith, nat_tests)
 
-letters_tail : (t : LineTail) (word : List ℕ) → ConsistsOf is_ascii_alphabetic word → word ≢ [] → with_octets t word ≡ text
-letters_tail t [] h filled = absurd (filled refl)
-letters_tail t (b ∷ []) h filled = letter_tail t b h.0
-letters_tail t (b ∷ c ∷ word) h filled = letters_tail (with_octet t b) (c ∷ word) h.1 (λ e. cc)
+-- a letter, a digit or a dot
+abbrev pub is_name_octet : ℕ → Bool
+is_name_octet b = is_ascii_alphabetic b || (is_ascii_digit b || b == 46)
+
+either_case_name : (a b : ℕ) → to_ascii_lowercase a ≡ to_ascii_lowercase b → is_name_octet b ≡ true → is_name_octet a ≡ true
+either_case_name a b e h = grind (arith, nat_tests)
+
+-- a letter, and then these
+abbrev pub is_name : List ℕ → Bool
+is_name [] = false
+is_name (b ∷ word) = cond (is_ascii_alphabetic b) (all_pass is_name_octet word) false
+
+name_parts : (a b : Bool) → cond a b false ≡ true → (a ≡ true) × (b ≡ true)
+name_parts true b h = (refl, h)
+name_parts false b h = absurd cc
+
+name_octet_tail : (b : ℕ) → is_name_octet b ≡ true → with_octet text b ≡ text
+name_octet_tail b h = grind (arith, nat_tests)
+
+name_octets_tail : (word : List ℕ) → ConsistsOf is_name_octet word → with_octets text word ≡ text
+name_octets_tail [] h = refl
+name_octets_tail (b ∷ word) h = ap (λ (t : LineTail). with_octets t word) (name_octet_tail b h.0) ∙ name_octets_tail word h.1
+
+name_tail : (t : LineTail) (word octets : List ℕ) → is_name word ≡ true → str_to_ascii_lowercase octets ≡ str_to_ascii_lowercase word → with_octets t octets ≡ text
+name_tail t [] octets h e = absurd cc
+name_tail t (b ∷ word) [] h e = absurd cc
+name_tail t (b ∷ word) (a ∷ octets) h e =
+    let parts = name_parts (is_ascii_alphabetic b) (all_pass is_name_octet word) h in
+    let first : to_ascii_lowercase a ≡ to_ascii_lowercase b = cc in
+    let more : str_to_ascii_lowercase octets ≡ str_to_ascii_lowercase word = cc in
+    ap (λ (s : LineTail). with_octets s octets) (letter_tail t a (either_case_letter a b first parts.0))
+    ∙ name_octets_tail octets (passes_alike is_name_octet either_case_name octets word more (consists_from is_name_octet word parts.1))
 
 -- what is the word in some case leaves no mark that is begun
-pub word_tail : (t : LineTail) (word octets : List ℕ) → all_pass is_ascii_alphabetic word ≡ true → is_some word ≡ true → is_word word octets ≡ true → with_octets t octets ≡ text
-word_tail t word octets letters some h =
-    let same : str_to_ascii_lowercase octets ≡ str_to_ascii_lowercase word = same_bytes _ _ h in
-    letters_tail t octets (passes_alike is_ascii_alphabetic either_case_letter octets word same (consists_from is_ascii_alphabetic word letters)) (filled_alike octets word same (filled_from word some))
+pub word_tail : (t : LineTail) (word octets : List ℕ) → is_name word ≡ true → is_word word octets ≡ true → with_octets t octets ≡ text
+word_tail t word octets name h = name_tail t word octets name (same_bytes _ _ h)
 
 -- ---- what is written in place of a word
 
@@ -45,33 +73,45 @@ pub record Alike (octets new : List ℕ) : Type 0 where
 same_alike : (octets : List ℕ) → Alike octets octets
 same_alike octets = record { tail = λ t. refl; plain = λ h. h }
 
-other_alike : (word other octets : List ℕ) → all_pass is_ascii_alphabetic word ≡ true → is_some word ≡ true → is_word word octets ≡ true → ((t : LineTail) → with_octets t other ≡ text) → list_all is_plain other ≡ true → Alike octets other
-other_alike word other octets letters some h tail plain = record { tail = λ t. tail t ∙ sym (word_tail t word octets letters some h); plain = λ _. plain }
+other_alike : (word other octets : List ℕ) → is_name word ≡ true → is_word word octets ≡ true → ((t : LineTail) → with_octets t other ≡ text) → list_all is_plain other ≡ true → Alike octets other
+other_alike word other octets name h tail plain = record { tail = λ t. tail t ∙ sym (word_tail t word octets name h); plain = λ _. plain }
 
-exchanged_by : (word other octets : List ℕ) (b : Bool) → is_word word octets ≡ b → all_pass is_ascii_alphabetic word ≡ true → is_some word ≡ true → ((t : LineTail) → with_octets t other ≡ text) → list_all is_plain other ≡ true → Alike octets (cond b other octets)
-exchanged_by word other octets true h letters some tail plain = other_alike word other octets letters some h tail plain
-exchanged_by word other octets false h letters some tail plain = same_alike octets
+exchanged_by : (word other octets : List ℕ) (b : Bool) → is_word word octets ≡ b → is_name word ≡ true → ((t : LineTail) → with_octets t other ≡ text) → list_all is_plain other ≡ true → Alike octets (cond b other octets)
+exchanged_by word other octets true h name tail plain = other_alike word other octets name h tail plain
+exchanged_by word other octets false h name tail plain = same_alike octets
 
-exchanged_alike : (word other octets : List ℕ) → all_pass is_ascii_alphabetic word ≡ true → is_some word ≡ true → ((t : LineTail) → with_octets t other ≡ text) → list_all is_plain other ≡ true → Alike octets (exchanged word other octets)
-exchanged_alike word other octets letters some tail plain = exchanged_by word other octets (is_word word octets) refl letters some tail plain
+exchanged_alike : (word other octets : List ℕ) → is_name word ≡ true → ((t : LineTail) → with_octets t other ≡ text) → list_all is_plain other ≡ true → Alike octets (exchanged word other octets)
+exchanged_alike word other octets name tail plain = exchanged_by word other octets (is_word word octets) refl name tail plain
 
 key_alike_by : (octets : List ℕ) (new recent old : Bool) → is_word (codes "NEW") octets ≡ new → is_word (codes "RECENT") octets ≡ recent → is_word (codes "OLD") octets ≡ old
     → Alike octets (cond (new || recent) (codes "NOT ALL") (cond old (codes "ALL") octets))
-key_alike_by octets true recent old e f g = other_alike (codes "NEW") (codes "NOT ALL") octets refl refl e (λ t. refl) refl
-key_alike_by octets false true old e f g = other_alike (codes "RECENT") (codes "NOT ALL") octets refl refl f (λ t. refl) refl
-key_alike_by octets false false true e f g = other_alike (codes "OLD") (codes "ALL") octets refl refl g (λ t. refl) refl
+key_alike_by octets true recent old e f g = other_alike (codes "NEW") (codes "NOT ALL") octets refl e (λ t. refl) refl
+key_alike_by octets false true old e f g = other_alike (codes "RECENT") (codes "NOT ALL") octets refl f (λ t. refl) refl
+key_alike_by octets false false true e f g = other_alike (codes "OLD") (codes "ALL") octets refl g (λ t. refl) refl
 key_alike_by octets false false false e f g = same_alike octets
 
 item_alike : (is_item : Bool) (octets : List ℕ) → Alike octets (item_for is_item octets)
-item_alike true octets = exchanged_alike (codes "RECENT") (codes "MESSAGES") octets refl refl (λ t. refl) refl
+item_alike true octets = exchanged_alike (codes "RECENT") (codes "MESSAGES") octets refl (λ t. refl) refl
 item_alike false octets = same_alike octets
 
+fetch_alike_by : (octets : List ℕ) (message header body : Bool) → is_word (codes "RFC822") octets ≡ message → is_word (codes "RFC822.HEADER") octets ≡ header → is_word (codes "RFC822.TEXT") octets ≡ body
+    → Alike octets (section_by (cond message (Some label.Message) (cond header (Some label.Header) (cond body (Some label.Text) None))) octets)
+fetch_alike_by octets true header body e f g = other_alike (codes "RFC822") (codes "BODY[]") octets refl e (λ t. refl) refl
+fetch_alike_by octets false true body e f g = other_alike (codes "RFC822.HEADER") (codes "BODY.PEEK[HEADER]") octets refl f (λ t. refl) refl
+fetch_alike_by octets false false true e f g = other_alike (codes "RFC822.TEXT") (codes "BODY[TEXT]") octets refl g (λ t. refl) refl
+fetch_alike_by octets false false false e f g = same_alike octets
+
+fetch_alike : (is_item : Bool) (octets : List ℕ) → Alike octets (fetch_item_for is_item octets)
+fetch_alike true octets = fetch_alike_by octets _ _ _ refl refl refl
+fetch_alike false octets = same_alike octets
+
 word_alike : (command : Named) (is_item : Bool) (octets : List ℕ) → Alike octets (word_for command is_item octets)
-word_alike named.Check is_item octets = exchanged_alike (codes "CHECK") (codes "NOOP") octets refl refl (λ t. refl) refl
-word_alike named.Lsub is_item octets = exchanged_alike (codes "LSUB") (codes "LIST (SUBSCRIBED)") octets refl refl (λ t. refl) refl
+word_alike named.Check is_item octets = exchanged_alike (codes "CHECK") (codes "NOOP") octets refl (λ t. refl) refl
+word_alike named.Lsub is_item octets = exchanged_alike (codes "LSUB") (codes "LIST (SUBSCRIBED)") octets refl (λ t. refl) refl
 word_alike named.Search is_item octets = key_alike_by octets _ _ _ refl refl refl
 word_alike named.Status is_item octets = item_alike is_item octets
 word_alike named.List is_item octets = item_alike is_item octets
+word_alike named.Fetch is_item octets = fetch_alike is_item octets
 word_alike named.Select is_item octets = same_alike octets
 word_alike named.Other is_item octets = same_alike octets
 

@@ -15,15 +15,16 @@ use Rattle.imap_print.specs.declared.status.StatusValue.{StatusValue}
 use Rattle.imap_print.specs.Lines.{after_line, is_plain, text, AreReadFrom, IsPrintable}
 use Rattle.imap_print.specs.Words.{before_each, joined}
 use Rattle.imap_print.specs.Printed.{line}
-use Rattle.imap_rev1.specs.declared.named.Named.{Named}
-use Rattle.imap_rev1.specs.declared.named.Named.TheVariants as named
+use Rattle.imap_rev1_frames.specs.declared.named.Named.{Named}
+use Rattle.imap_rev1_frames.specs.declared.named.Named.TheVariants as named
 use Rattle.imap_rev1.specs.declared.rev1.Rev1.{Rev1}
-use Rattle.imap_rev1.specs.declared.scan.Scan.{Scan}
+use Rattle.imap_rev1_frames.specs.declared.scan.Scan.{Scan}
 use Rattle.imap_syntax.specs.Written.{quoted_text}
-use Rattle.imap_rev1.specs.Named.{is_rewritten, is_word, named_by, named_in}
+use Rattle.imap_rev1_frames.specs.Asked.{status_asked}
+use Rattle.imap_rev1_frames.specs.Named.{is_rewritten, named_by, named_in}
 use Rattle.imap_rev1.specs.Rev1.{enables_rev2, lines_by, rev1, rules_for, status_text}
-use Rattle.imap_rev1.specs.Rewritten.{rewritten_octets}
-use Rattle.imap_rev1.specs.Scan.{arguments, exchanged, is_outside, is_word_octet, key_for, next_line, passed, written}
+use Rattle.imap_rev1_frames.specs.Rewritten.{rewritten_octets}
+use Rattle.imap_rev1_frames.specs.Scan.{arguments, exchanged, is_outside, is_word_octet, key_for, next_line, passed, written}
 use Rattle.imap_dialect.specs.Telling.{retold}
 
 -- ---- frames
@@ -130,12 +131,13 @@ pub record IsPlainWord (word : List ℕ) : Type 0 where
   pub octets : list_all is_word_octet word ≡ true
   pub some : (length word == 0) ≡ false
 
-abbrev pub status_arguments : (mailbox : List ℕ) → (items : List (List ℕ)) → List ℕ
-status_arguments mailbox items = mailbox ++ (codes " (" ++ (joined 32 items ++ codes ")"))
+-- items in parentheses after a word
+abbrev pub listed : (first : List ℕ) → (items : List (List ℕ)) → List ℕ
+listed first items = first ++ (codes " (" ++ (joined 32 items ++ codes ")"))
 
 abbrev pub status_octets : (tag mailbox : List ℕ) → (items : List (List ℕ)) → List ℕ
 status_octets tag mailbox items =
-    (tag ++ (codes " STATUS " ++ status_arguments mailbox items)) ++ crlf
+    (tag ++ (codes " STATUS " ++ listed mailbox items)) ++ crlf
 
 -- MESSAGES is asked in place of RECENT (RFC 3501, section 6.3.10).
 abbrev pub AsksMessages : Type 0
@@ -143,7 +145,7 @@ AsksMessages =
     (state : Rev1) (tag mailbox : List ℕ) (items : List (List ℕ))
     → IsTag tag → IsPlainWord mailbox → AllByRecursion IsPlainWord items
     → IsLastLine (status_octets tag mailbox items)
-    → list_all is_plain (status_arguments mailbox items) ≡ true
+    → list_all is_plain (listed mailbox items) ≡ true
     → named_in state.rev2 (status_octets tag mailbox items) ≡ named.Status
     → rev1.rewritten state (Whole (status_octets tag mailbox items))
     ≡ Whole (status_octets tag mailbox (map (exchanged (codes "RECENT") (codes "MESSAGES")) items))
@@ -154,10 +156,10 @@ TellsRecent =
     (state : Rev1) (tag mailbox : List ℕ) (items : List (List ℕ)) (name : List ℕ) (values : List StatusValue)
     → IsTag tag → IsPlainWord mailbox → AllByRecursion IsPlainWord items
     → IsLastLine (status_octets tag mailbox items)
-    → list_all is_plain (status_arguments mailbox items) ≡ true
+    → list_all is_plain (listed mailbox items) ≡ true
     → named_in state.rev2 (status_octets tag mailbox items) ≡ named.Status
     → rev1.told state (Some (Whole (status_octets tag mailbox items))) (response.Status name values)
-    ≡ status_text (map (is_word (codes "RECENT")) items) name values ++ crlf
+    ≡ status_text (map status_asked items) name values ++ crlf
 
 -- ---- replies
 
@@ -215,6 +217,7 @@ PrintsConditions =
 abbrev pub is_until_rev2 : Named → Bool
 is_until_rev2 named.Check = false
 is_until_rev2 named.Lsub = false
+is_until_rev2 named.Fetch = false
 is_until_rev2 named.Other = false
 is_until_rev2 _ = true
 

@@ -12,12 +12,15 @@ use Rattle.imap_print.specs.Mailboxes.{value_text}
 use Rattle.imap_print.specs.Printed.{line}
 use Rattle.imap_print.specs.Strings.{name_text}
 use Rattle.imap_print.specs.Words.{in_parentheses}
-use Rattle.imap_rev1.specs.declared.named.Named.{Named}
-use Rattle.imap_rev1.specs.declared.named.Named.TheVariants as named
+use Rattle.imap_rev1_frames.specs.declared.asked.Asked.{Asked}
+use Rattle.imap_rev1_frames.specs.declared.named.Named.{Named}
+use Rattle.imap_rev1_frames.specs.declared.named.Named.TheVariants as named
 use Rattle.imap_rev1.specs.declared.rev1.Rev1.{Rev1}
 use Rattle.imap_rev1.specs.declared.rev1.Rules.{Rules}
-use Rattle.imap_rev1.specs.Named.{named_by}
-use Rattle.imap_rev1.specs.Rewritten.{recents_by, rewritten_frame}
+use Rattle.imap_rev1_frames.specs.Asked.{is_labelled, is_recent}
+use Rattle.imap_rev1.specs.Labels.{fetch_text}
+use Rattle.imap_rev1_frames.specs.Named.{named_by}
+use Rattle.imap_rev1_frames.specs.Rewritten.{asked_by, rewritten_frame}
 use Rattle.imap_dialect.specs.Telling.{Telling}
 
 -- ---- texts
@@ -63,20 +66,20 @@ abbrev pub item_text : (is_recent : Bool) → StatusValue → List ℕ
 item_text is_recent value = if is_recent then codes "RECENT 0" else value_text value
 
 -- whether the first of the items is RECENT
-abbrev pub first_recent : (recents : List Bool) → Bool
+abbrev pub first_recent : (asked : List Asked) → Bool
 first_recent [] = false
-first_recent (recent ∷ recents) = recent
+first_recent (a ∷ asked) = is_recent a
 
 -- the values in the order of the items
-abbrev pub items_words : (recents : List Bool) → List StatusValue → List (List ℕ)
-items_words recents [] = []
-items_words recents (value ∷ values) =
-    item_text (first_recent recents) value ∷ items_words (drop 1 recents) values
+abbrev pub items_words : (asked : List Asked) → List StatusValue → List (List ℕ)
+items_words asked [] = []
+items_words asked (value ∷ values) =
+    item_text (first_recent asked) value ∷ items_words (drop 1 asked) values
 
 -- (RFC 3501, section 7.2.4)
-abbrev pub status_text : (recents : List Bool) → (mailbox : List ℕ) → List StatusValue → List ℕ
-status_text recents mailbox values =
-    codes "* STATUS " ++ name_text mailbox ++ codes " " ++ in_parentheses (items_words recents values)
+abbrev pub status_text : (asked : List Asked) → (mailbox : List ℕ) → List StatusValue → List ℕ
+status_text asked mailbox values =
+    codes "* STATUS " ++ name_text mailbox ++ codes " " ++ in_parentheses (items_words asked values)
 
 -- ---- rules
 
@@ -95,7 +98,7 @@ is_select _ = false
 abbrev pub rules_for : Rev1 → Option Frame → Rules
 rules_for state by = record {
   named = named_by state.rev2 by;
-  recents = recents_by (named_by state.rev2 by) by;
+  asked = asked_by (named_by state.rev2 by) by;
 }
 
 -- the lines in which a reply is told
@@ -111,7 +114,10 @@ lines_by rules (response.Exists n) =
 lines_by rules (response.List attributes mailbox) =
     if is_lsub rules.named then (lsub_text mailbox ++ crlf) ∷ []
     else line (response.List attributes mailbox) ∷ []
-lines_by rules (response.Status mailbox values) = (status_text rules.recents mailbox values ++ crlf) ∷ []
+lines_by rules (response.Status mailbox values) = (status_text rules.asked mailbox values ++ crlf) ∷ []
+lines_by rules (response.Fetch number items) =
+    if list_any is_labelled rules.asked then (fetch_text rules.asked number items ++ crlf) ∷ []
+    else line (response.Fetch number items) ∷ []
 lines_by rules other = line other ∷ []
 
 -- their octets
@@ -125,7 +131,10 @@ told_by rules (response.Exists n) =
     else line (response.Exists n)
 told_by rules (response.List attributes mailbox) =
     if is_lsub rules.named then lsub_text mailbox ++ crlf else line (response.List attributes mailbox)
-told_by rules (response.Status mailbox values) = status_text rules.recents mailbox values ++ crlf
+told_by rules (response.Status mailbox values) = status_text rules.asked mailbox values ++ crlf
+told_by rules (response.Fetch number items) =
+    if list_any is_labelled rules.asked then fetch_text rules.asked number items ++ crlf
+    else line (response.Fetch number items)
 told_by rules other = line other
 
 -- the reply says that IMAP4rev2 is enabled (RFC 9051, section 6.3.1)

@@ -1,5 +1,6 @@
 //! Laws of the dialect.
 
+ghost use Rattle.imap_rev1.specs.FetchLaws.{AsksSections, PrintsNotices, PrintsUnlabelled, TellsAsAsked, TellsLabel};
 ghost use Rattle.imap_rev1.specs.Laws.{AllAreRead, AsksMessages, ChecksByNoop, EachIsOneLine, EndsByRev2};
 ghost use Rattle.imap_rev1.specs.Laws.{HandsOthersOn, IsReadAsOne, KeepsTags, ListsSubscribed};
 ghost use Rattle.imap_rev1.specs.Laws.{PrintsConditions, PrintsOthers, SearchesByKeys, StaysCommand};
@@ -29,6 +30,16 @@ pub fn tells_recent()
     ensures told { TellsRecent }
 {}
 
+/// Another item of FETCH is asked in place of each label, and its section is told under the label. Messages
+/// are printed if no label was asked for, or if they have no section.
+pub fn tells_labels()
+    ensures sections { AsksSections }
+    ensures as_asked { TellsAsAsked }
+    ensures label { TellsLabel }
+    ensures unlabelled { PrintsUnlabelled }
+    ensures notices { PrintsNotices }
+{}
+
 /// A client reads each line in which a reply is told as one line, and just these lines in all, if
 /// the names and other texts in the replies have neither CR nor LF.
 pub fn tells_lines()
@@ -42,8 +53,8 @@ pub fn prints_others()
     ensures conditions { PrintsConditions }
 {}
 
-/// IMAP4rev1 ends by a reply that says that IMAP4rev2 is enabled, and by no other. From then on only CHECK and
-/// LSUB are named.
+/// IMAP4rev1 ends by a reply that says that IMAP4rev2 is enabled, and by no other. From then on only CHECK,
+/// LSUB and FETCH are named.
 pub fn ends_by_enabled()
     ensures ends { EndsByRev2 }
     ensures before { StaysUntilEnabled }

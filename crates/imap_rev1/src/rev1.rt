@@ -1,19 +1,18 @@
 //! The dialect of IMAP4rev1.
 
-ghost use Rattle.std.specs.Prelude.{◌≡◌, false, IfOk, option_copied};
+ghost use Rattle.std.specs.Prelude.{◌≡◌, false};
 ghost use Rattle.std.specs.List.{list_any};
-ghost use Rattle.imap_rev1.specs.Named.{named_by};
-ghost use Rattle.imap_rev1.specs.Rewritten.{instead_octets, item_recents, recents_by, rewritten_octets};
+ghost use Rattle.imap_rev1_frames.specs.Asked.{is_labelled};
 ghost use Rattle.imap_rev1.specs.Rev1.{enables_rev2, is_lsub, is_search, is_select, rev1, told_by};
 
-use crate::named::{Named, named_by, named_in};
+use crate::labels::push_fetch;
 use crate::telling::{
     push_capability, push_greeting, push_lsub, push_recent, push_search, push_status,
 };
-use crate::writing::Writing;
 use imap_dialect::Dialect;
-use imap_lex::{Frame, Octets};
+use imap_lex::Frame;
 use imap_print::{Pieces, Response, print_line};
+use imap_rev1_frames::{Asked, Named, asked_by, named_by, rewritten_frame};
 use imap_syntax::Items;
 use std::alloc::{AllocError, Global};
 
@@ -37,59 +36,26 @@ impl Rev1 {
 pub struct Rules {
     /// The command in the frame.
     named: Named,
-    /// For each item of STATUS whether it is told as RECENT.
-    recents: Items<bool>,
+    /// What the items in it ask for.
+    asked: Items<Asked>,
 }
 
-impl Named {
-    fn is_search(self) -> bool
-        ensures { result ≡ is_search self }
-    {
-        matches!(self, Named::Search)
-    }
-
-    fn is_lsub(self) -> bool
-        ensures { result ≡ is_lsub self }
-    {
-        matches!(self, Named::Lsub)
-    }
-
-    fn is_select(self) -> bool
-        ensures { result ≡ is_select self }
-    {
-        matches!(self, Named::Select)
-    }
-}
-
-/// Returns the command that the server is to see in place of the octets, or `None` if it is the same.
-fn rewritten(alloc: Global, rev2: bool, octets: &[u8]) -> Result<Option<Octets>, AllocError>
-    ensures { IfOk result (λ other. instead_octets other octets.now ≡ rewritten_octets rev2 octets.now) }
+fn is_search(named: Named) -> bool
+    ensures { result ≡ is_search named }
 {
-    let named = named_in(rev2, octets);
-    if !named.is_rewritten() {
-        return Ok(None);
-    }
-    let writing = Writing::of_command(alloc, named, octets)?;
-    Ok(Some(Octets::from_vec(writing.into_octets())?))
+    matches!(named, Named::Search)
 }
 
-/// Returns for each item of STATUS in a command whether it is RECENT.
-fn item_recents(alloc: Global, named: Named, octets: &[u8]) -> Result<Vec<bool>, AllocError>
-    ensures { IfOk result (λ recents. recents.items ≡ item_recents named octets.now) }
+fn is_lsub(named: Named) -> bool
+    ensures { result ≡ is_lsub named }
 {
-    if !named.has_items() {
-        return Ok(Vec::new(alloc));
-    }
-    Ok(Writing::of_command(alloc, named, octets)?.into_recents())
+    matches!(named, Named::Lsub)
 }
 
-fn recents_by(alloc: Global, named: Named, by: Option<&Frame>) -> Result<Vec<bool>, AllocError>
-    ensures { IfOk result (λ recents. recents.items ≡ recents_by named (option_copied by.entry)) }
+fn is_select(named: Named) -> bool
+    ensures { result ≡ is_select named }
 {
-    match by {
-        Some(Frame::Whole(octets)) => item_recents(alloc, named, octets.as_slice()),
-        _ => Ok(Vec::new(alloc)),
-    }
+    matches!(named, Named::Select)
 }
 
 fn enables_rev2(reply: &Response) -> bool
@@ -107,6 +73,12 @@ fn any_enables_rev2(replies: &[Response]) -> bool
     replies.iter().any(|reply| enables_rev2(reply))
 }
 
+fn has_labels(all: &[Asked]) -> bool
+    ensures { result ≡ list_any is_labelled all.now }
+{
+    all.iter().any(|asked| asked.is_labelled())
+}
+
 impl Dialect for Rev1 {
     type Rule = Rules;
 
@@ -115,39 +87,36 @@ impl Dialect for Rev1 {
     ghost octets = { told_by };
 
     fn rewrite(&self, alloc: Global, frame: &Frame) -> Result<Option<Frame>, AllocError> {
-        match frame {
-            Frame::Whole(octets) => match rewritten(alloc, self.rev2, octets.as_slice())? {
-                Some(other) => Ok(Some(Frame::Whole(other))),
-                None => Ok(None),
-            },
-            _ => Ok(None),
-        }
+        rewritten_frame(alloc, self.rev2, frame)
     }
 
     fn rule(&self, alloc: Global, by: Option<&Frame>) -> Result<Rules, AllocError> {
         let named = named_by(self.rev2, by);
-        let recents = Items::from_vec(recents_by(alloc, named, by)?);
-        Ok(Rules { named, recents })
+        let asked = Items::from_vec(asked_by(alloc, named, by)?);
+        Ok(Rules { named, asked })
     }
 
     fn tell(rule: &Rules, reply: &Response, out: &mut Pieces) -> Result<(), AllocError> {
         match reply {
             Response::Greeting => push_greeting(out),
             Response::Capability => push_capability(out),
-            Response::Search { results, .. } if rule.named.is_search() => push_search(out, results),
-            Response::Exists(_) if rule.named.is_select() => {
+            Response::Search { results, .. } if is_search(rule.named) => push_search(out, results),
+            Response::Exists(_) if is_select(rule.named) => {
                 print_line(out, reply)?;
                 push_recent(out)
             }
-            Response::List { mailbox, .. } if rule.named.is_lsub() => {
+            Response::List { mailbox, .. } if is_lsub(rule.named) => {
                 push_lsub(out, mailbox.as_slice())
             }
             Response::Status { mailbox, items } => push_status(
                 out,
-                rule.recents.as_slice(),
+                rule.asked.as_slice(),
                 mailbox.as_slice(),
                 items.as_slice(),
             ),
+            Response::Fetch { number, items } if has_labels(rule.asked.as_slice()) => {
+                push_fetch(out, rule.asked.as_slice(), *number, items)
+            }
             _ => print_line(out, reply),
         }
     }

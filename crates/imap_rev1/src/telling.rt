@@ -6,16 +6,23 @@ ghost use Rattle.imap_print.specs.Pieces.{octets_of};
 ghost use Rattle.imap_print.specs.Words.{before_each, in_parentheses};
 ghost use Rattle.imap_rev1.specs.Rev1.{capability_text, first_recent, greeting_text, item_text, items_words};
 ghost use Rattle.imap_rev1.specs.Rev1.{lsub_text, mod_seq_text, numbers_text, recent_text, search_text};
-ghost use Rattle.imap_rev1.specs.Rev1.{set_numbers, status_text};
+ghost use Rattle.imap_rev1.specs.Rev1.{capabilities, set_numbers, status_text};
 
-use crate::pieces::{push_name, push_number};
 use imap_print::{NumberSet, Pieces, SearchResults, StatusValue};
+use imap_rev1_frames::Asked;
 use imap_syntax::Keyword;
 use std::alloc::AllocError;
 
 /// What the server can do, in both versions (RFC 3501, section 7.2.1).
 const CAPABILITIES: &str =
     "IMAP4rev1 IMAP4rev2 ACL RIGHTS=texk UIDPLUS MOVE UNSELECT NAMESPACE ESEARCH LITERAL- CHILDREN LIST-EXTENDED LIST-STATUS CONDSTORE ENABLE IDLE QRESYNC";
+
+/// Returns what the server can do, in both versions.
+pub fn capabilities() -> &'static str
+    ensures { result.now ≡ capabilities }
+{
+    CAPABILITIES
+}
 
 pub(crate) fn push_greeting(out: &mut Pieces) -> Result<(), AllocError>
     ensures { OnOk result (octets_of out.new ≡ octets_of out.old ++ (greeting_text ++ crlf)) }
@@ -41,7 +48,7 @@ fn push_numbers(out: &mut Pieces, numbers: &[u32]) -> Result<(), AllocError>
 {
     for number in numbers {
         out.push_octets(b" ")?;
-        push_number(out, u64::from(*number))?;
+        out.push_number(u64::from(*number))?;
     }
     Ok(())
 }
@@ -61,7 +68,7 @@ fn push_mod_seq(out: &mut Pieces, mod_seq: Option<u64>) -> Result<(), AllocError
     match mod_seq {
         Some(mod_seq) => {
             out.push_octets(b" (MODSEQ ")?;
-            push_number(out, mod_seq)?;
+            out.push_number(mod_seq)?;
             out.push_octets(b")")
         }
         None => Ok(()),
@@ -88,7 +95,7 @@ pub(crate) fn push_lsub(out: &mut Pieces, mailbox: &[u8]) -> Result<(), AllocErr
     ensures { OnOk result (octets_of out.new ≡ octets_of out.old ++ (lsub_text mailbox.now ++ crlf)) }
 {
     out.push_octets(b"* LSUB () \"/\" ")?;
-    push_name(out, mailbox)?;
+    out.push_name(mailbox)?;
     out.push_octets(b"\r\n")?;
     Ok(())
 }
@@ -102,16 +109,16 @@ fn push_item(out: &mut Pieces, is_recent: bool, value: StatusValue) -> Result<()
     }
     out.push_octets(value.item.name())?;
     out.push_octets(b" ")?;
-    push_number(out, value.value)
+    out.push_number(value.value)
 }
 
 /// Returns whether the first item is RECENT, and what is known of the others.
-fn split_recent(recents: &[bool]) -> (bool, &[bool])
-    ensures first { result.0 ≡ first_recent recents.now }
-    ensures rest { result.1.now ≡ drop 1 recents.now }
+fn split_recent(asked: &[Asked]) -> (bool, &[Asked])
+    ensures first { result.0 ≡ first_recent asked.now }
+    ensures rest { result.1.now ≡ drop 1 asked.now }
 {
-    match recents {
-        [recent, rest @ ..] => (*recent, rest),
+    match asked {
+        [first, rest @ ..] => (first.is_recent(), rest),
         [] => (false, &[]),
     }
 }
@@ -119,13 +126,13 @@ fn split_recent(recents: &[bool]) -> (bool, &[bool])
 /// Appends the values, each after a space.
 fn push_further_items(
     out: &mut Pieces,
-    recents: &[bool],
+    asked: &[Asked],
     values: &[StatusValue],
 ) -> Result<(), AllocError>
     ensures { OnOk result (octets_of out.new ≡ octets_of out.old
-        ++ before_each 32 (items_words recents.now values.now)) }
+        ++ before_each 32 (items_words asked.now values.now)) }
 {
-    let mut rest = recents;
+    let mut rest = asked;
     for value in values {
         let (recent, later) = split_recent(rest);
         out.push_octets(b" ")?;
@@ -135,13 +142,13 @@ fn push_further_items(
     Ok(())
 }
 
-fn push_items(out: &mut Pieces, recents: &[bool], values: &[StatusValue]) -> Result<(), AllocError>
+fn push_items(out: &mut Pieces, asked: &[Asked], values: &[StatusValue]) -> Result<(), AllocError>
     ensures { OnOk result (octets_of out.new ≡ octets_of out.old
-        ++ in_parentheses (items_words recents.now values.now)) }
+        ++ in_parentheses (items_words asked.now values.now)) }
 {
     out.push_octets(b"(")?;
     if let [first, further @ ..] = values {
-        let (recent, later) = split_recent(recents);
+        let (recent, later) = split_recent(asked);
         push_item(out, recent, *first)?;
         push_further_items(out, later, further)?;
     }
@@ -150,17 +157,17 @@ fn push_items(out: &mut Pieces, recents: &[bool], values: &[StatusValue]) -> Res
 
 pub(crate) fn push_status(
     out: &mut Pieces,
-    recents: &[bool],
+    asked: &[Asked],
     mailbox: &[u8],
     values: &[StatusValue],
 ) -> Result<(), AllocError>
     ensures { OnOk result (octets_of out.new ≡ octets_of out.old
-        ++ (status_text recents.now mailbox.now values.now ++ crlf)) }
+        ++ (status_text asked.now mailbox.now values.now ++ crlf)) }
 {
     out.push_octets(b"* STATUS ")?;
-    push_name(out, mailbox)?;
+    out.push_name(mailbox)?;
     out.push_octets(b" ")?;
-    push_items(out, recents, values)?;
+    push_items(out, asked, values)?;
     out.push_octets(b"\r\n")?;
     Ok(())
 }

@@ -111,6 +111,68 @@ b8 OK [READ-WRITE] done\r\n\
 * BYE logging out\r\n\
 b9 OK done\r\n";
 
+/// FETCH by the labels of RFC822 (RFC 3501, sections 6.4.5 and 7.4.2).
+const FETCHED: &[u8] = b"c1 APPEND INBOX {17+}\r\nSubject: a\r\n\r\nb\r\n\r\n\
+c2 EXAMINE INBOX\r\n\
+c3 FETCH 1 RFC822\r\n\
+c4 SELECT INBOX\r\n\
+c5 FETCH 1 RFC822.HEADER\r\n\
+c6 FETCH 1 (FLAGS rfc822.text)\r\n\
+c7 FETCH 1 (BODY[] RFC822 BODY[HEADER.FIELDS (Subject)] RFC822 UID)\r\n\
+c8 ENABLE IMAP4rev2\r\n\
+c9 UID FETCH 1 (RFC822.SIZE RFC822)\r\n\
+d1 FETCH 1 BODY[TEXT]\r\n\
+d2 FETCH 1 ALL\r\n\
+d3 LOGOUT\r\n";
+
+const LABELLED: &[u8] =
+    b"* PREAUTH [CAPABILITY IMAP4rev1 IMAP4rev2 ACL RIGHTS=texk UIDPLUS MOVE UNSELECT NAMESPACE \
+ESEARCH LITERAL- CHILDREN LIST-EXTENDED LIST-STATUS CONDSTORE ENABLE IDLE QRESYNC] shared mailbox profile ready\r\n\
+c1 OK [APPENDUID 1 1] done\r\n\
+* FLAGS (\\Answered \\Deleted \\Draft \\Flagged \\Seen)\r\n\
+* 1 EXISTS\r\n\
+* 0 RECENT\r\n\
+* LIST (\\HasNoChildren) \"/\" INBOX\r\n\
+* OK [PERMANENTFLAGS ()] flags kept\r\n\
+* OK [UIDVALIDITY 1] validity\r\n\
+* OK [UIDNEXT 2] next\r\n\
+* OK [HIGHESTMODSEQ 2] highest\r\n\
+c2 OK [READ-ONLY] done\r\n\
+* 1 FETCH (RFC822 {17}\r\nSubject: a\r\n\r\nb\r\n)\r\n\
+c3 OK done\r\n\
+* OK [CLOSED] closed\r\n\
+* FLAGS (\\Answered \\Deleted \\Draft \\Flagged \\Seen)\r\n\
+* 1 EXISTS\r\n\
+* 0 RECENT\r\n\
+* LIST (\\HasNoChildren) \"/\" INBOX\r\n\
+* OK [PERMANENTFLAGS (\\Answered \\Deleted \\Draft \\Flagged \\Seen \\*)] flags kept\r\n\
+* OK [UIDVALIDITY 1] validity\r\n\
+* OK [UIDNEXT 2] next\r\n\
+* OK [HIGHESTMODSEQ 2] highest\r\n\
+c4 OK [READ-WRITE] done\r\n\
+* 1 FETCH (RFC822.HEADER {14}\r\nSubject: a\r\n\r\n)\r\n\
+c5 OK done\r\n\
+* 1 FETCH (FLAGS (\\Seen) RFC822.TEXT {3}\r\nb\r\n)\r\n\
+c6 OK done\r\n\
+* 1 FETCH (UID 1 BODY[] {17}\r\nSubject: a\r\n\r\nb\r\n RFC822 {17}\r\nSubject: a\r\n\r\nb\r\n \
+BODY[HEADER.FIELDS (Subject)] {14}\r\nSubject: a\r\n\r\n)\r\n\
+c7 OK done\r\n\
+* ENABLED IMAP4rev2\r\n\
+c8 OK done\r\n\
+* 1 FETCH (UID 1 RFC822.SIZE 17 RFC822 {17}\r\nSubject: a\r\n\r\nb\r\n)\r\n\
+c9 OK done\r\n\
+* 1 FETCH (BODY[TEXT] {3}\r\nb\r\n)\r\n\
+d1 OK done\r\n\
+d2 NO [CANNOT] not possible\r\n\
+* BYE logging out\r\n\
+d3 OK done\r\n";
+
+#[test]
+fn messages_are_told_under_the_asked_labels(rt: HostRuntime) {
+    expect(&rt, told(&rt, FETCHED, WHOLE), LABELLED);
+    expect(&rt, told(&rt, FETCHED, OCTETS), LABELLED);
+}
+
 #[test]
 fn clients_of_rev1_are_told(rt: HostRuntime) {
     expect(&rt, told(&rt, SENT, WHOLE), TOLD);

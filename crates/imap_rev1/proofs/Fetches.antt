@@ -1,0 +1,178 @@
+-- FETCH, as it is written and as its messages are told.
+use Rattle.std.proofs.Common.{◌≡◌, ◌∙◌, ap, sym, refl, subst, ℕ, Bool, true, false, cond, not, ◌&&◌, List, [], ◌∷◌, ◌++◌, length, map, flat_map, Option, Some, None}
+use Rattle.std.specs.Prelude.{codes, decimal, ◌==◌, is_some}
+use Rattle.std.specs.List.{list_all, list_any, AllByRecursion}
+use Rattle.imap_lex.specs.Framing.{crlf}
+use Rattle.imap_lex.specs.Stream.{IsLastLine}
+use Rattle.imap_lex.specs.declared.frame.Frame.TheVariants as frame
+use Rattle.imap_print.specs.declared.fetch.FetchedItems.{FetchedItems}
+use Rattle.imap_print.specs.declared.fetch.FetchedSection.{FetchedSection}
+use Rattle.imap_print.specs.declared.response.Response.TheVariants as response
+use Rattle.imap_print.specs.Fetched.{body_text, item_words}
+use Rattle.imap_print.specs.Lines.{is_plain}
+use Rattle.imap_print.specs.Printed.{line}
+use Rattle.imap_print.specs.Words.{given_by, in_parentheses}
+use Rattle.imap_rev1_frames.specs.declared.asked.Asked.{Asked}
+use Rattle.imap_rev1_frames.specs.declared.asked.Asked.TheVariants as asked
+use Rattle.imap_rev1_frames.specs.declared.asked.Label.{Label}
+use Rattle.imap_rev1_frames.specs.declared.asked.Label.TheVariants as label
+use Rattle.imap_rev1_frames.specs.declared.named.Named.{Named}
+use Rattle.imap_rev1_frames.specs.declared.named.Named.TheVariants as named
+use Rattle.imap_rev1.specs.declared.rev1.Rev1.{Rev1}
+use Rattle.imap_rev1_frames.specs.declared.scan.Depth.TheVariants as depth
+use Rattle.imap_rev1_frames.specs.Asked.{fetch_for, is_labelled, label_in, label_name, labelled_by, section_asked, section_by, without_repeats}
+use Rattle.imap_rev1.specs.FetchLaws.{fetch_octets, IsFetch, AsksSections, asked_for, TellsAsAsked, TellsLabel, PrintsUnlabelled, PrintsNotices}
+use Rattle.imap_rev1.specs.Labels.{stands_for, labelled_text, all_asked_words, fetch_text}
+use Rattle.imap_rev1.specs.Laws.{IsPlainWord, listed}
+use Rattle.imap_rev1_frames.specs.Named.{named_in}
+use Rattle.imap_rev1.specs.Rev1.{rev1, rules_for}
+use Rattle.imap_rev1_frames.specs.Rewritten.{command_asked, command_for, asked_after}
+use Rattle.imap_rev1_frames.specs.Scan.{start, after_word, option_list, word_asked, written, asked}
+use Rattle.imap_rev1.proofs.Listed.{within, item_asked, listed_written, listed_asked, all_asked}
+use Rattle.imap_rev1.proofs.Spelt.{one_line, rewritten_as}
+
+-- ---- words
+
+same_scan : (b : Bool) → cond b (within named.Fetch depth.One) (within named.Fetch depth.One) ≡ within named.Fetch depth.One
+same_scan true = refl
+same_scan false = refl
+
+after_item : (word : List ℕ) → after_word (within named.Fetch depth.One) word ≡ within named.Fetch depth.One
+after_item word = same_scan (length word == 0)
+
+-- a word that asks for no section
+module _ (set : List ℕ) (none : section_asked set ≡ None) (some : (length set == 0) ≡ false) where
+  after_set : after_word (within named.Fetch depth.None) set ≡ within named.Fetch depth.None
+  after_set =
+      ap (λ b. cond b (within named.Fetch depth.None) (cond (is_some (section_asked set)) (within named.Other depth.None) (within named.Fetch depth.None))) some
+      ∙ ap (λ (o : Option Asked). cond (is_some o) (within named.Other depth.None) (within named.Fetch depth.None)) none
+
+  set_asked : word_asked (within named.Fetch depth.None) set ≡ None
+  set_asked = ap (λ b. cond (not b && true) (section_asked set) None) some ∙ none
+
+no_label : (o : Option Label) (word : List ℕ) → labelled_by o word ≡ None → section_by o word ≡ word
+no_label None word e = refl
+no_label (Some l) word e = absurd cc
+
+item_by : (word : List ℕ) (b : Bool) → b ≡ false → cond (not b && true) (section_asked word) None ≡ section_asked word
+item_by word true h = absurd cc
+item_by word false h = refl
+
+each_asked : (items : List (List ℕ)) → AllByRecursion IsPlainWord items → flat_map (item_asked named.Fetch) items ≡ flat_map (λ word. option_list (section_asked word)) items
+each_asked [] h = refl
+each_asked (item ∷ items) h =
+    ap (λ (o : Option Asked). option_list o ++ flat_map (item_asked named.Fetch) items) (item_by item (length item == 0) h.0.some)
+    ∙ ap (λ (l : List Asked). option_list (section_asked item) ++ l) (each_asked items h.1)
+
+-- ---- frames
+
+-- the words of the command, and a space after each
+abbrev command_octets : (uid : Bool) → List ℕ → List ℕ
+command_octets true octets = codes "UID FETCH " ++ octets
+command_octets false octets = codes "FETCH " ++ octets
+
+command_written : (uid : Bool) (octets : List ℕ) → written (within named.Fetch depth.None) [] (command_octets uid octets) ≡ command_octets uid (written (within named.Fetch depth.None) [] octets)
+command_written true octets = refl
+command_written false octets = refl
+
+command_asks : (uid : Bool) (octets : List ℕ) → asked (within named.Fetch depth.None) [] (command_octets uid octets) ≡ asked (within named.Fetch depth.None) [] octets
+command_asks true octets = refl
+command_asks false octets = refl
+
+same_octets : (uid : Bool) (tag set : List ℕ) (items : List (List ℕ)) → fetch_octets uid tag set items ≡ (tag ++ 32 ∷ command_octets uid (listed set items)) ++ crlf
+same_octets true tag set items = refl
+same_octets false tag set items = refl
+
+plain_command : (uid : Bool) (octets : List ℕ) → list_all is_plain octets ≡ true → list_all is_plain (command_octets uid octets) ≡ true
+plain_command true octets h = h
+plain_command false octets h = h
+
+module _ (state : Rev1) (uid : Bool) (tag set : List ℕ) (items : List (List ℕ)) (is : IsFetch state uid tag set items) where
+  abbrev octets : List ℕ
+  octets = command_octets uid (listed set items)
+
+  last_is : IsLastLine ((tag ++ 32 ∷ octets) ++ crlf)
+  last_is = subst IsLastLine (same_octets uid tag set items) is.last
+
+  frame_written : rev1.rewritten state (frame.Whole (fetch_octets uid tag set items)) ≡ frame.Whole (fetch_octets uid tag set (map fetch_for items))
+  frame_written =
+      ap frame.Whole
+      (rewritten_as state.rev2 (fetch_octets uid tag set items) (fetch_octets uid tag set (map fetch_for items)) named.Fetch is.named refl
+      (ap (command_for named.Fetch) (same_octets uid tag set items)
+      ∙ one_line named.Fetch tag octets is.tagged (plain_command uid (listed set items) is.plain) last_is
+      ∙ ap (λ (l : List ℕ). (tag ++ 32 ∷ l) ++ crlf)
+      (command_written uid (listed set items)
+      ∙ ap (command_octets uid)
+      (listed_written named.Fetch after_item set items is.set_is (after_set set is.no_section is.set_is.some) is.each (no_label (label_in set) set is.no_section)))
+      ∙ sym (same_octets uid tag set (map fetch_for items))))
+
+  -- what it asks for
+  frame_asked : command_asked (named_in state.rev2 (fetch_octets uid tag set items)) (fetch_octets uid tag set items) ≡ asked_for items
+  frame_asked =
+      ap (λ (c : Named). command_asked c (fetch_octets uid tag set items)) is.named
+      ∙ ap (λ (l : List ℕ). without_repeats [] (asked_after 0 (start named.Fetch) l)) (same_octets uid tag set items)
+      ∙ ap (without_repeats [])
+      (all_asked named.Fetch tag octets is.tagged (plain_command uid (listed set items) is.plain) last_is
+      ∙ command_asks uid (listed set items)
+      ∙ listed_asked named.Fetch after_item set items is.set_is (after_set set is.no_section is.set_is.some) is.each (set_asked set is.no_section is.set_is.some)
+      ∙ each_asked items is.each)
+
+  -- how a message is told
+  message_told : (number : ℕ) (fetched : FetchedItems) → rev1.told state (Some (frame.Whole (fetch_octets uid tag set items))) (response.Fetch number fetched)
+      ≡ cond (list_any is_labelled (asked_for items)) (fetch_text (asked_for items) number fetched ++ crlf) (line (response.Fetch number fetched))
+  message_told number fetched = ap (λ (all : List Asked). cond (list_any is_labelled all) (fetch_text all number fetched ++ crlf) (line (response.Fetch number fetched))) frame_asked
+
+pub asks_sections : AsksSections
+asks_sections state uid tag set items is = frame_written state uid tag set items is
+
+pub tells_as_asked : TellsAsAsked
+tells_as_asked state uid tag set items number fetched is any =
+    message_told state uid tag set items is number fetched
+    ∙ ap (λ b. cond b (fetch_text (asked_for items) number fetched ++ crlf) (line (response.Fetch number fetched))) any
+
+pub prints_unlabelled : PrintsUnlabelled
+prints_unlabelled state uid tag set items number fetched is none =
+    message_told state uid tag set items is number fetched
+    ∙ ap (λ b. cond b (fetch_text (asked_for items) number fetched ++ crlf) (line (response.Fetch number fetched))) none
+
+-- ---- one label
+
+label_asked : (l : Label) → asked_for (label_name l ∷ []) ≡ asked.Labelled l ∷ []
+label_asked label.Message = refl
+label_asked label.Header = refl
+label_asked label.Text = refl
+
+one_found : (l : Label) (body : FetchedSection) → stands_for l body ≡ true → all_asked_words (body ∷ []) (body ∷ []) (asked.Labelled l ∷ []) ≡ labelled_text l body ∷ []
+one_found l body is = ap (λ b. given_by (labelled_text l) (cond b (Some body) None) ++ []) is
+
+abbrev line_of : (number : ℕ) → FetchedItems → List (List ℕ) → List ℕ
+line_of number fetched sections = (codes "* " ++ decimal number ++ codes " FETCH " ++ in_parentheses (item_words fetched ++ sections)) ++ crlf
+
+pub tells_label : TellsLabel
+tells_label state uid tag set l number fetched body is one stands =
+    tells_as_asked state uid tag set (label_name l ∷ []) number fetched is (ap (list_any is_labelled) (label_asked l))
+    ∙ ap (λ (all : List Asked). fetch_text all number fetched ++ crlf) (label_asked l)
+    ∙ ap (λ (bodies : List FetchedSection). line_of number fetched (all_asked_words bodies bodies (asked.Labelled l ∷ []))) one
+    ∙ ap (line_of number fetched) (one_found l body stands)
+
+-- ---- notices
+
+no_words : (all : List Asked) → all_asked_words [] [] all ≡ []
+no_words [] = refl
+no_words (asked.Labelled l ∷ more) = no_words more
+no_words (asked.Unlabelled l ∷ more) = no_words more
+no_words (asked.Section ∷ more) = no_words more
+no_words (asked.Recent ∷ more) = no_words more
+no_words (asked.Value ∷ more) = no_words more
+
+notice_by : (b : Bool) (x y : List ℕ) → x ≡ y → cond b x y ≡ y
+notice_by true x y e = e
+notice_by false x y e = refl
+
+pub prints_notices : PrintsNotices
+prints_notices state by number fetched none =
+    let all = (rules_for state by).asked in
+    notice_by (list_any is_labelled all) (fetch_text all number fetched ++ crlf) (line (response.Fetch number fetched))
+    (ap (λ (bodies : List FetchedSection). line_of number fetched (all_asked_words bodies bodies all)) none
+    ∙ ap (line_of number fetched) (no_words all)
+    ∙ ap (λ (bodies : List FetchedSection). line_of number fetched (map body_text bodies)) (sym none))

@@ -1,0 +1,5 @@
+use Rattle.imap_rev1.proofs.Fetches.{asks_sections, tells_as_asked, tells_label, prints_unlabelled, prints_notices}
+use Rattle.imap_rev1.proofs.laws.tells_labels.Goals as goal
+
+pub returns : goal.returns
+returns c = record { sections = asks_sections; as_asked = tells_as_asked; label = tells_label; unlabelled = prints_unlabelled; notices = prints_notices }

@@ -1,0 +1,93 @@
+-- Laws of FETCH in the dialect of IMAP4rev1 (RFC 3501, sections 6.4.5 and 7.4.2).
+use Rattle.std.specs.Prelude.{◌≡◌, ℕ, Bool, true, false, List, [], ◌∷◌, ◌++◌, codes, decimal, map, flat_map}
+use Rattle.std.specs.Prelude.{Option, Some, None}
+use Rattle.std.specs.List.{AllByRecursion, list_all, list_any}
+use Rattle.imap_lex.specs.CommandTag.{IsTag}
+use Rattle.imap_lex.specs.Framing.{crlf}
+use Rattle.imap_lex.specs.Stream.{IsLastLine}
+use Rattle.imap_lex.specs.declared.frame.Frame.{Frame}
+use Rattle.imap_lex.specs.declared.frame.Frame.TheVariants.{Whole}
+use Rattle.imap_print.specs.declared.fetch.FetchedItems.{FetchedItems}
+use Rattle.imap_print.specs.declared.fetch.FetchedSection.{FetchedSection}
+use Rattle.imap_print.specs.declared.response.Response.TheVariants as response
+use Rattle.imap_print.specs.Fetched.{item_words}
+use Rattle.imap_print.specs.Lines.{is_plain}
+use Rattle.imap_print.specs.Printed.{line}
+use Rattle.imap_print.specs.Words.{in_parentheses}
+use Rattle.imap_rev1_frames.specs.declared.asked.Asked.{Asked}
+use Rattle.imap_rev1_frames.specs.declared.asked.Label.{Label}
+use Rattle.imap_rev1_frames.specs.declared.named.Named.TheVariants as named
+use Rattle.imap_rev1.specs.declared.rev1.Rev1.{Rev1}
+use Rattle.imap_rev1_frames.specs.Asked.{fetch_for, is_labelled, label_name, section_asked, without_repeats}
+use Rattle.imap_rev1.specs.Labels.{fetch_text, labelled_text, stands_for}
+use Rattle.imap_rev1.specs.Laws.{IsPlainWord, listed}
+use Rattle.imap_rev1_frames.specs.Named.{named_in}
+use Rattle.imap_rev1.specs.Rev1.{rev1}
+use Rattle.imap_rev1_frames.specs.Scan.{option_list}
+
+abbrev pub fetch_word : (uid : Bool) → List ℕ
+fetch_word true = codes " UID FETCH "
+fetch_word false = codes " FETCH "
+
+abbrev pub fetch_octets : (uid : Bool) → (tag set : List ℕ) → (items : List (List ℕ)) → List ℕ
+fetch_octets uid tag set items = (tag ++ (fetch_word uid ++ listed set items)) ++ crlf
+
+-- A FETCH of items that are words. Its set of messages is a word that asks for no section.
+pub record IsFetch (state : Rev1) (uid : Bool) (tag set : List ℕ) (items : List (List ℕ)) : Type 0 where
+  pub tagged : IsTag tag
+  pub set_is : IsPlainWord set
+  pub no_section : section_asked set ≡ None
+  pub each : AllByRecursion IsPlainWord items
+  pub last : IsLastLine (fetch_octets uid tag set items)
+  pub plain : list_all is_plain (listed set items) ≡ true
+  pub named : named_in state.rev2 (fetch_octets uid tag set items) ≡ named.Fetch
+
+-- Another item is asked in place of each label.
+abbrev pub AsksSections : Type 0
+AsksSections =
+    (state : Rev1) (uid : Bool) (tag set : List ℕ) (items : List (List ℕ))
+    → IsFetch state uid tag set items
+    → rev1.rewritten state (Whole (fetch_octets uid tag set items))
+    ≡ Whole (fetch_octets uid tag set (map fetch_for items))
+
+-- the sections that the words ask for, each once
+abbrev pub asked_for : (items : List (List ℕ)) → List Asked
+asked_for items = without_repeats [] (flat_map (λ word. option_list (section_asked word)) items)
+
+-- If a label is one of the items, the sections are told as they were asked for and in this order.
+abbrev pub TellsAsAsked : Type 0
+TellsAsAsked =
+    (state : Rev1) (uid : Bool) (tag set : List ℕ) (items : List (List ℕ)) (number : ℕ) (fetched : FetchedItems)
+    → IsFetch state uid tag set items → list_any is_labelled (asked_for items) ≡ true
+    → rev1.told state (Some (Whole (fetch_octets uid tag set items))) (response.Fetch number fetched)
+    ≡ fetch_text (asked_for items) number fetched ++ crlf
+
+abbrev pub labelled_line : Label → (number : ℕ) → FetchedItems → FetchedSection → List ℕ
+labelled_line label number fetched body =
+    codes "* " ++ decimal number ++ codes " FETCH "
+    ++ in_parentheses (item_words fetched ++ labelled_text label body ∷ [])
+
+-- So what is fetched by one label is told under this label.
+abbrev pub TellsLabel : Type 0
+TellsLabel =
+    (state : Rev1) (uid : Bool) (tag set : List ℕ) (label : Label) (number : ℕ) (fetched : FetchedItems)
+    → (body : FetchedSection)
+    → IsFetch state uid tag set (label_name label ∷ [])
+    → fetched.sections ≡ body ∷ [] → stands_for label body ≡ true
+    → rev1.told state (Some (Whole (fetch_octets uid tag set (label_name label ∷ [])))) (response.Fetch number fetched)
+    ≡ labelled_line label number fetched body ++ crlf
+
+-- If none of the items is a label, messages are printed.
+abbrev pub PrintsUnlabelled : Type 0
+PrintsUnlabelled =
+    (state : Rev1) (uid : Bool) (tag set : List ℕ) (items : List (List ℕ)) (number : ℕ) (fetched : FetchedItems)
+    → IsFetch state uid tag set items → list_any is_labelled (asked_for items) ≡ false
+    → rev1.told state (Some (Whole (fetch_octets uid tag set items))) (response.Fetch number fetched)
+    ≡ line (response.Fetch number fetched)
+
+-- A message without sections is printed, whatever the frame is: it is a notice.
+abbrev pub PrintsNotices : Type 0
+PrintsNotices =
+    (state : Rev1) (by : Option Frame) (number : ℕ) (fetched : FetchedItems)
+    → fetched.sections ≡ []
+    → rev1.told state by (response.Fetch number fetched) ≡ line (response.Fetch number fetched)

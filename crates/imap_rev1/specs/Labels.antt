@@ -1,0 +1,80 @@
+-- The items of a message, told as they were asked for (RFC 3501, sections 6.4.5 and 7.4.2).
+use Rattle.std.specs.Prelude.{ℕ, Bool, true, false, ◌&&◌, ◌||◌, List, [], ◌∷◌, ◌++◌, codes, decimal, drop, find}
+use Rattle.std.specs.Prelude.{Option, Some, None, is_none, if◌then◌else◌}
+use Rattle.std.specs.List.{concat}
+use Rattle.imap_query.specs.declared.fetch.Section.{Section}
+use Rattle.imap_query.specs.declared.fetch.Section.TheVariants as section
+use Rattle.imap_print.specs.declared.fetch.FetchedItems.{FetchedItems}
+use Rattle.imap_print.specs.declared.fetch.FetchedSection.{FetchedSection}
+use Rattle.imap_print.specs.Fetched.{body_text, item_words}
+use Rattle.imap_print.specs.Words.{given_by, in_parentheses}
+use Rattle.imap_syntax.specs.Written.{literal_text}
+use Rattle.imap_rev1_frames.specs.declared.asked.Asked.{Asked}
+use Rattle.imap_rev1_frames.specs.declared.asked.Asked.TheVariants as asked
+use Rattle.imap_rev1_frames.specs.declared.asked.Label.{Label}
+use Rattle.imap_rev1_frames.specs.declared.asked.Label.TheVariants as label
+use Rattle.imap_rev1_frames.specs.Asked.{label_name}
+
+-- ---- sections of a message
+
+abbrev pub is_of : Label → Section → Bool
+is_of label.Message section.Whole = true
+is_of label.Header section.Header = true
+is_of label.Text section.Text = true
+is_of _ _ = false
+
+-- the label stands for the section, which is no part of one
+abbrev pub stands_for : Label → FetchedSection → Bool
+stands_for l body = is_none body.origin && is_of l body.section
+
+abbrev pub has_label : FetchedSection → Bool
+has_label body = stands_for label.Message body || stands_for label.Header body || stands_for label.Text body
+
+-- the sections from the first on for which no label stands
+abbrev pub from_other : List FetchedSection → List FetchedSection
+from_other [] = []
+from_other (body ∷ bodies) = if has_label body then from_other bodies else body ∷ bodies
+
+abbrev pub first_of : List FetchedSection → Option FetchedSection
+first_of [] = None
+first_of (body ∷ bodies) = Some body
+
+-- The section for which an item asks. `rest` are those that may be for it if no label stands for it.
+abbrev pub section_for : (bodies rest : List FetchedSection) → Asked → Option FetchedSection
+section_for bodies rest (asked.Labelled l) = find (stands_for l) bodies
+section_for bodies rest (asked.Unlabelled l) = find (stands_for l) bodies
+section_for bodies rest asked.Section = first_of (from_other rest)
+section_for bodies rest _ = None
+
+-- those that may be for later items
+abbrev pub rest_after : Asked → (rest : List FetchedSection) → List FetchedSection
+rest_after asked.Section rest = drop 1 (from_other rest)
+rest_after _ rest = rest
+
+-- ---- words
+
+abbrev pub labelled_text : Label → FetchedSection → List ℕ
+labelled_text l body = label_name l ++ codes " " ++ literal_text (concat body.octets)
+
+-- how the section is told
+abbrev pub asked_text : Asked → FetchedSection → List ℕ
+asked_text (asked.Labelled l) body = labelled_text l body
+asked_text _ body = body_text body
+
+-- the word for an item; none if its section isn't there
+abbrev pub asked_words : (bodies rest : List FetchedSection) → Asked → List (List ℕ)
+asked_words bodies rest a = given_by (asked_text a) (section_for bodies rest a)
+
+-- the words for all items, in their order
+abbrev pub all_asked_words : (bodies rest : List FetchedSection) → List Asked → List (List ℕ)
+all_asked_words bodies rest [] = []
+all_asked_words bodies rest (a ∷ more) =
+    asked_words bodies rest a ++ all_asked_words bodies (rest_after a rest) more
+
+-- the items but the sections, and the sections in the order in which they were asked for
+abbrev pub fetch_words : List Asked → FetchedItems → List (List ℕ)
+fetch_words all items = item_words items ++ all_asked_words items.sections items.sections all
+
+abbrev pub fetch_text : List Asked → (number : ℕ) → FetchedItems → List ℕ
+fetch_text all number items =
+    codes "* " ++ decimal number ++ codes " FETCH " ++ in_parentheses (fetch_words all items)

@@ -1,0 +1,100 @@
+-- What the items of STATUS and FETCH ask for (RFC 3501, sections 6.3.10 and 6.4.5).
+use Rattle.std.specs.Prelude.{ℕ, Bool, true, false, ◌||◌, List, [], ◌∷◌, ◌++◌, codes, Option, Some, None}
+use Rattle.std.specs.Prelude.{if◌then◌else◌}
+use Rattle.std.specs.List.{list_any}
+use Rattle.imap_rev1_frames.specs.declared.asked.Asked.{Asked}
+use Rattle.imap_rev1_frames.specs.declared.asked.Asked.TheVariants as asked
+use Rattle.imap_rev1_frames.specs.declared.asked.Label.{Label}
+use Rattle.imap_rev1_frames.specs.declared.asked.Label.TheVariants as label
+use Rattle.imap_rev1_frames.specs.Named.{begins, is_word}
+
+-- ---- STATUS
+
+abbrev pub status_asked : (word : List ℕ) → Asked
+status_asked word = if is_word (codes "RECENT") word then asked.Recent else asked.Value
+
+abbrev pub is_recent : Asked → Bool
+is_recent asked.Recent = true
+is_recent _ = false
+
+-- ---- FETCH
+
+abbrev pub label_name : Label → List ℕ
+label_name label.Message = codes "RFC822"
+label_name label.Header = codes "RFC822.HEADER"
+label_name label.Text = codes "RFC822.TEXT"
+
+-- the item that asks for the same octets, and sets `\Seen` or not as the label does
+abbrev pub label_section : Label → List ℕ
+label_section label.Message = codes "BODY[]"
+label_section label.Header = codes "BODY.PEEK[HEADER]"
+label_section label.Text = codes "BODY[TEXT]"
+
+-- the label that the word is
+abbrev pub label_in : (word : List ℕ) → Option Label
+label_in word =
+    if is_word (codes "RFC822") word then Some label.Message
+    else (if is_word (codes "RFC822.HEADER") word then Some label.Header
+    else (if is_word (codes "RFC822.TEXT") word then Some label.Text else None))
+
+-- the label for the section that the word asks for
+abbrev pub label_for : (word : List ℕ) → Option Label
+label_for word =
+    if is_word (codes "BODY[]") word || is_word (codes "BODY.PEEK[]") word then Some label.Message
+    else (if is_word (codes "BODY[HEADER]") word || is_word (codes "BODY.PEEK[HEADER]") word then Some label.Header
+    else (if is_word (codes "BODY[TEXT]") word || is_word (codes "BODY.PEEK[TEXT]") word then Some label.Text
+    else None))
+
+-- a section, or its front
+abbrev pub is_section : (word : List ℕ) → Bool
+is_section word = begins (codes "BODY[") word || begins (codes "BODY.PEEK[") word
+
+abbrev pub other_asked : (word : List ℕ) → Option Asked
+other_asked word = if is_section word then Some asked.Section else None
+
+abbrev pub unlabelled_by : Option Label → (word : List ℕ) → Option Asked
+unlabelled_by (Some l) word = Some (asked.Unlabelled l)
+unlabelled_by None word = other_asked word
+
+abbrev pub labelled_by : Option Label → (word : List ℕ) → Option Asked
+labelled_by (Some l) word = Some (asked.Labelled l)
+labelled_by None word = unlabelled_by (label_for word) word
+
+-- the section for which the word asks, if it does
+abbrev pub section_asked : (word : List ℕ) → Option Asked
+section_asked word = labelled_by (label_in word) word
+
+abbrev pub section_by : Option Label → (word : List ℕ) → List ℕ
+section_by (Some l) word = label_section l
+section_by None word = word
+
+-- what is asked in place of the word
+abbrev pub fetch_for : (word : List ℕ) → List ℕ
+fetch_for word = section_by (label_in word) word
+
+-- ---- each item once
+
+abbrev pub is_same_label : Label → Label → Bool
+is_same_label label.Message label.Message = true
+is_same_label label.Header label.Header = true
+is_same_label label.Text label.Text = true
+is_same_label _ _ = false
+
+-- both ask for the section of a label, and in the same way
+abbrev pub is_repeat : Asked → Asked → Bool
+is_repeat (asked.Labelled l) (asked.Labelled m) = is_same_label l m
+is_repeat (asked.Unlabelled l) (asked.Unlabelled m) = is_same_label l m
+is_repeat _ _ = false
+
+abbrev pub with_asked : List Asked → Asked → List Asked
+with_asked kept a = if list_any (is_repeat a) kept then kept else kept ++ a ∷ []
+
+-- the items after those that are kept, without those that are asked for again
+abbrev pub without_repeats : (kept : List Asked) → List Asked → List Asked
+without_repeats kept [] = kept
+without_repeats kept (a ∷ more) = without_repeats (with_asked kept a) more
+
+-- an item is told under a label
+abbrev pub is_labelled : Asked → Bool
+is_labelled (asked.Labelled l) = true
+is_labelled _ = false

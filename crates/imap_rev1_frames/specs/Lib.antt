@@ -1,0 +1,6 @@
+-- The commands of IMAP4rev1.
+pub mod Asked
+pub mod Named
+pub mod Rewritten
+pub mod Scan
+pub mod Writing

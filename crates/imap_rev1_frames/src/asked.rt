@@ -1,0 +1,209 @@
+//! Items that a command asks for.
+
+ghost use Rattle.std.specs.Prelude.{◌≡◌, [], IfOk, OnOk};
+ghost use Rattle.std.specs.List.{list_any};
+ghost use Rattle.imap_rev1_frames.specs.Asked.{fetch_for, is_labelled, is_recent, is_repeat, is_same_label, is_section};
+ghost use Rattle.imap_rev1_frames.specs.Asked.{label_for, label_in, label_name, label_section, other_asked};
+ghost use Rattle.imap_rev1_frames.specs.Asked.{section_asked, status_asked, unlabelled_by, with_asked};
+ghost use Rattle.imap_rev1_frames.specs.Asked.{without_repeats};
+
+use crate::named::{begins, is_word};
+use std::alloc::{AllocError, Global};
+
+/// The name of a section in the words of RFC 822 (RFC 3501, section 6.4.5).
+#[derive(Clone, Copy, Debug, PartialEq, Eq)]
+pub enum Label {
+    /// RFC822, which is BODY[].
+    Message,
+    /// RFC822.HEADER, which is BODY.PEEK[HEADER].
+    Header,
+    /// RFC822.TEXT, which is BODY[TEXT].
+    Text,
+}
+
+/// An item that a command asks for.
+#[derive(Clone, Copy, Debug, PartialEq, Eq)]
+pub enum Asked {
+    /// RECENT in STATUS, for which MESSAGES is asked.
+    Recent,
+    /// Another item of STATUS.
+    Value,
+    /// A section by its label.
+    Labelled(Label),
+    /// A section that has a label, by its other name.
+    Unlabelled(Label),
+    /// A section that has no label.
+    Section,
+}
+
+impl Label {
+    pub fn name(self) -> &'static [u8]
+        ensures { result.now ≡ label_name self }
+    {
+        match self {
+            Label::Message => b"RFC822",
+            Label::Header => b"RFC822.HEADER",
+            Label::Text => b"RFC822.TEXT",
+        }
+    }
+
+    /// Returns the item that asks for its section.
+    fn section(self) -> &'static [u8]
+        ensures { result.now ≡ label_section self }
+    {
+        match self {
+            Label::Message => b"BODY[]",
+            Label::Header => b"BODY.PEEK[HEADER]",
+            Label::Text => b"BODY[TEXT]",
+        }
+    }
+
+    fn is_same(self, other: Label) -> bool
+        ensures { result ≡ is_same_label self other }
+    {
+        match self {
+            Label::Message => matches!(other, Label::Message),
+            Label::Header => matches!(other, Label::Header),
+            Label::Text => matches!(other, Label::Text),
+        }
+    }
+}
+
+impl Asked {
+    /// Whether both ask for the section of a label, and in the same way.
+    fn is_repeat(self, other: Asked) -> bool
+        ensures { result ≡ is_repeat self other }
+    {
+        match (self, other) {
+            (Asked::Labelled(label), Asked::Labelled(other)) => label.is_same(other),
+            (Asked::Unlabelled(label), Asked::Unlabelled(other)) => label.is_same(other),
+            _ => false,
+        }
+    }
+
+    pub fn is_recent(self) -> bool
+        ensures { result ≡ is_recent self }
+    {
+        matches!(self, Asked::Recent)
+    }
+
+    /// Whether the item is told under a label.
+    pub fn is_labelled(self) -> bool
+        ensures { result ≡ is_labelled self }
+    {
+        matches!(self, Asked::Labelled(_))
+    }
+}
+
+/// Returns what an item of STATUS asks for.
+pub(crate) fn status_asked(word: &[u8]) -> Asked
+    ensures { result ≡ status_asked word.now }
+{
+    if is_word(b"RECENT", word) {
+        Asked::Recent
+    } else {
+        Asked::Value
+    }
+}
+
+/// Returns the label that the word is.
+fn label_in(word: &[u8]) -> Option<Label>
+    ensures { result ≡ label_in word.now }
+{
+    if is_word(b"RFC822", word) {
+        Some(Label::Message)
+    } else if is_word(b"RFC822.HEADER", word) {
+        Some(Label::Header)
+    } else if is_word(b"RFC822.TEXT", word) {
+        Some(Label::Text)
+    } else {
+        None
+    }
+}
+
+/// Returns the label for the section that the word asks for.
+fn label_for(word: &[u8]) -> Option<Label>
+    ensures { result ≡ label_for word.now }
+{
+    if is_word(b"BODY[]", word) || is_word(b"BODY.PEEK[]", word) {
+        Some(Label::Message)
+    } else if is_word(b"BODY[HEADER]", word) || is_word(b"BODY.PEEK[HEADER]", word) {
+        Some(Label::Header)
+    } else if is_word(b"BODY[TEXT]", word) || is_word(b"BODY.PEEK[TEXT]", word) {
+        Some(Label::Text)
+    } else {
+        None
+    }
+}
+
+fn is_section(word: &[u8]) -> bool
+    ensures { result ≡ is_section word.now }
+{
+    begins(word, b"BODY[") || begins(word, b"BODY.PEEK[")
+}
+
+fn other_asked(word: &[u8]) -> Option<Asked>
+    ensures { result ≡ other_asked word.now }
+{
+    if is_section(word) {
+        Some(Asked::Section)
+    } else {
+        None
+    }
+}
+
+fn unlabelled_asked(word: &[u8]) -> Option<Asked>
+    ensures { result ≡ unlabelled_by (label_for word.now) word.now }
+{
+    match label_for(word) {
+        Some(label) => Some(Asked::Unlabelled(label)),
+        None => other_asked(word),
+    }
+}
+
+/// Returns the section for which a word of FETCH asks, if it does. If a list of header fields follows, the word
+/// is its front.
+pub(crate) fn section_asked(word: &[u8]) -> Option<Asked>
+    ensures { result ≡ section_asked word.now }
+{
+    match label_in(word) {
+        Some(label) => Some(Asked::Labelled(label)),
+        None => unlabelled_asked(word),
+    }
+}
+
+/// Returns what is asked in place of a word of FETCH.
+pub(crate) fn fetch_for(word: &[u8]) -> &[u8]
+    ensures { result.now ≡ fetch_for word.now }
+{
+    match label_in(word) {
+        Some(label) => label.section(),
+        None => word,
+    }
+}
+
+fn has_repeat(kept: &[Asked], asked: Asked) -> bool
+    ensures { result ≡ list_any (is_repeat asked) kept.now }
+{
+    kept.iter().any(|other| asked.is_repeat(*other))
+}
+
+fn push_once(kept: &mut Vec<Asked>, asked: Asked) -> Result<(), AllocError>
+    ensures { OnOk result (kept.new.items ≡ with_asked kept.old.items asked) }
+{
+    if !has_repeat(kept.as_slice(), asked) {
+        kept.push(asked)?;
+    }
+    Ok(())
+}
+
+/// Returns the items without those that are asked for again. So no section is told twice in the same way.
+pub(crate) fn without_repeats(alloc: Global, all: &[Asked]) -> Result<Vec<Asked>, AllocError>
+    ensures { IfOk result (λ kept. kept.items ≡ without_repeats [] all.now) }
+{
+    let mut kept = Vec::new(alloc);
+    for asked in all {
+        push_once(&mut kept, *asked)?;
+    }
+    Ok(kept)
+}

@@ -1,0 +1,16 @@
+//! The commands of IMAP4rev1 (RFC 3501), and those that the server sees in their place.
+//!
+//! [`named_by`] tells which command a frame is, [`rewritten_frame`] what the server sees in its place, and
+//! [`asked_by`] which items it asks for, so that replies can be told as they were asked for.
+#![tactic(auto)]
+
+mod asked;
+mod frames;
+mod named;
+mod scan;
+mod writing;
+
+pub use asked::{Asked, Label};
+pub use frames::{asked_by, rewritten_frame};
+pub use named::{Named, named_by};
+pub use scan::{Depth, Quoting, Scan};

@@ -1,0 +1,171 @@
+//! Commands, and what the server sees in their place (RFC 3501, sections 6.3.9, 6.3.10, 6.4.1, 6.4.4 and 6.4.5).
+
+use crate::rows::{expect, seen};
+
+/// In IMAP4rev1.
+const BEFORE: &[(&[u8], &[u8])] = &[
+    (b"T CHECK\r\n", b"T NOOP\r\n"),
+    (b"T check\r\n", b"T NOOP\r\n"),
+    (b"T CHECK x\r\n", b"T CHECK x\r\n"),
+    (b"T CHECK \r\n", b"T CHECK \r\n"),
+    (b"T NOOP\r\n", b"T NOOP\r\n"),
+    (
+        b"T LSUB \"\" \"*\"\r\n",
+        b"T LIST (SUBSCRIBED) \"\" \"*\"\r\n",
+    ),
+    (
+        b"T lsub \"\" LSUB\r\n",
+        b"T LIST (SUBSCRIBED) \"\" LSUB\r\n",
+    ),
+    (
+        b"T LSUB {0}\r\n {1+}\r\n*\r\n",
+        b"T LIST (SUBSCRIBED) {0}\r\n {1+}\r\n*\r\n",
+    ),
+    (
+        b"LSUB LSUB \"\" *\r\n",
+        b"LSUB LIST (SUBSCRIBED) \"\" *\r\n",
+    ),
+    (b"T LSUB\r\n", b"T LSUB\r\n"),
+    (b"T SEARCH NEW\r\n", b"T SEARCH NOT ALL\r\n"),
+    (b"T UID SEARCH OLD\r\n", b"T UID SEARCH ALL\r\n"),
+    (
+        b"T SEARCH OR recent (OLD NOT New)\r\n",
+        b"T SEARCH OR NOT ALL (ALL NOT NOT ALL)\r\n",
+    ),
+    (b"NEW SEARCH NEW\r\n", b"NEW SEARCH NOT ALL\r\n"),
+    (
+        b"T SEARCH SUBJECT \"NEW\" SUBJECT new NEW\r\n",
+        b"T SEARCH SUBJECT \"NEW\" SUBJECT new NOT ALL\r\n",
+    ),
+    (
+        b"T SEARCH SUBJECT \"a\\\" NEW\" OLD\r\n",
+        b"T SEARCH SUBJECT \"a\\\" NEW\" ALL\r\n",
+    ),
+    (
+        b"T SEARCH HEADER old NEW RECENT\r\n",
+        b"T SEARCH HEADER old NEW NOT ALL\r\n",
+    ),
+    (
+        b"T SEARCH HEADER \"OLD\" NEW OLD\r\n",
+        b"T SEARCH HEADER \"OLD\" NEW ALL\r\n",
+    ),
+    (
+        b"T SEARCH KEYWORD RECENT UNKEYWORD OLD RECENT\r\n",
+        b"T SEARCH KEYWORD RECENT UNKEYWORD OLD NOT ALL\r\n",
+    ),
+    (
+        b"T SEARCH TEXT {5}\r\n NEW  OLD\r\n",
+        b"T SEARCH TEXT {5}\r\n NEW  ALL\r\n",
+    ),
+    (b"T SEARCH RENEW NEWER\r\n", b"T SEARCH RENEW NEWER\r\n"),
+    (
+        b"T SEARCH RETURN (ALL) NEW\r\n",
+        b"T SEARCH RETURN (ALL) NEW\r\n",
+    ),
+    (
+        b"T SEARCH return (COUNT) NEW\r\n",
+        b"T SEARCH return (COUNT) NEW\r\n",
+    ),
+    (
+        b"T STATUS x (MESSAGES RECENT UNSEEN)\r\n",
+        b"T STATUS x (MESSAGES MESSAGES UNSEEN)\r\n",
+    ),
+    (
+        b"T STATUS RECENT (recent)\r\n",
+        b"T STATUS RECENT (MESSAGES)\r\n",
+    ),
+    (
+        b"T STATUS \"(RECENT)\" (RECENT)\r\n",
+        b"T STATUS \"(RECENT)\" (MESSAGES)\r\n",
+    ),
+    (
+        b"T STATUS {8}\r\n(RECENT) (RECENT)\r\n",
+        b"T STATUS {8}\r\n(RECENT) (MESSAGES)\r\n",
+    ),
+    (
+        b"T LIST \"\" * RETURN (SUBSCRIBED STATUS (RECENT UNSEEN))\r\n",
+        b"T LIST \"\" * RETURN (SUBSCRIBED STATUS (MESSAGES UNSEEN))\r\n",
+    ),
+    (
+        b"T LIST \"\" (RECENT x) RETURN (STATUS (RECENT))\r\n",
+        b"T LIST \"\" (RECENT x) RETURN (STATUS (MESSAGES))\r\n",
+    ),
+    (
+        b"T LIST (SUBSCRIBED) STATUS (RECENT)\r\n",
+        b"T LIST (SUBSCRIBED) STATUS (RECENT)\r\n",
+    ),
+    (b"T SELECT x\r\n", b"T SELECT x\r\n"),
+];
+
+/// Items of FETCH.
+const FETCHES: &[(&[u8], &[u8])] = &[
+    (b"T FETCH 1 RFC822\r\n", b"T FETCH 1 BODY[]\r\n"),
+    (
+        b"T fetch 1 rfc822.header\r\n",
+        b"T fetch 1 BODY.PEEK[HEADER]\r\n",
+    ),
+    (
+        b"T UID FETCH 1:* RFC822.TEXT\r\n",
+        b"T UID FETCH 1:* BODY[TEXT]\r\n",
+    ),
+    (
+        b"T FETCH 1:* (FLAGS RFC822.SIZE RFC822 RFC822.HEADER RFC822.TEXT)\r\n",
+        b"T FETCH 1:* (FLAGS RFC822.SIZE BODY[] BODY.PEEK[HEADER] BODY[TEXT])\r\n",
+    ),
+    (
+        b"T FETCH 1 (Rfc822) (CHANGEDSINCE 5)\r\n",
+        b"T FETCH 1 (BODY[]) (CHANGEDSINCE 5)\r\n",
+    ),
+    (
+        b"T FETCH 1 RFC822 (CHANGEDSINCE 5)\r\n",
+        b"T FETCH 1 BODY[] (CHANGEDSINCE 5)\r\n",
+    ),
+    (
+        b"T FETCH 1 BODY[HEADER.FIELDS (RFC822)]\r\n",
+        b"T FETCH 1 BODY[HEADER.FIELDS (RFC822)]\r\n",
+    ),
+    (
+        b"T FETCH 1 (BODY.PEEK[HEADER.FIELDS (RFC822 SUBJECT)] RFC822)\r\n",
+        b"T FETCH 1 (BODY.PEEK[HEADER.FIELDS (RFC822 SUBJECT)] BODY[])\r\n",
+    ),
+    (
+        b"T FETCH 1 (BODY[HEADER.FIELDS (\"RFC822\" {6}\r\nRFC822)] RFC822)\r\n",
+        b"T FETCH 1 (BODY[HEADER.FIELDS (\"RFC822\" {6}\r\nRFC822)] BODY[])\r\n",
+    ),
+    (
+        b"T FETCH 1 (UID RFC822.SIZE)\r\n",
+        b"T FETCH 1 (UID RFC822.SIZE)\r\n",
+    ),
+    (b"RFC822 FETCH 1 RFC822\r\n", b"RFC822 FETCH 1 BODY[]\r\n"),
+    (b"T FETCH 1 ALL\r\n", b"T FETCH 1 ALL\r\n"),
+    (
+        b"T STORE 1 FLAGS (RFC822)\r\n",
+        b"T STORE 1 FLAGS (RFC822)\r\n",
+    ),
+];
+
+/// After IMAP4rev2 was enabled.
+const AFTER: &[(&[u8], &[u8])] = &[
+    (b"T CHECK\r\n", b"T NOOP\r\n"),
+    (b"T LSUB \"\" %\r\n", b"T LIST (SUBSCRIBED) \"\" %\r\n"),
+    (b"T SEARCH NEW\r\n", b"T SEARCH NEW\r\n"),
+    (b"T STATUS x (RECENT)\r\n", b"T STATUS x (RECENT)\r\n"),
+];
+
+#[test]
+fn commands_are_rewritten(rt: HostRuntime) {
+    for &(command, wanted) in BEFORE {
+        expect(&rt, seen(rt.alloc(), false, command), wanted);
+    }
+    for &(command, wanted) in AFTER {
+        expect(&rt, seen(rt.alloc(), true, command), wanted);
+    }
+}
+
+#[test]
+fn labels_are_asked_as_sections(rt: HostRuntime) {
+    for &(command, wanted) in FETCHES {
+        expect(&rt, seen(rt.alloc(), false, command), wanted);
+        expect(&rt, seen(rt.alloc(), true, command), wanted);
+    }
+}

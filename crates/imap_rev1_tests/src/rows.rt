@@ -1,0 +1,70 @@
+//! What rows of tests are made of. A test hands what it made to one of these functions, and has no `?`.
+
+use imap_dialect::Dialect;
+use imap_lex::{Frame, Octets};
+use imap_print::{EnabledCapabilities, Pieces, Response};
+use imap_rev1::Rev1;
+use std::alloc::{AllocError, Global};
+use std::process::Abort;
+use std::str;
+
+pub(crate) fn frame(alloc: Global, octets: &[u8]) -> Result<Frame, AllocError> {
+    Ok(Frame::Whole(Octets::from_slice(alloc, octets)?))
+}
+
+/// A session that has enabled IMAP4rev2 or not.
+pub(crate) fn session(rev2: bool) -> Rev1 {
+    let mut state = Rev1::new();
+    let enabled = EnabledCapabilities {
+        condstore: true,
+        imap4rev2: rev2,
+        qresync: false,
+    };
+    state.advance(&Frame::Continue, &[Response::Enabled(enabled)]);
+    state
+}
+
+/// What the server sees in place of a command.
+pub(crate) fn seen(alloc: Global, rev2: bool, command: &[u8]) -> Result<Vec<u8>, AllocError> {
+    let own = frame(alloc, command)?;
+    match session(rev2).rewrite(alloc, &own)? {
+        Some(Frame::Whole(other)) => Vec::from_slice(alloc, other.as_slice()),
+        Some(_) => Ok(Vec::new(alloc)),
+        None => Vec::from_slice(alloc, command),
+    }
+}
+
+/// The octets in which a reply to a command is told.
+pub(crate) fn told(
+    alloc: Global,
+    rev2: bool,
+    command: &[u8],
+    reply: Result<Response, AllocError>,
+) -> Result<Vec<u8>, AllocError> {
+    let reply = reply?;
+    let own = frame(alloc, command)?;
+    let rule = session(rev2).rule(alloc, Some(&own))?;
+    let mut out = Pieces::new(alloc);
+    Rev1::tell(&rule, &reply, &mut out)?;
+    let pieces = out.into_pieces()?;
+    let mut octets = Vec::new(alloc);
+    for piece in pieces.as_slice() {
+        octets.extend_from_slice(piece.as_slice())?;
+    }
+    Ok(octets)
+}
+
+/// Asserts that these octets were made.
+pub(crate) fn expect(rt: &impl Abort, made: Result<Vec<u8>, AllocError>, wanted: &[u8]) {
+    match made {
+        Ok(octets) => compare(rt, &octets, wanted),
+        Err(error) => panic!(rt; "{error:?}"),
+    }
+}
+
+fn compare(rt: &impl Abort, found: &[u8], wanted: &[u8]) {
+    if found != wanted {
+        let (found, wanted) = (str::from_utf8(found), str::from_utf8(wanted));
+        panic!(rt; "{found:?} in place of {wanted:?}");
+    }
+}
