@@ -1,57 +1,64 @@
 //! Messages that are told as they were asked for (RFC 3501, sections 6.4.5 and 7.4.2).
 
-use crate::rows::{expect, told};
+use crate::rows::expect_told;
 use imap_lex::Octets;
 use imap_print::{FetchedItems, FetchedSection, LiteralParts, Response};
 use imap_query::Section;
-use imap_syntax::{FieldName, Items};
+use imap_syntax::Items;
 use std::alloc::{AllocError, Global};
 
 /// A section, its origin and its octets.
-type Body = (char, Option<u64>, &'static [u8]);
+#[derive(Clone, Copy)]
+enum Body {
+    Whole(Option<u64>, &'static [u8]),
+    Header(Option<u64>, &'static [u8]),
+    Text(Option<u64>, &'static [u8]),
+}
 
-fn section(alloc: Global, letter: char) -> Result<Section, AllocError> {
-    match letter {
-        'W' => Ok(Section::Whole),
-        'H' => Ok(Section::Header),
-        'T' => Ok(Section::Text),
-        _ => {
-            let name = FieldName::read(alloc, b"Subject")?.ok_or(AllocError)?;
-            let mut names = Vec::new(alloc);
-            names.push(name)?;
-            Ok(Section::Fields(Items::from_vec(names)))
+fn section(body: Body) -> Section {
+    match body {
+        Body::Whole(..) => Section::Whole,
+        Body::Header(..) => Section::Header,
+        Body::Text(..) => Section::Text,
+    }
+}
+
+fn contents(body: Body) -> (Option<u64>, &'static [u8]) {
+    match body {
+        Body::Whole(origin, octets) | Body::Header(origin, octets) | Body::Text(origin, octets) => {
+            (origin, octets)
         }
     }
 }
 
-fn body(
-    alloc: Global,
-    letter: char,
-    origin: Option<u64>,
-    octets: &[u8],
-) -> Result<FetchedSection, AllocError> {
-    let section = section(alloc, letter)?;
+fn fetched(alloc: Global, body: Body) -> Result<FetchedSection, AllocError> {
+    let (origin, octets) = contents(body);
     let octets = LiteralParts::of_octets(alloc, Octets::from_slice(alloc, octets)?)?;
     Ok(FetchedSection {
-        section,
+        section: section(body),
         origin,
         octets,
     })
 }
 
+fn sections(alloc: Global, bodies: &[Body]) -> Result<Items<FetchedSection>, AllocError> {
+    let mut sections = Vec::new(alloc);
+    for body in bodies {
+        sections.push(fetched(alloc, *body)?)?;
+    }
+    Ok(Items::from_vec(sections))
+}
+
 /// Message 12 with its UID, its size and these sections.
 fn message(alloc: Global, bodies: &[Body]) -> Result<Response, AllocError> {
-    let mut sections = Vec::new(alloc);
-    for (letter, origin, octets) in bodies {
-        sections.push(body(alloc, *letter, *origin, octets)?)?;
-    }
+    let sections = sections(alloc, bodies)?;
     let items = FetchedItems {
         uid: Some(7),
         flags: None,
         internal_date: None,
         size: Some(9),
         mod_seq: None,
-        sections: Items::from_vec(sections),
+        sections,
     };
     Ok(Response::Fetch { number: 12, items })
 }
@@ -59,38 +66,42 @@ fn message(alloc: Global, bodies: &[Body]) -> Result<Response, AllocError> {
 const ROWS: &[(&[u8], &[Body], &[u8])] = &[
     (
         b"T FETCH 12 (UID RFC822)\r\n",
-        &[('W', None, b"a: b\r\n\r\nc")],
+        &[Body::Whole(None, b"a: b\r\n\r\nc")],
         b"* 12 FETCH (UID 7 RFC822.SIZE 9 RFC822 {9}\r\na: b\r\n\r\nc)\r\n",
     ),
     (
         b"T FETCH 12 rfc822.header\r\n",
-        &[('H', None, b"a: b\r\n\r\n")],
+        &[Body::Header(None, b"a: b\r\n\r\n")],
         b"* 12 FETCH (UID 7 RFC822.SIZE 9 RFC822.HEADER {8}\r\na: b\r\n\r\n)\r\n",
     ),
     (
         b"T UID FETCH 7 (RFC822.TEXT)\r\n",
-        &[('T', None, b"c")],
+        &[Body::Text(None, b"c")],
         b"* 12 FETCH (UID 7 RFC822.SIZE 9 RFC822.TEXT {1}\r\nc)\r\n",
     ),
     (
         b"T FETCH 12 (RFC822.TEXT BODY[HEADER] RFC822)\r\n",
-        &[('T', None, b"c"), ('H', None, b""), ('W', None, b"c")],
+        &[
+            Body::Text(None, b"c"),
+            Body::Header(None, b""),
+            Body::Whole(None, b"c"),
+        ],
         b"* 12 FETCH (UID 7 RFC822.SIZE 9 RFC822.TEXT {1}\r\nc BODY[HEADER] {0}\r\n RFC822 {1}\r\nc)\r\n",
     ),
     (
         b"T FETCH 12 (BODY[] RFC822 BODY.PEEK[])\r\n",
-        &[('W', None, b"c")],
+        &[Body::Whole(None, b"c")],
         b"* 12 FETCH (UID 7 RFC822.SIZE 9 BODY[] {1}\r\nc RFC822 {1}\r\nc)\r\n",
     ),
     (
-        b"T FETCH 12 (BODY[]<0.1> RFC822 BODY[HEADER.FIELDS (Subject)] RFC822 BODY[TEXT]<2.3>)\r\n",
+        b"T FETCH 12 (BODY[]<0.1> RFC822 BODY[HEADER]<4.9> RFC822 BODY[TEXT]<2.3>)\r\n",
         &[
-            ('W', Some(0), b"a"),
-            ('W', None, b"ab"),
-            ('F', None, b""),
-            ('T', Some(2), b"d"),
+            Body::Whole(Some(0), b"a"),
+            Body::Whole(None, b"ab"),
+            Body::Header(Some(4), b""),
+            Body::Text(Some(2), b"d"),
         ],
-        b"* 12 FETCH (UID 7 RFC822.SIZE 9 BODY[]<0> {1}\r\na RFC822 {2}\r\nab BODY[HEADER.FIELDS (Subject)] {0}\r\n BODY[TEXT]<2> {1}\r\nd)\r\n",
+        b"* 12 FETCH (UID 7 RFC822.SIZE 9 BODY[]<0> {1}\r\na RFC822 {2}\r\nab BODY[HEADER]<4> {0}\r\n BODY[TEXT]<2> {1}\r\nd)\r\n",
     ),
     (
         b"T FETCH 12 RFC822\r\n",
@@ -99,7 +110,7 @@ const ROWS: &[(&[u8], &[Body], &[u8])] = &[
     ),
     (
         b"T FETCH 12 (BODY[] BODY[TEXT])\r\n",
-        &[('W', None, b"c"), ('T', None, b"c")],
+        &[Body::Whole(None, b"c"), Body::Text(None, b"c")],
         b"* 12 FETCH (UID 7 RFC822.SIZE 9 BODY[] {1}\r\nc BODY[TEXT] {1}\r\nc)\r\n",
     ),
     (b"T NOOP\r\n", &[], b"* 12 FETCH (UID 7 RFC822.SIZE 9)\r\n"),
@@ -108,15 +119,7 @@ const ROWS: &[(&[u8], &[Body], &[u8])] = &[
 #[test]
 fn sections_are_told_as_they_were_asked_for(rt: HostRuntime) {
     for &(command, bodies, wanted) in ROWS {
-        expect(
-            &rt,
-            told(rt.alloc(), false, command, message(rt.alloc(), bodies)),
-            wanted,
-        );
-        expect(
-            &rt,
-            told(rt.alloc(), true, command, message(rt.alloc(), bodies)),
-            wanted,
-        );
+        expect_told(&rt, false, command, message(rt.alloc(), bodies), wanted);
+        expect_told(&rt, true, command, message(rt.alloc(), bodies), wanted);
     }
 }

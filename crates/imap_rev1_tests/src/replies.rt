@@ -1,6 +1,6 @@
 //! Replies that are told in another way (RFC 3501, sections 6.1.1, 7.2.3 to 7.2.5, 7.3.1 and 7.3.2).
 
-use crate::rows::{expect, told};
+use crate::rows::expect_told;
 use imap_lex::{Octets, Tag};
 use imap_print::{Children, ListAttributes, NumberSet, Response, SearchResults, StatusValue};
 use imap_query::StatusItem;
@@ -39,128 +39,156 @@ fn list(alloc: Global, name: &[u8]) -> Result<Response, AllocError> {
     })
 }
 
+/// A search: its command, whether IMAP4rev2 was enabled, what it finds, and what is told.
+type Found = (
+    &'static [u8],
+    bool,
+    &'static [u32],
+    Option<u64>,
+    &'static [u8],
+);
+
+const SEARCHES: &[Found] = &[
+    (
+        b"T SEARCH ALL\r\n",
+        false,
+        &[2, 84, 882],
+        None,
+        b"* SEARCH 2 84 882\r\n",
+    ),
+    (b"T SEARCH ALL\r\n", false, &[], None, b"* SEARCH\r\n"),
+    (
+        b"T SEARCH MODSEQ 1\r\n",
+        false,
+        &[2, 5],
+        Some(917162500),
+        b"* SEARCH 2 5 (MODSEQ 917162500)\r\n",
+    ),
+    (
+        b"T UID SEARCH ALL\r\n",
+        false,
+        &[3, 4, 5],
+        None,
+        b"* SEARCH 3 4 5\r\n",
+    ),
+    (
+        b"T SEARCH RETURN (ALL) ALL\r\n",
+        false,
+        &[1, 2, 3],
+        None,
+        b"* ESEARCH (TAG \"T\") ALL 1:3\r\n",
+    ),
+    (
+        b"T SEARCH ALL\r\n",
+        true,
+        &[1],
+        None,
+        b"* ESEARCH (TAG \"T\") ALL 1\r\n",
+    ),
+];
+
 #[test]
 fn searches_are_told(rt: HostRuntime) {
-    let alloc = rt.alloc();
-    let rows: [(&[u8], &[u32], Option<u64>, &[u8]); 5] = [
-        (
-            b"T SEARCH ALL\r\n",
-            &[2, 84, 882],
-            None,
-            b"* SEARCH 2 84 882\r\n",
-        ),
-        (b"T SEARCH ALL\r\n", &[], None, b"* SEARCH\r\n"),
-        (
-            b"T SEARCH MODSEQ 1\r\n",
-            &[2, 5],
-            Some(917162500),
-            b"* SEARCH 2 5 (MODSEQ 917162500)\r\n",
-        ),
-        (
-            b"T UID SEARCH ALL\r\n",
-            &[3, 4, 5],
-            None,
-            b"* SEARCH 3 4 5\r\n",
-        ),
-        (
-            b"T SEARCH RETURN (ALL) ALL\r\n",
-            &[1, 2, 3],
-            None,
-            b"* ESEARCH (TAG \"T\") ALL 1:3\r\n",
-        ),
-    ];
-    for &(command, numbers, mod_seq, wanted) in &rows {
-        expect(
+    for &(command, rev2, numbers, mod_seq, wanted) in SEARCHES {
+        expect_told(
             &rt,
-            told(alloc, false, command, search(alloc, numbers, mod_seq)),
+            rev2,
+            command,
+            search(rt.alloc(), numbers, mod_seq),
             wanted,
         );
     }
-    expect(
-        &rt,
-        told(alloc, true, b"T SEARCH ALL\r\n", search(alloc, &[1], None)),
-        b"* ESEARCH (TAG \"T\") ALL 1\r\n",
-    );
 }
 
-#[test]
-fn mailboxes_are_told(rt: HostRuntime) {
-    let alloc = rt.alloc();
-    expect(
-        &rt,
-        told(alloc, false, b"T SELECT x\r\n", Ok(Response::Exists(172))),
+const COUNTS: &[(&[u8], bool, u32, &[u8])] = &[
+    (
+        b"T SELECT x\r\n",
+        false,
+        172,
         b"* 172 EXISTS\r\n* 0 RECENT\r\n",
-    );
-    expect(
-        &rt,
-        told(alloc, false, b"T EXAMINE x\r\n", Ok(Response::Exists(17))),
+    ),
+    (
+        b"T EXAMINE x\r\n",
+        false,
+        17,
         b"* 17 EXISTS\r\n* 0 RECENT\r\n",
-    );
-    expect(
-        &rt,
-        told(alloc, false, b"T NOOP\r\n", Ok(Response::Exists(23))),
-        b"* 23 EXISTS\r\n",
-    );
-    expect(
-        &rt,
-        told(alloc, true, b"T SELECT x\r\n", Ok(Response::Exists(23))),
-        b"* 23 EXISTS\r\n",
-    );
-    expect(
-        &rt,
-        told(alloc, false, b"T LSUB \"\" *\r\n", list(alloc, b"x")),
-        b"* LSUB () \"/\" x\r\n",
-    );
-    expect(
-        &rt,
-        told(alloc, true, b"T LSUB \"\" *\r\n", list(alloc, b"NIL")),
-        b"* LSUB () \"/\" \"NIL\"\r\n",
-    );
-    expect(
-        &rt,
-        told(alloc, false, b"T LIST \"\" *\r\n", list(alloc, b"x")),
-        b"* LIST (\\HasNoChildren \\Subscribed) \"/\" x\r\n",
-    );
+    ),
+    (b"T NOOP\r\n", false, 23, b"* 23 EXISTS\r\n"),
+    (b"T SELECT x\r\n", true, 23, b"* 23 EXISTS\r\n"),
+];
+
+#[test]
+fn no_message_is_recent(rt: HostRuntime) {
+    for &(command, rev2, count, wanted) in COUNTS {
+        expect_told(&rt, rev2, command, Ok(Response::Exists(count)), wanted);
+    }
 }
+
+const NAMES: &[(&[u8], bool, &[u8], &[u8])] = &[
+    (b"T LSUB \"\" *\r\n", false, b"x", b"* LSUB () \"/\" x\r\n"),
+    (
+        b"T LSUB \"\" *\r\n",
+        false,
+        b"a b",
+        b"* LSUB () \"/\" \"a b\"\r\n",
+    ),
+    (
+        b"T LSUB \"\" *\r\n",
+        true,
+        b"NIL",
+        b"* LSUB () \"/\" \"NIL\"\r\n",
+    ),
+    (
+        b"T LIST \"\" *\r\n",
+        false,
+        b"x",
+        b"* LIST (\\HasNoChildren \\Subscribed) \"/\" x\r\n",
+    ),
+];
+
+#[test]
+fn subscribed_names_are_told(rt: HostRuntime) {
+    for &(command, rev2, name, wanted) in NAMES {
+        expect_told(&rt, rev2, command, list(rt.alloc(), name), wanted);
+    }
+}
+
+const MESSAGES: StatusValue = StatusValue {
+    item: StatusItem::Messages,
+    value: 231,
+};
+
+const UNSEEN: StatusValue = StatusValue {
+    item: StatusItem::Unseen,
+    value: 4,
+};
+
+const STATUSES: &[(&[u8], &[StatusValue], &[u8])] = &[
+    (
+        b"T STATUS x (MESSAGES RECENT UNSEEN)\r\n",
+        &[MESSAGES, MESSAGES, UNSEEN],
+        b"* STATUS x (MESSAGES 231 RECENT 0 UNSEEN 4)\r\n",
+    ),
+    (
+        b"T STATUS x (RECENT)\r\n",
+        &[MESSAGES],
+        b"* STATUS x (RECENT 0)\r\n",
+    ),
+    (
+        b"T STATUS x (MESSAGES)\r\n",
+        &[MESSAGES],
+        b"* STATUS x (MESSAGES 231)\r\n",
+    ),
+    (
+        b"T LIST \"\" * RETURN (STATUS (RECENT MESSAGES))\r\n",
+        &[MESSAGES, MESSAGES],
+        b"* STATUS x (RECENT 0 MESSAGES 231)\r\n",
+    ),
+];
 
 #[test]
 fn statuses_are_told(rt: HostRuntime) {
-    let alloc = rt.alloc();
-    let messages = StatusValue {
-        item: StatusItem::Messages,
-        value: 231,
-    };
-    let unseen = StatusValue {
-        item: StatusItem::Unseen,
-        value: 4,
-    };
-    let rows: [(&[u8], &[StatusValue], &[u8]); 4] = [
-        (
-            b"T STATUS x (MESSAGES RECENT UNSEEN)\r\n",
-            &[messages, messages, unseen],
-            b"* STATUS x (MESSAGES 231 RECENT 0 UNSEEN 4)\r\n",
-        ),
-        (
-            b"T STATUS x (RECENT)\r\n",
-            &[messages],
-            b"* STATUS x (RECENT 0)\r\n",
-        ),
-        (
-            b"T STATUS x (MESSAGES)\r\n",
-            &[messages],
-            b"* STATUS x (MESSAGES 231)\r\n",
-        ),
-        (
-            b"T LIST \"\" * RETURN (STATUS (RECENT MESSAGES))\r\n",
-            &[messages, messages],
-            b"* STATUS x (RECENT 0 MESSAGES 231)\r\n",
-        ),
-    ];
-    for &(command, values, wanted) in &rows {
-        expect(
-            &rt,
-            told(alloc, false, command, status(alloc, values)),
-            wanted,
-        );
+    for &(command, values, wanted) in STATUSES {
+        expect_told(&rt, false, command, status(rt.alloc(), values), wanted);
     }
 }

@@ -3,7 +3,8 @@
 use imap_dialect::Dialect;
 use imap_lex::{Frame, Octets};
 use imap_print::{EnabledCapabilities, Pieces, Response};
-use imap_rev1::Rev1;
+use imap_rev1::{Rev1, Rules};
+use imap_syntax::Items;
 use std::alloc::{AllocError, Global};
 use std::process::Abort;
 use std::str;
@@ -34,24 +35,53 @@ pub(crate) fn seen(alloc: Global, rev2: bool, command: &[u8]) -> Result<Vec<u8>,
     }
 }
 
-/// The octets in which a reply to a command is told.
-pub(crate) fn told(
-    alloc: Global,
-    rev2: bool,
-    command: &[u8],
-    reply: Result<Response, AllocError>,
-) -> Result<Vec<u8>, AllocError> {
-    let reply = reply?;
+fn rules(alloc: Global, rev2: bool, command: &[u8]) -> Result<Rules, AllocError> {
     let own = frame(alloc, command)?;
-    let rule = session(rev2).rule(alloc, Some(&own))?;
+    session(rev2).rule(alloc, Some(&own))
+}
+
+fn pieces(alloc: Global, rules: &Rules, reply: &Response) -> Result<Items<Octets>, AllocError> {
     let mut out = Pieces::new(alloc);
-    Rev1::tell(&rule, &reply, &mut out)?;
-    let pieces = out.into_pieces()?;
+    Rev1::tell(rules, reply, &mut out)?;
+    out.into_pieces()
+}
+
+fn joined(alloc: Global, pieces: &Items<Octets>) -> Result<Vec<u8>, AllocError> {
     let mut octets = Vec::new(alloc);
     for piece in pieces.as_slice() {
         octets.extend_from_slice(piece.as_slice())?;
     }
     Ok(octets)
+}
+
+fn told_by(alloc: Global, rules: &Rules, reply: &Response) -> Result<Vec<u8>, AllocError> {
+    let pieces = pieces(alloc, rules, reply)?;
+    joined(alloc, &pieces)
+}
+
+/// The octets in which a reply to a command is told.
+fn told(
+    alloc: Global,
+    rev2: bool,
+    command: &[u8],
+    reply: &Response,
+) -> Result<Vec<u8>, AllocError> {
+    let rules = rules(alloc, rev2, command)?;
+    told_by(alloc, &rules, reply)
+}
+
+/// Asserts that a reply, once it was made, is told in these octets.
+pub(crate) fn expect_told(
+    rt: &(impl Abort + AllocGlobal),
+    rev2: bool,
+    command: &[u8],
+    reply: Result<Response, AllocError>,
+    wanted: &[u8],
+) {
+    match &reply {
+        Ok(reply) => expect(rt, told(rt.alloc(), rev2, command, reply), wanted),
+        Err(error) => panic!(rt; "{error:?}"),
+    }
 }
 
 /// Asserts that these octets were made.
