@@ -4,6 +4,7 @@ The statements are those of `imap_tables`, and each change is one transaction of
 to the disk at each commit (FULL).
 """
 
+import os
 import sqlite3
 
 USER = "ann"
@@ -109,9 +110,24 @@ class Box:
         return [(DELETE, [self.key])]
 
 
+def drop_sums(path):
+    """Writes the tables into a database whose pages have no sums, which python's sqlite3 would spoil."""
+    new = sqlite3.connect(f"{path}.plain", isolation_level=None)
+    new.execute("ATTACH ? AS old", (path,))
+    for name, sql in new.execute("SELECT name, sql FROM old.sqlite_schema WHERE type = 'table'").fetchall():
+        new.execute(sql)
+        new.execute(f"INSERT INTO main.{name} SELECT * FROM old.{name}")
+    new.close()
+    for beside in (path, f"{path}-wal", f"{path}-shm"):
+        if os.path.exists(beside):
+            os.remove(beside)
+    os.rename(f"{path}.plain", path)
+
+
 def fill(path, sizes):
     """Adds mailboxes to a store, each with so many messages, in the tree that all share. The first is `Box`, and the others have
     numbers. The user has all rights, and has seen each message once."""
+    drop_sums(path)
     database = sqlite3.connect(path, isolation_level=None)
     database.execute("PRAGMA synchronous = OFF")
     ((last,),) = database.execute("SELECT coalesce(max(id), 0) FROM mailbox")
