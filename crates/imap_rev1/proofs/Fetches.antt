@@ -1,5 +1,5 @@
 -- FETCH, as it is written and as its messages are told.
-use Rattle.std.proofs.Common.{◌≡◌, ◌∙◌, ap, sym, refl, subst, ℕ, Bool, true, false, cond, not, ◌&&◌, List, [], ◌∷◌, ◌++◌, length, map, flat_map, Option, Some, None}
+use Rattle.std.proofs.Common.{◌≡◌, ◌∙◌, ap, sym, refl, subst, ℕ, Bool, true, false, cond, not, ◌&&◌, List, [], ◌∷◌, ◌++◌, append-nil, length, map, flat_map, Option, Some, None}
 use Rattle.std.specs.Prelude.{codes, decimal, ◌==◌, is_some}
 use Rattle.std.specs.List.{list_all, list_any, AllByRecursion}
 use Rattle.imap_lex.specs.Framing.{crlf}
@@ -21,14 +21,15 @@ use Rattle.imap_rev1_frames.specs.declared.named.Named.TheVariants as named
 use Rattle.imap_rev1.specs.declared.rev1.Rev1.{Rev1}
 use Rattle.imap_rev1_frames.specs.declared.scan.Depth.TheVariants as depth
 use Rattle.imap_rev1_frames.specs.Asked.{fetch_for, is_labelled, label_in, label_name, labelled_by, section_asked, section_by, without_repeats}
-use Rattle.imap_rev1.specs.FetchLaws.{fetch_octets, IsFetch, AsksSections, asked_for, TellsAsAsked, TellsLabel, PrintsUnlabelled, PrintsNotices}
+use Rattle.imap_rev1.specs.FetchLaws.{fetch_octets, IsFetch, alone, AsksSections, AsksSection, message_told, TellsAsAsked, labelled_line, TellsLabel, TellsListedLabel, PrintsUnlabelled, PrintsNotices}
 use Rattle.imap_rev1.specs.Labels.{stands_for, labelled_text, all_asked_words, fetch_text}
 use Rattle.imap_rev1.specs.Laws.{IsPlainWord, listed}
 use Rattle.imap_rev1_frames.specs.Named.{named_in}
 use Rattle.imap_rev1.specs.Rev1.{rev1, rules_for}
 use Rattle.imap_rev1_frames.specs.Rewritten.{command_asked, command_for, asked_after}
-use Rattle.imap_rev1_frames.specs.Scan.{start, after_word, option_list, word_asked, written, asked}
-use Rattle.imap_rev1.proofs.Listed.{within, item_asked, listed_written, listed_asked, all_asked}
+use Rattle.imap_rev1_frames.specs.declared.scan.Scan.{Scan}
+use Rattle.imap_rev1_frames.specs.Scan.{start, after_octet, after_word, option_list, word_asked, written, asked}
+use Rattle.imap_rev1.proofs.Listed.{within, word_read, asked_read, item_asked, listed_written, listed_asked, all_asked}
 use Rattle.imap_rev1.proofs.Spelt.{one_line, rewritten_as}
 
 -- ---- words
@@ -79,68 +80,98 @@ command_asks : (uid : Bool) (octets : List ℕ) → asked (within named.Fetch de
 command_asks true octets = refl
 command_asks false octets = refl
 
-same_octets : (uid : Bool) (tag set : List ℕ) (items : List (List ℕ)) → fetch_octets uid tag set items ≡ (tag ++ 32 ∷ command_octets uid (listed set items)) ++ crlf
-same_octets true tag set items = refl
-same_octets false tag set items = refl
+same_octets : (uid : Bool) (tag arguments : List ℕ) → fetch_octets uid tag arguments ≡ (tag ++ 32 ∷ command_octets uid arguments) ++ crlf
+same_octets true tag arguments = refl
+same_octets false tag arguments = refl
 
 plain_command : (uid : Bool) (octets : List ℕ) → list_all is_plain octets ≡ true → list_all is_plain (command_octets uid octets) ≡ true
 plain_command true octets h = h
 plain_command false octets h = h
 
-module _ (state : Rev1) (uid : Bool) (tag set : List ℕ) (items : List (List ℕ)) (is : IsFetch state uid tag set items) where
-  abbrev octets : List ℕ
-  octets = command_octets uid (listed set items)
+module _ (state : Rev1) (uid : Bool) (tag set octets : List ℕ) (is : IsFetch state uid tag set octets) where
+  last_is : IsLastLine ((tag ++ 32 ∷ command_octets uid octets) ++ crlf)
+  last_is = subst IsLastLine (same_octets uid tag octets) is.last
 
-  last_is : IsLastLine ((tag ++ 32 ∷ octets) ++ crlf)
-  last_is = subst IsLastLine (same_octets uid tag set items) is.last
-
-  frame_written : rev1.rewritten state (frame.Whole (fetch_octets uid tag set items)) ≡ frame.Whole (fetch_octets uid tag set (map fetch_for items))
-  frame_written =
+  frame_written : (new : List ℕ) → written (within named.Fetch depth.None) [] octets ≡ new → rev1.rewritten state (frame.Whole (fetch_octets uid tag octets)) ≡ frame.Whole (fetch_octets uid tag new)
+  frame_written new e =
       ap frame.Whole
-      (rewritten_as state.rev2 (fetch_octets uid tag set items) (fetch_octets uid tag set (map fetch_for items)) named.Fetch is.named refl
-      (ap (command_for named.Fetch) (same_octets uid tag set items)
-      ∙ one_line named.Fetch tag octets is.tagged (plain_command uid (listed set items) is.plain) last_is
-      ∙ ap (λ (l : List ℕ). (tag ++ 32 ∷ l) ++ crlf)
-      (command_written uid (listed set items)
-      ∙ ap (command_octets uid)
-      (listed_written named.Fetch after_item set items is.set_is (after_set set is.no_section is.set_is.some) is.each (no_label (label_in set) set is.no_section)))
-      ∙ sym (same_octets uid tag set (map fetch_for items))))
+      (rewritten_as state.rev2 (fetch_octets uid tag octets) (fetch_octets uid tag new) named.Fetch is.named refl
+      (ap (command_for named.Fetch) (same_octets uid tag octets)
+      ∙ one_line named.Fetch tag (command_octets uid octets) is.tagged (plain_command uid octets is.plain) last_is
+      ∙ ap (λ (l : List ℕ). (tag ++ 32 ∷ l) ++ crlf) (command_written uid octets ∙ ap (command_octets uid) e)
+      ∙ sym (same_octets uid tag new)))
 
-  -- what it asks for
-  frame_asked : command_asked (named_in state.rev2 (fetch_octets uid tag set items)) (fetch_octets uid tag set items) ≡ asked_for items
-  frame_asked =
-      ap (λ (c : Named). command_asked c (fetch_octets uid tag set items)) is.named
-      ∙ ap (λ (l : List ℕ). without_repeats [] (asked_after 0 (start named.Fetch) l)) (same_octets uid tag set items)
+  -- what it asks for, and how a message is told
+  frame_asked : (all : List Asked) → asked (within named.Fetch depth.None) [] octets ≡ all → command_asked (named_in state.rev2 (fetch_octets uid tag octets)) (fetch_octets uid tag octets) ≡ without_repeats [] all
+  frame_asked all e =
+      ap (λ (c : Named). command_asked c (fetch_octets uid tag octets)) is.named
+      ∙ ap (λ (l : List ℕ). without_repeats [] (asked_after 0 (start named.Fetch) l)) (same_octets uid tag octets)
       ∙ ap (without_repeats [])
-      (all_asked named.Fetch tag octets is.tagged (plain_command uid (listed set items) is.plain) last_is
-      ∙ command_asks uid (listed set items)
-      ∙ listed_asked named.Fetch after_item set items is.set_is (after_set set is.no_section is.set_is.some) is.each (set_asked set is.no_section is.set_is.some)
-      ∙ each_asked items is.each)
+      (all_asked named.Fetch tag (command_octets uid octets) is.tagged (plain_command uid octets is.plain) last_is ∙ command_asks uid octets ∙ e)
 
-  -- how a message is told
-  message_told : (number : ℕ) (fetched : FetchedItems) → rev1.told state (Some (frame.Whole (fetch_octets uid tag set items))) (response.Fetch number fetched)
-      ≡ cond (list_any is_labelled (asked_for items)) (fetch_text (asked_for items) number fetched ++ crlf) (line (response.Fetch number fetched))
-  message_told number fetched = ap (λ (all : List Asked). cond (list_any is_labelled all) (fetch_text all number fetched ++ crlf) (line (response.Fetch number fetched))) frame_asked
+  told_as : (all : List Asked) (b : Bool) (number : ℕ) (fetched : FetchedItems) → asked (within named.Fetch depth.None) [] octets ≡ all → list_any is_labelled (without_repeats [] all) ≡ b
+      → message_told state (fetch_octets uid tag octets) number fetched ≡ cond b (fetch_text (without_repeats [] all) number fetched ++ crlf) (line (response.Fetch number fetched))
+  told_as all b number fetched e any =
+      ap (λ (l : List Asked). cond (list_any is_labelled l) (fetch_text l number fetched ++ crlf) (line (response.Fetch number fetched))) (frame_asked all e)
+      ∙ ap (λ c. cond c (fetch_text (without_repeats [] all) number fetched ++ crlf) (line (response.Fetch number fetched))) any
+
+-- ---- items in parentheses
+
+module _ (state : Rev1) (uid : Bool) (tag set : List ℕ) (items : List (List ℕ)) (is : IsFetch state uid tag set (listed set items)) (each : AllByRecursion IsPlainWord items) where
+  kept : after_word (within named.Fetch depth.None) set ≡ within named.Fetch depth.None
+  kept = after_set set is.no_section is.set_is.some
+
+  list_written : written (within named.Fetch depth.None) [] (listed set items) ≡ listed set (map fetch_for items)
+  list_written = listed_written named.Fetch after_item set items is.set_is kept each (no_label (label_in set) set is.no_section)
+
+  list_asked : asked (within named.Fetch depth.None) [] (listed set items) ≡ flat_map (λ word. option_list (section_asked word)) items
+  list_asked = listed_asked named.Fetch after_item set items is.set_is kept each (set_asked set is.no_section is.set_is.some) ∙ each_asked items each
 
 pub asks_sections : AsksSections
-asks_sections state uid tag set items is = frame_written state uid tag set items is
+asks_sections state uid tag set items is each = frame_written state uid tag set (listed set items) is _ (list_written state uid tag set items is each)
 
 pub tells_as_asked : TellsAsAsked
-tells_as_asked state uid tag set items number fetched is any =
-    message_told state uid tag set items is number fetched
-    ∙ ap (λ b. cond b (fetch_text (asked_for items) number fetched ++ crlf) (line (response.Fetch number fetched))) any
+tells_as_asked state uid tag set items number fetched is each any =
+    told_as state uid tag set (listed set items) is _ true number fetched (list_asked state uid tag set items is each) any
 
 pub prints_unlabelled : PrintsUnlabelled
-prints_unlabelled state uid tag set items number fetched is none =
-    message_told state uid tag set items is number fetched
-    ∙ ap (λ b. cond b (fetch_text (asked_for items) number fetched ++ crlf) (line (response.Fetch number fetched))) none
+prints_unlabelled state uid tag set items number fetched is each none =
+    told_as state uid tag set (listed set items) is _ false number fetched (list_asked state uid tag set items is each) none
+
+-- ---- an item alone
+
+module _ (state : Rev1) (uid : Bool) (tag set item : List ℕ) (is : IsFetch state uid tag set (alone set item)) (item_is : IsPlainWord item) where
+  alone_written : written (within named.Fetch depth.None) [] (alone set item) ≡ alone set (fetch_for item)
+  alone_written =
+      word_read named.Fetch depth.None [] set (32 ∷ item) is.set_is.octets
+      ∙ ap (λ (w : List ℕ). w ++ 32 ∷ written (after_octet (after_word (within named.Fetch depth.None) set) 32) [] item) (no_label (label_in set) set is.no_section)
+      ∙ ap (λ (s : Scan). set ++ 32 ∷ written (after_octet s 32) [] item) (after_set set is.no_section is.set_is.some)
+      ∙ ap (λ (l : List ℕ). set ++ 32 ∷ written (within named.Fetch depth.None) [] l) (sym (append-nil item))
+      ∙ ap (λ (l : List ℕ). set ++ 32 ∷ l) (word_read named.Fetch depth.None [] item [] item_is.octets)
+
+  alone_asked : asked (within named.Fetch depth.None) [] (alone set item) ≡ option_list (section_asked item)
+  alone_asked =
+      asked_read named.Fetch depth.None [] set (32 ∷ item) is.set_is.octets
+      ∙ ap (λ (o : Option Asked). option_list o ++ asked (after_octet (after_word (within named.Fetch depth.None) set) 32) [] item) (set_asked set is.no_section is.set_is.some)
+      ∙ ap (λ (s : Scan). asked (after_octet s 32) [] item) (after_set set is.no_section is.set_is.some)
+      ∙ ap (asked (within named.Fetch depth.None) []) (sym (append-nil item))
+      ∙ asked_read named.Fetch depth.None [] item [] item_is.octets
+      ∙ ap option_list (item_by item (length item == 0) item_is.some)
+
+pub asks_section : AsksSection
+asks_section state uid tag set item is item_is = frame_written state uid tag set (alone set item) is _ (alone_written state uid tag set item is item_is)
 
 -- ---- one label
 
-label_asked : (l : Label) → asked_for (label_name l ∷ []) ≡ asked.Labelled l ∷ []
+label_asked : (l : Label) → option_list (section_asked (label_name l)) ≡ asked.Labelled l ∷ []
 label_asked label.Message = refl
 label_asked label.Header = refl
 label_asked label.Text = refl
+
+label_is : (l : Label) → IsPlainWord (label_name l)
+label_is label.Message = record { octets = refl; some = refl }
+label_is label.Header = record { octets = refl; some = refl }
+label_is label.Text = record { octets = refl; some = refl }
 
 one_found : (l : Label) (body : FetchedSection) → stands_for l body ≡ true → all_asked_words (body ∷ []) (body ∷ []) (asked.Labelled l ∷ []) ≡ labelled_text l body ∷ []
 one_found l body is = ap (λ b. given_by (labelled_text l) (cond b (Some body) None) ++ []) is
@@ -148,12 +179,23 @@ one_found l body is = ap (λ b. given_by (labelled_text l) (cond b (Some body) N
 abbrev line_of : (number : ℕ) → FetchedItems → List (List ℕ) → List ℕ
 line_of number fetched sections = (codes "* " ++ decimal number ++ codes " FETCH " ++ in_parentheses (item_words fetched ++ sections)) ++ crlf
 
+-- the line of a message of which one label was asked
+line_told : (l : Label) (number : ℕ) (fetched : FetchedItems) (body : FetchedSection) → fetched.sections ≡ body ∷ [] → stands_for l body ≡ true
+    → fetch_text (asked.Labelled l ∷ []) number fetched ++ crlf ≡ labelled_line l number fetched body ++ crlf
+line_told l number fetched body one stands =
+    ap (λ (bodies : List FetchedSection). line_of number fetched (all_asked_words bodies bodies (asked.Labelled l ∷ []))) one
+    ∙ ap (line_of number fetched) (one_found l body stands)
+
 pub tells_label : TellsLabel
 tells_label state uid tag set l number fetched body is one stands =
-    tells_as_asked state uid tag set (label_name l ∷ []) number fetched is (ap (list_any is_labelled) (label_asked l))
-    ∙ ap (λ (all : List Asked). fetch_text all number fetched ++ crlf) (label_asked l)
-    ∙ ap (λ (bodies : List FetchedSection). line_of number fetched (all_asked_words bodies bodies (asked.Labelled l ∷ []))) one
-    ∙ ap (line_of number fetched) (one_found l body stands)
+    told_as state uid tag set (alone set (label_name l)) is (asked.Labelled l ∷ []) true number fetched (alone_asked state uid tag set (label_name l) is (label_is l) ∙ label_asked l) refl
+    ∙ line_told l number fetched body one stands
+
+pub tells_listed_label : TellsListedLabel
+tells_listed_label state uid tag set l number fetched body is one stands =
+    told_as state uid tag set (listed set (label_name l ∷ [])) is (asked.Labelled l ∷ []) true number fetched
+    (list_asked state uid tag set (label_name l ∷ []) is (label_is l, tt) ∙ append-nil (option_list (section_asked (label_name l))) ∙ label_asked l) refl
+    ∙ line_told l number fetched body one stands
 
 -- ---- notices
 

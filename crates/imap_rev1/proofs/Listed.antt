@@ -38,13 +38,13 @@ use Rattle.imap_rev1.proofs.Strings.{no_word}
 abbrev pub within : Named → Depth → Scan
 within command level = record { named = command; passes = 0; depth = level; quoting = quoting.Outside }
 
-word_read : (command : Named) (level : Depth) (word next octets : List ℕ) → list_all is_word_octet next ≡ true → written (within command level) word (next ++ octets) ≡ written (within command level) (word ++ next) octets
+pub word_read : (command : Named) (level : Depth) (word next octets : List ℕ) → list_all is_word_octet next ≡ true → written (within command level) word (next ++ octets) ≡ written (within command level) (word ++ next) octets
 word_read command level word [] octets h = ap (λ (w : List ℕ). written (within command level) w octets) (sym (append-nil word))
 word_read command level word (b ∷ next) octets h =
     let parts = both_true (is_word_octet b) (list_all is_word_octet next) h in
     rw parts.0 (word_read command level (word ++ b ∷ []) next octets parts.1 ∙ ap (λ (w : List ℕ). written (within command level) w octets) (append_assoc word (b ∷ []) next))
 
-asked_read : (command : Named) (level : Depth) (word next octets : List ℕ) → list_all is_word_octet next ≡ true → asked (within command level) word (next ++ octets) ≡ asked (within command level) (word ++ next) octets
+pub asked_read : (command : Named) (level : Depth) (word next octets : List ℕ) → list_all is_word_octet next ≡ true → asked (within command level) word (next ++ octets) ≡ asked (within command level) (word ++ next) octets
 asked_read command level word [] octets h = ap (λ (w : List ℕ). asked (within command level) w octets) (sym (append-nil word))
 asked_read command level word (b ∷ next) octets h =
     let parts = both_true (is_word_octet b) (list_all is_word_octet next) h in

@@ -29,37 +29,54 @@ abbrev pub fetch_word : (uid : Bool) → List ℕ
 fetch_word true = codes " UID FETCH "
 fetch_word false = codes " FETCH "
 
-abbrev pub fetch_octets : (uid : Bool) → (tag set : List ℕ) → (items : List (List ℕ)) → List ℕ
-fetch_octets uid tag set items = (tag ++ (fetch_word uid ++ listed set items)) ++ crlf
+abbrev pub fetch_octets : (uid : Bool) → (tag arguments : List ℕ) → List ℕ
+fetch_octets uid tag arguments = (tag ++ (fetch_word uid ++ arguments)) ++ crlf
 
--- A FETCH of items that are words. Its set of messages is a word that asks for no section.
-pub record IsFetch (state : Rev1) (uid : Bool) (tag set : List ℕ) (items : List (List ℕ)) : Type 0 where
+-- a FETCH with these arguments, the first of which is a word that asks for no section
+pub record IsFetch (state : Rev1) (uid : Bool) (tag set arguments : List ℕ) : Type 0 where
   pub tagged : IsTag tag
   pub set_is : IsPlainWord set
   pub no_section : section_asked set ≡ None
-  pub each : AllByRecursion IsPlainWord items
-  pub last : IsLastLine (fetch_octets uid tag set items)
-  pub plain : list_all is_plain (listed set items) ≡ true
-  pub named : named_in state.rev2 (fetch_octets uid tag set items) ≡ named.Fetch
+  pub last : IsLastLine (fetch_octets uid tag arguments)
+  pub plain : list_all is_plain arguments ≡ true
+  pub named : named_in state.rev2 (fetch_octets uid tag arguments) ≡ named.Fetch
+
+-- one item, without parentheses
+abbrev pub alone : (set item : List ℕ) → List ℕ
+alone set item = set ++ 32 ∷ item
 
 -- Another item is asked in place of each label.
 abbrev pub AsksSections : Type 0
 AsksSections =
     (state : Rev1) (uid : Bool) (tag set : List ℕ) (items : List (List ℕ))
-    → IsFetch state uid tag set items
-    → rev1.rewritten state (Whole (fetch_octets uid tag set items))
-    ≡ Whole (fetch_octets uid tag set (map fetch_for items))
+    → IsFetch state uid tag set (listed set items) → AllByRecursion IsPlainWord items
+    → rev1.rewritten state (Whole (fetch_octets uid tag (listed set items)))
+    ≡ Whole (fetch_octets uid tag (listed set (map fetch_for items)))
+
+abbrev pub AsksSection : Type 0
+AsksSection =
+    (state : Rev1) (uid : Bool) (tag set item : List ℕ)
+    → IsFetch state uid tag set (alone set item) → IsPlainWord item
+    → rev1.rewritten state (Whole (fetch_octets uid tag (alone set item)))
+    ≡ Whole (fetch_octets uid tag (alone set (fetch_for item)))
 
 -- the sections that the words ask for, each once
 abbrev pub asked_for : (items : List (List ℕ)) → List Asked
 asked_for items = without_repeats [] (flat_map (λ word. option_list (section_asked word)) items)
 
+-- how a message is told that the FETCH asks for
+abbrev pub message_told : Rev1 → (fetch : List ℕ) → (number : ℕ) → FetchedItems → List ℕ
+message_told state fetch number fetched =
+    rev1.told state (Some (Whole fetch)) (response.Fetch number fetched)
+
 -- If a label is one of the items, the sections are told as they were asked for and in this order.
 abbrev pub TellsAsAsked : Type 0
 TellsAsAsked =
-    (state : Rev1) (uid : Bool) (tag set : List ℕ) (items : List (List ℕ)) (number : ℕ) (fetched : FetchedItems)
-    → IsFetch state uid tag set items → list_any is_labelled (asked_for items) ≡ true
-    → rev1.told state (Some (Whole (fetch_octets uid tag set items))) (response.Fetch number fetched)
+    (state : Rev1) (uid : Bool) (tag set : List ℕ) (items : List (List ℕ))
+    → (number : ℕ) (fetched : FetchedItems)
+    → IsFetch state uid tag set (listed set items) → AllByRecursion IsPlainWord items
+    → list_any is_labelled (asked_for items) ≡ true
+    → message_told state (fetch_octets uid tag (listed set items)) number fetched
     ≡ fetch_text (asked_for items) number fetched ++ crlf
 
 abbrev pub labelled_line : Label → (number : ℕ) → FetchedItems → FetchedSection → List ℕ
@@ -67,22 +84,33 @@ labelled_line label number fetched body =
     codes "* " ++ decimal number ++ codes " FETCH "
     ++ in_parentheses (item_words fetched ++ labelled_text label body ∷ [])
 
--- So what is fetched by one label is told under this label.
+-- So what is fetched by one label is told under this label, whether it stands alone or in parentheses.
 abbrev pub TellsLabel : Type 0
 TellsLabel =
-    (state : Rev1) (uid : Bool) (tag set : List ℕ) (label : Label) (number : ℕ) (fetched : FetchedItems)
-    → (body : FetchedSection)
-    → IsFetch state uid tag set (label_name label ∷ [])
+    (state : Rev1) (uid : Bool) (tag set : List ℕ) (label : Label)
+    → (number : ℕ) (fetched : FetchedItems) (body : FetchedSection)
+    → IsFetch state uid tag set (alone set (label_name label))
     → fetched.sections ≡ body ∷ [] → stands_for label body ≡ true
-    → rev1.told state (Some (Whole (fetch_octets uid tag set (label_name label ∷ [])))) (response.Fetch number fetched)
+    → message_told state (fetch_octets uid tag (alone set (label_name label))) number fetched
+    ≡ labelled_line label number fetched body ++ crlf
+
+abbrev pub TellsListedLabel : Type 0
+TellsListedLabel =
+    (state : Rev1) (uid : Bool) (tag set : List ℕ) (label : Label)
+    → (number : ℕ) (fetched : FetchedItems) (body : FetchedSection)
+    → IsFetch state uid tag set (listed set (label_name label ∷ []))
+    → fetched.sections ≡ body ∷ [] → stands_for label body ≡ true
+    → message_told state (fetch_octets uid tag (listed set (label_name label ∷ []))) number fetched
     ≡ labelled_line label number fetched body ++ crlf
 
 -- If none of the items is a label, messages are printed.
 abbrev pub PrintsUnlabelled : Type 0
 PrintsUnlabelled =
-    (state : Rev1) (uid : Bool) (tag set : List ℕ) (items : List (List ℕ)) (number : ℕ) (fetched : FetchedItems)
-    → IsFetch state uid tag set items → list_any is_labelled (asked_for items) ≡ false
-    → rev1.told state (Some (Whole (fetch_octets uid tag set items))) (response.Fetch number fetched)
+    (state : Rev1) (uid : Bool) (tag set : List ℕ) (items : List (List ℕ))
+    → (number : ℕ) (fetched : FetchedItems)
+    → IsFetch state uid tag set (listed set items) → AllByRecursion IsPlainWord items
+    → list_any is_labelled (asked_for items) ≡ false
+    → message_told state (fetch_octets uid tag (listed set items)) number fetched
     ≡ line (response.Fetch number fetched)
 
 -- A message without sections is printed, whatever the frame is: it is a notice.

@@ -160,7 +160,8 @@ pub(crate) fn push_fetch(
     number: u32,
     items: &FetchedItems,
 ) -> Result<(), AllocError>
-    ensures { OnOk result (octets_of out.new ≡ octets_of out.old ++ (fetch_text all.now number items.now ++ crlf)) }
+    ensures { OnOk result (octets_of out.new
+        ≡ octets_of out.old ++ (fetch_text all.now number items.now ++ crlf)) }
 {
     let begun = print_fetch_front(out, number, items)?;
     push_all_asked(out, begun, items.sections.as_slice(), all)?;

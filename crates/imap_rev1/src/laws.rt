@@ -1,6 +1,7 @@
 //! Laws of the dialect.
 
-ghost use Rattle.imap_rev1.specs.FetchLaws.{AsksSections, PrintsNotices, PrintsUnlabelled, TellsAsAsked, TellsLabel};
+ghost use Rattle.imap_rev1.specs.FetchLaws.{AsksSection, AsksSections, PrintsNotices, PrintsUnlabelled};
+ghost use Rattle.imap_rev1.specs.FetchLaws.{TellsAsAsked, TellsLabel, TellsListedLabel};
 ghost use Rattle.imap_rev1.specs.Laws.{AllAreRead, AsksMessages, ChecksByNoop, EachIsOneLine, EndsByRev2};
 ghost use Rattle.imap_rev1.specs.Laws.{HandsOthersOn, IsReadAsOne, KeepsTags, ListsSubscribed};
 ghost use Rattle.imap_rev1.specs.Laws.{PrintsConditions, PrintsOthers, SearchesByKeys, StaysCommand};
@@ -34,8 +35,10 @@ pub fn tells_recent()
 /// are printed if no label was asked for, or if they have no section.
 pub fn tells_labels()
     ensures sections { AsksSections }
+    ensures section { AsksSection }
     ensures as_asked { TellsAsAsked }
     ensures label { TellsLabel }
+    ensures listed { TellsListedLabel }
     ensures unlabelled { PrintsUnlabelled }
     ensures notices { PrintsNotices }
 {}

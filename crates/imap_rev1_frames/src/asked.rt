@@ -37,6 +37,7 @@ pub enum Asked {
 }
 
 impl Label {
+    /// Returns the label as it is written.
     pub fn name(self) -> &'static [u8]
         ensures { result.now ≡ label_name self }
     {
@@ -81,6 +82,7 @@ impl Asked {
         }
     }
 
+    /// Whether the item is told as RECENT.
     pub fn is_recent(self) -> bool
         ensures { result ≡ is_recent self }
     {
