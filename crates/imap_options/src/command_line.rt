@@ -17,6 +17,8 @@ pub const VERSION: &str = "0.1.0";
 /// What the program is asked to do.
 #[derive(Drop)]
 pub enum Task {
+    /// To say whether the database at this path is a sound store.
+    Check(String),
     /// To run the script on standard input.
     Script,
     /// To say which version of the program this is.
@@ -127,6 +129,7 @@ fn command<'a>(alloc: Global, is_whole: bool) -> Result<Command<'a>, AllocError>
         .about("An IMAP server for shared mailboxes")
         .version(VERSION)
         .subcommand(script)?;
+    let command = with_check(alloc, command, is_whole)?;
     with_serve(alloc, command, is_whole)
 }
 
@@ -136,10 +139,38 @@ fn read_matches<S: SecretFiles>(
     matches: &ArgMatches<'_>,
 ) -> Result<Task, CommandLineError> {
     match matches.subcommand() {
+        Some(("check", found)) => {
+            let database = String::from_str(file.alloc(), found.get_str("db").unwrap_or(""))?;
+            Ok(Task::Check(database))
+        }
         Some(("script", _)) => Ok(Task::Script),
         Some(("serve", found)) => read_service(secrets, file, found),
         _ => Err(CommandLineError::NoSubcommand),
     }
+}
+
+/// Adds the subcommand `check`.
+fn with_check<'a>(
+    alloc: Global,
+    command: Command<'a>,
+    is_whole: bool,
+) -> Result<Command<'a>, AllocError> {
+    match check_command(alloc, is_whole) {
+        Ok(check) => command.subcommand(check),
+        Err(error) => {
+            drop(command);
+            Err(error)
+        }
+    }
+}
+
+fn check_command<'a>(alloc: Global, is_whole: bool) -> Result<Command<'a>, AllocError> {
+    let database = option(alloc, "db", "FILE")
+        .help("The database that keeps the mail")
+        .required(is_whole);
+    Command::new(alloc, "check")
+        .about("Says how much a store holds, or which of its rows is damaged")
+        .arg(database)
 }
 
 /// Adds the subcommand `serve`.

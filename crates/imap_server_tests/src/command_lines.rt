@@ -81,6 +81,10 @@ pub(crate) fn shown_task(
     task: Result<Task, CommandLineError>,
 ) -> Result<Vec<u8>, AllocError> {
     match task {
+        Ok(Task::Check(database)) => {
+            let text = format!(in alloc; "check {database}")?;
+            Ok(text.into_bytes())
+        }
         Ok(Task::Script) => Vec::from_slice(alloc, b"script"),
         Ok(Task::Version) => Vec::from_slice(alloc, b"version"),
         Ok(Task::Serve { database, service }) => shown_service(alloc, database.as_str(), &service),
@@ -93,6 +97,7 @@ fn reads_command_lines(rt: HostRuntime) {
     const ROWS: &[(&[&str], &[u8])] = &[
         (&["imapd", "script"], b"script"),
         (&["imapd", "--version"], b"version"),
+        (&["imapd", "check", "--db", "mail.db"], b"check mail.db"),
         (
             &[
                 "imapd", "serve", "--db", "mail.db", "--admin", "root", "--listen", "ann=1143",
@@ -197,6 +202,8 @@ fn refuses_command_lines(rt: HostRuntime) {
     const ROWS: &[(&[&str], bool)] = &[
         (&["imapd", "frob"], true),
         (&["imapd", "script", "x"], true),
+        (&["imapd", "check"], true),
+        (&["imapd", "check", "--db", "x", "--admin", "ann"], true),
         (&["imapd", "--help"], true),
         (&["imapd", "help"], true),
         (&["imapd"], false),
@@ -317,6 +324,7 @@ fn ends_with_a_status(rt: HostRuntime) {
         ),
         (ServiceError::Memory, 4),
         (ServiceError::Store(StoreFault::InUse), 5),
+        (ServiceError::Store(StoreFault::Missing), 5),
         (ServiceError::Store(StoreFault::OtherTables), 5),
         (
             ServiceError::Store(StoreFault::Row {

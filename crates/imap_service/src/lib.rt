@@ -53,7 +53,7 @@ pub use private_files::{make_missing, make_private};
 pub use reception::{Reception, SEATS};
 pub use report::Report;
 pub use service_error::{ServiceError, SocketFault, StoreFault};
-pub use serving::{IDLE_TICKS, posts, run, serve_in};
+pub use serving::{IDLE_TICKS, count_messages, posts, run, serve_in};
 pub use shared_stream::SharedStream;
 pub use socket_file::listen_at_file;
 pub use store_table::StoreTable;

@@ -56,6 +56,8 @@ pub enum SocketFault {
 pub enum StoreFault {
     #[error("another program uses it")]
     InUse,
+    #[error("there is no such file")]
+    Missing,
     #[error("it is no database, or a damaged one")]
     NotADatabase,
     #[error("its folder is missing, or it may not be read and written")]

@@ -169,13 +169,16 @@ fn report_start<R: Clock + Eprint>(setting: &Setting<'_, R>, world: &World) {
         None => 0,
     };
     let mailboxes = world.mailboxes().len();
-    setting
-        .report
-        .started(setting.ports.len(), mailboxes, messages(world), millis);
+    setting.report.started(
+        setting.ports.len(),
+        mailboxes,
+        count_messages(world),
+        millis,
+    );
 }
 
 /// Returns how many messages there are.
-fn messages(world: &World) -> u64 {
+pub fn count_messages(world: &World) -> u64 {
     let mut count: u64 = 0;
     for (_, entry) in world.mailboxes().entries() {
         count = count.saturating_add(entry.messages.as_ref().len() as u64);

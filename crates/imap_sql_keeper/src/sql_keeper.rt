@@ -18,6 +18,7 @@ ghost use Rattle.sqlite.specs.Tree.{Trees};
 use crate::adopting::find_store;
 use crate::diagnosing::damage_of;
 use crate::loading::load_world;
+use crate::locating::{Finding, locate};
 use crate::saving::save_change;
 use imap_keeper::{Damage, KeepError, Keeper, count_after};
 use imap_world::{Change, World};
@@ -108,6 +109,17 @@ impl<S: Alter + Drop> SqlKeeper<S> {
             failures: _,
         } = self;
         damage_of(&mut conn, alloc)
+    }
+
+    /// Ends a keeper that could not load, and names a row of its tables that stands for nothing, and of
+    /// what it is. Returns `None` if none is found, or memory runs out.
+    pub fn into_finding(self, alloc: Global) -> Option<Finding> {
+        let SqlKeeper {
+            mut conn,
+            failures: _,
+        } = self;
+        let damage = damage_of(&mut conn, alloc)?;
+        Some(locate(&mut conn, damage))
     }
 }
 

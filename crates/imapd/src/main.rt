@@ -1,11 +1,13 @@
 //! The program `imapd`: an IMAP server for shared mailboxes.
 //!
-//! `imapd serve` serves users over TCP. `imapd script` reads a script from standard input, runs it on the
-//! server's machine, and writes what each session was told to standard output.
+//! `imapd serve` serves users over TCP. `imapd check` says whether a store is sound. `imapd script` reads a script
+//! from standard input, runs it on the server's machine, and writes what each session was told to standard output.
 #![tactic(auto)]
 
+mod checking;
 mod store;
 
+use crate::checking::check;
 use crate::store::FileKeeper;
 use imap_host::PARTS;
 use imap_options::{Task, read_command_line};
@@ -19,6 +21,7 @@ use std::time::Instant;
 fn main(rt: HostRuntime) -> ExitCode {
     let since = Instant::now(&rt).ok();
     match read_command_line(&rt) {
+        Ok(Task::Check(database)) => check(&rt, database.as_str()),
         Ok(Task::Script) => match script(&rt, rt.stdin(), rt.stdout()) {
             Ok(()) => ExitCode::SUCCESS,
             Err(error) => report_script_error(&rt, &error),

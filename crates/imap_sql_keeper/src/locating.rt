@@ -1,0 +1,65 @@
+//! Of what a row of a store is: of which mailbox, and of which message.
+//!
+//! It is asked for a row that stands for nothing, and no contract says what is found.
+
+use imap_keeper::Damage;
+use sqlite::{Alter, Connection, params};
+use std::alloc::Global;
+
+/// A row that stands for nothing, and of what it is, as far as its store says so.
+#[derive(Debug, Drop)]
+pub struct Finding {
+    pub damage: Damage,
+    /// The tree and the path of its mailbox, as the tables have them.
+    pub mailbox: Option<(String, String)>,
+    /// The UID of its message.
+    pub uid: Option<u32>,
+}
+
+/// The query for the mailbox and the UID of a row. The UID is 0 where the table has none.
+fn query_of(table: &str) -> Option<&'static str> {
+    match table {
+        "mailbox" => Some("SELECT id, 0 FROM mailbox WHERE id = ?1"),
+        "acl" => Some("SELECT mailbox, 0 FROM acl WHERE rowid = ?1"),
+        "message" => Some("SELECT mailbox, uid FROM message WHERE rowid = ?1"),
+        "message2" => Some("SELECT mailbox, uid FROM message2 WHERE rowid = ?1"),
+        "body" => Some("SELECT mailbox, uid FROM body WHERE rowid = ?1"),
+        "keyword" => Some("SELECT mailbox, uid FROM keyword WHERE rowid = ?1"),
+        "gone" => Some("SELECT mailbox, uid FROM gone WHERE rowid = ?1"),
+        "mark" => Some("SELECT mailbox, uid FROM mark WHERE rowid = ?1"),
+        _ => None,
+    }
+}
+
+/// Finds the id of the row's mailbox, and the UID of its message.
+fn place_of<S: Alter>(conn: &mut Connection<S>, damage: &Damage) -> Option<(i64, Option<u32>)> {
+    let query = query_of(damage.table)?;
+    let row = conn.query_row(query, params![damage.row]).ok()?;
+    let mailbox: i64 = row.get(0).ok()?;
+    let uid: u32 = row.get(1).unwrap_or(0);
+    Some((mailbox, if uid == 0 { None } else { Some(uid) }))
+}
+
+fn name_of<S: Alter>(conn: &mut Connection<S>, mailbox: i64) -> Option<(String, String)> {
+    let query = "SELECT tree, path FROM mailbox WHERE id = ?1";
+    let row = conn.query_row(query, params![mailbox]).ok()?;
+    let tree: String = row.get(0).ok()?;
+    let path: String = row.get(1).ok()?;
+    Some((tree, path))
+}
+
+/// Finds of what a row is that stands for nothing.
+pub(crate) fn locate<S: Alter>(conn: &mut Connection<S>, damage: Damage) -> Finding {
+    match place_of(conn, &damage) {
+        Some((mailbox, uid)) => Finding {
+            damage,
+            mailbox: name_of(conn, mailbox),
+            uid,
+        },
+        None => Finding {
+            damage,
+            mailbox: None,
+            uid: None,
+        },
+    }
+}

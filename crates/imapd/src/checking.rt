@@ -1,0 +1,126 @@
+//! A look at a store that nobody is served from.
+
+use crate::store::{FileKeeper, open};
+use imap_keeper::{KeepError, Keeper};
+use imap_options::LogLevel;
+use imap_service::{ServiceError, StoreFault, count_messages, report_service_error};
+use imap_sql_keeper::Finding;
+use std::fs;
+use std::io::ErrorKind;
+use std::process::ExitCode;
+
+const BROKEN_STREAM: u8 = 3;
+
+/// How much a store holds.
+struct Holding {
+    mailboxes: usize,
+    messages: u64,
+}
+
+/// Prints how much the store in the file holds. If it can't be used, tells standard error why, as where it is to be served,
+/// and of what the row is that stands for nothing. Returns the exit status: 0, 3 if standard output failed, and else that of
+/// the fault.
+pub(crate) fn check(rt: &HostRuntime, path: &str) -> ExitCode {
+    match look(rt, path) {
+        Ok(held) => {
+            let Holding {
+                mailboxes,
+                messages,
+            } = held;
+            match println!(rt; "{path}: {mailboxes} mailboxes, {messages} messages") {
+                Ok(()) => ExitCode::SUCCESS,
+                Err(_) => ExitCode::from(BROKEN_STREAM),
+            }
+        }
+        Err((error, found)) => {
+            let status = report_service_error(rt, error);
+            if let Some(finding) = found {
+                report_finding(rt, &finding);
+            }
+            status
+        }
+    }
+}
+
+fn look(rt: &HostRuntime, path: &str) -> Result<Holding, (ServiceError, Option<Finding>)> {
+    if let Some(error) = missing(rt, path) {
+        return Err((error, None));
+    }
+    match open(rt, path, LogLevel::Errors) {
+        Ok(keeper) => count(rt, keeper),
+        Err(error) => Err((error, None)),
+    }
+}
+
+/// Why a file isn't opened that isn't there: `open` would make it.
+fn missing(rt: &HostRuntime, path: &str) -> Option<ServiceError> {
+    match fs::metadata(rt, path) {
+        Ok(_) => None,
+        Err(error) => match error.kind() {
+            ErrorKind::NotFound => Some(ServiceError::Store(StoreFault::Missing)),
+            ErrorKind::OutOfMemory => Some(ServiceError::Memory),
+            _ => Some(ServiceError::Store(StoreFault::CannotOpen)),
+        },
+    }
+}
+
+fn count(
+    rt: &HostRuntime,
+    mut keeper: FileKeeper,
+) -> Result<Holding, (ServiceError, Option<Finding>)> {
+    match keeper.load(rt.alloc()) {
+        Ok(world) => {
+            drop(keeper);
+            Ok(Holding {
+                mailboxes: world.mailboxes().len(),
+                messages: count_messages(&world),
+            })
+        }
+        Err(KeepError::Damaged) => Err(with_row(keeper.into_finding(rt.alloc()))),
+        Err(error) => {
+            drop(keeper);
+            Err((ServiceError::from(error), None))
+        }
+    }
+}
+
+fn with_row(found: Option<Finding>) -> (ServiceError, Option<Finding>) {
+    let damage = match &found {
+        Some(finding) => Some(finding.damage),
+        None => None,
+    };
+    (
+        ServiceError::Store(StoreFault::Damaged).with_row(damage),
+        found,
+    )
+}
+
+/// Says of what the row is, and what goes with it.
+fn report_finding(rt: &impl Eprint, finding: &Finding) {
+    let loss = loss_of(finding.damage.table);
+    let _said = match (&finding.mailbox, finding.uid) {
+        (Some((tree, path)), Some(uid)) => eprintln!(rt;
+            "imapd: it is of the message with UID {uid} in mailbox {path:?}, tree {tree:?}; without it {loss}"
+        ),
+        (Some((tree, path)), None) => eprintln!(rt;
+            "imapd: it is of mailbox {path:?}, tree {tree:?}; without it {loss}"
+        ),
+        (None, _) => eprintln!(rt; "imapd: no mailbox is known of it; without it {loss}"),
+    };
+}
+
+/// What is lost with a row of this table.
+fn loss_of(table: &str) -> &'static str {
+    match table {
+        "acl" => "an identifier has no rights on the mailbox",
+        "body" | "message" | "message2" => "the message is lost",
+        "epoch" => "a UIDVALIDITY may be used again",
+        "gone" => "clients that were away aren't told that the message went",
+        "keyword" => "the message has a keyword less",
+        "mailbox" => "the mailbox is lost, with its messages",
+        "mark" => "a change of a user's \\Seen flag is lost",
+        "meta" => "the store has no version",
+        "sub" => "a subscription is lost",
+        _ => "nothing is lost",
+    }
+}
