@@ -107,7 +107,8 @@ unselected state who = record {
 
 -- What a session is told of its mailbox is what notices in the replies tell. They stand before the last line,
 -- which isn't BAD, and tell of every message that changed: the refused command told of none itself.
-pub record IsToldInLines (view : View) (own : SessionState) (replies : List Response) (t : Telling) : Type 0 where
+pub record IsToldInLines (view : View) (own : SessionState) (replies : List Response) (t : Telling)
+    : Type 0 where
   pub expunges : Bool
   pub before : List Response
   pub last : Response

@@ -375,7 +375,8 @@ fn says_what_is_wrong(rt: HostRuntime) {
         ),
         (
             "--member=staff=ann",
-            "imapd: bad command line\nimapd: --member ann: this is neither a user who is served nor the administrator\n",
+            "imapd: bad command line\nimapd: --member ann: this is neither a user who is served nor the \
+            administrator\n",
         ),
         (
             "--member=a b=bob",

@@ -1,5 +1,6 @@
 //! Tests of what serves users: sessions over connections, sessions side by side, hosts that end with their seats,
-//! idling sessions that are woken, clients that log in, sessions in another dialect, and scripts, command lines and exit statuses of the program.
+//! idling sessions that are woken, clients that log in, sessions in another dialect, and scripts, command lines and
+//! exit statuses of the program.
 //!
 //! They stand in a crate of their own, since a crate that has tests is proved twice: once without and
 //! once with them.

@@ -40,11 +40,14 @@ fn strangers_are_answered(rt: HostRuntime) {
     const ROWS: &[(&[u8], &[u8])] = &[
         (
             b"a CAPABILITY\r\nb NOOP\r\nc LOGOUT\r\nd NOOP\r\n",
-            b"* CAPABILITY IMAP4rev2 ACL RIGHTS=texk CONDSTORE ENABLE IDLE QRESYNC AUTH=PLAIN SASL-IR\r\na OK done\r\nb OK done\r\n* BYE logging out\r\nc OK done\r\n|-d NOOP\r\n",
+            b"* CAPABILITY IMAP4rev2 ACL RIGHTS=texk CONDSTORE ENABLE IDLE QRESYNC AUTH=PLAIN SASL-IR\r\n\
+            a OK done\r\nb OK done\r\n* BYE logging out\r\nc OK done\r\n|-d NOOP\r\n",
         ),
         (
             b"a SELECT INBOX\r\nb STARTTLS\r\nc IDLE\r\nDONE\r\n d\r\ne LOGIN ann\r\nf FROB\r\n",
-            b"a BAD not in this state\r\nb BAD not in this state\r\nc BAD not in this state\r\nDONE BAD not in this state\r\n* BAD not in this state\r\ne BAD not in this state\r\nf BAD not in this state\r\n|",
+            b"a BAD not in this state\r\nb BAD not in this state\r\nc BAD not in this state\r\n\
+            DONE BAD not in this state\r\n* BAD not in this state\r\ne BAD not in this state\r\n\
+            f BAD not in this state\r\n|",
         ),
         (
             b"a APPEND INBOX {5}\r\nhello\r\n",
@@ -65,23 +68,31 @@ fn clients_log_in(rt: HostRuntime) {
     const ROWS: &[(&[u8], &[u8])] = &[
         (
             b"a1 LOGIN ann s3cret\r\na2 NOOP\r\n",
-            b"a1 OK [CAPABILITY IMAP4rev2 ACL RIGHTS=texk CONDSTORE ENABLE IDLE QRESYNC] done\r\n|+a2 NOOP\r\n",
+            b"a1 OK [CAPABILITY IMAP4rev2 ACL RIGHTS=texk CONDSTORE ENABLE IDLE QRESYNC] done\r\n\
+            |+a2 NOOP\r\n",
         ),
         (
             b"a login \"ann\" \"s3\\cret\"\r\nb login \"ann\" \"s3cret\"\r\n",
-            b"a BAD not in this state\r\nb OK [CAPABILITY IMAP4rev2 ACL RIGHTS=texk CONDSTORE ENABLE IDLE QRESYNC] done\r\n|+",
+            b"a BAD not in this state\r\n\
+            b OK [CAPABILITY IMAP4rev2 ACL RIGHTS=texk CONDSTORE ENABLE IDLE QRESYNC] done\r\n|+",
         ),
         (
             b"a LOGIN {3}\r\nann {6+}\r\ns3cret\r\n",
-            b"+ ready\r\na OK [CAPABILITY IMAP4rev2 ACL RIGHTS=texk CONDSTORE ENABLE IDLE QRESYNC] done\r\n|+",
+            b"+ ready\r\na OK [CAPABILITY IMAP4rev2 ACL RIGHTS=texk CONDSTORE ENABLE IDLE QRESYNC] \
+            done\r\n|+",
         ),
         (
             b"a LOGIN ann s3cre\r\nb LOGIN ann s3crets\r\nc LOGIN ann \"\"\r\nd LOGIN ann s3cret\r\n",
-            b"a NO [AUTHENTICATIONFAILED] name or secret is wrong\r\nb NO [AUTHENTICATIONFAILED] name or secret is wrong\r\nc NO [AUTHENTICATIONFAILED] name or secret is wrong\r\n* BYE limit reached\r\n|-d LOGIN ann s3cret\r\n",
+            b"a NO [AUTHENTICATIONFAILED] name or secret is wrong\r\n\
+            b NO [AUTHENTICATIONFAILED] name or secret is wrong\r\n\
+            c NO [AUTHENTICATIONFAILED] name or secret is wrong\r\n* BYE limit reached\r\n\
+            |-d LOGIN ann s3cret\r\n",
         ),
         (
             b"a LOGIN Ann s3cret\r\nb LOGIN bob s3cret\r\nc NOOP\r\nd LOGIN ann s3cret\r\n",
-            b"a NO [AUTHENTICATIONFAILED] name or secret is wrong\r\nb NO [AUTHENTICATIONFAILED] name or secret is wrong\r\nc OK done\r\nd OK [CAPABILITY IMAP4rev2 ACL RIGHTS=texk CONDSTORE ENABLE IDLE QRESYNC] done\r\n|+",
+            b"a NO [AUTHENTICATIONFAILED] name or secret is wrong\r\n\
+            b NO [AUTHENTICATIONFAILED] name or secret is wrong\r\nc OK done\r\n\
+            d OK [CAPABILITY IMAP4rev2 ACL RIGHTS=texk CONDSTORE ENABLE IDLE QRESYNC] done\r\n|+",
         ),
     ];
     for &(sent, wanted) in ROWS {
@@ -100,19 +111,26 @@ fn clients_authenticate(rt: HostRuntime) {
         ),
         (
             b"a authenticate plain\r\nYW5uAGFubgBzM2NyZXQ=\r\nb NOOP\r\n",
-            b"+ \r\na OK [CAPABILITY IMAP4rev2 ACL RIGHTS=texk CONDSTORE ENABLE IDLE QRESYNC] done\r\n|+b NOOP\r\n",
+            b"+ \r\na OK [CAPABILITY IMAP4rev2 ACL RIGHTS=texk CONDSTORE ENABLE IDLE QRESYNC] done\r\n\
+            |+b NOOP\r\n",
         ),
         (
-            b"a AUTHENTICATE PLAIN\r\n*\r\nb AUTHENTICATE PLAIN AGFubgBzM2NyZXQ\r\nc AUTHENTICATE PLAIN =\r\n",
-            b"+ \r\na BAD malformed command\r\nb BAD malformed command\r\nc NO [AUTHENTICATIONFAILED] name or secret is wrong\r\n|",
+            b"a AUTHENTICATE PLAIN\r\n*\r\nb AUTHENTICATE PLAIN AGFubgBzM2NyZXQ\r\n\
+            c AUTHENTICATE PLAIN =\r\n",
+            b"+ \r\na BAD malformed command\r\nb BAD malformed command\r\n\
+            c NO [AUTHENTICATIONFAILED] name or secret is wrong\r\n|",
         ),
         (
             b"a AUTHENTICATE CRAM-MD5\r\nb AUTHENTICATE\r\nc AUTHENTICATE PLAIN\r\nb NOOP\r\nd NOOP\r\n",
-            b"a NO [CANNOT] not possible\r\nb BAD not in this state\r\n+ \r\nc BAD malformed command\r\nd OK done\r\n|",
+            b"a NO [CANNOT] not possible\r\nb BAD not in this state\r\n+ \r\nc BAD malformed command\r\n\
+            d OK done\r\n|",
         ),
         (
-            b"a AUTHENTICATE PLAIN cm9vdABhbm4AczNjcmV0\r\nb AUTHENTICATE PLAIN AGFubgBzM2NyZQ==\r\nc AUTHENTICATE PLAIN AGFubgBzM2NyZXQA\r\n",
-            b"a NO [AUTHENTICATIONFAILED] name or secret is wrong\r\nb NO [AUTHENTICATIONFAILED] name or secret is wrong\r\nc NO [AUTHENTICATIONFAILED] name or secret is wrong\r\n* BYE limit reached\r\n|-",
+            b"a AUTHENTICATE PLAIN cm9vdABhbm4AczNjcmV0\r\nb AUTHENTICATE PLAIN AGFubgBzM2NyZQ==\r\n\
+            c AUTHENTICATE PLAIN AGFubgBzM2NyZXQA\r\n",
+            b"a NO [AUTHENTICATIONFAILED] name or secret is wrong\r\n\
+            b NO [AUTHENTICATIONFAILED] name or secret is wrong\r\n\
+            c NO [AUTHENTICATIONFAILED] name or secret is wrong\r\n* BYE limit reached\r\n|-",
         ),
     ];
     for &(sent, wanted) in ROWS {
@@ -161,10 +179,12 @@ impl Deed for Entering {
         output: &mut O,
     ) -> io::Result<bool> {
         const WANTED: &[u8] =
-            b"* OK [CAPABILITY IMAP4rev2 ACL RIGHTS=texk CONDSTORE ENABLE IDLE QRESYNC AUTH=PLAIN SASL-IR] shared mailbox profile ready\r\n\
+            b"* OK [CAPABILITY IMAP4rev2 ACL RIGHTS=texk CONDSTORE ENABLE IDLE QRESYNC AUTH=PLAIN \
+            SASL-IR] shared mailbox profile ready\r\n\
 a1 OK [CAPABILITY IMAP4rev2 ACL RIGHTS=texk CONDSTORE ENABLE IDLE QRESYNC] done\r\na2 OK done\r\n";
         output.write_all(
-            b"* PREAUTH [CAPABILITY IMAP4rev2 ACL RIGHTS=texk CONDSTORE ENABLE IDLE QRESYNC] shared mailbox profile ready\r\n",
+            b"* PREAUTH [CAPABILITY IMAP4rev2 ACL RIGHTS=texk CONDSTORE ENABLE IDLE QRESYNC] shared \
+            mailbox profile ready\r\n",
         )?;
         output.write_all(b"a2 OK done\r\n")?;
         let mut sent = [0u8; 9];

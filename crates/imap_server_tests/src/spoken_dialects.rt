@@ -60,7 +60,8 @@ a3 OK done\r\n* BYE logging out\r\na4 OK done\r\n",
         dialect: DialectName::Rev2,
         is_asked: true,
         sent: b"a1 LOGIN ann s3cret\r\na2 CHECK\r\na3 LOGOUT\r\n",
-        wanted: b"* OK [CAPABILITY IMAP4rev2 ACL RIGHTS=texk CONDSTORE ENABLE IDLE QRESYNC AUTH=PLAIN SASL-IR] \
+        wanted: b"* OK [CAPABILITY IMAP4rev2 ACL RIGHTS=texk CONDSTORE ENABLE IDLE QRESYNC AUTH=PLAIN \
+        SASL-IR] \
 shared mailbox profile ready\r\n\
 a1 OK [CAPABILITY IMAP4rev2 ACL RIGHTS=texk CONDSTORE ENABLE IDLE QRESYNC] done\r\n\
 a2 BAD malformed command\r\n* BYE logging out\r\na3 OK done\r\n",
