@@ -57,7 +57,7 @@ absent uid (u ∷ us) d differs =
     place_no uid u us (differs 0 (omega arith)) ∙ ap (option_map (λ i. i + 1)) (absent uid us d (λ k lt. differs (suc k) (omega arith)))
 
 -- a place that was found, or none, as the test at the front says
-front_some : (b : Bool) (o : Option ℕ) (i : ℕ) (P : Type 0) → cond b (Some 0) (option_map (λ i. i + 1) o) ≡ Some i
+pub front_some : (b : Bool) (o : Option ℕ) (i : ℕ) (P : Type 0) → cond b (Some 0) (option_map (λ i. i + 1) o) ≡ Some i
     → (b ≡ true → i ≡ 0 → P) → ((j : ℕ) → b ≡ false → o ≡ Some j → i ≡ suc j → P) → P
 front_some true o i P e now later = now refl (cc e)
 front_some false None i P e now later = absurd (cc e)

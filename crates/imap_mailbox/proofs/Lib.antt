@@ -39,4 +39,5 @@ pub mod OwnChanges
 pub mod FromParts
 pub mod OneMailbox
 pub mod SeenCounts
+pub mod Summing
 pub mod AllCounted

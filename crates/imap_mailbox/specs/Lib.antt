@@ -21,6 +21,7 @@ pub mod Client
 pub mod Shown
 pub mod Brought
 pub mod Status
+pub mod Totals
 pub mod UserChange
 pub mod Parts
 pub mod Restored

@@ -34,6 +34,7 @@ mod row;
 mod rows;
 mod same;
 mod status;
+mod totals;
 
 pub use calls::MAX_KEYWORDS;
 pub use error::MailboxError;

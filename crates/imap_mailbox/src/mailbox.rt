@@ -30,6 +30,7 @@ use crate::parts::{MailboxParts, PartsError};
 use crate::recent_events::RecentEvents;
 use crate::restored::{check_messages, sort_by_place, sort_by_uid};
 use crate::rows::Rows;
+use crate::totals::Totals;
 use imap_lex::Octets;
 use imap_modseq::{MAX_EVENTS, highest_after};
 use imap_syntax::{DateTime, are_same};
@@ -51,6 +52,8 @@ pub struct Mailbox {
     own: UserMap<OwnSeen>,
     // Contracts see no more of it than that rows are found by it.
     recent: RecentEvents,
+    // Contracts see no more of them than that rows tell them.
+    totals: Totals,
 }
 
 impl Model for Mailbox {
@@ -59,6 +62,7 @@ impl Model for Mailbox {
     ghost use Rattle.imap_mailbox.specs.Counted.{AreCounted};
     ghost use Rattle.imap_mailbox.specs.Held.{Held, held_code, summary_with, IsKept};
     ghost use Rattle.imap_mailbox.specs.Recent.{AreNoted};
+    ghost use Rattle.imap_mailbox.specs.Totals.{AreTotals};
 
     ghost Value = { Held };
 
@@ -75,7 +79,8 @@ impl Model for Mailbox {
     } };
 
     ghost invariant = { λ m. IsKept (summary_with m.messages.items m.gone.items m.next m.shared m.own)
-        × AreCounted m.messages.items m.own × AreNoted m.shared m.messages.items m.recent };
+        × AreCounted m.messages.items m.own × AreNoted m.shared m.messages.items m.recent
+        × AreTotals m.messages.items m.totals };
 }
 
 impl Mailbox {
@@ -90,6 +95,7 @@ impl Mailbox {
             shared: 0,
             own: UserMap::new(alloc),
             recent: RecentEvents::new(alloc, 0),
+            totals: Totals::none(),
         }
     }
 
@@ -114,6 +120,7 @@ impl Mailbox {
         sort_by_uid(&mut messages);
         sort_by_place(&mut gone);
         count_all(&mut own, &messages);
+        let totals = Totals::of(&messages);
         Ok(Mailbox {
             messages,
             gone,
@@ -121,6 +128,7 @@ impl Mailbox {
             shared,
             own,
             recent: RecentEvents::new(alloc, shared),
+            totals,
         })
     }
 
@@ -139,6 +147,7 @@ impl Mailbox {
             shared: self.shared,
             own,
             recent,
+            totals: self.totals,
         })
     }
 
@@ -190,6 +199,7 @@ impl Mailbox {
     {
         let uid = self.next;
         let place = self.shared;
+        self.totals.add(flags.deleted, octets.as_slice().len());
         self.messages.push_reserved(Message {
             uid,
             date,
@@ -254,7 +264,9 @@ impl Mailbox {
         let (_, gone) = self.gone.split_at(first);
         forget_gone(&mut self.own, gone);
         self.recent.note_all(gone);
+        let went = Totals::of_uids(&self.messages, uids);
         remove_messages(&mut self.messages, &Rising { uids });
+        self.totals.lower(went, &self.messages);
         self.shared = next;
     }
 
@@ -283,6 +295,7 @@ impl Mailbox {
         ensures expunge_room { self.new.expunge_room ≡ self.old.expunge_room }
     {
         let place = self.shared;
+        self.totals.put_deleted(&self.messages, uid, flags.deleted);
         set_message_flags(&mut self.messages, uid, flags, place);
         self.recent.note(uid);
         self.shared = place + 1;
@@ -300,7 +313,9 @@ impl Mailbox {
     {
         let place = self.shared;
         let gone = GoneMessage { uid, place };
+        let went = Totals::of_uids(&self.messages, &[uid]);
         remove_message(&mut self.messages, uid);
+        self.totals.lower(went, &self.messages);
         self.gone.push_reserved(gone);
         forget_gone(&mut self.own, &[gone]);
         self.recent.note(uid);
@@ -458,6 +473,7 @@ impl Mailbox {
             messages: &self.messages,
             own: self.own.get(user),
             recent: &self.recent,
+            totals: self.totals,
         }
     }
 

@@ -15,7 +15,7 @@ use crate::message::{Message, count_lower, find_message};
 use crate::own::OwnSeen;
 use crate::recent_events::RecentEvents;
 use crate::row::{Near, Row, own_is_above, own_row, own_row_near, plain_row};
-use crate::status::{count_deleted, sum_sizes};
+use crate::totals::Totals;
 use std::marker::Model;
 
 /// A walk of fewer messages is quicker than a look at those of last events.
@@ -27,6 +27,7 @@ pub struct Rows<'a> {
     pub(crate) messages: &'a Vec<Message>,
     pub(crate) own: Option<&'a OwnSeen>,
     pub(crate) recent: &'a RecentEvents,
+    pub(crate) totals: Totals,
 }
 
 impl<'a> Model for Rows<'a> {
@@ -38,6 +39,7 @@ impl<'a> Model for Rows<'a> {
     ghost use Rattle.imap_mailbox.specs.Counted.{IsCounted};
     ghost use Rattle.imap_mailbox.specs.Lent.{row_code, own_lent, IsLent};
     ghost use Rattle.imap_mailbox.specs.Recent.{AreRecent};
+    ghost use Rattle.imap_mailbox.specs.Totals.{AreTotals};
 
     ghost Value = { List Row };
 
@@ -47,7 +49,7 @@ impl<'a> Model for Rows<'a> {
 
     ghost invariant = { λ r. IsLent r.messages.now.items (own_lent r.own)
         × IsCounted r.messages.now.items (option_copied r.own)
-        × AreRecent r.recent.now r.messages.now.items };
+        × AreRecent r.recent.now r.messages.now.items × AreTotals r.messages.now.items r.totals };
 }
 
 impl<'a> Rows<'a> {
@@ -178,11 +180,11 @@ impl<'a> Rows<'a> {
         find_message(self.messages, uid)
     }
 
-    /// The number of messages with `\Deleted`, by a walk.
+    /// The number of messages with `\Deleted`, which is kept.
     pub fn deleted_len(&self) -> usize
         ensures { result ≡ deleted_in self.now }
     {
-        count_deleted(self.messages)
+        self.totals.deleted
     }
 
     /// The number of messages without the user's `\Seen`, from the number of seen ones that is kept.
@@ -195,10 +197,10 @@ impl<'a> Rows<'a> {
         }
     }
 
-    /// The number of octets of all messages, by a walk, or 2^63 - 1 if there are more.
+    /// The number of octets of all messages, which is kept, or 2^63 - 1 if there are more.
     pub fn size(&self) -> u64
         ensures { result ≡ min max_size (size_in self.now) }
     {
-        sum_sizes(self.messages)
+        self.totals.size
     }
 }

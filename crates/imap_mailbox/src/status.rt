@@ -7,7 +7,7 @@ ghost use Rattle.imap_mailbox.specs.Status.{max_size};
 use crate::message::Message;
 
 /// The greatest size that STATUS says (RFC 9051, section 9, `number64`).
-const MAX_SIZE: u64 = 9_223_372_036_854_775_807;
+pub(crate) const MAX_SIZE: u64 = 9_223_372_036_854_775_807;
 
 /// Returns the number of messages with `\Deleted`.
 pub(crate) fn count_deleted(messages: &[Message]) -> usize

@@ -2,13 +2,15 @@ use Rattle.std.proofs.Common.{◌≡◌, ◌≤◌, ◌+◌, ◌∙◌, List, le
 use Rattle.imap_modseq.specs.Numbers.{max_events}
 use Rattle.imap_mailbox.specs.declared.own.SeenChange.{SeenChange}
 use Rattle.imap_mailbox.specs.Summary.{Summary, gone_uids}
-use Rattle.imap_mailbox.specs.Expunging.{with_expunges}
+use Rattle.imap_mailbox.specs.Expunging.{with_expunges, without_all}
 use Rattle.imap_mailbox.specs.Held.{Held, summary_in, summary_with, IsKept}
 use Rattle.imap_mailbox.proofs.AllCounted.{gone_counted}
 use Rattle.imap_mailbox.proofs.ExpungedAll.{made_by, kept_expunges}
 use Rattle.imap_mailbox.proofs.Recently.{gone_count, left_noted}
 use Rattle.imap_mailbox.proofs.SeenCounts.{seen_fewer}
 use Rattle.imap_mailbox.specs.Recent.{AreNoted}
+use Rattle.imap_mailbox.specs.declared.message.Message.{Message}
+use Rattle.imap_mailbox.specs.Totals.{AreTotals, AreOfGone}
 use Rattle.imap_mailbox.proofs.mailbox.Mailbox.expunge_all_reserved.Goals as goal
 
 pub invariant_of-self : goal.invariant_of-self
@@ -29,6 +31,7 @@ invariant_of-self c =
       subst (λ n. AreNoted n c.remove_messages.new.messages.items c.note_all.new.self) next
           (subst (λ messages. AreNoted (c.self.inside.shared + length c.split_at.result.1.now) messages c.note_all.new.self) (sym c.remove_messages.ensures.items)
           (left_noted c.self.inside.recent c.note_all.new.self c.self.inside.shared (length c.split_at.result.1.now) _ c.self.inside.messages.items c.note_all.ensures.ends c.note_all.ensures.kept c.self.invariant.2)),
+      subst (λ (messages : List Message). AreTotals messages c.lower.new.self) c.deref-4.ensures.value c.lower.ensures,
     )
 
 pub returns-clause-contents : goal.returns-clause-contents
@@ -44,3 +47,12 @@ note_all-requires c =
     let gone = gone_count c.self.inside.gone.items c.push_gone-next.new.gone.items c.split_at.result.1.now c.self.inside.shared c.len-first.result c.args.uids.now c.deref.result.now c.push_gone-next.ensures.items first
     (c.split_at.ensures.back ∙ ap (drop c.len-first.result) c.deref-2.ensures.value) in
     omega (arith, few, gone.1, c.self.invariant.2.ends)
+
+pub lower-requires : goal.lower-requires
+lower-requires c = record {
+  all = c.self.inside.messages.items;
+  whole = c.self.invariant.3;
+  gone = subst (λ (left : List Message). AreOfGone c.self.inside.messages.items left c.of_uids-went.result)
+      (sym c.remove_messages.ensures.items ∙ sym c.deref-4.ensures.value)
+      (subst (λ (messages : List Message). AreOfGone messages (without_all (c.args.uids.now) messages) c.of_uids-went.result) c.deref-3.ensures.value c.of_uids-went.ensures);
+}

@@ -5,6 +5,7 @@ use Rattle.imap_mailbox.specs.Parts.{Restores}
 use Rattle.imap_mailbox.specs.Restored.{AreMessages, Checks, FitAll}
 use Rattle.imap_mailbox.specs.Counted.{AreCounted}
 use Rattle.imap_mailbox.specs.Summary.{AreRising, uids_in}
+use Rattle.imap_mailbox.specs.Totals.{AreTotals}
 use Rattle.imap_mailbox.proofs.FromParts.{rising_of, kept_of, bad_messages, bad_own, asked_moved, passed}
 use Rattle.imap_mailbox.proofs.Recently.{nothing_noted}
 use Rattle.imap_mailbox.proofs.mailbox.Mailbox.from_parts.Goals as goal
@@ -35,6 +36,7 @@ invariant_of-result c =
       kept,
       subst (λ (ms : List Message). AreCounted ms c.count_all.new.own) c.deref-3.ensures.value c.count_all.ensures.counted,
       nothing_noted parts.shared c.sort_by_uid.new.messages.items c.new.result c.new.ensures kept.sound.place,
+      subst (λ (ms : List Message). AreTotals ms c.of-totals.result) c.deref-4.ensures.value c.of-totals.ensures,
     )
 
 pub count_all-requires : goal.count_all-requires

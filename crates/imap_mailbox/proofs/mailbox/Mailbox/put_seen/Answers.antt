@@ -19,4 +19,5 @@ invariant_of-self c =
           (kept_marked c.args.user.now c.args.uid c.args.seen s known few c.self.invariant.0),
       c.mark_own.ensures.counted c.self.inside.messages.items (1, c.self.inside.next, uids) there c.self.invariant.1,
       c.self.invariant.2,
+      c.self.invariant.3,
     )

@@ -1,4 +1,4 @@
-use Rattle.std.proofs.Common.{◌≡◌, true, ◌<◌, ◌+◌, ◌∙◌, List, [], ◌∷◌, ap, sym, subst}
+use Rattle.std.proofs.Common.{◌≡◌, true, ◌<◌, ◌+◌, ◌∙◌, List, [], ◌∷◌, ap, sym, subst, arith}
 use Rattle.imap_modseq.specs.Numbers.{max_events}
 use Rattle.imap_mailbox.specs.Rows.{Expunged}
 use Rattle.imap_mailbox.specs.declared.message.Message.{Message}
@@ -11,6 +11,9 @@ use Rattle.imap_mailbox.proofs.SeenCounts.{seen_without}
 use Rattle.imap_mailbox.proofs.Keeping.{kept_step}
 use Rattle.imap_mailbox.proofs.Recently.{kept_message, left_noted, one_more}
 use Rattle.imap_mailbox.specs.Recent.{AreNoted}
+use Rattle.imap_mailbox.specs.Expunging.{without_all}
+use Rattle.imap_mailbox.specs.Totals.{AreTotals, AreOfGone}
+use Rattle.imap_mailbox.proofs.Summing.{one_left}
 use Rattle.imap_mailbox.proofs.mailbox.Mailbox.remove.Goals as goal
 
 pub invariant_of-self : goal.invariant_of-self
@@ -26,7 +29,20 @@ invariant_of-self c =
       subst (λ messages. AreNoted (c.self.inside.shared + 1) messages c.note.new.self) (sym c.remove_message.ensures.items)
           (left_noted c.self.inside.recent c.note.new.self c.self.inside.shared 1 _ messages (one_more c.self.inside.recent c.note.new.self c.args.uid c.note.ensures)
           (kept_message c.self.inside.recent c.note.new.self c.args.uid c.note.ensures) c.self.invariant.2),
+      subst (λ (messages : List Message). AreTotals messages c.lower.new.self) c.deref-2.ensures.value c.lower.ensures,
     )
 
 pub note-requires : goal.note-requires
 note-requires c = subst (λ n. n < max_events) (sym c.self.invariant.2.ends) (subst (λ (h : Held). h.shared < max_events) (sym c.self.view_is) c.requires.few)
+
+pub lower-requires : goal.lower-requires
+lower-requires c = record {
+  all = c.self.inside.messages.items;
+  whole = c.self.invariant.3;
+  gone = subst (λ (left : List Message). AreOfGone c.self.inside.messages.items left c.of_uids-went.result)
+      (one_left c.args.uid c.self.inside.messages.items c.remove_message.new.messages.items c.remove_message.ensures.items ∙ sym c.deref-2.ensures.value)
+      (subst (λ (messages : List Message). AreOfGone messages (without_all (c.args.uid ∷ []) messages) c.of_uids-went.result) c.deref.ensures.value c.of_uids-went.ensures);
+}
+
+pub of_uids-went-requires-clause-uids : goal.of_uids-went-requires-clause-uids
+of_uids-went-requires-clause-uids c = (c.args.uid, c.args.uid + 1, (omega arith, omega arith))

@@ -8,4 +8,5 @@ invariant_of-self c = (
       c.self.invariant.0,
   c.reserve_own.ensures.counted c.self.inside.messages.items c.self.invariant.1,
   c.self.invariant.2,
+  c.self.invariant.3,
 )

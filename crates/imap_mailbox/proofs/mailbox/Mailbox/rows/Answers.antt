@@ -14,6 +14,7 @@ invariant_of-result c = (
   lent (summary_with c.self.inside.messages.items c.self.inside.gone.items c.self.inside.next c.self.inside.shared c.self.inside.own) c.args.user.now _ c.self.invariant.0 (own_is c.self.inside.own c.args.user.now c.get.result c.get.ensures),
   subst (IsCounted c.self.inside.messages.items) (sym c.get.ensures) (c.self.invariant.1 c.args.user.now),
   c.self.invariant.2.recent,
+  c.self.invariant.3,
 )
 
 pub returns-clause-rows : goal.returns-clause-rows
