@@ -99,7 +99,7 @@ pub record AreSoFar (left later : List Message) (t : Totals) : Type 0 where
   pub deleted : t.deleted + deleted_of left ≡ deleted_of later
   pub size : min max_size (t.size + size_of left) ≡ min max_size (size_of later)
 
-rising_after : (low high : ℕ) (us : List ℕ) (i d : ℕ) → Rises low high us → i < length us → Rises (get_or us i d + 1) high (drop (i + 1) us)
+rising_after : (low high : ℕ) (us : List ℕ) (i d : ℕ) → Rises low high us → i < length us → Rises (get_or us i d + 1) high (drop (suc i) us)
 rising_after low high [] i d h lt = absurd (omega arith)
 rising_after low high (u ∷ us) zero d h lt = h.1
 rising_after low high (u ∷ us) (suc i) d h lt = rising_after (u + 1) high us i d h.1 (omega arith)
@@ -108,7 +108,8 @@ pub one_further : (low high : ℕ) (uids : List ℕ) (messages left : List Messa
     → IsWithAny (get_or uids i 0) messages old new → AreSoFar left (without_all (drop i uids) messages) old → AreSoFar left (without_all (drop (i + 1) uids) messages) new
 one_further low high uids messages left i old new h lt one before =
     let uid = get_or uids i 0 in
-    let rises = rising_after low high uids i 0 h lt in
+    let next : suc i ≡ i + 1 = omega arith in
+    let rises = subst (λ k. Rises (uid + 1) high (drop k uids)) next (rising_after low high uids i 0 h lt) in
     let here : drop i uids ≡ uid ∷ drop (i + 1) uids = drop_more uids i 0 lt in
     let deleted : deleted_of (without_all (drop i uids) messages) ≡ deleted_of (without_all (uid ∷ drop (i + 1) uids) messages) = ap (λ us. deleted_of (without_all us messages)) here in
     let octets : size_of (without_all (drop i uids) messages) ≡ size_of (without_all (uid ∷ drop (i + 1) uids) messages) = ap (λ us. size_of (without_all us messages)) here in
