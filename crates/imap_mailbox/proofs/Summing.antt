@@ -1,9 +1,9 @@
 -- Sums over the messages of a mailbox.
-use Rattle.std.proofs.Common.{◌≡◌, ℕ, zero, suc, ◌+◌, ◌-◌, ◌<◌, ◌≤◌, eqb, not, ◌||◌, Bool, true, false, cond, List, [], ◌∷◌, ◌++◌, length, map, drop, get_or, set, Option, Some, None, refl, sym, ap, subst, ◌∙◌, arith}
-use Rattle.std.specs.Prelude.{min, count_by}
+use Rattle.std.proofs.Common.{◌≡◌, ℕ, zero, suc, ◌+◌, ◌-◌, ◌<◌, ◌≤◌, eqb, not, ◌||◌, Bool, true, false, cond, List, [], ◌∷◌, ◌++◌, length, map, drop, get_or, set, Some, None, refl, sym, ap, subst, ◌∙◌, arith}
+use Rattle.std.specs.Prelude.{min}
 use Rattle.std.specs.List.{sum_by}
 use Rattle.std.proofs.lemmas.Bool.{eqb-true}
-use Rattle.std.proofs.lemmas.List.{drop_all, drop_more, length-set}
+use Rattle.std.proofs.lemmas.List.{drop_all, drop_more}
 use Rattle.std.proofs.lemmas.List.Sums.{sum_by-cons, sum_by-set, sum_by_push, count_by-le-length, get_or-le-sum_by}
 use Rattle.imap_mailbox.specs.declared.flags.SharedFlags.{SharedFlags}
 use Rattle.imap_mailbox.specs.declared.message.Message.{Message}
@@ -12,7 +12,7 @@ use Rattle.imap_mailbox.specs.Expunging.{without_all}
 use Rattle.imap_mailbox.specs.Lent.{place_in}
 use Rattle.imap_mailbox.specs.Rows.{is_among}
 use Rattle.imap_mailbox.specs.Status.{deleted_in, size_in, max_size}
-use Rattle.imap_mailbox.specs.Summary.{Rises, AreRising, uids_in, flags_in, row_in, without}
+use Rattle.imap_mailbox.specs.Summary.{Rises, uids_in, flags_in, row_in, without}
 use Rattle.imap_mailbox.specs.declared.own.SeenChange.{SeenChange}
 use Rattle.imap_mailbox.specs.Totals.{AreTotals, AreOfGone, IsWith, IsWithAny, deleted_of, size_of}
 use Rattle.imap_mailbox.proofs.Accounts.{turned}

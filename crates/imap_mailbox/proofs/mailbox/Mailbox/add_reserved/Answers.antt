@@ -1,4 +1,4 @@
-use Rattle.std.proofs.Common.{◌≡◌, ◌<◌, ◌+◌, ◌∙◌, length, refl, ap, sym, subst, arith}
+use Rattle.std.proofs.Common.{◌<◌, ◌+◌, length, refl, ap, sym, subst, arith}
 use Rattle.imap_modseq.specs.Numbers.{max_events}
 use Rattle.imap_mailbox.specs.declared.message.Message.{Message}
 use Rattle.imap_mailbox.specs.Counted.{AreCounted}

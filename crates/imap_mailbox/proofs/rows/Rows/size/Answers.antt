@@ -1,7 +1,6 @@
 use Rattle.std.proofs.Common.{◌∙◌, ap}
 use Rattle.std.specs.Prelude.{min}
 use Rattle.imap_mailbox.specs.Lent.{own_lent}
-use Rattle.imap_mailbox.specs.Rows.{Row}
 use Rattle.imap_mailbox.specs.Status.{size_in, max_size}
 use Rattle.imap_mailbox.proofs.Summing.{size_shown}
 use Rattle.imap_mailbox.proofs.rows.Rows.size.Goals as goal
