@@ -1,7 +1,9 @@
 -- Several messages that are expunged, by lists.
-use Rattle.std.proofs.Common.{◌≡◌, ◌≢◌, ⊎_elim, ℕ, zero, suc, ◌+◌, ◌<◌, ◌≤◌, eqb, Bool, true, false, cond, not, ◌||◌, List, [], ◌∷◌, ◌++◌, append_assoc, append-nil, length, get_or, Result, Ok, Err, refl, sym, ap, ◌∙◌, arith}
+use Rattle.std.proofs.Common.{◌≡◌, ◌≢◌, ⊎_elim, ℕ, zero, suc, ◌+◌, ◌-◌, ◌<◌, ◌≤◌, eqb, Bool, true, false, cond, not, ◌||◌, List, [], ◌∷◌, ◌++◌, filter, append_assoc, append-nil, length, get_or, Result, Ok, Err, refl, sym, ap, ◌∙◌, arith}
 use Rattle.std.proofs.lemmas.Bool.{cases_lt, eqb-true, ne_eqb, eq-eqb}
 use Rattle.std.proofs.lemmas.List.Sorted.{searched}
+use Rattle.std.specs.List.{items_where_true}
+use Rattle.std.specs.List.Retain.{IsFiltered, ReturnsInTurn}
 use Rattle.std.specs.Result.{is_ok}
 use Rattle.std.specs.Ordering.{nat_cmp}
 use Rattle.std.specs.List.Sorted.{IsBinarySearchResult}
@@ -83,7 +85,7 @@ there_pushed uid place uids messages gone new t made =
 
 -- ---- a search
 
-among_at : (x : ℕ) (xs : List ℕ) (i : ℕ) → i < length xs → get_or xs i 0 ≡ x → is_among x xs ≡ true
+pub among_at : (x : ℕ) (xs : List ℕ) (i : ℕ) → i < length xs → get_or xs i 0 ≡ x → is_among x xs ≡ true
 among_at x [] i lt e = absurd (omega arith)
 among_at x (y ∷ xs) zero lt e = ap (λ b. b || is_among x xs) (eq-eqb y x e)
 among_at x (y ∷ xs) (suc i) lt e = ap (λ b. eqb y x || b) (among_at x xs i (omega arith) e) ∙ or_true (eqb y x)
@@ -96,16 +98,44 @@ among_none : (x : ℕ) (xs : List ℕ) → ((k : ℕ) → k < length xs → get_
 among_none x [] h = refl
 among_none x (y ∷ xs) h = ap (λ b. b || is_among x xs) (ne_eqb y x (h 0 (omega arith))) ∙ among_none x xs (λ k lt. h (suc k) (omega arith))
 
+pub among_between : (x : ℕ) (xs : List ℕ) (i : ℕ) → ((k : ℕ) → k < i → get_or xs k 0 < x) → ((k : ℕ) → i ≤ k → k < length xs → x < get_or xs k 0) → is_among x xs ≡ false
+among_between x xs i low high = among_none x xs (λ k lt same. ⊎_elim
+    (λ below. let less = low k below in omega (arith, less, same))
+    (λ above. let more = high k above lt in omega (arith, more, same))
+    (cases_lt k i))
+
+pub low_before : (x : ℕ) (xs : List ℕ) (i : ℕ) → AreRising xs → i ≤ length xs → get_or xs (i - 1) 0 < x → (k : ℕ) → k < i → get_or xs k 0 < x
+low_before x xs i h le less k lt = let most = up h.0 h.1 xs k (i - 1) 0 h.2 (omega arith) (omega arith) in omega (arith, most, less)
+
+pub high_from : (x : ℕ) (xs : List ℕ) (i : ℕ) → AreRising xs → x < get_or xs i 0 → (k : ℕ) → i ≤ k → k < length xs → x < get_or xs k 0
+high_from x xs i h more k le lt = let least = up h.0 h.1 xs i k 0 h.2 le lt in omega (arith, least, more)
+
 pub search_tells : (xs : List ℕ) (x : ℕ) (r : Result ℕ ℕ) (b : Bool) → AreRising xs → b ≡ is_ok r → IsBinarySearchResult (λ y. nat_cmp y x) xs r → b ≡ is_among x xs
 search_tells xs x (Ok i) b h e found =
     let is = searched xs x (Ok i) found (λ i j le lt. up h.0 h.1 xs i j 0 h.2 le lt) in
     e ∙ sym (among_at x xs i is.0 is.1)
 search_tells xs x (Err i) b h e found =
     let is = searched xs x (Err i) found (λ i j le lt. up h.0 h.1 xs i j 0 h.2 le lt) in
-    e ∙ sym (among_none x xs (λ k lt same. ⊎_elim
-    (λ below. let less = is.1 k below in omega (arith, less, same))
-    (λ above. let more = is.2 k above lt in omega (arith, more, same))
-    (cases_lt k i)))
+    e ∙ sym (among_between x xs i is.1 is.2)
+
+-- ---- a test that changes and answers alike
+
+picked : {X : Type 0} (b : Bool) (bs : List Bool) (x : X) (xs : List X) → items_where_true (b ∷ bs) (x ∷ xs) ≡ cond b (x ∷ items_where_true bs xs) (items_where_true bs xs)
+picked true bs x xs = refl
+picked false bs x xs = refl
+
+module _ {X P : Type 0} (R : P → X → Bool → P → Type 0) (I : P → Type 0) (test : X → Bool) (says : (p : P) (x : X) (b : Bool) (q : P) → I p → R p x b q → (b ≡ test x) × I q) where
+  in_turn : (p : P) (bs : List Bool) (xs : List X) (q : P) → I p → length bs ≡ length xs → ReturnsInTurn R p bs xs q → items_where_true bs xs ≡ filter test xs
+  in_turn p [] [] q i len turns = refl
+  in_turn p [] (x ∷ xs) q i len turns = absurd (omega (arith, len))
+  in_turn p (b ∷ bs) [] q i len turns = absurd (omega (arith, len))
+  in_turn p (b ∷ bs) (x ∷ xs) q i len turns =
+      let one = says p x b turns.0 i turns.1 in
+      let rest = in_turn turns.0 bs xs q one.1 (omega (arith, len)) turns.2 in
+      picked b bs x xs ∙ ap (λ ys. cond b (x ∷ ys) ys) rest ∙ ap (λ b. cond b (x ∷ filter test xs) (filter test xs)) one.0
+
+  pub filter_kept : (p : P) (xs ys : List X) → I p → IsFiltered R p xs ys → ys ≡ filter test xs
+  filter_kept p xs ys i f = f.4 ∙ in_turn p f.0 xs f.1 i f.2 f.3
 
 -- ---- all
 

@@ -51,6 +51,15 @@ found_at uid (u ∷ us) (suc i) d lt less e =
     place_no uid u us (ne_eqb u uid (λ e. omega (arith, here)))
     ∙ ap (option_map (λ i. i + 1)) (found_at uid us i d (omega arith) (λ k le. less (suc k) (omega arith)) e) ∙ ap Some (let z : i + 1 ≡ suc i = omega arith in z)
 
+-- among numbers that rise
+pub found_rising : (uid low high : ℕ) (us : List ℕ) (i d : ℕ) → Rises low high us → i < length us → get_or us i d ≡ uid → place_in uid us ≡ Some i
+found_rising uid low high [] i d h lt e = absurd (omega arith)
+found_rising uid low high (u ∷ us) zero d h lt e = place_yes uid u us e
+found_rising uid low high (u ∷ us) (suc i) d h lt e =
+    let least = at_least (u + 1) high us i d h.1 (omega arith) in
+    place_no uid u us (ne_eqb u uid (λ same. omega (arith, least, same, e)))
+    ∙ ap (option_map (λ i. i + 1)) (found_rising uid (u + 1) high us i d h.1 (omega arith) e) ∙ ap Some (let z : i + 1 ≡ suc i = omega arith in z)
+
 absent : (uid : ℕ) (us : List ℕ) (d : ℕ) → ((k : ℕ) → k < length us → eqb (get_or us k d) uid ≡ false) → place_in uid us ≡ None
 absent uid [] d differs = refl
 absent uid (u ∷ us) d differs =
@@ -112,6 +121,9 @@ uid_at (m ∷ messages) (suc i) e d lt = uid_at messages i e d (omega arith)
 
 count : (messages : List Message) → length (uids_in messages) ≡ length messages
 count messages = length-map messages (λ (m : Message). m.uid)
+
+pub found_in_messages : (uid low high : ℕ) (messages : List Message) (i : ℕ) (d : Message) → Rises low high (uids_in messages) → i < length messages → (get_or messages i d).uid ≡ uid → place_in uid (uids_in messages) ≡ Some i
+found_in_messages uid low high messages i d h lt e = found_rising uid low high (uids_in messages) i 0 h (omega (arith, count messages, lt)) (uid_at messages i 0 d lt ∙ e)
 
 pub no_decrease : (low high : ℕ) (messages : List Message) → Rises low high (uids_in messages) → IsNonDecreasingBy (λ m. m.uid) messages
 no_decrease low high messages h i j d le lt =

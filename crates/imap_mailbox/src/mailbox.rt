@@ -244,8 +244,8 @@ impl Mailbox {
     }
 
     /// Expunges the messages with these UIDs, in this order, in room that is there. UIDs that no message has
-    /// change nothing. It takes one pass of the messages, a search that halves for each message and UID, and
-    /// for each user with own changes one pass of the UIDs that went.
+    /// change nothing. It passes the messages and the UIDs side by side, and the UIDs that went once for each
+    /// user with own changes.
     pub fn expunge_all_reserved(&mut self, uids: &[u32])
         requires rising { AreRising uids.now }
         requires room { length uids.now ≤ self.old.expunge_room }

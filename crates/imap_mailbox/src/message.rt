@@ -1,6 +1,6 @@
 //! Messages as a mailbox keeps them.
 
-ghost use Rattle.std.specs.Prelude.{◌≡◌, ◌≤◌, ◌==◌, not, map, length, nat_lt, vec_len};
+ghost use Rattle.std.specs.Prelude.{◌≡◌, ◌≤◌, ◌==◌, not, map, length, nat_lt, vec_len, IfSome, Some};
 ghost use Rattle.std.specs.List.{prefix_len};
 ghost use Rattle.std.specs.Vec.{vec_capacity};
 ghost use Rattle.imap_mailbox.specs.Summary.{AreRising, uids_in, without, flags_in};
@@ -9,6 +9,9 @@ ghost use Rattle.imap_mailbox.specs.Lent.{place_in, IsPlaceFor};
 use crate::flags::SharedFlags;
 use imap_lex::Octets;
 use imap_syntax::DateTime;
+
+/// The number of messages that a look-up from a place on looks at before it searches.
+const NEAR_MESSAGES: usize = 32;
 
 /// A message that is there.
 #[derive(Drop)]
@@ -54,6 +57,32 @@ pub(crate) fn find_message(messages: &[Message], uid: u32) -> Option<usize>
     } else {
         None
     }
+}
+
+/// As [`find_message`], by a look at few messages from `near` on before the search. Where UIDs rise, and
+/// `near` is the place that was found last, all look-ups are about one pass of the messages and the UIDs.
+pub(crate) fn find_message_near(messages: &[Message], uid: u32, near: usize) -> Option<usize>
+    requires { AreRising (uids_in messages.now) }
+    ensures { result ≡ place_in uid (uids_in messages.now) }
+{
+    match find_from(messages, uid, near) {
+        Some(place) => Some(place),
+        None => find_message(messages, uid),
+    }
+}
+
+/// Returns the place of the message with the UID if it is one of the first [`NEAR_MESSAGES`] from `near` on.
+fn find_from(messages: &[Message], uid: u32, near: usize) -> Option<usize>
+    requires { AreRising (uids_in messages.now) }
+    ensures { IfSome result (λ place. place_in uid (uids_in messages.now) ≡ Some place) }
+{
+    let end = near.saturating_add(NEAR_MESSAGES).min(messages.len());
+    for place in near..end {
+        if messages[place].uid == uid {
+            return Some(place);
+        }
+    }
+    None
 }
 
 fn put_flags(message: &mut Message, flags: SharedFlags, place: u64)

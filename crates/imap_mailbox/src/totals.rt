@@ -6,7 +6,7 @@ ghost use Rattle.imap_mailbox.specs.Expunging.{without_all};
 ghost use Rattle.imap_mailbox.specs.Summary.{AreRising, uids_in, flags_in};
 ghost use Rattle.imap_mailbox.specs.Totals.{AreTotals, AreOfGone, ArePartedFrom, IsWith, IsWithAny};
 
-use crate::message::{Message, find_message};
+use crate::message::{Message, find_message, find_message_near};
 use crate::status::{MAX_SIZE, count_deleted, sum_sizes};
 
 /// What is kept of all messages of a mailbox.
@@ -39,27 +39,29 @@ impl Totals {
         }
     }
 
-    /// Of those of the messages that have these UIDs, by a search that halves for each.
+    /// Of those of the messages that have these UIDs.
     pub(crate) fn of_uids(messages: &[Message], uids: &[u32]) -> Totals
         requires messages { AreRising (uids_in messages.now) }
         requires uids { AreRising uids.now }
         ensures { AreOfGone messages.now (without_all uids.now messages.now) result }
     {
         let mut totals = Totals::none();
+        let mut near = 0;
         for uid in uids {
-            totals.add_if_there(messages, *uid);
+            totals.add_if_there(messages, *uid, &mut near);
         }
         totals
     }
 
-    /// Adds the message with the UID, if there is one.
-    fn add_if_there(&mut self, messages: &[Message], uid: u32)
+    /// Adds the message with the UID, if there is one, and sets `near` to its place.
+    fn add_if_there(&mut self, messages: &[Message], uid: u32, near: &mut usize)
         requires messages { AreRising (uids_in messages.now) }
         requires few { self.old.deleted + 1 ≤ 18446744073709551615 }
         ensures { IsWithAny uid messages.now self.old self.new }
     {
-        match find_message(messages, uid) {
+        match find_message_near(messages, uid, *near) {
             Some(place) => {
+                *near = place;
                 let message = &messages[place];
                 self.add(message.flags.deleted, message.octets.as_slice().len());
             }
@@ -76,8 +78,8 @@ impl Totals {
         self.size = self.size.saturating_add(len as u64).min(MAX_SIZE);
     }
 
-    /// Takes those of messages that went away. They were there, and `left` are the others, which are walked if
-    /// there were more octets than the size says.
+    /// Takes those of messages that went away. They were there, and `left` are the others, which are walked
+    /// if there were more octets than the size says.
     pub(crate) fn lower(&mut self, went: Totals, left: &[Message])
         requires { ArePartedFrom left.now self.old went }
         ensures { AreTotals left.now self.new }
