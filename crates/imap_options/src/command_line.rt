@@ -19,6 +19,13 @@ pub const VERSION: &str = "0.1.0";
 pub enum Task {
     /// To say whether the database at this path is a sound store.
     Check(String),
+    /// To write the mailboxes of a database as folders of messages.
+    Dump {
+        /// The path of the database.
+        database: String,
+        /// The path of the folder, which is made.
+        folder: String,
+    },
     /// To run the script on standard input.
     Script,
     /// To say which version of the program this is.
@@ -130,6 +137,7 @@ fn command<'a>(alloc: Global, is_whole: bool) -> Result<Command<'a>, AllocError>
         .version(VERSION)
         .subcommand(script)?;
     let command = with_check(alloc, command, is_whole)?;
+    let command = with_dump(alloc, command, is_whole)?;
     with_serve(alloc, command, is_whole)
 }
 
@@ -142,6 +150,11 @@ fn read_matches<S: SecretFiles>(
         Some(("check", found)) => {
             let database = String::from_str(file.alloc(), found.get_str("db").unwrap_or(""))?;
             Ok(Task::Check(database))
+        }
+        Some(("dump", found)) => {
+            let database = String::from_str(file.alloc(), found.get_str("db").unwrap_or(""))?;
+            let folder = String::from_str(file.alloc(), found.get_str("to").unwrap_or(""))?;
+            Ok(Task::Dump { database, folder })
         }
         Some(("script", _)) => Ok(Task::Script),
         Some(("serve", found)) => read_service(secrets, file, found),
@@ -171,6 +184,34 @@ fn check_command<'a>(alloc: Global, is_whole: bool) -> Result<Command<'a>, Alloc
     Command::new(alloc, "check")
         .about("Says how much a store holds, or which of its rows is damaged")
         .arg(database)
+}
+
+/// Adds the subcommand `dump`.
+fn with_dump<'a>(
+    alloc: Global,
+    command: Command<'a>,
+    is_whole: bool,
+) -> Result<Command<'a>, AllocError> {
+    match dump_command(alloc, is_whole) {
+        Ok(dump) => command.subcommand(dump),
+        Err(error) => {
+            drop(command);
+            Err(error)
+        }
+    }
+}
+
+fn dump_command<'a>(alloc: Global, is_whole: bool) -> Result<Command<'a>, AllocError> {
+    let database = option(alloc, "db", "FILE")
+        .help("The database that keeps the mail")
+        .required(is_whole);
+    let folder = option(alloc, "to", "FOLDER")
+        .help("The folder to be made, with a Maildir for each mailbox")
+        .required(is_whole);
+    let command = Command::new(alloc, "dump")
+        .about("Writes all mailboxes of a store as folders of messages")
+        .arg(database)?;
+    command.arg(folder)
 }
 
 /// Adds the subcommand `serve`.

@@ -85,6 +85,10 @@ pub(crate) fn shown_task(
             let text = format!(in alloc; "check {database}")?;
             Ok(text.into_bytes())
         }
+        Ok(Task::Dump { database, folder }) => {
+            let text = format!(in alloc; "dump {database} {folder}")?;
+            Ok(text.into_bytes())
+        }
         Ok(Task::Script) => Vec::from_slice(alloc, b"script"),
         Ok(Task::Version) => Vec::from_slice(alloc, b"version"),
         Ok(Task::Serve { database, service }) => shown_service(alloc, database.as_str(), &service),
@@ -98,6 +102,10 @@ fn reads_command_lines(rt: HostRuntime) {
         (&["imapd", "script"], b"script"),
         (&["imapd", "--version"], b"version"),
         (&["imapd", "check", "--db", "mail.db"], b"check mail.db"),
+        (
+            &["imapd", "dump", "--to", "mail", "--db", "mail.db"],
+            b"dump mail.db mail",
+        ),
         (
             &[
                 "imapd", "serve", "--db", "mail.db", "--admin", "root", "--listen", "ann=1143",
@@ -203,6 +211,7 @@ fn refuses_command_lines(rt: HostRuntime) {
         (&["imapd", "frob"], true),
         (&["imapd", "script", "x"], true),
         (&["imapd", "check"], true),
+        (&["imapd", "dump", "--db", "x"], true),
         (&["imapd", "check", "--db", "x", "--admin", "ann"], true),
         (&["imapd", "--help"], true),
         (&["imapd", "help"], true),

@@ -5,49 +5,52 @@ use imap_keeper::{KeepError, Keeper};
 use imap_options::LogLevel;
 use imap_service::{ServiceError, StoreFault, count_messages, report_service_error};
 use imap_sql_keeper::Finding;
+use imap_world::World;
 use std::fs;
 use std::io::ErrorKind;
 use std::process::ExitCode;
 
 const BROKEN_STREAM: u8 = 3;
 
-/// How much a store holds.
-struct Holding {
-    mailboxes: usize,
-    messages: u64,
-}
+/// Why a store can't be used, and of what the row is that stands for nothing.
+pub(crate) type Fault = (ServiceError, Option<Finding>);
 
 /// Prints how much the store in the file holds. If it can't be used, tells standard error why, as where it is to be served,
 /// and of what the row is that stands for nothing. Returns the exit status: 0, 3 if standard output failed, and else that of
 /// the fault.
 pub(crate) fn check(rt: &HostRuntime, path: &str) -> ExitCode {
-    match look(rt, path) {
-        Ok(held) => {
-            let Holding {
-                mailboxes,
-                messages,
-            } = held;
-            match println!(rt; "{path}: {mailboxes} mailboxes, {messages} messages") {
-                Ok(()) => ExitCode::SUCCESS,
-                Err(_) => ExitCode::from(BROKEN_STREAM),
-            }
-        }
-        Err((error, found)) => {
-            let status = report_service_error(rt, error);
-            if let Some(finding) = found {
-                report_finding(rt, &finding);
-            }
-            status
-        }
+    match load(rt, path) {
+        Ok(world) => report_store(rt, path, &world),
+        Err(fault) => report_fault(rt, fault),
     }
 }
 
-fn look(rt: &HostRuntime, path: &str) -> Result<Holding, (ServiceError, Option<Finding>)> {
+fn report_store(rt: &HostRuntime, path: &str, world: &World) -> ExitCode {
+    let mailboxes = world.mailboxes().len();
+    let messages = count_messages(world);
+    match println!(rt; "{path}: {mailboxes} mailboxes, {messages} messages") {
+        Ok(()) => ExitCode::SUCCESS,
+        Err(_) => ExitCode::from(BROKEN_STREAM),
+    }
+}
+
+/// Tells standard error why a store can't be used. Returns the exit status.
+pub(crate) fn report_fault(rt: &HostRuntime, fault: Fault) -> ExitCode {
+    let (error, found) = fault;
+    let status = report_service_error(rt, error);
+    if let Some(finding) = found {
+        report_finding(rt, &finding);
+    }
+    status
+}
+
+/// Loads the mailboxes of the store in the file. Nobody is served from it afterwards.
+pub(crate) fn load(rt: &HostRuntime, path: &str) -> Result<World, Fault> {
     if let Some(error) = missing(rt, path) {
         return Err((error, None));
     }
     match open(rt, path, LogLevel::Errors) {
-        Ok(keeper) => count(rt, keeper),
+        Ok(keeper) => load_from(rt, keeper),
         Err(error) => Err((error, None)),
     }
 }
@@ -64,35 +67,21 @@ fn missing(rt: &HostRuntime, path: &str) -> Option<ServiceError> {
     }
 }
 
-fn count(
-    rt: &HostRuntime,
-    mut keeper: FileKeeper,
-) -> Result<Holding, (ServiceError, Option<Finding>)> {
+fn load_from(rt: &HostRuntime, mut keeper: FileKeeper) -> Result<World, Fault> {
     match keeper.load(rt.alloc()) {
-        Ok(world) => {
-            drop(keeper);
-            Ok(Holding {
-                mailboxes: world.mailboxes().len(),
-                messages: count_messages(&world),
-            })
-        }
+        Ok(world) => Ok(world),
         Err(KeepError::Damaged) => Err(with_row(keeper.into_finding(rt.alloc()))),
-        Err(error) => {
-            drop(keeper);
-            Err((ServiceError::from(error), None))
-        }
+        Err(error) => Err((ServiceError::from(error), None)),
     }
 }
 
-fn with_row(found: Option<Finding>) -> (ServiceError, Option<Finding>) {
+fn with_row(found: Option<Finding>) -> Fault {
     let damage = match &found {
         Some(finding) => Some(finding.damage),
         None => None,
     };
-    (
-        ServiceError::Store(StoreFault::Damaged).with_row(damage),
-        found,
-    )
+    let error = ServiceError::Store(StoreFault::Damaged).with_row(damage);
+    (error, found)
 }
 
 /// Says of what the row is, and what goes with it.

@@ -1,13 +1,16 @@
 //! The program `imapd`: an IMAP server for shared mailboxes.
 //!
-//! `imapd serve` serves users over TCP. `imapd check` says whether a store is sound. `imapd script` reads a script
+//! `imapd serve` serves users over TCP. `imapd check` says whether a store is sound, and
+//! `imapd dump` writes its mailboxes as folders of messages. `imapd script` reads a script
 //! from standard input, runs it on the server's machine, and writes what each session was told to standard output.
 #![tactic(auto)]
 
 mod checking;
+mod dumping;
 mod store;
 
 use crate::checking::check;
+use crate::dumping::dump_store;
 use crate::store::FileKeeper;
 use imap_host::PARTS;
 use imap_options::{Task, read_command_line};
@@ -22,6 +25,7 @@ fn main(rt: HostRuntime) -> ExitCode {
     let since = Instant::now(&rt).ok();
     match read_command_line(&rt) {
         Ok(Task::Check(database)) => check(&rt, database.as_str()),
+        Ok(Task::Dump { database, folder }) => dump_store(&rt, database.as_str(), folder.as_str()),
         Ok(Task::Script) => match script(&rt, rt.stdin(), rt.stdout()) {
             Ok(()) => ExitCode::SUCCESS,
             Err(error) => report_script_error(&rt, &error),
