@@ -1,5 +1,5 @@
 //! Tests of the worlds of mailboxes, of what users see of them, of the commands, and of the machine that
-//! carries these out.
+//! carries these out; and of mailboxes that are written as folders of messages.
 //!
 //! They stand in a crate of their own, since a crate that has tests is proved twice: once without and
 //! once with them.
@@ -15,6 +15,8 @@ mod keepers;
 mod looks;
 #[cfg(test)]
 mod machine;
+#[cfg(test)]
+mod maildirs;
 #[cfg(test)]
 mod messages;
 #[cfg(test)]

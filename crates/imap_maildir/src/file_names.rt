@@ -12,7 +12,7 @@ pub fn message_file(
     row: &Row<'_>,
     keywords: &KeywordLetters,
 ) -> Result<String, AllocError> {
-    let mut path = front(alloc, folder, row.uid, row.octets.len())?;
+    let mut path = front(alloc, folder, row.uid, row.octets.as_slice().len())?;
     push_letters(&mut path, row)?;
     keywords.push(&mut path, row.flags.keywords.as_slice())?;
     Ok(path)
