@@ -98,6 +98,7 @@ fn numbers_keywords(rt: HostRuntime) {
     expect(&rt, lines(rt.alloc()), b"0 x\n1 w\n");
 }
 
+#[derive(Drop)]
 struct Quiet;
 
 impl Progress for Quiet {

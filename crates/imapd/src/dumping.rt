@@ -10,6 +10,7 @@ const BROKEN_STREAM: u8 = 3;
 const OUT_OF_MEMORY: u8 = 4;
 
 /// Tells a terminal how far it is.
+#[derive(Drop)]
 struct Told<'a> {
     rt: &'a HostRuntime,
     is_terminal: bool,
