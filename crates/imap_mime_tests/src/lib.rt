@@ -1,0 +1,7 @@
+//! Tests of what is told of a message's structure.
+#![tactic(auto)]
+
+#[cfg(test)]
+mod envelopes;
+#[cfg(test)]
+mod wanted;
