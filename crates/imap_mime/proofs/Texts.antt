@@ -1,15 +1,15 @@
 -- Envelopes are text of one line.
-use Rattle.std.proofs.Common.{◌≡◌, ℕ, ◌+◌, ◌^◌, ◌<◌, Bool, true, false, not, cond, ◌||◌, nat_lt, List, [], ◌∷◌, ◌++◌, Option, Some, None, refl, ap, ◌∙◌, length, flat_map, arith}
+use Rattle.std.proofs.Common.{◌≡◌, ℕ, ◌^◌, ◌<◌, Bool, true, false, not, cond, ◌||◌, nat_lt, List, [], ◌∷◌, Option, Some, None, refl, length, flat_map, arith}
 use Rattle.std.specs.Prelude.{codes, ◌==◌}
 use Rattle.std.specs.List.{list_all, list_any}
 use Rattle.std.proofs.lemmas.Bool.Decides.{nat_tests}
-use Rattle.imap_print.specs.Lines.{is_plain, IsPlain, IsHeld}
-use Rattle.imap_print.proofs.Reader.{Settles, settled, settles-append, one_line, quoted_settles, literal_settles, AllSettle, words_settle}
+use Rattle.imap_print.specs.Lines.{IsPlain}
+use Rattle.imap_print.proofs.Reader.{Settles, settled, settles-append, one_line, quoted_settles, literal_settles, words_settle}
 use Rattle.imap_syntax.specs.Written.{is_unquotable, is_quotable, max_announced_octets, quoted_text, literal_text}
 use Rattle.imap_syntax.proofs.Writing.{both_true}
 use Rattle.imap_mime.specs.declared.address.Address.{Address}
-use Rattle.imap_mime.specs.Strings.{is_ascii, is_quoted, held_text, string_text, nstring_text, address_words, address_text, addresses_text}
-use Rattle.imap_mime.specs.Envelope.{Envelope, envelope_words, envelope_text}
+use Rattle.imap_mime.specs.Strings.{is_ascii, is_quoted, held_text, nstring_text, address_words, address_text, addresses_text}
+use Rattle.imap_mime.specs.Envelope.{Envelope, further_words, envelope_text}
 use Rattle.imap_mime.specs.Laws.{EachIsOneLine}
 
 -- ---- strings
@@ -58,7 +58,7 @@ addresses_settle (a ∷ more) = settles-append (settles-append (settled (40 ∷ 
 
 pub envelope_settles : (e : Envelope) → Settles (envelope_text e)
 envelope_settles e =
-    words_settle (envelope_words e)
+    words_settle (nstring_text e.date ∷ further_words e)
     (nstring_settles e.date, (nstring_settles e.subject, (addresses_settle e.from, (addresses_settle e.sender, (addresses_settle e.reply_to, (addresses_settle e.to, (addresses_settle e.cc, (addresses_settle e.bcc, (nstring_settles e.in_reply_to, (nstring_settles e.message_id, tt))))))))))
 
 pub each_is_one_line : EachIsOneLine

@@ -3,11 +3,9 @@ use Rattle.std.specs.Prelude.{ℕ, Bool, true, false, ◌==◌, ◌&&◌, not, L
 use Rattle.std.specs.Prelude.{Option, Some, None, if◌then◌else◌}
 use Rattle.imap_mime.specs.declared.address.Address.{Address}
 use Rattle.imap_mime.specs.declared.addresses.AddressReader.{AddressReader}
-use Rattle.imap_mime.specs.declared.lexical.Lexical.{Lexical}
 use Rattle.imap_mime.specs.declared.lexical.Lexical.TheVariants as lexical
 use Rattle.imap_mime.specs.declared.lexical.Sign.{Sign}
 use Rattle.imap_mime.specs.declared.lexical.Sign.TheVariants as sign
-use Rattle.imap_mime.specs.declared.lexical.SignRead.{SignRead}
 use Rattle.imap_mime.specs.Lexical.{sign_read}
 use Rattle.imap_mime.specs.Parts.{address_of, is_within, no_parts, parts_after}
 

@@ -50,11 +50,11 @@ sender_words e = addresses_text e.from ∷ addresses_text e.sender ∷ addresses
 abbrev pub recipient_words : Envelope → List (List ℕ)
 recipient_words e = addresses_text e.to ∷ addresses_text e.cc ∷ addresses_text e.bcc ∷ []
 
--- the words of `envelope`, in this order
-abbrev pub envelope_words : Envelope → List (List ℕ)
-envelope_words e =
-    nstring_text e.date ∷ nstring_text e.subject ∷ sender_words e ++ recipient_words e
+-- all words of `envelope` but the date, in this order
+abbrev pub further_words : Envelope → List (List ℕ)
+further_words e =
+    nstring_text e.subject ∷ sender_words e ++ recipient_words e
     ++ nstring_text e.in_reply_to ∷ nstring_text e.message_id ∷ []
 
 abbrev pub envelope_text : Envelope → List ℕ
-envelope_text e = in_parentheses (envelope_words e)
+envelope_text e = in_parentheses (nstring_text e.date ∷ further_words e)

@@ -7,7 +7,7 @@ use crate::octet_string::OctetString;
 use std::alloc::{AllocError, Global};
 
 /// Which comments there are.
-#[derive(Clone, Copy, Debug, PartialEq, Eq)]
+#[derive(Clone, Copy)]
 pub enum CommentCount {
     None,
     One,

@@ -1,9 +1,9 @@
 //! Envelopes (RFC 9051, section 7.5.2).
 
-ghost use Rattle.std.specs.Prelude.{◌≡◌, ◌++◌, ◌∷◌, [], OnOk};
+ghost use Rattle.std.specs.Prelude.{◌≡◌, ◌++◌, ◌∷◌, OnOk};
 ghost use Rattle.imap_print.specs.Words.{before_each};
-ghost use Rattle.imap_mime.specs.Envelope.{addresses_or, envelope_of, envelope_text, or_from, recipient_words};
-ghost use Rattle.imap_mime.specs.Envelope.{sender_words};
+ghost use Rattle.imap_mime.specs.Envelope.{addresses_or, envelope_of, envelope_text, further_words};
+ghost use Rattle.imap_mime.specs.Envelope.{recipient_words, sender_words};
 ghost use Rattle.imap_mime.specs.Strings.{addresses_text, nstring_text};
 ghost use Rattle.imap_mime.specs.Values.{all_addresses, first_addresses, first_value};
 
@@ -105,17 +105,26 @@ fn push_recipients(alloc: Global, out: &mut Vec<u8>, header: &[u8]) -> Result<()
     Ok(())
 }
 
+/// Appends all words but the date, each after a space.
+fn push_further_words(alloc: Global, out: &mut Vec<u8>, header: &[u8]) -> Result<(), AllocError>
+    ensures { OnOk result (out.new.items
+        ≡ out.old.items ++ before_each 32 (further_words (envelope_of header.now))) }
+{
+    push_further_value(alloc, out, header, b"Subject")?;
+    push_senders(alloc, out, header)?;
+    push_recipients(alloc, out, header)?;
+    push_further_value(alloc, out, header, b"In-Reply-To")?;
+    push_further_value(alloc, out, header, b"Message-ID")?;
+    Ok(())
+}
+
 /// Appends the envelope of a message with this header, which may have text after it.
 pub fn push_envelope(alloc: Global, out: &mut Vec<u8>, header: &[u8]) -> Result<(), AllocError>
     ensures { OnOk result (out.new.items ≡ out.old.items ++ envelope_text (envelope_of header.now)) }
 {
     out.push(b'(')?;
     push_value(alloc, out, header, b"Date")?;
-    push_further_value(alloc, out, header, b"Subject")?;
-    push_senders(alloc, out, header)?;
-    push_recipients(alloc, out, header)?;
-    push_further_value(alloc, out, header, b"In-Reply-To")?;
-    push_further_value(alloc, out, header, b"Message-ID")?;
+    push_further_words(alloc, out, header)?;
     out.push(b')')?;
     Ok(())
 }

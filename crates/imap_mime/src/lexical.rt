@@ -5,7 +5,7 @@ ghost use Rattle.imap_mime.specs.Lexical.{deeper, is_divider, is_white, read_com
 ghost use Rattle.imap_mime.specs.Lexical.{read_outside, read_quoted, sign_read};
 
 /// Where an octet stands.
-#[derive(Clone, Copy, Debug, PartialEq, Eq)]
+#[derive(Clone, Copy)]
 pub enum Lexical {
     Outside,
     /// In a quoted string.
@@ -21,7 +21,7 @@ pub enum Lexical {
 }
 
 /// What an octet says.
-#[derive(Clone, Copy, Debug, PartialEq, Eq)]
+#[derive(Clone, Copy)]
 pub enum Sign {
     /// An octet of a word.
     Word(u8),

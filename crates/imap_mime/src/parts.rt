@@ -14,7 +14,7 @@ use crate::phrase::Phrase;
 use std::alloc::{AllocError, Global};
 
 /// Where an octet stands.
-#[derive(Clone, Copy, Debug, PartialEq, Eq)]
+#[derive(Clone, Copy)]
 pub enum Place {
     /// Before `<`, if there is one.
     Before,

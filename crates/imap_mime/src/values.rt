@@ -29,8 +29,9 @@ fn trimmed(text: &[u8]) -> &[u8]
 fn value_of(alloc: Global, text: &[u8]) -> Result<OctetString, AllocError>
     ensures { IfOk result (λ value. value ≡ value_of text.now) }
 {
+    let octets = trimmed(text);
     let mut value = OctetString::new(alloc);
-    for octet in trimmed(text) {
+    for octet in octets {
         if is_kept(*octet) {
             value.push(*octet)?;
         }
