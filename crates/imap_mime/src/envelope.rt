@@ -27,7 +27,7 @@ fn push_value(
 }
 
 /// Appends a space and the value of the first field of this name.
-fn push_further_value(
+pub fn push_further_value(
     alloc: Global,
     out: &mut Vec<u8>,
     header: &[u8],

@@ -2,7 +2,7 @@
 //!
 //! [`push_envelope`] reads a header and appends its envelope (RFC 9051, section 7.5.2). Each octet is read once
 //! for each field that is asked for. `specs/Envelope.antt` says what an envelope has, and [`laws`] that a client
-//! reads it as text of one line, whatever the header holds.
+//! reads it as text of one line, whatever the header holds. [`Lexical`] reads structured fields octet by octet.
 #![tactic(auto)]
 
 mod addr_spec;
@@ -20,5 +20,8 @@ mod values;
 
 pub use address::Address;
 pub use addresses::push_addresses_in;
-pub use envelope::push_envelope;
+pub use envelope::{push_envelope, push_further_value};
+pub use lexical::{Lexical, Sign, SignRead};
 pub use octet_string::OctetString;
+pub use strings::{push_nstring, push_string};
+pub use values::first_value;

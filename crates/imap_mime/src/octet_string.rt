@@ -1,6 +1,6 @@
 //! Octets that are gathered.
 
-ghost use Rattle.std.specs.Prelude.{◌≡◌, ◌==◌, ◌++◌, ◌∷◌, [], length, OnOk};
+ghost use Rattle.std.specs.Prelude.{◌≡◌, ◌==◌, ◌++◌, ◌∷◌, [], length, IfOk, OnOk};
 
 use std::alloc::{AllocError, Global};
 use std::marker::Model;
@@ -30,6 +30,16 @@ impl OctetString {
             alloc,
             octets: Vec::new(alloc),
         }
+    }
+
+    /// Returns a copy of a slice.
+    pub fn from_slice(alloc: Global, octets: &[u8]) -> Result<OctetString, AllocError>
+        ensures { IfOk result (λ copy. copy ≡ octets.now) }
+    {
+        Ok(OctetString {
+            alloc,
+            octets: Vec::from_slice(alloc, octets)?,
+        })
     }
 
     /// Appends an octet.

@@ -34,7 +34,8 @@ fn push_held(out: &mut Vec<u8>, octets: &[u8]) -> Result<(), AllocError>
     push_literal(out, octets)
 }
 
-fn push_string(out: &mut Vec<u8>, octets: &[u8]) -> Result<(), AllocError>
+/// Appends a `string`: in quotes if it is ASCII, else a literal.
+pub fn push_string(out: &mut Vec<u8>, octets: &[u8]) -> Result<(), AllocError>
     ensures { OnOk result (out.new.items ≡ out.old.items ++ string_text octets.now) }
 {
     if is_quoted(octets) {
