@@ -4,4 +4,6 @@
 #[cfg(test)]
 mod envelopes;
 #[cfg(test)]
+mod structures;
+#[cfg(test)]
 mod wanted;

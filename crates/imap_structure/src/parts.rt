@@ -2,7 +2,7 @@
 
 ghost use Rattle.std.specs.Prelude.{◌≡◌, ◌++◌, [], IfOk, MatchOption, OnOk, map};
 ghost use Rattle.imap_text.specs.Lines.{lines};
-ghost use Rattle.imap_structure.specs.Parts.{IsFirstPart, found_parts, parts_before, parts_of, parts_within};
+ghost use Rattle.imap_structure.specs.Parts.{IsFirstPart, found_parts, or_empty, parts_before, parts_of, parts_within};
 
 use crate::delimiter::{Delimiter, delimiter_of};
 use crate::lines::{split_line, without_end};
@@ -102,6 +102,18 @@ fn push_found<'a>(
     }
 }
 
+/// Appends an empty part if there is none.
+fn push_if_none<'a>(body: &'a [u8], parts: &mut Vec<&'a [u8]>) -> Result<(), AllocError>
+    ensures { OnOk result (map (λ part. part.now) parts.new.items
+        ≡ or_empty (map (λ part. part.now) parts.old.items)) }
+{
+    if !parts.is_empty() {
+        return Ok(());
+    }
+    parts.push(&body[..0])?;
+    Ok(())
+}
+
 /// Returns the parts of a multipart with this boundary. One that has none has an empty part.
 pub(crate) fn parts_of<'a>(
     alloc: Global,
@@ -112,8 +124,6 @@ pub(crate) fn parts_of<'a>(
 {
     let mut parts = Vec::new(alloc);
     push_found(boundary, body, &mut parts)?;
-    if parts.is_empty() {
-        parts.push(&body[..0])?;
-    }
+    push_if_none(body, &mut parts)?;
     Ok(parts)
 }

@@ -24,7 +24,8 @@ pub const MAX_DEPTH: u32 = 64;
 fn text(octets: &[u8]) -> &[u8]
     ensures { result.now ≡ text octets.now }
 {
-    &octets[header_length(octets)..]
+    let (_, text) = octets.split_at(header_length(octets));
+    text
 }
 
 /// Appends a part that is told with its size alone.
@@ -69,7 +70,8 @@ fn push_limit(
     ensures { OnOk result (out.new.items ≡ out.old.items ++ limit_text extended octets.now) }
 {
     let media = type_of(alloc, b"application", b"octet-stream")?;
-    push_other(alloc, out, extended, &media, octets)
+    push_other(alloc, out, extended, &media, octets)?;
+    Ok(())
 }
 
 /// Appends what is told of a multipart after its parts.
@@ -197,10 +199,12 @@ fn push_part(
         ++ structure_text extended depth in_digest octets.now) }
 {
     if depth == 0 {
-        return push_limit(alloc, out, extended, octets);
+        push_limit(alloc, out, extended, octets)?;
+        return Ok(());
     }
     let media = media_of(alloc, octets, in_digest)?;
-    push_entity(alloc, out, extended, depth - 1, &media, octets)
+    push_entity(alloc, out, extended, depth - 1, &media, octets)?;
+    Ok(())
 }
 
 /// Appends the structure of a message: BODYSTRUCTURE, or BODY if `extended` is false.
