@@ -10,12 +10,14 @@ use Rattle.imap_print.specs.Lines.{IsPlain, IsHeld, IsPrintable, flags_keywords,
 use Rattle.imap_print.specs.Words.{given_by}
 use Rattle.imap_print.proofs.Reader.{Settles, settled, settles-append, literal_settles, AllSettle, all_settle-append, words_settle}
 use Rattle.imap_print.proofs.OneLine.{number_settles, body_settles, items_settle}
+use Rattle.imap_mime.specs.Envelope.{envelope_of}
+use Rattle.imap_mime.proofs.Texts.{envelope_settles}
 use Rattle.imap_rev1_frames.specs.declared.asked.Asked.{Asked}
 use Rattle.imap_rev1_frames.specs.declared.asked.Asked.TheVariants as asked
 use Rattle.imap_rev1_frames.specs.declared.asked.Label.{Label}
 use Rattle.imap_rev1_frames.specs.declared.asked.Label.TheVariants as label
 use Rattle.imap_rev1_frames.specs.Asked.{label_name}
-use Rattle.imap_rev1.specs.Labels.{stands_for, has_label, from_other, first_of, section_for, rest_after, labelled_text, asked_text, asked_words, all_asked_words, fetch_words, fetch_text}
+use Rattle.imap_rev1.specs.Labels.{stands_for, has_label, from_other, first_of, section_for, rest_after, labelled_contents, labelled_text, asked_text, asked_words, all_asked_words, fetch_words, fetch_text}
 
 -- ---- a section
 
@@ -28,9 +30,16 @@ label_settles : (l : Label) → Settles (label_name l)
 label_settles label.Message = settled _ refl
 label_settles label.Header = settled _ refl
 label_settles label.Text = settled _ refl
+label_settles label.Envelope = settled _ refl
+
+contents_settle : (l : Label) (octets : List ℕ) → IsHeld octets → Settles (labelled_contents l octets)
+contents_settle label.Message octets held = literal_settles octets held
+contents_settle label.Header octets held = literal_settles octets held
+contents_settle label.Text octets held = literal_settles octets held
+contents_settle label.Envelope octets held = envelope_settles (envelope_of octets)
 
 labelled_settles : (l : Label) (body : FetchedSection) → IsFine body → Settles (labelled_text l body)
-labelled_settles l body h = settles-append (settles-append (label_settles l) (settled (codes " ") refl)) (literal_settles (concat body.octets) h.held)
+labelled_settles l body h = settles-append (settles-append (label_settles l) (settled (codes " ") refl)) (contents_settle l (concat body.octets) h.held)
 
 asked_settles : (a : Asked) (body : FetchedSection) → IsFine body → Settles (asked_text a body)
 asked_settles (asked.Labelled l) body h = labelled_settles l body h

@@ -1,5 +1,5 @@
 -- Words that are written in place of others leave lines and their marks.
-use Rattle.std.proofs.Common.{◌≡◌, ◌∙◌, ap, sym, refl, ℕ, Bool, true, false, cond, ◌||◌, List, [], ◌∷◌, ◌++◌, append_assoc, append-nil, arith, Some, None}
+use Rattle.std.proofs.Common.{◌≡◌, ◌∙◌, ap, sym, refl, ℕ, Bool, true, false, cond, ◌||◌, List, [], ◌∷◌, ◌++◌, append_assoc, append-nil, arith, Option, Some, None}
 use Rattle.std.specs.Prelude.{codes, ◌==◌}
 use Rattle.std.specs.Char.{is_ascii_alphabetic, is_ascii_digit, to_ascii_lowercase}
 use Rattle.std.specs.List.{list_all}
@@ -17,7 +17,8 @@ use Rattle.imap_rev1_frames.specs.declared.named.Named.{Named}
 use Rattle.imap_rev1_frames.specs.declared.named.Named.TheVariants as named
 use Rattle.imap_rev1_frames.specs.declared.scan.Scan.{Scan}
 use Rattle.imap_rev1_frames.specs.declared.asked.Label.TheVariants as label
-use Rattle.imap_rev1_frames.specs.Asked.{section_by}
+use Rattle.imap_rev1_frames.specs.declared.asked.Label.{Label}
+use Rattle.imap_rev1_frames.specs.Asked.{section_by, envelope_section}
 use Rattle.imap_rev1_frames.specs.Named.{is_word}
 use Rattle.imap_rev1_frames.specs.Scan.{is_in_word, exchanged, item_for, fetch_item_for, word_for, is_item, written_word, after_word, after_octet, written}
 
@@ -94,12 +95,31 @@ item_alike : (is_item : Bool) (octets : List ℕ) → Alike octets (item_for is_
 item_alike true octets = exchanged_alike (codes "RECENT") (codes "MESSAGES") octets refl (λ t. refl) refl
 item_alike false octets = same_alike octets
 
+envelope_tail : (all : Bool) (t : LineTail) → with_octets t (cond all (codes "(FLAGS INTERNALDATE RFC822.SIZE BODY.PEEK[HEADER])") (codes "BODY.PEEK[HEADER]")) ≡ text
+envelope_tail true t = refl
+envelope_tail false t = refl
+
+envelope_plain : (all : Bool) → list_all is_plain (cond all (codes "(FLAGS INTERNALDATE RFC822.SIZE BODY.PEEK[HEADER])") (codes "BODY.PEEK[HEADER]")) ≡ true
+envelope_plain true = refl
+envelope_plain false = refl
+
+envelope_alike : (word octets : List ℕ) → is_name word ≡ true → is_word word octets ≡ true → Alike octets (envelope_section octets)
+envelope_alike word octets name h = other_alike word (envelope_section octets) octets name h (envelope_tail (is_word (codes "ALL") octets)) (envelope_plain (is_word (codes "ALL") octets))
+
+envelope_alike_by : (octets : List ℕ) (envelope all : Bool) → is_word (codes "ENVELOPE") octets ≡ envelope → is_word (codes "ALL") octets ≡ all → Alike octets (section_by (cond (envelope || all) (Some label.Envelope) None) octets)
+envelope_alike_by octets true all e f = envelope_alike (codes "ENVELOPE") octets refl e
+envelope_alike_by octets false true e f = envelope_alike (codes "ALL") octets refl f
+envelope_alike_by octets false false e f = same_alike octets
+
+abbrev envelope_label : List ℕ → Option Label
+envelope_label octets = cond (is_word (codes "ENVELOPE") octets || is_word (codes "ALL") octets) (Some label.Envelope) None
+
 fetch_alike_by : (octets : List ℕ) (message header body : Bool) → is_word (codes "RFC822") octets ≡ message → is_word (codes "RFC822.HEADER") octets ≡ header → is_word (codes "RFC822.TEXT") octets ≡ body
-    → Alike octets (section_by (cond message (Some label.Message) (cond header (Some label.Header) (cond body (Some label.Text) None))) octets)
+    → Alike octets (section_by (cond message (Some label.Message) (cond header (Some label.Header) (cond body (Some label.Text) (envelope_label octets)))) octets)
 fetch_alike_by octets true header body e f g = other_alike (codes "RFC822") (codes "BODY[]") octets refl e (λ t. refl) refl
 fetch_alike_by octets false true body e f g = other_alike (codes "RFC822.HEADER") (codes "BODY.PEEK[HEADER]") octets refl f (λ t. refl) refl
 fetch_alike_by octets false false true e f g = other_alike (codes "RFC822.TEXT") (codes "BODY[TEXT]") octets refl g (λ t. refl) refl
-fetch_alike_by octets false false false e f g = same_alike octets
+fetch_alike_by octets false false false e f g = envelope_alike_by octets _ _ refl refl
 
 fetch_alike : (is_item : Bool) (octets : List ℕ) → Alike octets (fetch_item_for is_item octets)
 fetch_alike true octets = fetch_alike_by octets _ _ _ refl refl refl

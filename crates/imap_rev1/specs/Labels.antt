@@ -9,6 +9,7 @@ use Rattle.imap_print.specs.declared.fetch.FetchedSection.{FetchedSection}
 use Rattle.imap_print.specs.Fetched.{body_text, item_words}
 use Rattle.imap_print.specs.Words.{given_by, in_parentheses}
 use Rattle.imap_syntax.specs.Written.{literal_text}
+use Rattle.imap_mime.specs.Envelope.{envelope_of, envelope_text}
 use Rattle.imap_rev1_frames.specs.declared.asked.Asked.{Asked}
 use Rattle.imap_rev1_frames.specs.declared.asked.Asked.TheVariants as asked
 use Rattle.imap_rev1_frames.specs.declared.asked.Label.{Label}
@@ -20,6 +21,7 @@ use Rattle.imap_rev1_frames.specs.Asked.{label_name}
 abbrev pub is_of : Label → Section → Bool
 is_of label.Message section.Whole = true
 is_of label.Header section.Header = true
+is_of label.Envelope section.Header = true
 is_of label.Text section.Text = true
 is_of _ _ = false
 
@@ -53,8 +55,13 @@ rest_after _ rest = rest
 
 -- ---- words
 
+-- what is told of the section's octets
+abbrev pub labelled_contents : Label → List ℕ → List ℕ
+labelled_contents label.Envelope octets = envelope_text (envelope_of octets)
+labelled_contents _ octets = literal_text octets
+
 abbrev pub labelled_text : Label → FetchedSection → List ℕ
-labelled_text l body = label_name l ++ codes " " ++ literal_text (concat body.octets)
+labelled_text l body = label_name l ++ codes " " ++ labelled_contents l (concat body.octets)
 
 -- how the section is told
 abbrev pub asked_text : Asked → FetchedSection → List ℕ

@@ -8,19 +8,18 @@ ghost use Rattle.imap_rev1.specs.Labels.{all_asked_words, asked_text, asked_word
 ghost use Rattle.imap_rev1.specs.Labels.{from_other, has_label, is_of, labelled_text, rest_after};
 ghost use Rattle.imap_rev1.specs.Labels.{section_for, stands_for};
 
-use imap_print::{
-    FetchedItems, FetchedSection, Pieces, print_fetch_front, print_literal, print_section,
-};
+use crate::contents::push_contents;
+use imap_print::{FetchedItems, FetchedSection, Pieces, print_fetch_front, print_section};
 use imap_query::Section;
 use imap_rev1_frames::{Asked, Label};
-use std::alloc::AllocError;
+use std::alloc::{AllocError, Global};
 
 fn is_of(label: Label, section: &Section) -> bool
     ensures { result ≡ is_of label section.now }
 {
     match section {
         Section::Whole => matches!(label, Label::Message),
-        Section::Header => matches!(label, Label::Header),
+        Section::Header => matches!(label, Label::Header | Label::Envelope),
         Section::Text => matches!(label, Label::Text),
         _ => false,
     }
@@ -90,20 +89,30 @@ fn rest_after(rest: &[FetchedSection], asked: Asked) -> &[FetchedSection]
     }
 }
 
-fn push_labelled(out: &mut Pieces, label: Label, body: &FetchedSection) -> Result<(), AllocError>
+fn push_labelled(
+    alloc: Global,
+    out: &mut Pieces,
+    label: Label,
+    body: &FetchedSection,
+) -> Result<(), AllocError>
     ensures { OnOk result (octets_of out.new ≡ octets_of out.old ++ labelled_text label body.now) }
 {
     out.push_octets(label.name())?;
     out.push_octets(b" ")?;
-    print_literal(out, &body.octets)
+    push_contents(alloc, out, label, &body.octets)
 }
 
 /// Appends the section as it was asked for.
-fn push_body(out: &mut Pieces, asked: Asked, body: &FetchedSection) -> Result<(), AllocError>
+fn push_body(
+    alloc: Global,
+    out: &mut Pieces,
+    asked: Asked,
+    body: &FetchedSection,
+) -> Result<(), AllocError>
     ensures { OnOk result (octets_of out.new ≡ octets_of out.old ++ asked_text asked body.now) }
 {
     match asked {
-        Asked::Labelled(label) => push_labelled(out, label, body),
+        Asked::Labelled(label) => push_labelled(alloc, out, label, body),
         _ => print_section(out, body),
     }
 }
@@ -116,6 +125,7 @@ fn push_space(out: &mut Pieces, begun: bool) -> Result<(), AllocError>
 
 /// Appends the section for which an item asks, if it is there. Returns whether there is a word by now.
 fn push_asked(
+    alloc: Global,
     out: &mut Pieces,
     begun: bool,
     bodies: &[FetchedSection],
@@ -128,7 +138,7 @@ fn push_asked(
     match section_for(bodies, rest, asked) {
         Some(body) => {
             push_space(out, begun)?;
-            push_body(out, asked, body)?;
+            push_body(alloc, out, asked, body)?;
             Ok(true)
         }
         None => Ok(begun),
@@ -136,6 +146,7 @@ fn push_asked(
 }
 
 fn push_all_asked(
+    alloc: Global,
     out: &mut Pieces,
     begun: bool,
     bodies: &[FetchedSection],
@@ -147,7 +158,7 @@ fn push_all_asked(
     let mut begun = begun;
     let mut rest = bodies;
     for asked in all {
-        begun = push_asked(out, begun, bodies, rest, *asked)?;
+        begun = push_asked(alloc, out, begun, bodies, rest, *asked)?;
         rest = rest_after(rest, *asked);
     }
     Ok(begun)
@@ -155,6 +166,7 @@ fn push_all_asked(
 
 /// Appends the line of a message: its items but the sections, and the sections as they were asked for.
 pub(crate) fn push_fetch(
+    alloc: Global,
     out: &mut Pieces,
     all: &[Asked],
     number: u32,
@@ -164,7 +176,7 @@ pub(crate) fn push_fetch(
         ≡ octets_of out.old ++ (fetch_text all.now number items.now ++ crlf)) }
 {
     let begun = print_fetch_front(out, number, items)?;
-    push_all_asked(out, begun, items.sections.as_slice(), all)?;
+    push_all_asked(alloc, out, begun, items.sections.as_slice(), all)?;
     out.push_octets(b")\r\n")?;
     Ok(())
 }

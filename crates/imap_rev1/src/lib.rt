@@ -2,10 +2,13 @@
 //!
 //! [`Rev1`] speaks it with a client until the client enables IMAP4rev2. CHECK is NOOP, and LSUB is LIST of the
 //! subscribed names. No message is recent: so SEARCH, STATUS and SELECT say. The results of a search are told
-//! as RFC 3501 has them, and FETCH of RFC822, RFC822.HEADER and RFC822.TEXT under these labels.
+//! as RFC 3501 has them, FETCH of RFC822, RFC822.HEADER and RFC822.TEXT under these labels, and that of ENVELOPE
+//! and ALL by the header.
 //! `specs/Rev1.antt` says it whole, and [`laws`] what holds of it.
 #![tactic(auto)]
 
+mod asked_items;
+mod contents;
 mod labels;
 pub mod laws;
 mod rev1;

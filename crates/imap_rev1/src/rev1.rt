@@ -5,6 +5,7 @@ ghost use Rattle.std.specs.List.{list_any};
 ghost use Rattle.imap_rev1_frames.specs.Asked.{is_labelled};
 ghost use Rattle.imap_rev1.specs.Rev1.{enables_rev2, is_lsub, is_search, is_select, rev1, told_by};
 
+use crate::asked_items::AskedItems;
 use crate::labels::push_fetch;
 use crate::telling::{
     push_capability, push_greeting, push_lsub, push_recent, push_search, push_status,
@@ -13,7 +14,6 @@ use imap_dialect::Dialect;
 use imap_lex::Frame;
 use imap_print::{Pieces, Response, print_line};
 use imap_rev1_frames::{Asked, Named, asked_by, named_by, rewritten_frame};
-use imap_syntax::Items;
 use std::alloc::{AllocError, Global};
 
 /// IMAP4rev1 (RFC 3501), until the client enables IMAP4rev2.
@@ -37,7 +37,7 @@ pub struct Rules {
     /// The command in the frame.
     named: Named,
     /// What the items in it ask for.
-    asked: Items<Asked>,
+    asked: AskedItems,
 }
 
 fn is_search(named: Named) -> bool
@@ -92,7 +92,7 @@ impl Dialect for Rev1 {
 
     fn rule(&self, alloc: Global, by: Option<&Frame>) -> Result<Rules, AllocError> {
         let named = named_by(self.rev2, by);
-        let asked = Items::from_vec(asked_by(alloc, named, by)?);
+        let asked = AskedItems::from_vec(alloc, asked_by(alloc, named, by)?);
         Ok(Rules { named, asked })
     }
 
@@ -115,7 +115,8 @@ impl Dialect for Rev1 {
                 items.as_slice(),
             ),
             Response::Fetch { number, items } if has_labels(rule.asked.as_slice()) => {
-                push_fetch(out, rule.asked.as_slice(), *number, items)
+                let asked = &rule.asked;
+                push_fetch(asked.alloc(), out, asked.as_slice(), *number, items)
             }
             _ => print_line(out, reply),
         }

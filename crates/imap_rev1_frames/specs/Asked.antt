@@ -23,19 +23,28 @@ abbrev pub label_name : Label → List ℕ
 label_name label.Message = codes "RFC822"
 label_name label.Header = codes "RFC822.HEADER"
 label_name label.Text = codes "RFC822.TEXT"
+label_name label.Envelope = codes "ENVELOPE"
 
--- the item that asks for the same octets, and sets `\Seen` or not as the label does
-abbrev pub label_section : Label → List ℕ
-label_section label.Message = codes "BODY[]"
-label_section label.Header = codes "BODY.PEEK[HEADER]"
-label_section label.Text = codes "BODY[TEXT]"
+-- The macro ALL stands for these items (RFC 3501, section 6.4.5).
+abbrev pub envelope_section : (word : List ℕ) → List ℕ
+envelope_section word =
+    if is_word (codes "ALL") word then codes "(FLAGS INTERNALDATE RFC822.SIZE BODY.PEEK[HEADER])"
+    else codes "BODY.PEEK[HEADER]"
 
--- the label that the word is
+-- what asks for the same octets, or for those in which it stands, and sets `\Seen` or not as the label does
+abbrev pub label_section : Label → (word : List ℕ) → List ℕ
+label_section label.Message word = codes "BODY[]"
+label_section label.Header word = codes "BODY.PEEK[HEADER]"
+label_section label.Text word = codes "BODY[TEXT]"
+label_section label.Envelope word = envelope_section word
+
+-- the label that the word is, or that it stands for
 abbrev pub label_in : (word : List ℕ) → Option Label
 label_in word =
     if is_word (codes "RFC822") word then Some label.Message
     else (if is_word (codes "RFC822.HEADER") word then Some label.Header
-    else (if is_word (codes "RFC822.TEXT") word then Some label.Text else None))
+    else (if is_word (codes "RFC822.TEXT") word then Some label.Text
+    else (if is_word (codes "ENVELOPE") word || is_word (codes "ALL") word then Some label.Envelope else None)))
 
 -- the label for the section that the word asks for
 abbrev pub label_for : (word : List ℕ) → Option Label
@@ -65,7 +74,7 @@ abbrev pub section_asked : (word : List ℕ) → Option Asked
 section_asked word = labelled_by (label_in word) word
 
 abbrev pub section_by : Option Label → (word : List ℕ) → List ℕ
-section_by (Some l) word = label_section l
+section_by (Some l) word = label_section l word
 section_by None word = word
 
 -- what is asked in place of the word
@@ -78,6 +87,7 @@ abbrev pub is_same_label : Label → Label → Bool
 is_same_label label.Message label.Message = true
 is_same_label label.Header label.Header = true
 is_same_label label.Text label.Text = true
+is_same_label label.Envelope label.Envelope = true
 is_same_label _ _ = false
 
 -- both ask for the section of a label, and in the same way

@@ -2,6 +2,7 @@
 
 ghost use Rattle.std.specs.Prelude.{◌≡◌, [], IfOk, OnOk};
 ghost use Rattle.std.specs.List.{list_any};
+ghost use Rattle.imap_rev1_frames.specs.Asked.{envelope_section};
 ghost use Rattle.imap_rev1_frames.specs.Asked.{fetch_for, is_labelled, is_recent, is_repeat, is_same_label, is_section};
 ghost use Rattle.imap_rev1_frames.specs.Asked.{label_for, label_in, label_name, label_section, other_asked};
 ghost use Rattle.imap_rev1_frames.specs.Asked.{section_asked, status_asked, unlabelled_by, with_asked};
@@ -10,7 +11,7 @@ ghost use Rattle.imap_rev1_frames.specs.Asked.{without_repeats};
 use crate::named::{begins, is_word};
 use std::alloc::{AllocError, Global};
 
-/// The name of a section in the words of RFC 822 (RFC 3501, section 6.4.5).
+/// A name under which a section, or what stands in it, is told in place of its own (RFC 3501, section 6.4.5).
 #[derive(Clone, Copy, Debug, PartialEq, Eq)]
 pub enum Label {
     /// RFC822, which is BODY[].
@@ -19,6 +20,8 @@ pub enum Label {
     Header,
     /// RFC822.TEXT, which is BODY[TEXT].
     Text,
+    /// ENVELOPE, which is read in BODY.PEEK[HEADER].
+    Envelope,
 }
 
 /// An item that a command asks for.
@@ -45,17 +48,19 @@ impl Label {
             Label::Message => b"RFC822",
             Label::Header => b"RFC822.HEADER",
             Label::Text => b"RFC822.TEXT",
+            Label::Envelope => b"ENVELOPE",
         }
     }
 
-    /// Returns the item that asks for its section.
-    fn section(self) -> &'static [u8]
-        ensures { result.now ≡ label_section self }
+    /// Returns the item that asks for its section, or the items if the word stands for several.
+    fn section(self, word: &[u8]) -> &'static [u8]
+        ensures { result.now ≡ label_section self word.now }
     {
         match self {
             Label::Message => b"BODY[]",
             Label::Header => b"BODY.PEEK[HEADER]",
             Label::Text => b"BODY[TEXT]",
+            Label::Envelope => envelope_section(word),
         }
     }
 
@@ -66,6 +71,7 @@ impl Label {
             Label::Message => matches!(other, Label::Message),
             Label::Header => matches!(other, Label::Header),
             Label::Text => matches!(other, Label::Text),
+            Label::Envelope => matches!(other, Label::Envelope),
         }
     }
 }
@@ -108,7 +114,18 @@ pub(crate) fn status_asked(word: &[u8]) -> Asked
     }
 }
 
-/// Returns the label that the word is.
+/// Returns the item that asks for the header. The macro ALL also stands for all items of FAST.
+fn envelope_section(word: &[u8]) -> &'static [u8]
+    ensures { result.now ≡ envelope_section word.now }
+{
+    if is_word(b"ALL", word) {
+        b"(FLAGS INTERNALDATE RFC822.SIZE BODY.PEEK[HEADER])"
+    } else {
+        b"BODY.PEEK[HEADER]"
+    }
+}
+
+/// Returns the label that the word is, or that it stands for.
 fn label_in(word: &[u8]) -> Option<Label>
     ensures { result ≡ label_in word.now }
 {
@@ -118,6 +135,8 @@ fn label_in(word: &[u8]) -> Option<Label>
         Some(Label::Header)
     } else if is_word(b"RFC822.TEXT", word) {
         Some(Label::Text)
+    } else if is_word(b"ENVELOPE", word) || is_word(b"ALL", word) {
+        Some(Label::Envelope)
     } else {
         None
     }
@@ -179,7 +198,7 @@ pub(crate) fn fetch_for(word: &[u8]) -> &[u8]
     ensures { result.now ≡ fetch_for word.now }
 {
     match label_in(word) {
-        Some(label) => label.section(),
+        Some(label) => label.section(word),
         None => word,
     }
 }

@@ -114,6 +114,21 @@ const ROWS: &[(&[u8], &[Body], &[u8])] = &[
         b"* 12 FETCH (UID 7 RFC822.SIZE 9 BODY[] {1}\r\nc BODY[TEXT] {1}\r\nc)\r\n",
     ),
     (b"T NOOP\r\n", &[], b"* 12 FETCH (UID 7 RFC822.SIZE 9)\r\n"),
+    (
+        b"T FETCH 12 ALL\r\n",
+        &[Body::Header(None, b"From: a <b@c>\r\nSubject: d\r\n\r\n")],
+        b"* 12 FETCH (UID 7 RFC822.SIZE 9 ENVELOPE (NIL \"d\" ((\"a\" NIL \"b\" \"c\")) ((\"a\" NIL \"b\" \"c\")) ((\"a\" NIL \"b\" \"c\")) NIL NIL NIL NIL NIL))\r\n",
+    ),
+    (
+        b"T FETCH 12 (RFC822.HEADER envelope BODY[HEADER] ENVELOPE)\r\n",
+        &[Body::Header(None, b"Date: e\r\n")],
+        b"* 12 FETCH (UID 7 RFC822.SIZE 9 RFC822.HEADER {9}\r\nDate: e\r\n ENVELOPE (\"e\" NIL NIL NIL NIL NIL NIL NIL NIL NIL) BODY[HEADER] {9}\r\nDate: e\r\n)\r\n",
+    ),
+    (
+        b"T FETCH 12 (ENVELOPE)\r\n",
+        &[Body::Header(Some(0), b"Date: e\r\n")],
+        b"* 12 FETCH (UID 7 RFC822.SIZE 9)\r\n",
+    ),
 ];
 
 #[test]

@@ -99,6 +99,19 @@ const BEFORE: &[(&[u8], &[u8])] = &[
 
 /// Items of FETCH.
 const FETCHES: &[(&[u8], &[u8])] = &[
+    (
+        b"T FETCH 1 ENVELOPE\r\n",
+        b"T FETCH 1 BODY.PEEK[HEADER]\r\n",
+    ),
+    (
+        b"T FETCH 1 all\r\n",
+        b"T FETCH 1 (FLAGS INTERNALDATE RFC822.SIZE BODY.PEEK[HEADER])\r\n",
+    ),
+    (
+        b"T UID FETCH 1:* (UID envelope RFC822.TEXT)\r\n",
+        b"T UID FETCH 1:* (UID BODY.PEEK[HEADER] BODY[TEXT])\r\n",
+    ),
+    (b"T FETCH 1 FAST\r\n", b"T FETCH 1 FAST\r\n"),
     (b"T FETCH 1 RFC822\r\n", b"T FETCH 1 BODY[]\r\n"),
     (
         b"T fetch 1 rfc822.header\r\n",

@@ -1,0 +1,8 @@
+//! Laws of what is told.
+
+ghost use Rattle.imap_structure.specs.Laws.{EachIsOneLine};
+
+/// A client reads a structure as text of one line, whatever the message holds.
+pub fn each_is_one_line()
+    ensures { EachIsOneLine }
+{}
