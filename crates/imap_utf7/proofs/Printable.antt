@@ -1,10 +1,9 @@
 -- What is written is printable ASCII.
-use Rattle.std.proofs.Common.{◌≡◌, ◌∙◌, ap, sym, refl, ℕ, Bool, true, false, cond, not, List, [], ◌∷◌, ◌++◌, flat_map, ◌==◌}
+use Rattle.std.proofs.Common.{◌≡◌, ◌∙◌, ap, refl, ℕ, Bool, true, false, not, List, [], ◌∷◌, ◌++◌, ◌==◌}
 use Rattle.std.proofs.lemmas.Bool.{and_parts, and_from}
 use Rattle.std.proofs.lemmas.List.Folds.{list_all-append}
 use Rattle.std.proofs.Math.Utf8.{scalar, scalars}
 use Rattle.std.specs.List.{list_all}
-use Rattle.std.specs.Prelude.{◌&&◌}
 use Rattle.imap_utf7.specs.Shifts.{base64, is_octet, wide}
 use Rattle.imap_utf7.specs.Spelling.{direct, encoded, encoded_after, is_direct, shifted}
 use Rattle.imap_utf7.specs.Laws.{is_plain}

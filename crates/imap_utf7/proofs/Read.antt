@@ -1,14 +1,14 @@
 -- What is read is text.
-use Rattle.std.proofs.Common.{◌≡◌, ◌∙◌, ◌≤◌, ◌<◌, ap, sym, refl, subst, ℕ, zero, suc, ◌+◌, ◌*◌, ◌-◌, Bool, true, false, cond, not, List, [], ◌∷◌, ◌++◌, map, flat_map, arith, ◌==◌, Some, None, Option, ⊎_elim}
+use Rattle.std.proofs.Common.{◌≡◌, ◌∙◌, ◌≤◌, ◌<◌, ap, sym, refl, ℕ, ◌+◌, ◌*◌, Bool, true, false, List, [], ◌∷◌, ◌++◌, arith, ◌==◌, Some, None, ⊎_elim}
 use Rattle.std.proofs.lemmas.Bool.{and_parts, and_from, ltb-true, lt-ltb, leb-true, le-leb, le-ltb, and_cases, leb-false, ltb-false}
 use Rattle.std.proofs.lemmas.Slice.Eq.{bytes_eq-Decides}
-use Rattle.std.proofs.lemmas.Str.{chars-encodes, utf16_chars-nil}
+use Rattle.std.proofs.lemmas.Str.{chars-encodes, chars_from_encodes}
 use Rattle.std.proofs.Math.Utf8.{scalar, scalars, low_scalar}
 use Rattle.std.specs.Char.Utf16.{utf16_chars, utf16_lossy_chars, lone_unit_char, surrogate_pair_char, is_high_surrogate, is_low_surrogate}
 use Rattle.std.specs.List.{list_all}
 use Rattle.std.specs.Option.{unwrap_or}
 use Rattle.std.specs.Prelude.{◌&&◌, bytes_eq, chars, encode_utf8_all, nat_lt, nat_le, IsUtf8}
-use Rattle.imap_utf7.specs.Shifts.{base64, characters, is_base64, is_octet, octets_of, units, value_of}
+use Rattle.imap_utf7.specs.Shifts.{is_base64, is_octet, octets_of, units}
 use Rattle.imap_utf7.specs.Spelling.{decoded, encoded, read, read_after, section_characters}
 
 -- ---- characters
@@ -119,9 +119,26 @@ written_by octets text false is all e =
 written_by octets text true is all e =
     let some : Some (encode_utf8_all (read octets)) ≡ Some text = rw is at e in
     let text_is : encode_utf8_all (read octets) ≡ text = some_same _ _ some in
-    let right = read_scalars octets all false [] in
-    ((read octets, (right, text_is)),
-    ap (λ l. encoded (chars l)) (sym text_is) ∙ ap encoded (chars-encodes (read octets) right) ∙ (bytes_eq-Decides _ _).0 is)
+    let right = read_scalars octets all false [] in (
+      (read octets, (right, text_is)),
+      ap (λ l. encoded (chars l)) (sym text_is) ∙ ap encoded (chars-encodes (read octets) right) ∙ (bytes_eq-Decides _ _).0 is,
+    )
 
 pub written : (octets text : List ℕ) → list_all is_octet octets ≡ true → decoded octets ≡ Some text → IsUtf8 text × (encoded (chars text) ≡ octets)
 written octets text all e = written_by octets text (bytes_eq (encoded (read octets)) octets) refl all e
+
+-- ---- a text that is written again
+
+module _ (octets text spelling : List ℕ) (utf8 : IsUtf8 text) (is : text ≡ encode_utf8_all (read octets)) (again : spelling ≡ encoded (chars text)) where
+  spelt : spelling ≡ encoded (read octets)
+  spelt = again ∙ ap encoded (sym (chars_from_encodes (read octets) text utf8 (sym is)))
+
+  pub decoded_some : bytes_eq spelling octets ≡ true → Some text ≡ decoded octets
+  decoded_some same =
+      let test : bytes_eq (encoded (read octets)) octets ≡ true = ap (λ l. bytes_eq l octets) (sym spelt) ∙ same in
+      rw test (ap Some is)
+
+  pub decoded_none : bytes_eq spelling octets ≡ false → None ≡ decoded octets
+  decoded_none other =
+      let test : bytes_eq (encoded (read octets)) octets ≡ false = ap (λ l. bytes_eq l octets) (sym spelt) ∙ other in
+      rw test refl

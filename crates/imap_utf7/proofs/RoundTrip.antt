@@ -1,5 +1,5 @@
 -- What is written is read.
-use Rattle.std.proofs.Common.{◌≡◌, ◌∙◌, ◌≤◌, ◌<◌, ap, sym, refl, subst, ℕ, zero, suc, ◌+◌, Bool, true, false, cond, not, List, [], ◌∷◌, ◌++◌, append_assoc, append-nil, length, flat_map, arith, ◌==◌, Some, Option}
+use Rattle.std.proofs.Common.{◌≡◌, ◌∙◌, ◌<◌, ap, sym, refl, ℕ, Bool, true, false, not, List, [], ◌∷◌, ◌++◌, append_assoc, append-nil, length, flat_map, arith, ◌==◌, Some}
 use Rattle.std.proofs.lemmas.Bool.{and_parts, and_from, eqb-true}
 use Rattle.std.proofs.lemmas.Grind.{flat_map-append}
 use Rattle.std.proofs.lemmas.Slice.Eq.{bytes_eq-Decides}
@@ -8,10 +8,9 @@ use Rattle.std.proofs.lemmas.Str.{utf16_chars-nil}
 use Rattle.std.specs.Char.Utf16.{utf16_lossy_chars}
 use Rattle.std.specs.List.{list_all}
 use Rattle.std.specs.Option.{unwrap_or}
-use Rattle.std.specs.Prelude.{◌&&◌, bytes_eq, encode_utf8_all, map}
-use Rattle.base64.specs.GeneralPurpose.{IsBytes}
+use Rattle.std.specs.Prelude.{bytes_eq, encode_utf8_all, map}
 use Rattle.base64.proofs.RoundTrip.{length-encode_symbols}
-use Rattle.imap_utf7.specs.Shifts.{base64, characters, is_octet, octets_of, symbols, units, wide}
+use Rattle.imap_utf7.specs.Shifts.{base64, characters, is_octet, symbols, units, wide}
 use Rattle.imap_utf7.specs.Spelling.{decoded, direct, encoded, encoded_after, is_direct, read, read_after, section_characters, shifted}
 use Rattle.imap_utf7.proofs.Chars.{base64_inside, is_inside, lossy-wide, wides_pass}
 use Rattle.imap_utf7.proofs.Shifting.{octets_of-base64, pass_octets}

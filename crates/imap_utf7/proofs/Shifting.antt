@@ -1,12 +1,14 @@
 -- What is shifted and read again.
-use Rattle.std.proofs.Common.{◌≡◌, ◌∙◌, ap, sym, refl, ℕ, zero, suc, ◌<◌, Bool, true, false, cond, List, [], ◌∷◌, ◌++◌, append-nil, arith, length, ◌==◌, Ok, Err}
+use Rattle.std.proofs.Common.{◌≡◌, ◌∙◌, ap, sym, refl, ℕ, zero, suc, Bool, true, false, List, [], ◌∷◌, append-nil, arith, Ok, Err}
 use Rattle.std.proofs.lemmas.Bool.{and_parts, and_from, lt-ltb, ltb-true}
 use Rattle.std.proofs.lemmas.Slice.Eq.{bytes_eq-Decides}
 use Rattle.std.specs.List.{list_all}
 use Rattle.std.specs.Option.{unwrap_or}
-use Rattle.std.specs.Prelude.{◌&&◌, bytes_eq, slice_index}
-use Rattle.base64.specs.GeneralPurpose.{IsBytes, IsStrict, encode_of, decoded_of}
+use Rattle.base64.specs.GeneralPurpose.{IsBytes, IsDecodeFailure, IsStrict, decode_of, encode_of, decoded_of}
 use Rattle.base64.specs.declared.engine.general_purpose.GeneralPurpose.{GeneralPurpose}
+use Rattle.base64.specs.declared.decode.DecodeAllocError.{DecodeAllocError}
+use Rattle.base64.specs.declared.decode.DecodeAllocError.TheVariants.{DecodeError as Failed}
+use Rattle.base64.specs.declared.decode.DecodeError.{DecodeError}
 use Rattle.base64.proofs.EngineFacts.{decode_of-encode_of}
 use Rattle.base64.proofs.Streams.{decoded_of-ok}
 use Rattle.imap_utf7.specs.Shifts.{IsModified, base64, is_base64, is_octet, modified, octets_of, value_of}
@@ -61,5 +63,9 @@ reads_none engine text is apart =
 pub is_strict : (engine : GeneralPurpose) → IsModified engine → IsStrict engine
 is_strict engine is = rw is.config (refl, refl)
 
-pub ok_not_err : {A E : Type 0} (a : A) (e : E) → Ok {A} {E} a ≡ Err e → ⊥
+pub failure : (engine : GeneralPurpose) (text : List ℕ) (fault : DecodeAllocError) (error : DecodeError) → fault ≡ Failed error
+    → IsDecodeFailure engine text fault → decode_of engine text ≡ Err error
+failure engine text fault error is fails = rw is at fails
+
+pub ok_not_err : (a : List ℕ) (e : DecodeError) → Ok a ≡ Err e → ⊥
 ok_not_err a e is = cc is

@@ -1,6 +1,6 @@
 -- Modified UTF-7 (RFC 3501, section 5.1.3; RFC 2152).
 use Rattle.std.specs.Prelude.{ℕ, Bool, true, false, ◌==◌, ◌&&◌, nat_le, List, [], ◌∷◌, ◌++◌}
-use Rattle.std.specs.Prelude.{flat_map, bytes_eq, chars, encode_utf8_all, Option, Some, None, if◌then◌else◌}
+use Rattle.std.specs.Prelude.{bytes_eq, encode_utf8_all, Option, Some, None, if◌then◌else◌}
 use Rattle.imap_utf7.specs.Shifts.{base64, characters, wide}
 
 -- ---- as it is written

@@ -1,6 +1,6 @@
 //! Texts, read.
 
-ghost use Rattle.std.specs.Prelude.{◌≡◌, ◌∷◌, [], IfOk, OnOk, encode_utf8_all, option_map, string_bytes};
+ghost use Rattle.std.specs.Prelude.{◌≡◌, ◌++◌, ◌∷◌, [], true, false, IfOk, OnOk, encode_utf8_all, option_map, string_bytes};
 ghost use Rattle.imap_utf7.specs.Shifts.{IsModified};
 ghost use Rattle.imap_utf7.specs.Spelling.{decoded, read, section_characters};
 ghost use Rattle.imap_utf7.specs.Reading.{GoesOn};

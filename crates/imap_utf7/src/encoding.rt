@@ -1,8 +1,8 @@
 //! Texts, written.
 
-ghost use Rattle.std.specs.Prelude.{◌≡◌, ◌++◌, ◌∷◌, [], ℕ, List, IfOk, OnOk, chars, string_bytes};
+ghost use Rattle.std.specs.Prelude.{◌≡◌, ◌++◌, ◌∷◌, [], true, IfOk, OnOk, chars, string_bytes};
 ghost use Rattle.imap_utf7.specs.Shifts.{IsModified};
-ghost use Rattle.imap_utf7.specs.Spelling.{direct, encoded, encoded_after, is_direct, shifted};
+ghost use Rattle.imap_utf7.specs.Spelling.{direct, encoded, is_direct, shifted};
 ghost use Rattle.imap_utf7.specs.Writing.{GoesOn};
 
 use crate::shifts::{modified, push_base64, push_wide};
@@ -45,9 +45,9 @@ impl Writing {
         if self.run.is_empty() {
             return Ok(());
         }
-        self.out.push('&')?;
+        self.out.push_str("&")?;
         push_base64(engine, &mut self.out, self.run.as_slice())?;
-        self.out.push('-')?;
+        self.out.push_str("-")?;
         self.run.clear();
         Ok(())
     }
@@ -60,7 +60,8 @@ impl Writing {
             return push_wide(&mut self.run, char);
         }
         self.end_run(engine)?;
-        push_direct(&mut self.out, char)
+        push_direct(&mut self.out, char)?;
+        Ok(())
     }
 
     fn push_text(&mut self, engine: &GeneralPurpose, text: &str) -> Result<(), AllocError>

@@ -28,11 +28,7 @@ pub(crate) fn push_base64(
 }
 
 /// Returns the octets for which the text stands. There are none if the text is no base64.
-fn read_base64(
-    engine: &GeneralPurpose,
-    alloc: Global,
-    text: &[u8],
-) -> Result<Vec<u8>, AllocError>
+fn read_base64(engine: &GeneralPurpose, alloc: Global, text: &[u8]) -> Result<Vec<u8>, AllocError>
     requires { IsModified engine.now }
     ensures { IfOk result (λ octets. octets.items ≡ octets_of text.now) }
 {

@@ -1,4 +1,3 @@
-use Rattle.std.proofs.Common.{rules}
 use Rattle.imap_utf7.proofs.Shifting.{writes_base64}
 use Rattle.imap_utf7.proofs.shifts.push_base64.Goals as goal
 

@@ -1,6 +1,5 @@
-use Rattle.std.proofs.Common.{rules, sym, ◌∙◌, refl, ◌≡◌, List, ℕ, Ok, Err}
-use Rattle.base64.specs.GeneralPurpose.{IsStrict}
-use Rattle.imap_utf7.proofs.Shifting.{is_strict, reads_base64, reads_none}
+use Rattle.std.proofs.Common.{sym, ◌∙◌}
+use Rattle.imap_utf7.proofs.Shifting.{failure, is_strict, ok_not_err, reads_base64, reads_none}
 use Rattle.imap_utf7.proofs.shifts.read_base64.Goals as goal
 
 pub returns-in-Ok : goal.returns-in-Ok
@@ -10,4 +9,4 @@ returns-in-Ok c =
 pub returns-in-Err-DecodeError : goal.returns-in-Err-DecodeError
 returns-in-Err-DecodeError c =
     c.new.ensures.items ∙ sym (reads_none c.args.engine.now c.args.text.now c.requires
-    (λ octets bytes e. ok_not_err _ _ (sym ((c.decode.ensures.strict (is_strict c.args.engine.now c.requires) octets bytes).1 e) ∙ c.in-Err-DecodeError.ensures.err)))
+    (λ octets bytes e. ok_not_err _ _ (sym ((c.decode.ensures.strict (is_strict c.args.engine.now c.requires) octets bytes).1 e) ∙ failure c.args.engine.now c.args.text.now _ _ c.in-Err-DecodeError.field-0-is c.in-Err-DecodeError.ensures.err)))
