@@ -1,6 +1,7 @@
 -- The commands of IMAP4rev1.
 pub mod Asked
 pub mod Named
+pub mod Names
 pub mod Rewritten
 pub mod Scan
 pub mod Writing

@@ -7,10 +7,12 @@
 mod asked;
 mod frames;
 mod named;
+mod names;
 mod scan;
 mod writing;
 
 pub use asked::{Asked, Label};
 pub use frames::{asked_by, rewritten_frame};
 pub use named::{Named, named_by};
+pub use names::renamed_frame;
 pub use scan::{Depth, Quoting, Scan};

@@ -12,3 +12,5 @@ mod frames;
 mod replies;
 #[cfg(test)]
 mod rows;
+#[cfg(test)]
+mod spellings;
