@@ -3,3 +3,5 @@ pub mod FetchLaws
 pub mod Labels
 pub mod Laws
 pub mod Rev1
+pub mod Shown
+pub mod Utf7

@@ -9,7 +9,10 @@
 mod labels;
 pub mod laws;
 mod rev1;
+mod shown;
 mod telling;
+mod utf7_rev1;
 
 pub use rev1::{Rev1, Rules};
 pub use telling::capabilities;
+pub use utf7_rev1::{NamedRules, Utf7Rev1};

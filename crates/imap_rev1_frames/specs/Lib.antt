@@ -1,5 +1,6 @@
 -- The commands of IMAP4rev1.
 pub mod Asked
+pub mod Enable
 pub mod Named
 pub mod Names
 pub mod Rewritten

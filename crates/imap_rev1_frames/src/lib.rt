@@ -5,6 +5,7 @@
 #![tactic(auto)]
 
 mod asked;
+mod enable;
 mod frames;
 mod named;
 mod names;
@@ -12,6 +13,7 @@ mod scan;
 mod writing;
 
 pub use asked::{Asked, Label};
+pub use enable::asks_utf8;
 pub use frames::{asked_by, rewritten_frame};
 pub use named::{Named, named_by};
 pub use names::renamed_frame;

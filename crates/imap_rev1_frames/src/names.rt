@@ -2,7 +2,7 @@
 
 ghost use Rattle.std.specs.Prelude.{◌≡◌, ◌++◌, ◌∷◌, ◌||◌, [], IfOk, OnOk, map, option_map};
 ghost use Rattle.std.specs.List.{list_any};
-ghost use Rattle.imap_rev1_frames.specs.Names.{has_names, has_other, name_for};
+ghost use Rattle.imap_rev1_frames.specs.Names.{has_names, has_other, is_ampersand, name_for};
 ghost use Rattle.imap_rev1_frames.specs.Names.{other_command, other_name, pattern_names, patterns_for, renamed};
 ghost use Rattle.imap_rev1_frames.specs.Names.{renamed_frame, renamed_octets, request_has_names, request_renamed};
 ghost use Rattle.imap_rev1_frames.specs.Names.{single_name, single_renamed};
@@ -15,11 +15,17 @@ use imap_syntax::Items;
 use imap_utf7::decode;
 use std::alloc::{AllocError, Global};
 
+fn has_ampersand(name: &[u8]) -> bool
+    ensures { result ≡ list_any is_ampersand name.now }
+{
+    name.iter().any(|octet| *octet == b'&')
+}
+
 /// Returns the text of a name, if this is its spelling and another one than the text.
 fn other_name(alloc: Global, name: &[u8]) -> Result<Option<Octets>, AllocError>
     ensures { IfOk result (λ other. other ≡ other_name name.now) }
 {
-    if !name.iter().any(|octet| *octet == b'&') {
+    if !has_ampersand(name) {
         return Ok(None);
     }
     match decode(alloc, name)? {
@@ -77,7 +83,8 @@ fn push_names(alloc: Global, texts: &mut Vec<Octets>, names: &[Octets]) -> Resul
 {
     let mut any = false;
     for name in names {
-        any = push_name(alloc, texts, name)? || any;
+        let other = push_name(alloc, texts, name)?;
+        any = any || other;
     }
     Ok(any)
 }
@@ -125,21 +132,21 @@ fn rename_single(alloc: Global, command: &mut Command) -> Result<bool, AllocErro
     ensures any { IfOk result (λ any. any ≡ list_any has_other (single_name command.old)) }
 {
     match command {
-        Command::Select { mailbox, .. }
-        | Command::Examine { mailbox, .. }
-        | Command::Create { mailbox }
-        | Command::Delete { mailbox }
-        | Command::Subscribe { mailbox }
-        | Command::Unsubscribe { mailbox }
-        | Command::Status { mailbox, .. }
-        | Command::Append { mailbox, .. }
-        | Command::SetAcl { mailbox, .. }
-        | Command::DeleteAcl { mailbox, .. }
-        | Command::GetAcl { mailbox }
-        | Command::ListRights { mailbox, .. }
-        | Command::MyRights { mailbox }
-        | Command::Copy { mailbox, .. }
-        | Command::Move { mailbox, .. } => rename_one(alloc, mailbox),
+        Command::Select { mailbox, .. } => rename_one(alloc, mailbox),
+        Command::Examine { mailbox, .. } => rename_one(alloc, mailbox),
+        Command::Create { mailbox } => rename_one(alloc, mailbox),
+        Command::Delete { mailbox } => rename_one(alloc, mailbox),
+        Command::Subscribe { mailbox } => rename_one(alloc, mailbox),
+        Command::Unsubscribe { mailbox } => rename_one(alloc, mailbox),
+        Command::Status { mailbox, .. } => rename_one(alloc, mailbox),
+        Command::Append { mailbox, .. } => rename_one(alloc, mailbox),
+        Command::SetAcl { mailbox, .. } => rename_one(alloc, mailbox),
+        Command::DeleteAcl { mailbox, .. } => rename_one(alloc, mailbox),
+        Command::GetAcl { mailbox } => rename_one(alloc, mailbox),
+        Command::ListRights { mailbox, .. } => rename_one(alloc, mailbox),
+        Command::MyRights { mailbox } => rename_one(alloc, mailbox),
+        Command::Copy { mailbox, .. } => rename_one(alloc, mailbox),
+        Command::Move { mailbox, .. } => rename_one(alloc, mailbox),
         _ => Ok(false),
     }
 }
@@ -156,7 +163,7 @@ fn rename(alloc: Global, command: &mut Command) -> Result<bool, AllocError>
             patterns,
             ..
         } => rename_list(alloc, reference, patterns),
-        _ => rename_single(alloc, command),
+        _ => Ok(rename_single(alloc, command)?),
     }
 }
 
