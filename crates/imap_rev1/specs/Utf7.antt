@@ -1,5 +1,6 @@
 -- The dialect of IMAP4rev1 with names in modified UTF-7 (RFC 3501, section 5.1.3).
-use Rattle.std.specs.Prelude.{ℕ, Bool, false, ◌||◌, List, [], ◌++◌, codes, Option, Some, if◌then◌else◌}
+use Rattle.std.specs.Prelude.{ℕ, Bool, false, ◌||◌, List, [], ◌++◌, codes, Option, Some, None, if◌then◌else◌}
+use Rattle.imap_lex.specs.Framing.{crlf}
 use Rattle.std.specs.List.{list_any}
 use Rattle.imap_lex.specs.declared.frame.Frame.{Frame}
 use Rattle.imap_print.specs.declared.enabled.EnabledCapabilities.{EnabledCapabilities}
@@ -23,7 +24,7 @@ abbrev pub accepted_text : EnabledCapabilities → List ℕ
 accepted_text enabled =
     codes "* ENABLED" ++ given_word enabled.condstore (codes " CONDSTORE")
     ++ given_word enabled.imap4rev2 (codes " IMAP4rev2") ++ given_word enabled.qresync (codes " QRESYNC")
-    ++ codes " UTF8=ACCEPT\r\n"
+    ++ codes " UTF8=ACCEPT"
 
 -- After the reply names are in UTF-8. `asks` says whether the client's frame names UTF8=ACCEPT.
 abbrev pub ends_names : (asks : Bool) → Response → Bool
@@ -32,11 +33,18 @@ ends_names asks _ = false
 
 -- ---- replies
 
+-- what the reply says is enabled, if UTF8=ACCEPT is to be told beside it
+abbrev pub accepted_by : (echoes : Bool) → Response → Option EnabledCapabilities
+accepted_by echoes (response.Enabled enabled) = if echoes then Some enabled else None
+accepted_by echoes _ = None
+
+abbrev pub told_accepted : Rules → Response → Option EnabledCapabilities → List ℕ
+told_accepted rules reply (Some enabled) = accepted_text enabled ++ crlf
+told_accepted rules reply None = told_by rules reply
+
 -- the octets of a reply whose name is as it is to be shown
 abbrev pub told_echoed : Rules → (echoes : Bool) → Response → List ℕ
-told_echoed rules echoes (response.Enabled enabled) =
-    if echoes then accepted_text enabled else told_by rules (response.Enabled enabled)
-told_echoed rules echoes reply = told_by rules reply
+told_echoed rules echoes reply = told_accepted rules reply (accepted_by echoes reply)
 
 abbrev pub named_told : Rules → (utf8 echoes : Bool) → Response → List ℕ
 named_told rules utf8 echoes reply = told_echoed rules echoes (if utf8 then reply else shown_reply reply)

@@ -8,6 +8,7 @@
 
 mod labels;
 pub mod laws;
+pub mod name_laws;
 mod rev1;
 mod shown;
 mod telling;

@@ -2,9 +2,13 @@
 
 ghost use Rattle.std.specs.Prelude.{◌≡◌, ◌++◌, OnOk, false};
 ghost use Rattle.std.specs.List.{list_any};
+ghost use Rattle.imap_lex.specs.Framing.{crlf};
 ghost use Rattle.imap_print.specs.Pieces.{octets_of};
 ghost use Rattle.imap_rev1_frames.specs.Rewritten.{instead_frame};
-ghost use Rattle.imap_rev1.specs.Utf7.{accepted_text, ends_names, given_word, named_told, told_echoed, utf7_rev1};
+ghost use Rattle.imap_rev1_frames.specs.Names.{renamed_frame};
+ghost use Rattle.imap_rev1.specs.Shown.{shown_reply};
+ghost use Rattle.imap_rev1.specs.Utf7.{accepted_by, accepted_text, ends_names, given_word, named_told};
+ghost use Rattle.imap_rev1.specs.Utf7.{told_echoed, utf7_rev1};
 
 use crate::rev1::{Rev1, Rules};
 use crate::shown::shown_reply;
@@ -62,6 +66,16 @@ fn any_ends_names(asks: bool, replies: &[Response]) -> bool
     replies.iter().any(|reply| ends_names(asks, reply))
 }
 
+/// Returns what the reply says is enabled, if UTF8=ACCEPT is to be told beside it.
+fn accepted_by(echoes: bool, reply: &Response) -> Option<EnabledCapabilities>
+    ensures { result ≡ accepted_by echoes reply.now }
+{
+    match reply {
+        Response::Enabled(enabled) => echoes.then_some(*enabled),
+        _ => None,
+    }
+}
+
 fn push_given(out: &mut Pieces, given: bool, word: &[u8]) -> Result<(), AllocError>
     ensures { OnOk result (octets_of out.new ≡ octets_of out.old ++ given_word given word.now) }
 {
@@ -70,13 +84,14 @@ fn push_given(out: &mut Pieces, given: bool, word: &[u8]) -> Result<(), AllocErr
 
 /// Appends the line that says that the capabilities and UTF8=ACCEPT are enabled (RFC 5161, section 3.2).
 fn push_accepted(out: &mut Pieces, enabled: EnabledCapabilities) -> Result<(), AllocError>
-    ensures { OnOk result (octets_of out.new ≡ octets_of out.old ++ accepted_text enabled) }
+    ensures { OnOk result (octets_of out.new ≡ octets_of out.old ++ (accepted_text enabled ++ crlf)) }
 {
     out.push_octets(b"* ENABLED")?;
     push_given(out, enabled.condstore, b" CONDSTORE")?;
     push_given(out, enabled.imap4rev2, b" IMAP4rev2")?;
     push_given(out, enabled.qresync, b" QRESYNC")?;
-    out.push_octets(b" UTF8=ACCEPT\r\n")
+    out.push_octets(b" UTF8=ACCEPT")?;
+    out.push_octets(b"\r\n")
 }
 
 /// Appends the octets in which a reply is told, whose name is as it is to be shown.
@@ -84,9 +99,9 @@ fn tell_echoed(rule: &NamedRules, reply: &Response, out: &mut Pieces) -> Result<
     ensures { OnOk result (octets_of out.new
         ≡ octets_of out.old ++ told_echoed rule.now.rules rule.now.echoes reply.now) }
 {
-    match reply {
-        Response::Enabled(enabled) if rule.echoes => push_accepted(out, *enabled),
-        _ => Rev1::tell(&rule.rules, reply, out),
+    match accepted_by(rule.echoes, reply) {
+        Some(enabled) => push_accepted(out, enabled),
+        None => Rev1::tell(&rule.rules, reply, out),
     }
 }
 
