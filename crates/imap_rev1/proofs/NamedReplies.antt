@@ -170,5 +170,5 @@ pub ends_by_enabled : EndsByEnabled
 ends_by_enabled state h = (
   λ frame. rw h refl,
   λ by reply asks. ap (λ b. told_echoed (rules_for state.rev1 by) (asks_utf8 by) (cond b reply (shown_reply reply))) h
-  ∙ not_echoed (rules_for state.rev1 by) (asks_utf8 by) reply asks,
+      ∙ not_echoed (rules_for state.rev1 by) (asks_utf8 by) reply asks,
 )

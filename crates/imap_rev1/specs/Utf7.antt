@@ -58,6 +58,6 @@ utf7_rev1 = record {
     utf8 = state.utf8 || list_any (ends_names (asks_utf8 (Some frame))) replies;
   };
   rewritten = λ state frame.
-    if state.utf8 then rev1.rewritten state.rev1 frame else renamed_frame (rev1.rewritten state.rev1 frame);
+      if state.utf8 then rev1.rewritten state.rev1 frame else renamed_frame (rev1.rewritten state.rev1 frame);
   told = λ state by reply. named_told (rules_for state.rev1 by) state.utf8 (asks_utf8 by) reply;
 }

@@ -121,11 +121,7 @@ fn tell_shown(rule: &NamedRules, reply: &Response, out: &mut Pieces) -> Result<(
 }
 
 /// Returns the frame in place of the client's, which is `other` if this is another than `frame`.
-fn rename(
-    alloc: Global,
-    other: Option<Frame>,
-    frame: &Frame,
-) -> Result<Option<Frame>, AllocError>
+fn rename(alloc: Global, other: Option<Frame>, frame: &Frame) -> Result<Option<Frame>, AllocError>
     ensures { IfOk result (λ named. instead_frame named frame.now
         ≡ renamed_frame (instead_frame other frame.now)) }
 {

@@ -9,6 +9,8 @@ mod fetches;
 #[cfg(test)]
 mod frames;
 #[cfg(test)]
+mod names;
+#[cfg(test)]
 mod replies;
 #[cfg(test)]
 mod rows;
