@@ -9,6 +9,8 @@ use Rattle.imap_print.specs.declared.enabled.EnabledCapabilities.{EnabledCapabil
 use Rattle.imap_print.specs.declared.list.ListAttributes.{ListAttributes}
 use Rattle.imap_print.specs.declared.response.Response.{Response}
 use Rattle.imap_print.specs.declared.response.Response.TheVariants as response
+use Rattle.imap_print.specs.declared.status.StatusValue.{StatusValue}
+use Rattle.imap_rights.specs.declared.rights.Rights.{Rights}
 use Rattle.imap_print.specs.Lines.{AreReadFrom, IsPlain, IsPrintable}
 use Rattle.imap_print.specs.Printed.{line}
 use Rattle.imap_print.proofs.Reader.{Quiet, quiet, quiet-append, quiet_settles}
@@ -21,10 +23,10 @@ use Rattle.imap_rev1.specs.declared.utf7_rev1.Utf7Rev1.{Utf7Rev1}
 use Rattle.imap_rev1.specs.Laws.{IsOneLine, names_capabilities}
 use Rattle.imap_rev1.specs.NameLaws.{AllAreRead, EachIsOneLine, EndsByEnabled, PlainRepliesStay, PrintsConditions, PrintsOthers, StaysEnabled, StaysUntilEnabled, accepted_lines, named_lines}
 use Rattle.imap_rev1.specs.Rev1.{lines_by, rev1, rules_for, told_by}
-use Rattle.imap_rev1.specs.Shown.{name_in, named_or_same, other_shown, shown_reply, with_name}
+use Rattle.imap_rev1.specs.Shown.{name_in, named_or_same, other_shown, shown_by, shown_reply}
 use Rattle.imap_rev1.specs.Utf7.{accepted_by, accepted_text, ends_names, given_word, told_accepted, told_echoed, utf7_rev1}
 use Rattle.imap_rev1.proofs.Lines.{lines_are, read_more, settled_one, told_one}
-use Rattle.imap_rev1.proofs.Rev1Rules as rules
+use Rattle.imap_rev1.proofs.Rev1Rules.{prints_others as rev1_prints_others}
 use Rattle.imap_rev1.proofs.Told.{plain_shown, shown_plain}
 
 -- ---- a reply with another name
@@ -34,7 +36,7 @@ list_printable : (attributes : ListAttributes) (mailbox : List ℕ) (o : Option 
 list_printable attributes mailbox None plain h = h
 list_printable attributes mailbox (Some s) plain h = record { plain = (plain s refl, tt); held = h.held }
 
-status_printable : (mailbox : List ℕ) (values : _) (o : Option (List ℕ)) → ((s : List ℕ) → o ≡ Some s → IsPlain s)
+status_printable : (mailbox : List ℕ) (values : List StatusValue) (o : Option (List ℕ)) → ((s : List ℕ) → o ≡ Some s → IsPlain s)
     → IsPrintable (response.Status mailbox values) → IsPrintable (named_or_same (response.Status mailbox values) o)
 status_printable mailbox values None plain h = h
 status_printable mailbox values (Some s) plain h = record { plain = (plain s refl, tt); held = h.held }
@@ -44,7 +46,7 @@ acl_printable : (mailbox : List ℕ) (entries : List AclEntry) (o : Option (List
 acl_printable mailbox entries None plain h = h
 acl_printable mailbox entries (Some s) plain h = record { plain = (plain s refl, h.plain.1); held = h.held }
 
-rights_printable : (mailbox : List ℕ) (rights : _) (o : Option (List ℕ)) → ((s : List ℕ) → o ≡ Some s → IsPlain s)
+rights_printable : (mailbox : List ℕ) (rights : Rights) (o : Option (List ℕ)) → ((s : List ℕ) → o ≡ Some s → IsPlain s)
     → IsPrintable (response.MyRights mailbox rights) → IsPrintable (named_or_same (response.MyRights mailbox rights) o)
 rights_printable mailbox rights None plain h = h
 rights_printable mailbox rights (Some s) plain h = record { plain = (plain s refl, tt); held = h.held }
@@ -131,7 +133,7 @@ pub prints_others : PrintsOthers
 prints_others state by reply h asks names utf8 =
     ap (λ b. told_echoed (rules_for state.rev1 by) (asks_utf8 by) (cond b reply (shown_reply reply))) utf8
     ∙ not_echoed (rules_for state.rev1 by) (asks_utf8 by) (shown_reply reply) asks
-    ∙ rules.prints_others state.rev1 by (shown_reply reply) h (shown_names (name_in reply) reply refl names)
+    ∙ rev1_prints_others state.rev1 by (shown_reply reply) h (shown_names (name_in reply) reply refl names)
 
 same_either : (b : Bool) (reply : Response) → cond b reply reply ≡ reply
 same_either true reply = refl
@@ -147,7 +149,10 @@ prints_conditions state by (response.Refused tag refusal) h =
 prints_conditions state by _ h = absurd cc
 
 pub plain_replies_stay : PlainRepliesStay
-plain_replies_stay = (λ reply e. rw e refl, λ reply name e is. rw (e, plain_shown name is) refl)
+plain_replies_stay = (
+  λ reply e. ap (shown_by reply) e,
+  λ reply name e is. ap (shown_by reply) e ∙ ap (named_or_same reply) (plain_shown name is),
+)
 
 -- ---- ENABLE
 

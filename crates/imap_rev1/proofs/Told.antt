@@ -40,7 +40,7 @@ plain_bare (c ∷ name) is =
 read_bare : (octets : List ℕ) → list_any is_ampersand octets ≡ false → read_after false [] octets ≡ octets
 read_bare [] is = refl
 read_bare (octet ∷ octets) is =
-    let parts = or_parts (is_ampersand octet) (list_any is_ampersand octets) is in
+    let parts = or_parts (octet == 38) (list_any is_ampersand octets) is in
     rw parts.0 (ap (λ l. octet ∷ l) (read_bare octets parts.1))
 
 direct_ascii : (octets : List ℕ) → list_all is_direct octets ≡ true → IsAscii octets
@@ -62,16 +62,26 @@ bare_same name utf8 bare =
 
 -- ---- names that are read as they were shown
 
+bare_for : (name : List ℕ) → list_any is_ampersand name ≡ false → name_for name ≡ name
+bare_for name is = ap (λ b. instead_octets (cond b (decoded name) None) name) is
+
 for_by : (name : List ℕ) (t : Bool) → list_any is_ampersand (encoded (chars name)) ≡ t → IsUtf8 name → name_for (encoded (chars name)) ≡ name
 for_by name true is utf8 =
+    let x = encoded (chars name) in
     let text = decoded-encoded (chars name) (scalars-chars name utf8) ∙ ap Some (encodes-chars name utf8) in
-    rw (is, text) refl
-for_by name false is utf8 = rw is (bare_same name utf8 is)
+    ap (λ b. instead_octets (cond b (decoded x) None) x) is ∙ ap (λ o. instead_octets o x) text
+for_by name false is utf8 = bare_for (encoded (chars name)) is ∙ bare_same name utf8 is
 
 shown_by_plain : (name : List ℕ) (t : Bool) → list_all is_plain name ≡ t → IsUtf8 name → name_for (shown_name name) ≡ name
-shown_by_plain name true is utf8 = rw (is, plain_bare name is) refl
+shown_by_plain name true is utf8 =
+    let same : shown_name name ≡ name =
+    ap (λ b. instead_octets (cond b None (cond (is_utf8 name) (Some (encoded (chars name))) None)) name) is in
+    ap name_for same ∙ bare_for name (plain_bare name is)
 shown_by_plain name false is utf8 =
-    rw (is, is_utf8-from_IsUtf8 name utf8) (for_by name (list_any is_ampersand (encoded (chars name))) refl utf8)
+    let same : shown_name name ≡ encoded (chars name) =
+    ap (λ b. instead_octets (cond b None (cond (is_utf8 name) (Some (encoded (chars name))) None)) name) is
+    ∙ ap (λ b. instead_octets (cond b (Some (encoded (chars name))) None) name) (is_utf8-from_IsUtf8 name utf8) in
+    ap name_for same ∙ for_by name (list_any is_ampersand (encoded (chars name))) refl utf8
 
 pub reads_shown : ReadsShown
 reads_shown name utf8 = shown_by_plain name (list_all is_plain name) refl utf8

@@ -4,6 +4,9 @@
 //! subscribed names. No message is recent: so SEARCH, STATUS and SELECT say. The results of a search are told
 //! as RFC 3501 has them, and FETCH of RFC822, RFC822.HEADER and RFC822.TEXT under these labels.
 //! `specs/Rev1.antt` says it whole, and [`laws`] what holds of it.
+//!
+//! [`Utf7Rev1`] is [`Rev1`] with names of mailboxes in modified UTF-7, until the client enables IMAP4rev2 or
+//! UTF8=ACCEPT. `specs/Utf7.antt` says it whole, and [`name_laws`] what holds of it.
 #![tactic(auto)]
 
 mod labels;
