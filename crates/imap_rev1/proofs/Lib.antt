@@ -11,3 +11,6 @@ pub mod Rev1Rules
 pub mod Spelt
 pub mod Strings
 pub mod Tails
+pub mod NamedReplies
+pub mod Renamed
+pub mod Told

@@ -64,7 +64,7 @@ items_settle asked (value ∷ values) = (item_settles (first_recent asked) value
 printed_one : (reply : Response) → IsPrintable reply → AllByRecursion IsOneLine (line reply ∷ [])
 printed_one reply h = ((λ rest. printed_line reply rest h), tt)
 
-settled_one : (octets : List ℕ) → Settles octets → AllByRecursion IsOneLine ((octets ++ crlf) ∷ [])
+pub settled_one : (octets : List ℕ) → Settles octets → AllByRecursion IsOneLine ((octets ++ crlf) ∷ [])
 settled_one octets s = ((λ rest. one_line octets rest s), tt)
 
 search_one : (b : Bool) (tag : List ℕ) (uid : Bool) (results : SearchResults) → IsPrintable (response.Search tag uid results) → AllByRecursion IsOneLine (cond b ((search_text results ++ crlf) ∷ []) (line (response.Search tag uid results) ∷ []))
@@ -89,7 +89,7 @@ fetch_one : (b : Bool) (all : List Asked) (number : ℕ) (items : FetchedItems) 
 fetch_one true all number items h = settled_one (fetch_text all number items) (fetch_settles all number items h)
 fetch_one false all number items h = printed_one (response.Fetch number items) h
 
-told_one : (rules : Rules) (reply : Response) → IsPrintable reply → AllByRecursion IsOneLine (lines_by rules reply)
+pub told_one : (rules : Rules) (reply : Response) → IsPrintable reply → AllByRecursion IsOneLine (lines_by rules reply)
 told_one rules response.Greeting h = settled_one greeting_text (settled _ refl)
 told_one rules response.Capability h = settled_one capability_text (settled _ refl)
 told_one rules (response.Search tag uid results) h = search_one (is_search rules.named) tag uid results h
@@ -132,7 +132,7 @@ two_by true x y z = ap (λ l. x ++ l) (append-nil y)
 two_by false x y z = append-nil z
 
 -- the lines are the octets
-lines_are : (rules : Rules) (reply : Response) → concat (lines_by rules reply) ≡ told_by rules reply
+pub lines_are : (rules : Rules) (reply : Response) → concat (lines_by rules reply) ≡ told_by rules reply
 lines_are rules response.Greeting = append-nil _
 lines_are rules response.Capability = append-nil _
 lines_are rules (response.Search tag uid results) = one_by (is_search rules.named) (search_text results ++ crlf) (line (response.Search tag uid results))
@@ -161,7 +161,7 @@ lines_are rules (response.HighestModSeq a) = append-nil (line (response.HighestM
 lines_are rules (response.Moved a) = append-nil (line (response.Moved a))
 lines_are rules (response.Fetch number items) = one_by (list_any is_labelled rules.asked) (fetch_text rules.asked number items ++ crlf) (line (response.Fetch number items))
 
-read_more : (lines more : List (List ℕ)) (stream : List ℕ) → AllByRecursion IsOneLine lines → AreReadFrom more stream → AreReadFrom (lines ++ more) (concat lines ++ stream)
+pub read_more : (lines more : List (List ℕ)) (stream : List ℕ) → AllByRecursion IsOneLine lines → AreReadFrom more stream → AreReadFrom (lines ++ more) (concat lines ++ stream)
 read_more [] more stream h k = k
 read_more (l ∷ lines) more stream h k =
     let rest = concat lines ++ stream in

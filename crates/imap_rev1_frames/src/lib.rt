@@ -2,15 +2,22 @@
 //!
 //! [`named_by`] tells which command a frame is, [`rewritten_frame`] what the server sees in its place, and
 //! [`asked_by`] which items it asks for, so that replies can be told as they were asked for.
+//!
+//! [`renamed_frame`] returns the frame in place of one with names in modified UTF-7, and [`asks_utf8`] tells which
+//! frame is an ENABLE of UTF8=ACCEPT.
 #![tactic(auto)]
 
 mod asked;
+mod enable;
 mod frames;
 mod named;
+mod names;
 mod scan;
 mod writing;
 
 pub use asked::{Asked, Label};
+pub use enable::asks_utf8;
 pub use frames::{asked_by, rewritten_frame};
 pub use named::{Named, named_by};
+pub use names::renamed_frame;
 pub use scan::{Depth, Quoting, Scan};

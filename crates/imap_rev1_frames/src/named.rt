@@ -45,7 +45,7 @@ impl Named {
 }
 
 /// Returns what stands after the tag and a space; nothing if there is no space.
-fn after_tag(octets: &[u8]) -> &[u8]
+pub(crate) fn after_tag(octets: &[u8]) -> &[u8]
     ensures { result.now ≡ after_tag octets.now }
 {
     match &octets[leading::<TagChar>(octets)..] {

@@ -9,6 +9,10 @@ mod fetches;
 #[cfg(test)]
 mod frames;
 #[cfg(test)]
+mod names;
+#[cfg(test)]
 mod replies;
 #[cfg(test)]
 mod rows;
+#[cfg(test)]
+mod spellings;

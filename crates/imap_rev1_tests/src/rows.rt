@@ -46,7 +46,7 @@ fn pieces(alloc: Global, rules: &Rules, reply: &Response) -> Result<Items<Octets
     out.into_pieces()
 }
 
-fn joined(alloc: Global, pieces: &Items<Octets>) -> Result<Vec<u8>, AllocError> {
+pub(crate) fn joined(alloc: Global, pieces: &Items<Octets>) -> Result<Vec<u8>, AllocError> {
     let mut octets = Vec::new(alloc);
     for piece in pieces.as_slice() {
         octets.extend_from_slice(piece.as_slice())?;
