@@ -1,6 +1,6 @@
 //! The dialect of IMAP4rev1 with names in modified UTF-7.
 
-ghost use Rattle.std.specs.Prelude.{◌≡◌, ◌++◌, OnOk, false};
+ghost use Rattle.std.specs.Prelude.{◌≡◌, ◌++◌, IfOk, OnOk, false};
 ghost use Rattle.std.specs.List.{list_any};
 ghost use Rattle.imap_lex.specs.Framing.{crlf};
 ghost use Rattle.imap_print.specs.Pieces.{octets_of};

@@ -3,7 +3,7 @@
 use crate::connection::{Behaviour, OCTETS, Sink, Source, WHOLE};
 use crate::serving::{IDLE_TICKS, Standing, new_hall, session};
 use crate::wanted::expect;
-use imap_rev1::Rev1;
+use imap_rev1::Utf7Rev1;
 use imap_script::DEFAULT_LIMITS;
 use imap_serve::{OpenGate, Watched, serve_in};
 use std::alloc::AllocError;
@@ -27,7 +27,7 @@ fn told<W: Wait + AllocGlobal>(
         &who,
         &Standing,
         &OpenGate,
-        &mut Rev1::new(),
+        &mut Utf7Rev1::new(),
         DEFAULT_LIMITS.max_octets,
         IDLE_TICKS,
         &mut input,
@@ -56,7 +56,10 @@ b1 SUBSCRIBE INBOX\r\n\
 b2 LSUB \"\" *\r\n\
 b3 STATUS INBOX (MESSAGES RECENT UIDNEXT)\r\n\
 b4 check x\r\n\
+e1 CREATE &AOk-\r\n\
+e2 STATUS &AOk- (MESSAGES)\r\n\
 b5 ENABLE IMAP4rev2\r\n\
+e3 LIST \"\" %\r\n\
 b6 SEARCH SEEN\r\n\
 b7 CHECK\r\n\
 b8 SELECT INBOX\r\n\
@@ -94,8 +97,14 @@ b2 OK done\r\n\
 * STATUS INBOX (MESSAGES 1 RECENT 0 UIDNEXT 2)\r\n\
 b3 OK done\r\n\
 b4 BAD malformed command\r\n\
+e1 OK done\r\n\
+* STATUS &AOk- (MESSAGES 0)\r\n\
+e2 OK done\r\n\
 * ENABLED IMAP4rev2\r\n\
 b5 OK done\r\n\
+* LIST (\\HasNoChildren) \"/\" INBOX\r\n\
+* LIST (\\HasNoChildren) \"/\" \"\xc3\xa9\"\r\n\
+e3 OK done\r\n\
 * ESEARCH (TAG \"b6\") ALL 1\r\n\
 b6 OK done\r\n\
 b7 OK done\r\n\
@@ -122,7 +131,7 @@ c7 FETCH 1 (BODY[] RFC822 BODY[HEADER.FIELDS (Subject)] RFC822 UID)\r\n\
 c8 ENABLE IMAP4rev2\r\n\
 c9 UID FETCH 1 (RFC822.SIZE RFC822)\r\n\
 d1 FETCH 1 BODY[TEXT]\r\n\
-d2 FETCH 1 ALL\r\n\
+d2 FETCH 1 (BODYSTRUCTURE ENVELOPE)\r\n\
 d3 LOGOUT\r\n";
 
 const LABELLED: &[u8] =
@@ -163,7 +172,9 @@ c8 OK done\r\n\
 c9 OK done\r\n\
 * 1 FETCH (BODY[TEXT] {3}\r\nb\r\n)\r\n\
 d1 OK done\r\n\
-d2 NO [CANNOT] not possible\r\n\
+* 1 FETCH (BODYSTRUCTURE (\"text\" \"plain\" (\"CHARSET\" \"us-ascii\") NIL NIL \"7BIT\" 3 1 NIL NIL NIL NIL) \
+ENVELOPE (NIL \"a\" NIL NIL NIL NIL NIL NIL NIL NIL))\r\n\
+d2 OK done\r\n\
 * BYE logging out\r\n\
 d3 OK done\r\n";
 

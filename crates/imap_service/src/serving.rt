@@ -20,7 +20,7 @@ use imap_host::{Host, Seat, crew_in};
 use imap_keeper::Keeper;
 use imap_names::UserName;
 use imap_options::{DialectName, Port, Service};
-use imap_rev1::Rev1;
+use imap_rev1::Utf7Rev1;
 use imap_rights::Groups;
 use imap_world::{Limits, World};
 use std::alloc::{AllocError, Global};
@@ -285,7 +285,7 @@ pub fn serve_in<
 ) {
     match dialect {
         DialectName::Rev2 => run_crew(rt, host, wakers, posts, &Standard, max_octets),
-        DialectName::Rev1 => run_crew(rt, host, wakers, posts, &Rev1::new(), max_octets),
+        DialectName::Rev1 => run_crew(rt, host, wakers, posts, &Utf7Rev1::new(), max_octets),
     }
 }
 
