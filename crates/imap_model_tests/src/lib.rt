@@ -1,5 +1,5 @@
-//! Tests of what is read from clients and printed for them, and of what a store is made of: names and maps from
-//! them, rights, mod-sequences, mailboxes, texts of messages.
+//! Tests of what is read from clients and printed for them, in the dialect of IMAP4rev1 too, and of what a store is
+//! made of: names and maps from them, rights, mod-sequences, mailboxes, texts of messages.
 //!
 //! They stand in a crate of their own, since a crate that has tests is proved twice: once without and
 //! once with them.
@@ -18,6 +18,8 @@ mod grammar;
 #[cfg(test)]
 mod mailbox;
 #[cfg(test)]
+mod mime;
+#[cfg(test)]
 mod modseq;
 #[cfg(test)]
 mod name_map;
@@ -31,6 +33,8 @@ mod parts;
 mod patterns;
 #[cfg(test)]
 mod printing;
+#[cfg(test)]
+mod rev1;
 #[cfg(test)]
 mod rights;
 #[cfg(test)]

@@ -1,6 +1,6 @@
 //! Messages that are told as they were asked for (RFC 3501, sections 6.4.5 and 7.4.2).
 
-use crate::rows::expect_told;
+use crate::rev1::rows::expect_told;
 use imap_lex::Octets;
 use imap_print::{FetchedItems, FetchedSection, LiteralParts, Response};
 use imap_query::Section;

@@ -1,6 +1,6 @@
 //! Texts, and how they are spelt in modified UTF-7.
 
-use crate::rows::expect;
+use crate::wanted::expect;
 use imap_utf7::{decode, encode};
 use std::alloc::{AllocError, Global};
 

@@ -1,5 +1,6 @@
 //! What rows of tests are made of. A test hands what it made to one of these functions, and has no `?`.
 
+use crate::wanted::expect;
 use imap_dialect::Dialect;
 use imap_lex::{Frame, Octets};
 use imap_print::{EnabledCapabilities, Pieces, Response};
@@ -7,7 +8,6 @@ use imap_rev1::{Rev1, Rules};
 use imap_syntax::Items;
 use std::alloc::{AllocError, Global};
 use std::process::Abort;
-use std::str;
 
 pub(crate) fn frame(alloc: Global, octets: &[u8]) -> Result<Frame, AllocError> {
     Ok(Frame::Whole(Octets::from_slice(alloc, octets)?))
@@ -81,20 +81,5 @@ pub(crate) fn expect_told(
     match &reply {
         Ok(reply) => expect(rt, told(rt.alloc(), rev2, command, reply), wanted),
         Err(error) => panic!(rt; "{error:?}"),
-    }
-}
-
-/// Asserts that these octets were made.
-pub(crate) fn expect(rt: &impl Abort, made: Result<Vec<u8>, AllocError>, wanted: &[u8]) {
-    match made {
-        Ok(octets) => compare(rt, &octets, wanted),
-        Err(error) => panic!(rt; "{error:?}"),
-    }
-}
-
-fn compare(rt: &impl Abort, found: &[u8], wanted: &[u8]) {
-    if found != wanted {
-        let (found, wanted) = (str::from_utf8(found), str::from_utf8(wanted));
-        panic!(rt; "{found:?} in place of {wanted:?}");
     }
 }

@@ -1,6 +1,7 @@
 //! Commands, and what the server sees in their place (RFC 3501, sections 6.3.9, 6.3.10, 6.4.1, 6.4.4 and 6.4.5).
 
-use crate::rows::{expect, seen};
+use crate::rev1::rows::seen;
+use crate::wanted::expect;
 
 /// In IMAP4rev1.
 const BEFORE: &[(&[u8], &[u8])] = &[

@@ -1,6 +1,7 @@
 //! Names in modified UTF-7, in commands and in replies (RFC 3501, section 5.1.3; RFC 6855, section 3).
 
-use crate::rows::{expect, frame, joined};
+use crate::rev1::rows::{frame, joined};
+use crate::wanted::expect;
 use imap_dialect::Dialect;
 use imap_lex::{Frame, Octets};
 use imap_print::{Children, EnabledCapabilities, ListAttributes, Pieces, Response, StatusValue};

@@ -1,6 +1,6 @@
 //! Replies that are told in another way (RFC 3501, sections 6.1.1, 7.2.3 to 7.2.5, 7.3.1 and 7.3.2).
 
-use crate::rows::expect_told;
+use crate::rev1::rows::expect_told;
 use imap_lex::{Octets, Tag};
 use imap_print::{Children, ListAttributes, NumberSet, Response, SearchResults, StatusValue};
 use imap_query::StatusItem;

@@ -1,0 +1,4 @@
+//! Envelopes and structures of messages, beside those that Python found.
+
+mod envelopes;
+mod structures;
