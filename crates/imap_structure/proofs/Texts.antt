@@ -1,11 +1,10 @@
 -- Structures are text of one line.
-use Rattle.std.proofs.Common.{◌≡◌, ℕ, zero, suc, Bool, true, false, cond, ◌==◌, List, [], ◌∷◌, ◌++◌, Option, Some, None, refl, length, map, flat_map, decimal, count_by}
+use Rattle.std.proofs.Common.{ℕ, zero, suc, Bool, true, false, List, [], ◌∷◌, Option, Some, None, refl, length, map, flat_map, count_by}
 use Rattle.std.specs.Prelude.{codes}
-use Rattle.imap_print.specs.Words.{before_each, in_parentheses}
 use Rattle.imap_print.proofs.Reader.{Settles, settled, settles-append, one_line, AllSettle, words_settle, before_each_settles}
 use Rattle.imap_print.proofs.OneLine.{number_settles}
 use Rattle.imap_mime.specs.Envelope.{envelope_of}
-use Rattle.imap_mime.specs.Strings.{string_text, nstring_text}
+use Rattle.imap_mime.specs.Strings.{string_text}
 use Rattle.imap_mime.specs.Values.{first_value}
 use Rattle.imap_mime.proofs.Texts.{nstring_settles, envelope_settles}
 use Rattle.imap_text.specs.Sections.{text}
@@ -16,8 +15,8 @@ use Rattle.imap_structure.specs.declared.media.Param.{Param}
 use Rattle.imap_structure.specs.Media.{boundary_of, is_digest, kind_of, media_of, plain_type}
 use Rattle.imap_structure.specs.MediaReader.{media_in}
 use Rattle.imap_structure.specs.Parts.{is_line_feed, parts_of}
-use Rattle.imap_structure.specs.Single.{param_text, params_text, media_text, encoding_or, encoding_of, field_words, media_disposition, disposition_text, disposition_of, place_words, md5_words, single_front, extended_text, single_end}
-use Rattle.imap_structure.specs.Structure.{lines_text, other_text, plain_text, limit_text, message_text, multipart_extended, multipart_end, multipart_text, entity_by, entity_text, structure_text, structure_of, max_depth}
+use Rattle.imap_structure.specs.Single.{param_text, params_text, media_text, encoding_or, field_words, media_disposition, disposition_text, place_words, md5_words, single_front, extended_text, single_end}
+use Rattle.imap_structure.specs.Structure.{lines_text, other_text, plain_text, message_text, multipart_extended, multipart_end, multipart_text, entity_by, structure_text, structure_of, max_depth}
 use Rattle.imap_structure.specs.Laws.{EachIsOneLine}
 
 -- ---- words

@@ -1,5 +1,5 @@
 -- The value of Content-Type and of fields of its form, octet by octet (RFC 2045, section 5.1).
-use Rattle.std.specs.Prelude.{ℕ, Bool, ◌==◌, List, [], ◌∷◌, ◌++◌, length, if◌then◌else◌}
+use Rattle.std.specs.Prelude.{ℕ, ◌==◌, List, [], ◌∷◌, ◌++◌, length, if◌then◌else◌}
 use Rattle.imap_mime.specs.declared.lexical.Lexical.TheVariants as lexical
 use Rattle.imap_mime.specs.declared.lexical.Sign.{Sign}
 use Rattle.imap_mime.specs.declared.lexical.Sign.TheVariants as sign

@@ -1,5 +1,5 @@
 -- The parts of a multipart (RFC 2046, section 5.1.1).
-use Rattle.std.specs.Prelude.{◌≡◌, ◌<◌, ℕ, ◌-◌, Bool, true, false, ◌==◌, ◌&&◌, List, [], ◌∷◌, ◌++◌, length}
+use Rattle.std.specs.Prelude.{◌≡◌, ◌<◌, ℕ, ◌-◌, Bool, true, false, ◌==◌, List, [], ◌∷◌, ◌++◌, length}
 use Rattle.std.specs.Prelude.{take, drop, codes, eqb, if◌then◌else◌}
 use Rattle.std.specs.List.{ends_with, list_all, starts_with}
 use Rattle.imap_lex.specs.Chars.{crlf}

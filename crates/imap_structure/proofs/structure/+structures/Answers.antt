@@ -1,11 +1,9 @@
-use Rattle.std.proofs.Common.{◌≡◌, ◌∙◌, ap, sym, ℕ, ◌-◌, ◌<◌, false, List, ◌∷◌, ◌++◌, length, arith, count_by, decimal}
+use Rattle.std.proofs.Common.{◌≡◌, ◌∙◌, ap, sym, ℕ, ◌-◌, ◌<◌, false, List, ◌∷◌, ◌++◌, length, arith, decimal}
 use Rattle.std.proofs.lemmas.Bool.Decides.{nat_tests}
 use Rattle.imap_mime.specs.Envelope.{envelope_of, envelope_text}
-use Rattle.imap_text.specs.Sections.{text}
 use Rattle.imap_structure.specs.declared.media.MediaType.{MediaType}
-use Rattle.imap_structure.specs.Parts.{is_line_feed}
 use Rattle.imap_structure.specs.Single.{single_end, single_front}
-use Rattle.imap_structure.specs.Structure.{entity_text, lines_text, message_text, structure_text}
+use Rattle.imap_structure.specs.Structure.{entity_text, lines_text, structure_text}
 use Rattle.imap_structure.proofs.Depth.{message_told, structure_at_limit, structure_below}
 use Rattle.imap_structure.proofs.structure.+structures.Goals as goal
 
