@@ -21,7 +21,7 @@ use Rattle.imap_rev1_frames.specs.declared.named.Named.TheVariants as named
 use Rattle.imap_rev1.specs.declared.rev1.Rev1.{Rev1}
 use Rattle.imap_rev1_frames.specs.declared.scan.Depth.TheVariants as depth
 use Rattle.imap_rev1_frames.specs.Asked.{fetch_for, is_labelled, label_in, label_name, labelled_by, section_asked, section_by, without_repeats}
-use Rattle.imap_rev1.specs.FetchLaws.{fetch_octets, IsFetch, alone, AsksSections, AsksSection, AsksAll, message_told, TellsAsAsked, labelled_line, TellsLabel, TellsListedLabel, PrintsUnlabelled, PrintsNotices}
+use Rattle.imap_rev1.specs.FetchLaws.{fetch_octets, IsFetch, alone, AsksSections, AsksSection, AsksMacro, message_told, TellsAsAsked, labelled_line, TellsLabel, TellsListedLabel, PrintsUnlabelled, PrintsNotices}
 use Rattle.imap_rev1.specs.Labels.{stands_for, labelled_text, all_asked_words, fetch_text}
 use Rattle.imap_rev1.specs.Laws.{IsPlainWord, listed}
 use Rattle.imap_rev1_frames.specs.Named.{named_in}
@@ -161,22 +161,14 @@ module _ (state : Rev1) (uid : Bool) (tag set item : List ℕ) (is : IsFetch sta
 pub asks_section : AsksSection
 asks_section state uid tag set item is item_is = frame_written state uid tag set (alone set item) is _ (alone_written state uid tag set item is item_is)
 
-pub asks_all : AsksAll
-asks_all state uid tag set is = asks_section state uid tag set (codes "ALL") is (record { octets = refl; some = refl })
+pub asks_macro : AsksMacro
+asks_macro state uid false tag set is = asks_section state uid tag set (codes "ALL") is (record { octets = refl; some = refl })
+asks_macro state uid true tag set is = asks_section state uid tag set (codes "FULL") is (record { octets = refl; some = refl })
 
 -- ---- one label
 
-label_asked : (l : Label) → option_list (section_asked (label_name l)) ≡ asked.Labelled l ∷ []
-label_asked label.Message = refl
-label_asked label.Header = refl
-label_asked label.Text = refl
-label_asked label.Envelope = refl
-
-label_is : (l : Label) → IsPlainWord (label_name l)
-label_is label.Message = record { octets = refl; some = refl }
-label_is label.Header = record { octets = refl; some = refl }
-label_is label.Text = record { octets = refl; some = refl }
-label_is label.Envelope = record { octets = refl; some = refl }
+word_stands : (word : List ℕ) (l : Label) → label_in word ≡ Some l → option_list (section_asked word) ≡ asked.Labelled l ∷ []
+word_stands word l names = ap (λ (o : Option Label). option_list (labelled_by o word)) names
 
 one_found : (l : Label) (body : FetchedSection) → stands_for l body ≡ true → all_asked_words (body ∷ []) (body ∷ []) (asked.Labelled l ∷ []) ≡ labelled_text l body ∷ []
 one_found l body is = ap (λ b. given_by (labelled_text l) (cond b (Some body) None) ++ []) is
@@ -193,14 +185,13 @@ line_told l number fetched body one stands =
 
 pub tells_label : TellsLabel
 tells_label state uid tag set word l number fetched body is word_is names one stands =
-    told_as state uid tag set (alone set word) is (asked.Labelled l ∷ []) true number fetched
-    (alone_asked state uid tag set word is word_is ∙ ap (λ (o : Option Label). option_list (labelled_by o word)) names) refl
+    told_as state uid tag set (alone set word) is (asked.Labelled l ∷ []) true number fetched (alone_asked state uid tag set word is word_is ∙ word_stands word l names) refl
     ∙ line_told l number fetched body one stands
 
 pub tells_listed_label : TellsListedLabel
-tells_listed_label state uid tag set l number fetched body is one stands =
-    told_as state uid tag set (listed set (label_name l ∷ [])) is (asked.Labelled l ∷ []) true number fetched
-    (list_asked state uid tag set (label_name l ∷ []) is (label_is l, tt) ∙ append-nil (option_list (section_asked (label_name l))) ∙ label_asked l) refl
+tells_listed_label state uid tag set word l number fetched body is word_is names one stands =
+    told_as state uid tag set (listed set (word ∷ [])) is (asked.Labelled l ∷ []) true number fetched
+    (list_asked state uid tag set (word ∷ []) is (word_is, tt) ∙ append-nil (option_list (section_asked word)) ∙ word_stands word l names) refl
     ∙ line_told l number fetched body one stands
 
 -- ---- notices

@@ -12,6 +12,8 @@ use Rattle.imap_print.proofs.Reader.{Settles, settled, settles-append, literal_s
 use Rattle.imap_print.proofs.OneLine.{number_settles, body_settles, items_settle}
 use Rattle.imap_mime.specs.Envelope.{envelope_of}
 use Rattle.imap_mime.proofs.Texts.{envelope_settles}
+use Rattle.imap_structure.specs.Structure.{max_depth}
+use Rattle.imap_structure.proofs.Texts.{structure_settles}
 use Rattle.imap_rev1_frames.specs.declared.asked.Asked.{Asked}
 use Rattle.imap_rev1_frames.specs.declared.asked.Asked.TheVariants as asked
 use Rattle.imap_rev1_frames.specs.declared.asked.Label.{Label}
@@ -31,12 +33,19 @@ label_settles label.Message = settled _ refl
 label_settles label.Header = settled _ refl
 label_settles label.Text = settled _ refl
 label_settles label.Envelope = settled _ refl
+label_settles label.Body = settled _ refl
+label_settles label.Structure = settled _ refl
+label_settles label.Full = settled _ refl
 
 contents_settle : (l : Label) (octets : List ℕ) → IsHeld octets → Settles (labelled_contents l octets)
 contents_settle label.Message octets held = literal_settles octets held
 contents_settle label.Header octets held = literal_settles octets held
 contents_settle label.Text octets held = literal_settles octets held
 contents_settle label.Envelope octets held = envelope_settles (envelope_of octets)
+contents_settle label.Body octets held = structure_settles false max_depth false octets
+contents_settle label.Structure octets held = structure_settles true max_depth false octets
+contents_settle label.Full octets held =
+    settles-append (settles-append (envelope_settles (envelope_of octets)) (settled (codes " BODY ") refl)) (structure_settles false max_depth false octets)
 
 labelled_settles : (l : Label) (body : FetchedSection) → IsFine body → Settles (labelled_text l body)
 labelled_settles l body h = settles-append (settles-append (label_settles l) (settled (codes " ") refl)) (contents_settle l (concat body.octets) h.held)

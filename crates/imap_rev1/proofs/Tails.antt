@@ -18,7 +18,7 @@ use Rattle.imap_rev1_frames.specs.declared.named.Named.TheVariants as named
 use Rattle.imap_rev1_frames.specs.declared.scan.Scan.{Scan}
 use Rattle.imap_rev1_frames.specs.declared.asked.Label.TheVariants as label
 use Rattle.imap_rev1_frames.specs.declared.asked.Label.{Label}
-use Rattle.imap_rev1_frames.specs.Asked.{section_by, envelope_section}
+use Rattle.imap_rev1_frames.specs.Asked.{section_by, contents_label, envelope_section}
 use Rattle.imap_rev1_frames.specs.Named.{is_word}
 use Rattle.imap_rev1_frames.specs.Scan.{is_in_word, exchanged, item_for, fetch_item_for, word_for, is_item, written_word, after_word, after_octet, written}
 
@@ -106,20 +106,28 @@ envelope_plain false = refl
 envelope_alike : (word octets : List ℕ) → is_name word ≡ true → is_word word octets ≡ true → Alike octets (envelope_section octets)
 envelope_alike word octets name h = other_alike word (envelope_section octets) octets name h (envelope_tail (is_word (codes "ALL") octets)) (envelope_plain (is_word (codes "ALL") octets))
 
-envelope_alike_by : (octets : List ℕ) (envelope all : Bool) → is_word (codes "ENVELOPE") octets ≡ envelope → is_word (codes "ALL") octets ≡ all → Alike octets (section_by (cond (envelope || all) (Some label.Envelope) None) octets)
-envelope_alike_by octets true all e f = envelope_alike (codes "ENVELOPE") octets refl e
-envelope_alike_by octets false true e f = envelope_alike (codes "ALL") octets refl f
-envelope_alike_by octets false false e f = same_alike octets
+structure_alike_by : (octets : List ℕ) (body structure full : Bool) → is_word (codes "BODY") octets ≡ body → is_word (codes "BODYSTRUCTURE") octets ≡ structure → is_word (codes "FULL") octets ≡ full
+    → Alike octets (section_by (cond body (Some label.Body) (cond structure (Some label.Structure) (cond full (Some label.Full) None))) octets)
+structure_alike_by octets true structure full e f g = other_alike (codes "BODY") (codes "BODY.PEEK[]") octets refl e (λ t. refl) refl
+structure_alike_by octets false true full e f g = other_alike (codes "BODYSTRUCTURE") (codes "BODY.PEEK[]") octets refl f (λ t. refl) refl
+structure_alike_by octets false false true e f g = other_alike (codes "FULL") (codes "(FLAGS INTERNALDATE RFC822.SIZE BODY.PEEK[])") octets refl g (λ t. refl) refl
+structure_alike_by octets false false false e f g = same_alike octets
 
-abbrev envelope_label : List ℕ → Option Label
-envelope_label octets = cond (is_word (codes "ENVELOPE") octets || is_word (codes "ALL") octets) (Some label.Envelope) None
+abbrev structure_label : List ℕ → Option Label
+structure_label octets = cond (is_word (codes "BODY") octets) (Some label.Body) (cond (is_word (codes "BODYSTRUCTURE") octets) (Some label.Structure) (cond (is_word (codes "FULL") octets) (Some label.Full) None))
+
+contents_alike_by : (octets : List ℕ) (envelope all : Bool) → is_word (codes "ENVELOPE") octets ≡ envelope → is_word (codes "ALL") octets ≡ all
+    → Alike octets (section_by (cond (envelope || all) (Some label.Envelope) (structure_label octets)) octets)
+contents_alike_by octets true all e f = envelope_alike (codes "ENVELOPE") octets refl e
+contents_alike_by octets false true e f = envelope_alike (codes "ALL") octets refl f
+contents_alike_by octets false false e f = structure_alike_by octets _ _ _ refl refl refl
 
 fetch_alike_by : (octets : List ℕ) (message header body : Bool) → is_word (codes "RFC822") octets ≡ message → is_word (codes "RFC822.HEADER") octets ≡ header → is_word (codes "RFC822.TEXT") octets ≡ body
-    → Alike octets (section_by (cond message (Some label.Message) (cond header (Some label.Header) (cond body (Some label.Text) (envelope_label octets)))) octets)
+    → Alike octets (section_by (cond message (Some label.Message) (cond header (Some label.Header) (cond body (Some label.Text) (contents_label octets)))) octets)
 fetch_alike_by octets true header body e f g = other_alike (codes "RFC822") (codes "BODY[]") octets refl e (λ t. refl) refl
 fetch_alike_by octets false true body e f g = other_alike (codes "RFC822.HEADER") (codes "BODY.PEEK[HEADER]") octets refl f (λ t. refl) refl
 fetch_alike_by octets false false true e f g = other_alike (codes "RFC822.TEXT") (codes "BODY[TEXT]") octets refl g (λ t. refl) refl
-fetch_alike_by octets false false false e f g = envelope_alike_by octets _ _ refl refl
+fetch_alike_by octets false false false e f g = contents_alike_by octets _ _ refl refl
 
 fetch_alike : (is_item : Bool) (octets : List ℕ) → Alike octets (fetch_item_for is_item octets)
 fetch_alike true octets = fetch_alike_by octets _ _ _ refl refl refl

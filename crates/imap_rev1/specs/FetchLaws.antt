@@ -18,7 +18,7 @@ use Rattle.imap_rev1_frames.specs.declared.asked.Asked.{Asked}
 use Rattle.imap_rev1_frames.specs.declared.asked.Label.{Label}
 use Rattle.imap_rev1_frames.specs.declared.named.Named.TheVariants as named
 use Rattle.imap_rev1.specs.declared.rev1.Rev1.{Rev1}
-use Rattle.imap_rev1_frames.specs.Asked.{fetch_for, is_labelled, label_in, label_name, section_asked, without_repeats}
+use Rattle.imap_rev1_frames.specs.Asked.{fetch_for, is_labelled, label_in, section_asked, without_repeats}
 use Rattle.imap_rev1.specs.Labels.{fetch_text, labelled_text, stands_for}
 use Rattle.imap_rev1.specs.Laws.{IsPlainWord, listed}
 use Rattle.imap_rev1_frames.specs.Named.{named_in}
@@ -60,13 +60,21 @@ AsksSection =
     → rev1.rewritten state (Whole (fetch_octets uid tag (alone set item)))
     ≡ Whole (fetch_octets uid tag (alone set (fetch_for item)))
 
--- The macro ALL asks for the items of FAST and the header (RFC 3501, section 6.4.5).
-abbrev pub AsksAll : Type 0
-AsksAll =
-    (state : Rev1) (uid : Bool) (tag set : List ℕ)
-    → IsFetch state uid tag set (alone set (codes "ALL"))
-    → rev1.rewritten state (Whole (fetch_octets uid tag (alone set (codes "ALL"))))
-    ≡ Whole (fetch_octets uid tag (alone set (codes "(FLAGS INTERNALDATE RFC822.SIZE BODY.PEEK[HEADER])")))
+-- The macros ALL and FULL ask for the items of FAST, and for the header or the message (RFC 3501, section 6.4.5).
+abbrev pub macro_items : (full : Bool) → List ℕ
+macro_items false = codes "(FLAGS INTERNALDATE RFC822.SIZE BODY.PEEK[HEADER])"
+macro_items true = codes "(FLAGS INTERNALDATE RFC822.SIZE BODY.PEEK[])"
+
+abbrev pub macro_word : (full : Bool) → List ℕ
+macro_word false = codes "ALL"
+macro_word true = codes "FULL"
+
+abbrev pub AsksMacro : Type 0
+AsksMacro =
+    (state : Rev1) (uid full : Bool) (tag set : List ℕ)
+    → IsFetch state uid tag set (alone set (macro_word full))
+    → rev1.rewritten state (Whole (fetch_octets uid tag (alone set (macro_word full))))
+    ≡ Whole (fetch_octets uid tag (alone set (macro_items full)))
 
 -- the sections that the words ask for, each once
 abbrev pub asked_for : (items : List (List ℕ)) → List Asked
@@ -92,7 +100,8 @@ labelled_line label number fetched body =
     codes "* " ++ decimal number ++ codes " FETCH "
     ++ in_parentheses (item_words fetched ++ labelled_text label body ∷ [])
 
--- So what is fetched by a word that is one label, or stands for it, is told under this label.
+-- So what is fetched by a word that is one label, or stands for it, is told under this label, whether it stands
+-- alone or in parentheses.
 abbrev pub TellsLabel : Type 0
 TellsLabel =
     (state : Rev1) (uid : Bool) (tag set word : List ℕ) (label : Label)
@@ -102,15 +111,13 @@ TellsLabel =
     → message_told state (fetch_octets uid tag (alone set word)) number fetched
     ≡ labelled_line label number fetched body ++ crlf
 
--- So it is for a label in parentheses.
-
 abbrev pub TellsListedLabel : Type 0
 TellsListedLabel =
-    (state : Rev1) (uid : Bool) (tag set : List ℕ) (label : Label)
+    (state : Rev1) (uid : Bool) (tag set word : List ℕ) (label : Label)
     → (number : ℕ) (fetched : FetchedItems) (body : FetchedSection)
-    → IsFetch state uid tag set (listed set (label_name label ∷ []))
+    → IsFetch state uid tag set (listed set (word ∷ [])) → IsPlainWord word → label_in word ≡ Some label
     → fetched.sections ≡ body ∷ [] → stands_for label body ≡ true
-    → message_told state (fetch_octets uid tag (listed set (label_name label ∷ []))) number fetched
+    → message_told state (fetch_octets uid tag (listed set (word ∷ []))) number fetched
     ≡ labelled_line label number fetched body ++ crlf
 
 -- If none of the items is a label, messages are printed.

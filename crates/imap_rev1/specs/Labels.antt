@@ -10,6 +10,7 @@ use Rattle.imap_print.specs.Fetched.{body_text, item_words}
 use Rattle.imap_print.specs.Words.{given_by, in_parentheses}
 use Rattle.imap_syntax.specs.Written.{literal_text}
 use Rattle.imap_mime.specs.Envelope.{envelope_of, envelope_text}
+use Rattle.imap_structure.specs.Structure.{structure_of}
 use Rattle.imap_rev1_frames.specs.declared.asked.Asked.{Asked}
 use Rattle.imap_rev1_frames.specs.declared.asked.Asked.TheVariants as asked
 use Rattle.imap_rev1_frames.specs.declared.asked.Label.{Label}
@@ -22,6 +23,9 @@ abbrev pub is_of : Label → Section → Bool
 is_of label.Message section.Whole = true
 is_of label.Header section.Header = true
 is_of label.Envelope section.Header = true
+is_of label.Body section.Whole = true
+is_of label.Structure section.Whole = true
+is_of label.Full section.Whole = true
 is_of label.Text section.Text = true
 is_of _ _ = false
 
@@ -55,9 +59,16 @@ rest_after _ rest = rest
 
 -- ---- words
 
+-- ENVELOPE and BODY, after the name of the former
+abbrev pub full_text : (message : List ℕ) → List ℕ
+full_text message = envelope_text (envelope_of message) ++ codes " BODY " ++ structure_of false message
+
 -- what is told of the section's octets
 abbrev pub labelled_contents : Label → List ℕ → List ℕ
 labelled_contents label.Envelope octets = envelope_text (envelope_of octets)
+labelled_contents label.Body octets = structure_of false octets
+labelled_contents label.Structure octets = structure_of true octets
+labelled_contents label.Full octets = full_text octets
 labelled_contents _ octets = literal_text octets
 
 abbrev pub labelled_text : Label → FetchedSection → List ℕ

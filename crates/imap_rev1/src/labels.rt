@@ -18,7 +18,10 @@ fn is_of(label: Label, section: &Section) -> bool
     ensures { result ≡ is_of label section.now }
 {
     match section {
-        Section::Whole => matches!(label, Label::Message),
+        Section::Whole => matches!(
+            label,
+            Label::Message | Label::Body | Label::Structure | Label::Full
+        ),
         Section::Header => matches!(label, Label::Header | Label::Envelope),
         Section::Text => matches!(label, Label::Text),
         _ => false,

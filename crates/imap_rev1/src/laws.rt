@@ -1,6 +1,6 @@
 //! Laws of the dialect.
 
-ghost use Rattle.imap_rev1.specs.FetchLaws.{AsksAll, AsksSection, AsksSections, PrintsNotices};
+ghost use Rattle.imap_rev1.specs.FetchLaws.{AsksMacro, AsksSection, AsksSections, PrintsNotices};
 ghost use Rattle.imap_rev1.specs.FetchLaws.{PrintsUnlabelled, TellsAsAsked, TellsLabel, TellsListedLabel};
 ghost use Rattle.imap_rev1.specs.Laws.{AllAreRead, AsksMessages, ChecksByNoop, EachIsOneLine, EndsByRev2};
 ghost use Rattle.imap_rev1.specs.Laws.{HandsOthersOn, IsReadAsOne, KeepsTags, ListsSubscribed};
@@ -36,7 +36,7 @@ pub fn tells_recent()
 pub fn tells_labels()
     ensures sections { AsksSections }
     ensures section { AsksSection }
-    ensures all { AsksAll }
+    ensures macros { AsksMacro }
     ensures as_asked { TellsAsAsked }
     ensures label { TellsLabel }
     ensures listed { TellsListedLabel }

@@ -24,6 +24,9 @@ label_name label.Message = codes "RFC822"
 label_name label.Header = codes "RFC822.HEADER"
 label_name label.Text = codes "RFC822.TEXT"
 label_name label.Envelope = codes "ENVELOPE"
+label_name label.Body = codes "BODY"
+label_name label.Structure = codes "BODYSTRUCTURE"
+label_name label.Full = codes "ENVELOPE"
 
 -- The macro ALL stands for these items (RFC 3501, section 6.4.5).
 abbrev pub envelope_section : (word : List ℕ) → List ℕ
@@ -37,14 +40,24 @@ label_section label.Message word = codes "BODY[]"
 label_section label.Header word = codes "BODY.PEEK[HEADER]"
 label_section label.Text word = codes "BODY[TEXT]"
 label_section label.Envelope word = envelope_section word
+label_section label.Body word = codes "BODY.PEEK[]"
+label_section label.Structure word = codes "BODY.PEEK[]"
+label_section label.Full word = codes "(FLAGS INTERNALDATE RFC822.SIZE BODY.PEEK[])"
+
+-- the label of what is read in a section (section 6.4.5, ALL and FULL)
+abbrev pub contents_label : (word : List ℕ) → Option Label
+contents_label word =
+    if is_word (codes "ENVELOPE") word || is_word (codes "ALL") word then Some label.Envelope
+    else (if is_word (codes "BODY") word then Some label.Body
+    else (if is_word (codes "BODYSTRUCTURE") word then Some label.Structure
+    else (if is_word (codes "FULL") word then Some label.Full else None)))
 
 -- the label that the word is, or that it stands for
 abbrev pub label_in : (word : List ℕ) → Option Label
 label_in word =
     if is_word (codes "RFC822") word then Some label.Message
     else (if is_word (codes "RFC822.HEADER") word then Some label.Header
-    else (if is_word (codes "RFC822.TEXT") word then Some label.Text
-    else (if is_word (codes "ENVELOPE") word || is_word (codes "ALL") word then Some label.Envelope else None)))
+    else (if is_word (codes "RFC822.TEXT") word then Some label.Text else contents_label word))
 
 -- the label for the section that the word asks for
 abbrev pub label_for : (word : List ℕ) → Option Label
@@ -88,6 +101,9 @@ is_same_label label.Message label.Message = true
 is_same_label label.Header label.Header = true
 is_same_label label.Text label.Text = true
 is_same_label label.Envelope label.Envelope = true
+is_same_label label.Body label.Body = true
+is_same_label label.Structure label.Structure = true
+is_same_label label.Full label.Full = true
 is_same_label _ _ = false
 
 -- both ask for the section of a label, and in the same way

@@ -2,7 +2,7 @@
 
 ghost use Rattle.std.specs.Prelude.{◌≡◌, [], IfOk, OnOk};
 ghost use Rattle.std.specs.List.{list_any};
-ghost use Rattle.imap_rev1_frames.specs.Asked.{envelope_section};
+ghost use Rattle.imap_rev1_frames.specs.Asked.{contents_label, envelope_section};
 ghost use Rattle.imap_rev1_frames.specs.Asked.{fetch_for, is_labelled, is_recent, is_repeat, is_same_label, is_section};
 ghost use Rattle.imap_rev1_frames.specs.Asked.{label_for, label_in, label_name, label_section, other_asked};
 ghost use Rattle.imap_rev1_frames.specs.Asked.{section_asked, status_asked, unlabelled_by, with_asked};
@@ -22,6 +22,12 @@ pub enum Label {
     Text,
     /// ENVELOPE, which is read in BODY.PEEK[HEADER].
     Envelope,
+    /// BODY, which is read in BODY.PEEK[].
+    Body,
+    /// BODYSTRUCTURE, which is read in BODY.PEEK[].
+    Structure,
+    /// ENVELOPE and BODY, for which the macro FULL asks. Both are read in BODY.PEEK[].
+    Full,
 }
 
 /// An item that a command asks for.
@@ -48,7 +54,9 @@ impl Label {
             Label::Message => b"RFC822",
             Label::Header => b"RFC822.HEADER",
             Label::Text => b"RFC822.TEXT",
-            Label::Envelope => b"ENVELOPE",
+            Label::Envelope | Label::Full => b"ENVELOPE",
+            Label::Body => b"BODY",
+            Label::Structure => b"BODYSTRUCTURE",
         }
     }
 
@@ -61,6 +69,8 @@ impl Label {
             Label::Header => b"BODY.PEEK[HEADER]",
             Label::Text => b"BODY[TEXT]",
             Label::Envelope => envelope_section(word),
+            Label::Body | Label::Structure => b"BODY.PEEK[]",
+            Label::Full => b"(FLAGS INTERNALDATE RFC822.SIZE BODY.PEEK[])",
         }
     }
 
@@ -72,6 +82,9 @@ impl Label {
             Label::Header => matches!(other, Label::Header),
             Label::Text => matches!(other, Label::Text),
             Label::Envelope => matches!(other, Label::Envelope),
+            Label::Body => matches!(other, Label::Body),
+            Label::Structure => matches!(other, Label::Structure),
+            Label::Full => matches!(other, Label::Full),
         }
     }
 }
@@ -125,6 +138,23 @@ fn envelope_section(word: &[u8]) -> &'static [u8]
     }
 }
 
+/// Returns the label of what is read in a section, if the word asks for that.
+fn contents_label(word: &[u8]) -> Option<Label>
+    ensures { result ≡ contents_label word.now }
+{
+    if is_word(b"ENVELOPE", word) || is_word(b"ALL", word) {
+        Some(Label::Envelope)
+    } else if is_word(b"BODY", word) {
+        Some(Label::Body)
+    } else if is_word(b"BODYSTRUCTURE", word) {
+        Some(Label::Structure)
+    } else if is_word(b"FULL", word) {
+        Some(Label::Full)
+    } else {
+        None
+    }
+}
+
 /// Returns the label that the word is, or that it stands for.
 fn label_in(word: &[u8]) -> Option<Label>
     ensures { result ≡ label_in word.now }
@@ -135,10 +165,8 @@ fn label_in(word: &[u8]) -> Option<Label>
         Some(Label::Header)
     } else if is_word(b"RFC822.TEXT", word) {
         Some(Label::Text)
-    } else if is_word(b"ENVELOPE", word) || is_word(b"ALL", word) {
-        Some(Label::Envelope)
     } else {
-        None
+        contents_label(word)
     }
 }
 

@@ -125,6 +125,16 @@ const ROWS: &[(&[u8], &[Body], &[u8])] = &[
         b"* 12 FETCH (UID 7 RFC822.SIZE 9 RFC822.HEADER {9}\r\nDate: e\r\n ENVELOPE (\"e\" NIL NIL NIL NIL NIL NIL NIL NIL NIL) BODY[HEADER] {9}\r\nDate: e\r\n)\r\n",
     ),
     (
+        b"T FETCH 12 FULL\r\n",
+        &[Body::Whole(None, b"Subject: d\r\n\r\ne\r\n")],
+        b"* 12 FETCH (UID 7 RFC822.SIZE 9 ENVELOPE (NIL \"d\" NIL NIL NIL NIL NIL NIL NIL NIL) BODY (\"text\" \"plain\" (\"charset\" \"us-ascii\") NIL NIL \"7BIT\" 3 1))\r\n",
+    ),
+    (
+        b"T FETCH 12 (BODYSTRUCTURE RFC822 BODY)\r\n",
+        &[Body::Whole(None, b"Content-Type: a/b\r\n\r\n")],
+        b"* 12 FETCH (UID 7 RFC822.SIZE 9 BODYSTRUCTURE (\"a\" \"b\" NIL NIL NIL \"7BIT\" 0 NIL NIL NIL NIL) RFC822 {21}\r\nContent-Type: a/b\r\n\r\n BODY (\"a\" \"b\" NIL NIL NIL \"7BIT\" 0))\r\n",
+    ),
+    (
         b"T FETCH 12 (ENVELOPE)\r\n",
         &[Body::Header(Some(0), b"Date: e\r\n")],
         b"* 12 FETCH (UID 7 RFC822.SIZE 9)\r\n",

@@ -113,6 +113,14 @@ const FETCHES: &[(&[u8], &[u8])] = &[
         b"T UID FETCH 1:* (UID BODY.PEEK[HEADER] BODY[TEXT])\r\n",
     ),
     (b"T FETCH 1 FAST\r\n", b"T FETCH 1 FAST\r\n"),
+    (
+        b"T FETCH 1 FULL\r\n",
+        b"T FETCH 1 (FLAGS INTERNALDATE RFC822.SIZE BODY.PEEK[])\r\n",
+    ),
+    (
+        b"T FETCH 1 (body BodyStructure BODY[TEXT])\r\n",
+        b"T FETCH 1 (BODY.PEEK[] BODY.PEEK[] BODY[TEXT])\r\n",
+    ),
     (b"T FETCH 1 RFC822\r\n", b"T FETCH 1 BODY[]\r\n"),
     (
         b"T fetch 1 rfc822.header\r\n",
