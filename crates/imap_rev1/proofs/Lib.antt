@@ -8,6 +8,7 @@ pub mod Lines
 pub mod Listed
 pub mod OneFrame
 pub mod Rev1Rules
+pub mod Spelled
 pub mod Spelt
 pub mod Strings
 pub mod Tails
