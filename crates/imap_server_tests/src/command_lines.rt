@@ -314,7 +314,7 @@ fn ends_with_a_status(rt: HostRuntime) {
         assert!(rt; report_script_error(&rt, error) == ExitCode::from(*status));
     }
     assert!(rt; report_misuse(&rt, &CommandLineError::Memory) == ExitCode::from(4));
-    const ENDS: [(ServiceError, u8); 8] = [
+    const ENDS: [(ServiceError, u8); 9] = [
         (ServiceError::Output, 3),
         (ServiceError::NoConnection, 3),
         (
