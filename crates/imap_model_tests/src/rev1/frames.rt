@@ -159,7 +159,11 @@ const FETCHES: &[(&[u8], &[u8])] = &[
         b"T FETCH 1 (UID RFC822.SIZE)\r\n",
     ),
     (b"RFC822 FETCH 1 RFC822\r\n", b"RFC822 FETCH 1 BODY[]\r\n"),
-    (b"T FETCH 1 ALL\r\n", b"T FETCH 1 ALL\r\n"),
+    (b"T FETCH 1 FAST\r\n", b"T FETCH 1 FAST\r\n"),
+    (
+        b"T FETCH 1 ALL\r\n",
+        b"T FETCH 1 (FLAGS INTERNALDATE RFC822.SIZE BODY.PEEK[HEADER])\r\n",
+    ),
     (
         b"T STORE 1 FLAGS (RFC822)\r\n",
         b"T STORE 1 FLAGS (RFC822)\r\n",

@@ -47,7 +47,7 @@ const COMMANDS: &[(&[u8], &[u8])] = &[
     ),
     (
         b"T APPEND &AOk- (\\Seen) {5}\r\n&AOk-\r\n",
-        b"T APPEND \"\xc3\xa9\" (\\Seen) {5}\r\n&AOk-\r\n",
+        b"T APPEND \"\xc3\xa9\" (\\SEEN) {5}\r\n&AOk-\r\n",
     ),
     (b"T COPY 1 &AOk-\r\n", b"T COPY 1 \"\xc3\xa9\"\r\n"),
     (
