@@ -172,7 +172,7 @@ c8 OK done\r\n\
 c9 OK done\r\n\
 * 1 FETCH (BODY[TEXT] {3}\r\nb\r\n)\r\n\
 d1 OK done\r\n\
-* 1 FETCH (BODYSTRUCTURE (\"text\" \"plain\" (\"CHARSET\" \"us-ascii\") NIL NIL \"7BIT\" 3 1 NIL NIL NIL NIL) \
+* 1 FETCH (BODYSTRUCTURE (\"text\" \"plain\" (\"charset\" \"us-ascii\") NIL NIL \"7BIT\" 3 1 NIL NIL NIL NIL) \
 ENVELOPE (NIL \"a\" NIL NIL NIL NIL NIL NIL NIL NIL))\r\n\
 d2 OK done\r\n\
 * BYE logging out\r\n\
