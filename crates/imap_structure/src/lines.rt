@@ -1,24 +1,7 @@
 //! Lines (RFC 5322, section 2.1).
 
-ghost use Rattle.std.specs.Prelude.{◌≡◌, [], MatchOption, count_by};
-ghost use Rattle.imap_text.specs.Found.{IsFirstLine};
+ghost use Rattle.std.specs.Prelude.{◌≡◌, count_by};
 ghost use Rattle.imap_structure.specs.Parts.{is_line_feed, without_end};
-
-use imap_lex::line_length;
-
-/// Splits the first line of `octets`, its CRLF with it, from what follows. Octets without a CRLF are one
-/// line. Returns `None` if there are no octets.
-pub(crate) fn split_line(octets: &[u8]) -> Option<(&[u8], &[u8])>
-    ensures { MatchOption result (octets.now ≡ []) (λ split. IsFirstLine octets.now split.0.now split.1.now) }
-{
-    if octets.is_empty() {
-        return None;
-    }
-    match line_length(octets) {
-        Some(len) => Some(octets.split_at(len)),
-        None => Some(octets.split_at(octets.len())),
-    }
-}
 
 /// Returns the octets without the CRLF at their end.
 pub(crate) fn without_end(octets: &[u8]) -> &[u8]

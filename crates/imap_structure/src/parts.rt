@@ -5,7 +5,8 @@ ghost use Rattle.imap_text.specs.Lines.{lines};
 ghost use Rattle.imap_structure.specs.Parts.{IsFirstPart, found_parts, or_empty, parts_before, parts_of, parts_within};
 
 use crate::delimiter::{Delimiter, delimiter_of};
-use crate::lines::{split_line, without_end};
+use crate::lines::without_end;
+use imap_text::split_line;
 use std::alloc::{AllocError, Global};
 
 /// The first part of octets that follow a delimiter.

@@ -17,4 +17,5 @@ mod section;
 pub use folded::{Folded, Needle, contains_fold};
 pub use header_fields::{field_texts, fields};
 pub use imap_syntax::DateTime as InternalDate;
+pub use line::split_line;
 pub use section::{header, header_length, partial, text};

@@ -10,7 +10,7 @@ pub(crate) const CRLF: &[u8] = b"\r\n";
 
 /// Splits the first line of `octets`, its CRLF with it, from what follows. Octets without a CRLF are one
 /// line. Returns `None` if there are no octets.
-pub(crate) fn split_line(octets: &[u8]) -> Option<(&[u8], &[u8])>
+pub fn split_line(octets: &[u8]) -> Option<(&[u8], &[u8])>
     ensures { MatchOption result (octets.now ≡ []) (λ split. IsFirstLine octets.now split.0.now split.1.now) }
 {
     if octets.is_empty() {
