@@ -102,7 +102,7 @@ fn numbers_keywords(rt: HostRuntime) {
 struct Quiet;
 
 impl Progress for Quiet {
-    fn written(&mut self, _messages: u64) {}
+    fn done(&mut self, _messages: u64) {}
 }
 
 fn two_mailboxes(alloc: Global) -> Result<World, AllocError> {

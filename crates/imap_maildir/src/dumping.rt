@@ -1,11 +1,12 @@
 //! Mailboxes written as folders of messages.
 
-use crate::dump_error::DumpError;
 use crate::file_names::message_file;
 use crate::files::{make_file, make_folder, make_folders, moment_of};
 use crate::folder_names::mailbox_folder;
 use crate::keyword_letters::KeywordLetters;
 use crate::lists::push_list;
+use crate::maildir_error::MaildirError;
+use crate::progress::Progress;
 use imap_mailbox::{Mailbox, Near, Row};
 use imap_names::Name;
 use imap_world::{MailboxEntry, World};
@@ -13,12 +14,6 @@ use std::rt::Files;
 
 /// After how many messages progress is told.
 const STRIDE: u64 = 1_000;
-
-/// Who is told how far it is.
-pub trait Progress {
-    /// Is told how many messages are written.
-    fn written(&mut self, messages: u64);
-}
 
 /// How much was written.
 #[derive(Clone, Copy, Debug, PartialEq, Eq)]
@@ -36,7 +31,7 @@ pub fn dump<R: Files + AllocGlobal, P: Progress>(
     world: &World,
     folder: &str,
     progress: &mut P,
-) -> Result<Dumped, DumpError> {
+) -> Result<Dumped, MaildirError> {
     make_folder(rt, folder)?;
     let mut lists = Vec::new(rt.alloc());
     let mut messages = 0;
@@ -61,7 +56,7 @@ fn dump_mailbox<R: Files + AllocGlobal, P: Progress>(
     entry: &MailboxEntry,
     messages: &mut u64,
     progress: &mut P,
-) -> Result<(), DumpError> {
+) -> Result<(), MaildirError> {
     let folder = mailbox_folder(rt.alloc(), below, name)?;
     for part in ["cur", "new", "tmp"] {
         let path = format!(in rt.alloc(); "{folder}/{part}")?;
@@ -89,7 +84,7 @@ fn dump_messages<R: Files + AllocGlobal, P: Progress>(
     user: &str,
     messages: &mut u64,
     progress: &mut P,
-) -> Result<KeywordLetters, DumpError> {
+) -> Result<KeywordLetters, MaildirError> {
     let mut keywords = KeywordLetters::new(rt.alloc());
     let rows = mailbox.rows(user);
     let mut near = Near::start();
@@ -99,7 +94,7 @@ fn dump_messages<R: Files + AllocGlobal, P: Progress>(
         dump_message(rt, folder, &row, &keywords)?;
         *messages = messages.saturating_add(1);
         if *messages % STRIDE == 0 {
-            progress.written(*messages);
+            progress.done(*messages);
         }
     }
     Ok(keywords)
@@ -110,7 +105,7 @@ fn dump_message<R: Files + AllocGlobal>(
     folder: &str,
     row: &Row<'_>,
     keywords: &KeywordLetters,
-) -> Result<(), DumpError> {
+) -> Result<(), MaildirError> {
     let path = message_file(rt.alloc(), folder, row, keywords)?;
     make_file(
         rt,

@@ -1,6 +1,6 @@
 //! Folders and files that are made.
 
-use crate::dump_error::DumpError;
+use crate::maildir_error::MaildirError;
 use imap_syntax::DateTime;
 use std::fs::{DirBuilder, FileTimes, OpenFile, OpenOptions};
 use std::io::{self, Write};
@@ -14,22 +14,22 @@ const OWNER_ALONE: u32 = 0o700;
 const OWNERS_FILE: u32 = 0o600;
 
 /// Makes a folder. Fails if it is there.
-pub(crate) fn make_folder<R: Files + AllocGlobal>(rt: &R, path: &str) -> Result<(), DumpError> {
+pub(crate) fn make_folder<R: Files + AllocGlobal>(rt: &R, path: &str) -> Result<(), MaildirError> {
     let mut builder = DirBuilder::new();
     builder.mode(OWNER_ALONE);
     match builder.create(rt, path) {
         Ok(()) => Ok(()),
-        Err(error) => Err(DumpError::of_file(rt.alloc(), path, error.kind())),
+        Err(error) => Err(MaildirError::of_file(rt.alloc(), path, error.kind())),
     }
 }
 
 /// Makes a folder, and those above it that are missing.
-pub(crate) fn make_folders<R: Files + AllocGlobal>(rt: &R, path: &str) -> Result<(), DumpError> {
+pub(crate) fn make_folders<R: Files + AllocGlobal>(rt: &R, path: &str) -> Result<(), MaildirError> {
     let mut builder = DirBuilder::new();
     builder.recursive(true).mode(OWNER_ALONE);
     match builder.create(rt, path) {
         Ok(()) => Ok(()),
-        Err(error) => Err(DumpError::of_file(rt.alloc(), path, error.kind())),
+        Err(error) => Err(MaildirError::of_file(rt.alloc(), path, error.kind())),
     }
 }
 
@@ -39,10 +39,10 @@ pub(crate) fn make_file<R: Files + AllocGlobal>(
     path: &str,
     octets: &[u8],
     changed: Option<SystemTime>,
-) -> Result<(), DumpError> {
+) -> Result<(), MaildirError> {
     match write_new(rt, path, octets, changed) {
         Ok(()) => Ok(()),
-        Err(error) => Err(DumpError::of_file(rt.alloc(), path, error.kind())),
+        Err(error) => Err(MaildirError::of_file(rt.alloc(), path, error.kind())),
     }
 }
 
@@ -64,6 +64,20 @@ fn write_new<R: Files>(
 
 /// The moment of a date. `None` before 1970.
 pub(crate) fn moment_of(date: DateTime) -> Option<SystemTime> {
+    let since = Duration::from_secs(u64::try_from(seconds_of(date)).ok()?);
+    UNIX_EPOCH.checked_add(since)
+}
+
+/// The date of a moment, in UTC: the beginning of 1970 for one before. `None` after the year 9999.
+pub(crate) fn date_of(moment: SystemTime) -> Option<DateTime> {
+    match moment.duration_since(UNIX_EPOCH) {
+        Ok(since) => DateTime::of_moment(since.as_secs()),
+        Err(_) => DateTime::of_moment(0),
+    }
+}
+
+/// The seconds from the beginning of 1970 to a date.
+pub(crate) fn seconds_of(date: DateTime) -> i64 {
     let zone = date.zone();
     let offset = seconds(zone.hours(), zone.minutes(), 0);
     let local = date
@@ -71,13 +85,11 @@ pub(crate) fn moment_of(date: DateTime) -> Option<SystemTime> {
         .day_number()
         .saturating_mul(86_400)
         .saturating_add(seconds(date.hour(), date.minute(), date.second()));
-    let moment = if zone.west() {
+    if zone.west() {
         local.saturating_add(offset)
     } else {
         local.saturating_sub(offset)
-    };
-    let since = Duration::from_secs(u64::try_from(moment).ok()?);
-    UNIX_EPOCH.checked_add(since)
+    }
 }
 
 fn seconds(hours: u8, minutes: u8, seconds: u8) -> i64 {

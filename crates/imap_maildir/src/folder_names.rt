@@ -1,6 +1,6 @@
 //! The folder of a mailbox.
 
-use imap_names::{Name, Tree};
+use imap_names::{Name, NameError, Tree, read_full};
 use std::alloc::{AllocError, Global};
 
 const DIGITS: [char; 16] = [
@@ -42,6 +42,53 @@ fn push_level(path: &mut String, level: &str) -> Result<(), AllocError> {
         is_marked = false;
     }
     Ok(())
+}
+
+/// Returns the mailbox whose folder has this path below another folder, as [`mailbox_folder`] writes it, or `None` if none
+/// has.
+pub fn mailbox_name(alloc: Global, path: &str) -> Result<Option<Name>, AllocError> {
+    let text = unmarked(alloc, path)?;
+    match read_full(alloc, text.as_slice()) {
+        Ok(name) => Ok(Some(name)),
+        Err(NameError::Memory) => Err(AllocError),
+        Err(_) => Ok(None),
+    }
+}
+
+/// Returns the octets of a text with each `%` and two hexadecimal digits as the octet for which they stand.
+fn unmarked(alloc: Global, text: &str) -> Result<Vec<u8>, AllocError> {
+    let mut octets = Vec::new(alloc);
+    for (count, piece) in text.split('%').enumerate() {
+        let piece = piece.as_bytes();
+        if count == 0 {
+            octets.extend_from_slice(piece)?;
+        } else {
+            push_unmarked(&mut octets, piece)?;
+        }
+    }
+    Ok(octets)
+}
+
+/// Appends what follows a `%`, and the `%` too if no two digits follow it.
+fn push_unmarked(octets: &mut Vec<u8>, piece: &[u8]) -> Result<(), AllocError> {
+    if let [high, low, later @ ..] = piece {
+        if let (Some(high), Some(low)) = (digit_of(*high), digit_of(*low)) {
+            octets.push(high.wrapping_mul(16).wrapping_add(low))?;
+            return octets.extend_from_slice(later);
+        }
+    }
+    octets.push(b'%')?;
+    octets.extend_from_slice(piece)
+}
+
+/// Returns the value of a hexadecimal digit.
+fn digit_of(octet: u8) -> Option<u8> {
+    match octet {
+        b'0'..=b'9' => Some(octet - b'0'),
+        b'A'..=b'F' => Some(octet - b'A' + 10),
+        b'a'..=b'f' => Some(octet - b'a' + 10),
+        _ => None,
+    }
 }
 
 /// Appends `%` and two hexadecimal digits.

@@ -62,6 +62,49 @@ impl KeywordLetters {
     }
 }
 
+/// A keyword and its letter.
+#[derive(Debug, Drop)]
+pub struct LetteredKeyword {
+    pub letter: u8,
+    pub word: Atom,
+}
+
+/// Reads the lines of a file `dovecot-keywords`. Lines that give no keyword a letter are passed over.
+pub fn read_keywords(alloc: Global, text: &str) -> Result<Vec<LetteredKeyword>, AllocError> {
+    let mut keywords = Vec::new(alloc);
+    for line in text.lines() {
+        if let Some((number, word)) = line.split_once(' ') {
+            push_keyword(alloc, &mut keywords, number, word)?;
+        }
+    }
+    Ok(keywords)
+}
+
+fn push_keyword(
+    alloc: Global,
+    keywords: &mut Vec<LetteredKeyword>,
+    number: &str,
+    word: &str,
+) -> Result<(), AllocError> {
+    let Some(letter) = letter_of(number) else {
+        return Ok(());
+    };
+    if let Some(word) = Atom::read(alloc, word.as_bytes())? {
+        keywords.push(LetteredKeyword { letter, word })?;
+    }
+    Ok(())
+}
+
+/// Returns the small letter with this number, counted from 0.
+fn letter_of(number: &str) -> Option<u8> {
+    let letter = b'a'.checked_add(number.parse::<u8>().ok()?)?;
+    if letter.is_ascii_lowercase() {
+        Some(letter)
+    } else {
+        None
+    }
+}
+
 fn contains(words: &[Atom], word: &Atom) -> bool {
     for other in words {
         if other.as_slice() == word.as_slice() {

@@ -3,10 +3,11 @@
 use crate::command_line_error::CommandLineError;
 use crate::config_file::ConfigFile;
 use crate::secret::{SecretFiles, why_unread};
-use crate::serve_options::read_service;
+use crate::serve_options::{read_service, read_user};
 use crate::service::Service;
 use clap::error::ErrorKind;
 use clap::{Arg, ArgAction, ArgMatches, Command};
+use imap_names::UserName;
 use std::alloc::{AllocError, Global};
 use std::rt::{Env, Files};
 use std::{env, fs, io};
@@ -25,6 +26,15 @@ pub enum Task {
         database: String,
         /// The path of the folder, which is made.
         folder: String,
+    },
+    /// To read folders of messages into the mailboxes of a database.
+    Load {
+        /// The path of the database, which is made if it is missing.
+        database: String,
+        /// The path of the folder.
+        folder: String,
+        /// Who owns the Shared tree.
+        administrator: UserName,
     },
     /// To run the script on standard input.
     Script,
@@ -138,6 +148,7 @@ fn command<'a>(alloc: Global, is_whole: bool) -> Result<Command<'a>, AllocError>
         .subcommand(script)?;
     let command = with_check(alloc, command, is_whole)?;
     let command = with_dump(alloc, command, is_whole)?;
+    let command = with_load(alloc, command, is_whole)?;
     with_serve(alloc, command, is_whole)
 }
 
@@ -156,10 +167,22 @@ fn read_matches<S: SecretFiles>(
             let folder = String::from_str(file.alloc(), found.get_str("to").unwrap_or(""))?;
             Ok(Task::Dump { database, folder })
         }
+        Some(("load", found)) => read_load(file, found),
         Some(("script", _)) => Ok(Task::Script),
         Some(("serve", found)) => read_service(secrets, file, found),
         _ => Err(CommandLineError::NoSubcommand),
     }
+}
+
+fn read_load(file: &ConfigFile<'_>, found: &ArgMatches<'_>) -> Result<Task, CommandLineError> {
+    let administrator = read_user(file, "admin", 0, found.get_str("admin").unwrap_or(""))?;
+    let database = String::from_str(file.alloc(), found.get_str("db").unwrap_or(""))?;
+    let folder = String::from_str(file.alloc(), found.get_str("from").unwrap_or(""))?;
+    Ok(Task::Load {
+        database,
+        folder,
+        administrator,
+    })
 }
 
 /// Adds the subcommand `check`.
@@ -212,6 +235,38 @@ fn dump_command<'a>(alloc: Global, is_whole: bool) -> Result<Command<'a>, AllocE
         .about("Writes all mailboxes of a store as folders of messages")
         .arg(database)?;
     command.arg(folder)
+}
+
+/// Adds the subcommand `load`.
+fn with_load<'a>(
+    alloc: Global,
+    command: Command<'a>,
+    is_whole: bool,
+) -> Result<Command<'a>, AllocError> {
+    match load_command(alloc, is_whole) {
+        Ok(load) => command.subcommand(load),
+        Err(error) => {
+            drop(command);
+            Err(error)
+        }
+    }
+}
+
+fn load_command<'a>(alloc: Global, is_whole: bool) -> Result<Command<'a>, AllocError> {
+    let database = option(alloc, "db", "FILE")
+        .help("The database that keeps the mail; it is made if it is missing")
+        .required(is_whole);
+    let folder = option(alloc, "from", "FOLDER")
+        .help("The folder with a Maildir for each mailbox, as dump writes them")
+        .required(is_whole);
+    let command = Command::new(alloc, "load")
+        .about("Adds the messages in folders to the mailboxes of a store")
+        .arg(database)?;
+    let command = command.arg(folder)?;
+    let administrator = option(alloc, "admin", "NAME")
+        .help("The administrator, who owns the Shared tree")
+        .required(is_whole);
+    command.arg(administrator)
 }
 
 /// Adds the subcommand `serve`.

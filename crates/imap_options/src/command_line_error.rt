@@ -12,7 +12,7 @@ pub enum CommandLineError {
     Usage(clap::Error),
     #[error("imapd: bad command line\nimapd: the words of the command line can't be read\n")]
     Unreadable,
-    #[error("imapd: bad command line\nimapd: a subcommand is wanted: serve, check, dump or script\n")]
+    #[error("imapd: bad command line\nimapd: a subcommand is wanted: serve, check, dump, load or script\n")]
     NoSubcommand,
     /// The value of an option isn't valid.
     #[error("imapd: bad command line\nimapd: --{option} {value}: {reason}\n")]

@@ -276,7 +276,7 @@ fn split_path(text: &str) -> Option<(&str, SocketPath)> {
     Some((name, SocketPath::read(path)?))
 }
 
-fn read_user(
+pub(crate) fn read_user(
     file: &ConfigFile<'_>,
     option: &'static str,
     index: usize,

@@ -89,6 +89,16 @@ pub(crate) fn shown_task(
             let text = format!(in alloc; "dump {database} {folder}")?;
             Ok(text.into_bytes())
         }
+        Ok(
+            Task::Load {
+                database,
+                folder,
+                administrator,
+            },
+        ) => {
+            let text = format!(in alloc; "load {database} {folder} {}", administrator.as_str())?;
+            Ok(text.into_bytes())
+        }
         Ok(Task::Script) => Vec::from_slice(alloc, b"script"),
         Ok(Task::Version) => Vec::from_slice(alloc, b"version"),
         Ok(Task::Serve { database, service }) => shown_service(alloc, database.as_str(), &service),
@@ -105,6 +115,16 @@ fn reads_command_lines(rt: HostRuntime) {
         (
             &["imapd", "dump", "--to", "mail", "--db", "mail.db"],
             b"dump mail.db mail",
+        ),
+        (
+            &[
+                "imapd",
+                "load",
+                "--from=mail",
+                "--db=mail.db",
+                "--admin=root",
+            ],
+            b"load mail.db mail root",
         ),
         (
             &[
@@ -212,6 +232,11 @@ fn refuses_command_lines(rt: HostRuntime) {
         (&["imapd", "script", "x"], true),
         (&["imapd", "check"], true),
         (&["imapd", "dump", "--db", "x"], true),
+        (&["imapd", "load", "--db", "x", "--from", "y"], true),
+        (
+            &["imapd", "load", "--db=x", "--from=y", "--admin=a/b"],
+            false,
+        ),
         (&["imapd", "check", "--db", "x", "--admin", "ann"], true),
         (&["imapd", "--help"], true),
         (&["imapd", "help"], true),

@@ -3,6 +3,7 @@
 use crate::service_error::ServiceError;
 use imap_options::{CommandLineError, VERSION};
 use imap_script::ScriptError;
+use std::fmt::Display;
 use std::process::ExitCode;
 
 const MISUSED: u8 = 2;
@@ -30,6 +31,12 @@ pub fn report_misuse(rt: &impl Eprint, error: &CommandLineError) -> ExitCode {
     };
     let _ = rt.eprint(error);
     ExitCode::from(status)
+}
+
+/// Tells standard error, as far as it takes it, which file or folder can't be used, and why. Returns the exit status 3.
+pub fn report_file_fault<E: Display>(rt: &impl Eprint, fault: &E) -> ExitCode {
+    let _ = eprintln!(rt; "imapd: {fault}");
+    ExitCode::from(BROKEN_STREAM)
 }
 
 /// Tells standard error, as far as it takes it, why the script didn't run to its end. Returns the exit status: 2 for

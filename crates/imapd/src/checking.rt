@@ -1,7 +1,8 @@
 //! A look at a store that nobody is served from.
 
 use crate::store::{FileKeeper, open};
-use imap_keeper::{KeepError, Keeper};
+use imap_keeper::KeepError;
+use imap_maildir::KeptMailboxes;
 use imap_options::LogLevel;
 use imap_service::{ServiceError, StoreFault, count_messages, report_service_error};
 use imap_sql_keeper::Finding;
@@ -9,8 +10,6 @@ use imap_world::World;
 use std::fs;
 use std::io::ErrorKind;
 use std::process::ExitCode;
-
-const BROKEN_STREAM: u8 = 3;
 
 /// Why a store can't be used, and of what the row is that stands for nothing.
 pub(crate) type Fault = (ServiceError, Option<Finding>);
@@ -20,7 +19,7 @@ pub(crate) type Fault = (ServiceError, Option<Finding>);
 /// the fault.
 pub(crate) fn check(rt: &HostRuntime, path: &str) -> ExitCode {
     match load(rt, path) {
-        Ok(world) => report_store(rt, path, &world),
+        Ok(kept) => report_store(rt, path, kept.world()),
         Err(fault) => report_fault(rt, fault),
     }
 }
@@ -30,7 +29,7 @@ fn report_store(rt: &HostRuntime, path: &str, world: &World) -> ExitCode {
     let messages = count_messages(world);
     match println!(rt; "{path}: {mailboxes} mailboxes, {messages} messages") {
         Ok(()) => ExitCode::SUCCESS,
-        Err(_) => ExitCode::from(BROKEN_STREAM),
+        Err(_) => report_service_error(rt, ServiceError::Output),
     }
 }
 
@@ -44,11 +43,19 @@ pub(crate) fn report_fault(rt: &HostRuntime, fault: Fault) -> ExitCode {
     status
 }
 
-/// Loads the mailboxes of the store in the file. Nobody is served from it afterwards.
-pub(crate) fn load(rt: &HostRuntime, path: &str) -> Result<World, Fault> {
-    if let Some(error) = missing(rt, path) {
-        return Err((error, None));
+/// Loads the mailboxes of the store in the file, which isn't made if it is missing.
+pub(crate) fn load(rt: &HostRuntime, path: &str) -> Result<KeptMailboxes<FileKeeper>, Fault> {
+    match missing(rt, path) {
+        Some(error) => Err((error, None)),
+        None => load_or_make(rt, path),
     }
+}
+
+/// Loads the mailboxes of the store in the file, which is made if it is missing.
+pub(crate) fn load_or_make(
+    rt: &HostRuntime,
+    path: &str,
+) -> Result<KeptMailboxes<FileKeeper>, Fault> {
     match open(rt, path, LogLevel::Errors) {
         Ok(keeper) => load_from(rt, keeper),
         Err(error) => Err((error, None)),
@@ -67,11 +74,14 @@ fn missing(rt: &HostRuntime, path: &str) -> Option<ServiceError> {
     }
 }
 
-fn load_from(rt: &HostRuntime, mut keeper: FileKeeper) -> Result<World, Fault> {
-    match keeper.load(rt.alloc()) {
-        Ok(world) => Ok(world),
-        Err(KeepError::Damaged) => Err(with_row(keeper.into_finding(rt.alloc()))),
-        Err(error) => Err((ServiceError::from(error), None)),
+fn load_from(rt: &HostRuntime, keeper: FileKeeper) -> Result<KeptMailboxes<FileKeeper>, Fault> {
+    match KeptMailboxes::load(rt.alloc(), keeper) {
+        Ok(kept) => Ok(kept),
+        Err((keeper, KeepError::Damaged)) => Err(with_row(keeper.into_finding(rt.alloc()))),
+        Err((keeper, error)) => {
+            drop(keeper);
+            Err((ServiceError::from(error), None))
+        }
     }
 }
 

@@ -1,16 +1,19 @@
 //! The program `imapd`: an IMAP server for shared mailboxes.
 //!
-//! `imapd serve` serves users over TCP. `imapd check` says whether a store is sound, and
-//! `imapd dump` writes its mailboxes as folders of messages. `imapd script` reads a script
-//! from standard input, runs it on the server's machine, and writes what each session was told to standard output.
+//! `imapd serve` serves users over TCP. `imapd check` says whether a store is sound, `imapd dump` writes its mailboxes as
+//! folders of messages, and `imapd load` reads such folders. `imapd script` reads a script from standard input, runs it on
+//! the server's machine, and writes what each session was told to standard output.
 #![tactic(auto)]
 
 mod checking;
 mod dumping;
+mod loading;
 mod store;
+mod told_progress;
 
 use crate::checking::check;
 use crate::dumping::dump_store;
+use crate::loading::load_folder;
 use crate::store::FileKeeper;
 use imap_host::PARTS;
 use imap_options::{Task, read_command_line};
@@ -26,6 +29,13 @@ fn main(rt: HostRuntime) -> ExitCode {
     match read_command_line(&rt) {
         Ok(Task::Check(database)) => check(&rt, database.as_str()),
         Ok(Task::Dump { database, folder }) => dump_store(&rt, database.as_str(), folder.as_str()),
+        Ok(
+            Task::Load {
+                database,
+                folder,
+                administrator,
+            },
+        ) => load_folder(&rt, database.as_str(), folder.as_str(), &administrator),
         Ok(Task::Script) => match script(&rt, rt.stdin(), rt.stdout()) {
             Ok(()) => ExitCode::SUCCESS,
             Err(error) => report_script_error(&rt, &error),

@@ -49,6 +49,14 @@ pub(crate) fn end(rt: &HostRuntime, keeper: FileKeeper, error: ServiceError) -> 
     error.with_row(keeper.into_damage(rt.alloc()))
 }
 
+/// Ends a keeper, and puts its log back into the database.
+pub(crate) fn close(keeper: FileKeeper) -> Result<(), ServiceError> {
+    match keeper.release().close() {
+        Ok(()) => Ok(()),
+        Err(error) => Err(fault(error)),
+    }
+}
+
 /// Puts the log back into the database.
 fn put_log_back(rt: &HostRuntime, path: &str) -> Result<(), ServiceError> {
     match connect(rt, path)?.close() {
