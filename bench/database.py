@@ -1,6 +1,7 @@
 """A store as python's sqlite3 fills and changes it: what `bench/store.py` and `bench/server.py` lay the program beside.
 
-The statements are those of `imap_tables`, and each change is one transaction of a database with a log (WAL) that is written
+The statements are those of `imap_tables`, and in `FirstBox` those of the first version, whose table of messages had their
+octets and keywords too. Each change is one transaction of a database with a log (WAL) that is written
 to the disk at each commit (FULL).
 """
 
@@ -22,6 +23,10 @@ REMOVE = [f"DELETE FROM {table} WHERE mailbox = ?1 AND uid = ?2" for table in ("
 GONE = "INSERT INTO gone (mailbox, uid, place) VALUES (?1, ?2, ?3)"
 COUNT = "UPDATE mailbox SET uidnext = ?2, shared = ?3 WHERE id = ?1"
 DELETE = "DELETE FROM mailbox WHERE tree = ?1 AND path = ?2"
+
+FIRST_ADD = "INSERT INTO message (mailbox, uid, date, octets, flags, keywords, place) VALUES (?1, ?2, ?3, ?4, ?5, ?6, ?7)"
+FIRST_FLAG = "UPDATE message SET flags = ?3, keywords = ?4, place = ?5 WHERE mailbox = ?1 AND uid = ?2"
+FIRST_REMOVE = "DELETE FROM message WHERE mailbox = ?1 AND uid = ?2"
 
 
 def connect(path):
@@ -51,11 +56,14 @@ def octets_row(mailbox, uid):
 class Box:
     """A mailbox of a database. Each method returns the statements of a change, for `make`, which makes one change at a time."""
 
+    table = "message2"
+
     def __init__(self, database, tree, path):
         self.database, self.key = database, (tree, path)
         line = "SELECT id, uidnext, shared FROM mailbox WHERE tree = ?1 AND path = ?2"
         ((self.id, self.next, self.shared),) = database.execute(line, self.key)
-        self.uids = [uid for (uid,) in database.execute("SELECT uid FROM message2 WHERE mailbox = ?1 ORDER BY uid", (self.id,))]
+        line = f"SELECT uid FROM {self.table} WHERE mailbox = ?1 ORDER BY uid"
+        self.uids = [uid for (uid,) in database.execute(line, (self.id,))]
         line = "SELECT count(*) FROM mark WHERE mailbox = ?1 AND user = ?2"
         ((self.own,),) = database.execute(line, (self.id, USER))
 
@@ -84,13 +92,20 @@ class Box:
         uids = range(self.next, self.next + many)
         self.next += many
         self.uids += uids
-        rows = [message_row(self.id, uid, place) for uid, place in zip(uids, self.places(many))]
-        return [(ADD, rows), (ADD_OCTETS, [octets_row(self.id, uid) for uid in uids]), self.counts()]
+        return [*self.rows(uids, self.places(many)), self.counts()]
+
+    def rows(self, uids, places):
+        """The statements that add messages."""
+        rows = [message_row(self.id, uid, place) for uid, place in zip(uids, places)]
+        return [(ADD, rows), (ADD_OCTETS, [octets_row(self.id, uid) for uid in uids])]
 
     def flag(self, many, turn):
         flags = 8 if turn % 2 == 0 else 0
-        places = self.places(many)
-        return [(FLAG, [(self.id, uid, flags, place) for uid, place in zip(self.some(many, turn), places)]), self.counts()]
+        return [self.flags(self.some(many, turn), flags, self.places(many)), self.counts()]
+
+    def flags(self, uids, flags, places):
+        """The statement that sets flags."""
+        return FLAG, [(self.id, uid, flags, place) for uid, place in zip(uids, places)]
 
     def seen(self, many, turn):
         self.own += many
@@ -104,10 +119,30 @@ class Box:
         self.uids = [uid for uid in self.uids if uid not in gone]
         places = self.places(many)
         removed = [(self.id, uid) for uid in uids]
-        return [*((text, removed) for text in REMOVE), (GONE, [(*row, place) for row, place in zip(removed, places)]), self.counts()]
+        return [*self.removes(removed), (GONE, [(*row, place) for row, place in zip(removed, places)]), self.counts()]
+
+    def removes(self, removed):
+        """The statements that remove messages."""
+        return [(text, removed) for text in REMOVE]
 
     def delete(self, _many, _turn):
         return [(DELETE, [self.key])]
+
+
+class FirstBox(Box):
+    """A mailbox of a database of the first version."""
+
+    table = "message"
+
+    def rows(self, uids, places):
+        octets = b"x" * OCTETS
+        return [(FIRST_ADD, [(self.id, uid, DATE, octets, 0, "", place) for uid, place in zip(uids, places)])]
+
+    def flags(self, uids, flags, places):
+        return FIRST_FLAG, [(self.id, uid, flags, "", place) for uid, place in zip(uids, places)]
+
+    def removes(self, removed):
+        return [(FIRST_REMOVE, removed)]
 
 
 def drop_sums(path):
@@ -122,6 +157,21 @@ def drop_sums(path):
         if os.path.exists(beside):
             os.remove(beside)
     os.rename(f"{path}.plain", path)
+
+
+def to_first_version(path):
+    """Moves all messages into the table of the first version."""
+    database = sqlite3.connect(path, isolation_level=None)
+    database.execute("PRAGMA synchronous = OFF")
+    database.execute("BEGIN")
+    columns = "mailbox, uid, date, octets, flags, keywords, place"
+    database.execute(f"INSERT INTO message ({columns}) SELECT mailbox, uid, date, octets, flags, '', place"
+                     " FROM message2 JOIN body USING (mailbox, uid) ORDER BY mailbox, uid")
+    for table in ("body", "message2"):
+        database.execute(f"DELETE FROM {table}")
+    database.execute("COMMIT")
+    database.execute("VACUUM")
+    database.close()
 
 
 def fill(path, sizes):

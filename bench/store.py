@@ -5,7 +5,8 @@
 
 It builds the program in `bench/store.txt` as a crate of its own in FOLDER, or in a new folder that it removes, beside copies of
 the crates that it stands on; what these have in `out/` is used again. Each store is made by the program, filled by python's
-sqlite3 (`bench/database.py`) and loaded by the program, and python's sqlite3 then makes the same changes in a copy of it.
+sqlite3 (`bench/database.py`) and loaded by the program, and python's sqlite3 then makes the same changes in a copy of it, and
+in one of the first version, whose table of messages had their octets too.
 Messages have 2 KB, and the user has seen each once. All sizes are divided by PART, for a quick run.
 
 Times are of the process's own processor time, as the kernel counts it, and of the clock on the wall, which has the waits for
@@ -27,6 +28,7 @@ PART = int(sys.argv[2]) if len(sys.argv) > 2 else 1
 SIZES = (200, 20_000, 100_000)
 MANY = 2_000
 MICROSECONDS, MILLISECONDS = 1e6, 1e3
+COLUMNS = ("the store", "python", "ratio", "python, first version", "on the wall", "python's", "python's, first version")
 KINDS = (("add", "a message added"), ("flag", "a flag set"), ("seen", "an own `\\Seen` set"))
 
 
@@ -75,19 +77,21 @@ def head(*cells):
 
 
 def made(program, folder, sizes):
-    """The paths of a new store whose mailboxes have so many messages, and of its copy."""
-    path, copy = f"{folder}/mail.db", f"{folder}/copy.db"
+    """The paths of a new store whose mailboxes have so many messages, of its copy, and of one of the first version."""
+    path, copy, first = (f"{folder}/{name}.db" for name in ("mail", "copy", "first"))
     for name in os.listdir(folder):
         os.remove(f"{folder}/{name}")
     Store(program, path).close()
     database.fill(path, sizes)
     shutil.copy(path, copy)
-    return path, copy
+    shutil.copy(path, first)
+    database.to_first_version(first)
+    return path, copy, first
 
 
-def beside(path, kind, many, times):
+def beside(path, box_of, kind, many, times):
     """Processor time and time on the wall of changes by python's sqlite3, in seconds."""
-    box = database.Box(database.connect(path), "s", "Box")
+    box = box_of(database.connect(path), "s", "Box")
     processor = wall = 0.0
     for turn in range(times):
         statements = getattr(box, kind)(many, turn)
@@ -99,12 +103,13 @@ def beside(path, kind, many, times):
     return processor, wall
 
 
-def changes(store, copy, what, kind, many, times, unit):
-    """A row of one kind of change: of the store, of python's sqlite3, and their ratio."""
+def changes(store, copy, first, first, what, kind, many, times, unit):
+    """A row of one kind of change: of the store, of python's sqlite3, their ratio, and of python's in the first version."""
     own = store.ask(f"{kind} {many} {times}")
-    other = beside(copy, kind, many, times)
+    other = beside(copy, database.Box, kind, many, times)
+    older = beside(first, database.FirstBox, kind, many, times)
     digits = 0 if unit == MICROSECONDS else 1
-    cells = [f"{time / times * unit:,.{digits}f}" for time in (own[0], other[0], own[1], other[1])]
+    cells = [f"{time / times * unit:,.{digits}f}" for time in (own[0], other[0], older[0], own[1], other[1], older[1])]
     row(*what, cells[0], cells[1], f"{own[0] / other[0]:.2f}", *cells[2:])
 
 
@@ -116,20 +121,20 @@ def check_alike(path, copy):
 
 
 def time_single(program, folder):
-    head("Messages", "microseconds of", "the store", "python", "ratio", "on the wall", "python's on the wall")
+    head("Messages", "microseconds of", *COLUMNS)
     for size in SIZES:
-        path, copy = made(program, folder, [size // PART])
+        path, copy, first = made(program, folder, [size // PART])
         store = Store(program, path)
         for kind, what in KINDS:
-            changes(store, copy, (f"{size // PART:,}", what), kind, 1, 1_000 // PART, MICROSECONDS)
+            changes(store, copy, first, (f"{size // PART:,}", what), kind, 1, 1_000 // PART, MICROSECONDS)
         store.close()
         check_alike(path, copy)
 
 
 def time_batches(program, folder):
     many = MANY // PART
-    head("Messages", "milliseconds of", "the store", "python", "ratio", "on the wall", "python's on the wall")
-    path, copy = made(program, folder, [12 * many])
+    head("Messages", "milliseconds of", *COLUMNS)
+    path, copy, first = made(program, folder, [12 * many])
     store = Store(program, path)
     for kind, what, count, times in (
         ("add", f"{many:,} messages added", many, 5),
@@ -138,7 +143,7 @@ def time_batches(program, folder):
         ("expunge", f"{many:,} messages expunged", many, 5),
         ("delete", "DELETE of the mailbox", 1, 1),
     ):
-        changes(store, copy, (f"{12 * many:,}", what), kind, count, times, MILLISECONDS)
+        changes(store, copy, first, (f"{12 * many:,}", what), kind, count, times, MILLISECONDS)
     store.close()
     check_alike(path, copy)
 
@@ -147,7 +152,7 @@ def time_loads(program, folder):
     head("Mailboxes", "Messages", "seconds of open", "of load", "both on the wall", "MB of messages", "most MB", "ratio")
     for sizes in ([200], [20_000], [100_000], [100] * 1_000, [0] * 10_000):
         sizes = [size // PART for size in sizes] if len(sizes) == 1 else sizes[::PART]
-        path, _ = made(program, folder, sizes)
+        path, *_ = made(program, folder, sizes)
         store = Store(program, path)
         times = (store.opened[0], store.loaded[0], store.opened[1] + store.loaded[1])
         octets, memory = sum(sizes) * database.OCTETS, store.most_memory()

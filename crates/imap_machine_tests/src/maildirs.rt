@@ -2,10 +2,15 @@
 
 use crate::machine::both;
 use crate::wanted::{expect, expect_text};
-use crate::world::{give, name, place};
+use crate::world::{give, name, place, user};
+use imap_keeper::ListKeeper;
 use imap_lex::Octets;
 use imap_mailbox::{Row, SharedFlags};
-use imap_maildir::{KeywordLetters, Progress, dump, mailbox_folder, message_file};
+use imap_maildir::{
+    KeptMailboxes, KeywordLetters, Loaded, MessageFlags, Progress, dump, load, mailbox_folder,
+    mailbox_name, message_file, message_flags, read_keywords, read_lists, with_line_ends,
+};
+use imap_names::show_name;
 use imap_syntax::{Atom, DateTime, Keywords};
 use imap_world::World;
 use std::alloc::{AllocError, Global};
@@ -33,6 +38,27 @@ fn folder(alloc: Global, text: &str) -> Result<String, AllocError> {
 fn names_folders(rt: HostRuntime) {
     for &(text, wanted) in FOLDERS {
         expect_text(&rt, folder(rt.alloc(), text), wanted);
+        expect_text(&rt, read_back(rt.alloc(), wanted), text);
+    }
+    for other in ["to", "to/Shared", "to/Other Users/ann", "to/mail/INBOX"] {
+        expect_text(&rt, read_back(rt.alloc(), other), "none");
+    }
+    expect_text(
+        &rt,
+        read_back(rt.alloc(), "to/Shared/%zz%2"),
+        "Shared/%zz%2",
+    );
+}
+
+/// The name of the mailbox whose folder this is below `to`, as the administrator sees it.
+fn read_back(alloc: Global, folder: &str) -> Result<String, AllocError> {
+    let (root, name) = both(
+        user(alloc, "root"),
+        mailbox_name(alloc, folder.trim_start_matches("to/")),
+    )?;
+    match name {
+        Some(name) => show_name(alloc, &root, &name),
+        None => String::from_str(alloc, "none"),
     }
 }
 
@@ -98,6 +124,98 @@ fn numbers_keywords(rt: HostRuntime) {
     expect(&rt, lines(rt.alloc()), b"0 x\n1 w\n");
 }
 
+/// The flags that the name of a file has.
+fn flags(alloc: Global, name: &str) -> Result<String, AllocError> {
+    let keywords = read_keywords(alloc, "0 x\n1 w\n26 z\nno line\n")?;
+    let MessageFlags { shared, seen } = message_flags(alloc, name, keywords.as_slice())?;
+    let mut text = format!(in alloc;
+        "{seen} {} {} {} {}",
+        shared.answered, shared.deleted, shared.draft, shared.flagged
+    )?;
+    for word in shared.keywords.as_slice() {
+        text.push(' ')?;
+        text.push_str(str::from_utf8(word.as_slice()).unwrap_or(""))?;
+    }
+    Ok(text)
+}
+
+#[test]
+fn reads_flags(rt: HostRuntime) {
+    const ROWS: &[(&str, &str)] = &[
+        ("1700000000.M2P3.host", "false false false false false"),
+        (
+            "1700000000.M2P3.host,S=4:2,DFRST",
+            "true true true true true",
+        ),
+        ("7.imapd,S=4:2,Sbaz", "true false false false false w x"),
+        ("a:2,S:2,F", "false false false false true"),
+    ];
+    for &(name, wanted) in ROWS {
+        expect_text(&rt, flags(rt.alloc(), name), wanted);
+    }
+}
+
+#[test]
+fn ends_lines(rt: HostRuntime) {
+    const ROWS: &[(&[u8], &[u8])] = &[
+        (b"a\r\nb\r\n", b"a\r\nb\r\n"),
+        (b"\na\n\r\n\rb\n", b"\r\na\r\n\r\n\rb\r\n"),
+    ];
+    for &(octets, wanted) in ROWS {
+        let octets = Vec::from_slice(rt.alloc(), octets);
+        expect(
+            &rt,
+            octets.and_then(|octets| with_line_ends(rt.alloc(), octets)),
+            wanted,
+        );
+    }
+}
+
+/// The lists in a text: line, name and number of entries.
+fn lists(alloc: Global, text: &str) -> Result<String, AllocError> {
+    let root = user(alloc, "root")?;
+    let mut shown = String::new(alloc);
+    match read_lists(alloc, text) {
+        Ok(lists) => {
+            for list in &lists {
+                let name = show_name(alloc, &root, &list.name)?;
+                let line = format!(in alloc; "{} {name} {};", list.line, list.entries.len())?;
+                shown.push_str(line.as_str())?;
+            }
+        }
+        Err(error) => {
+            let line = format!(in alloc; "{error}")?;
+            shown.push_str(line.as_str())?;
+        }
+    }
+    Ok(shown)
+}
+
+#[test]
+fn reads_lists(rt: HostRuntime) {
+    const ROWS: &[(&str, &str)] = &[
+        (
+            "./Shared/A\n./Shared/B\tbob\tlr\n./Shared/B\t-carl\tw\n./Other Users/ann/INBOX\tann\tl\n",
+            "1 Shared/A 0;2 Shared/B 2;4 Other Users/ann/INBOX 1;",
+        ),
+        (
+            "./Shared/A\n./Shared/A\tbob\n",
+            "line 2 of the file acl: it is no entry of a mailbox's list",
+        ),
+        (
+            "./Shared/A\tbob\t+l\n",
+            "line 1 of the file acl: it is no entry of a mailbox's list",
+        ),
+        (
+            "A\tbob\tl\n",
+            "line 1 of the file acl: it is no entry of a mailbox's list",
+        ),
+    ];
+    for &(text, wanted) in ROWS {
+        expect_text(&rt, lists(rt.alloc(), text), wanted);
+    }
+}
+
 #[derive(Drop)]
 struct Quiet;
 
@@ -128,10 +246,10 @@ fn new_path<R: Clock + AllocGlobal>(rt: &R) -> Result<String, AllocError> {
 }
 
 /// What came of a dump, the list that it wrote, and what came of a second one.
-fn dumped<R: Files + Clock + AllocGlobal>(rt: &R) -> Result<String, AllocError> {
-    let (world, path) = both(two_mailboxes(rt.alloc()), new_path(rt))?;
-    let first = dump(rt, &world, path.as_str(), &mut Quiet).is_ok();
-    let second = dump(rt, &world, path.as_str(), &mut Quiet).is_err();
+fn dumped<R: Files + AllocGlobal>(rt: &R, path: &str) -> Result<String, AllocError> {
+    let world = two_mailboxes(rt.alloc())?;
+    let first = dump(rt, &world, path, &mut Quiet).is_ok();
+    let second = dump(rt, &world, path, &mut Quiet).is_err();
     let list = format!(in rt.alloc(); "{path}/acl")?;
     let lists = match fs::read_to_string(rt, list.as_str()) {
         Ok(text) => text,
@@ -139,11 +257,71 @@ fn dumped<R: Files + Clock + AllocGlobal>(rt: &R) -> Result<String, AllocError> 
     };
     let inner = format!(in rt.alloc(); "{path}/Shared/A/B/cur")?;
     let is_there = fs::metadata(rt, inner.as_str()).is_ok();
-    let _gone = fs::remove_dir_all(rt, path.as_str());
     format!(in rt.alloc(); "{first} {second} {is_there} {lists}")
 }
 
+/// Adds a message's file to a Maildir of the dump.
+fn add_file<R: Files + AllocGlobal>(rt: &R, path: &str) -> Result<(), AllocError> {
+    let file = format!(in rt.alloc(); "{path}/Shared/A/B/cur/1700000000.M1P2.host:2,FS")?;
+    match fs::write(rt, file.as_str(), b"Subject: x\n\ny\n") {
+        Ok(()) => Ok(()),
+        Err(_) => Err(AllocError),
+    }
+}
+
+fn loaded<R: Files + AllocGlobal + Clone + Drop>(
+    rt: &R,
+    kept: &mut KeptMailboxes<ListKeeper>,
+    path: &str,
+) -> Result<String, AllocError> {
+    let root = user(rt.alloc(), "root")?;
+    match load(rt, kept, &root, path, &mut Quiet) {
+        Ok(
+            Loaded {
+                mailboxes,
+                added,
+                met,
+            },
+        ) => format!(in rt.alloc(); "{mailboxes} {added} {met} "),
+        Err(error) => format!(in rt.alloc(); "{error}"),
+    }
+}
+
+/// How many entries the list of the mailbox has, and its only message.
+fn shown<R: AllocGlobal>(rt: &R, world: &World) -> Result<String, AllocError> {
+    let name = name(rt.alloc(), "Shared/A/B")?;
+    let Some(entry) = world.mailbox(&name.as_ref()) else {
+        return String::from_str(rt.alloc(), "missing");
+    };
+    let messages = entry.messages.as_ref().messages();
+    let [message] = messages else {
+        return String::from_str(rt.alloc(), "not one message");
+    };
+    let octets = message.octets.as_slice().escape_ascii();
+    format!(in rt.alloc(); "{} {} {octets}", entry.acl.len(), message.flags.flagged)
+}
+
+/// What came of a dump, of two loads of it with a file more, and what the mailbox of the file has.
+fn moved<R: Files + Clock + AllocGlobal + Clone + Drop>(rt: &R) -> Result<String, AllocError> {
+    let path = new_path(rt)?;
+    let (mut text, ()) = both(dumped(rt, path.as_str()), Ok(()))?;
+    let added = add_file(rt, path.as_str());
+    let keeper = ListKeeper::new(World::new(rt.alloc()));
+    if let (Ok(()), Ok(mut kept)) = (added, KeptMailboxes::load(rt.alloc(), keeper)) {
+        for _ in 0..2 {
+            text.push_str(loaded(rt, &mut kept, path.as_str())?.as_str())?;
+        }
+        text.push_str(shown(rt, kept.world())?.as_str())?;
+    }
+    let _gone = fs::remove_dir_all(rt, path.as_str());
+    Ok(text)
+}
+
 #[test]
-fn dumps_mailboxes(rt: HostRuntime) {
-    expect_text(&rt, dumped(&rt), "true true true ./Shared/A/B\tbob\tlr\n");
+fn moves_mailboxes(rt: HostRuntime) {
+    expect_text(
+        &rt,
+        moved(&rt),
+        "true true true ./Shared/A\n./Shared/A/B\tbob\tlr\n2 1 0 2 0 1 1 true Subject: x\\r\\n\\r\\ny\\r\\n",
+    );
 }

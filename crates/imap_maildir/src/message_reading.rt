@@ -1,9 +1,9 @@
 //! Messages that are read from files.
 
+use crate::file_flags::message_flags;
 use crate::files::date_of;
 use crate::keyword_letters::LetteredKeyword;
 use crate::maildir_error::MaildirError;
-use crate::message_flags::message_flags;
 use imap_batch::NewMessage;
 use imap_lex::Octets;
 use std::alloc::{AllocError, Global};
