@@ -1,2 +1,4 @@
+pub mod Counted
 pub mod Depth
+pub mod PartLaws
 pub mod Texts

@@ -2,6 +2,7 @@
 pub mod Laws
 pub mod Media
 pub mod MediaReader
+pub mod Numbered
 pub mod Parts
 pub mod Single
 pub mod Structure

@@ -52,10 +52,12 @@ sign_params (sign.Divider b) r = if b == 59 then ended_params r.place r else []
 sign_params other r = []
 
 abbrev pub after_octet : ℕ → MediaReader → MediaReader
-after_octet b r = after_sign (sign_read r.lexical b).sign (record r { lexical = (sign_read r.lexical b).next })
+after_octet b r =
+    after_sign (sign_read r.lexical b).sign (record r { lexical = (sign_read r.lexical b).next })
 
 abbrev pub octet_params : ℕ → MediaReader → List Param
-octet_params b r = sign_params (sign_read r.lexical b).sign (record r { lexical = (sign_read r.lexical b).next })
+octet_params b r =
+    sign_params (sign_read r.lexical b).sign (record r { lexical = (sign_read r.lexical b).next })
 
 -- the place after these octets and the end
 abbrev pub reader_after : MediaReader → List ℕ → MediaReader

@@ -40,8 +40,8 @@ delimiter_of boundary line =
 
 -- ---- parts
 
--- what a line is to a part, of which these octets have been read, and to the parts in the lines after it. The CRLF
--- before a delimiter belongs to it
+-- what a line is to a part, of which these octets have been read, and to the parts in the lines after it. The
+-- CRLF before a delimiter belongs to it
 abbrev pub parts_by : Delimiter → (part line : List ℕ) → (more : List ℕ → List (List ℕ)) → List (List ℕ)
 parts_by delimiter.None part line more = more (part ++ line)
 parts_by delimiter.Part part line more = without_end part ∷ more []

@@ -74,7 +74,8 @@ entity_text extended below m octets = entity_by (kind_of m) extended below m oct
 
 -- ---- to a depth
 
-unfoldable pub structure_text : (extended : Bool) → (depth : ℕ) → (in_digest : Bool) → (octets : List ℕ) → List ℕ
+unfoldable pub structure_text :
+    (extended : Bool) → (depth : ℕ) → (in_digest : Bool) → (octets : List ℕ) → List ℕ
 structure_text extended zero in_digest octets = limit_text extended octets
 structure_text extended (suc depth) in_digest octets =
     entity_text extended (structure_text extended depth) (media_of in_digest octets) octets

@@ -78,7 +78,8 @@ fn media_in(alloc: Global, value: &[u8]) -> Result<MediaType, AllocError>
 }
 
 fn read_or_default(alloc: Global, octets: &[u8], in_digest: bool) -> Result<MediaType, AllocError>
-    ensures { IfOk result (λ media. media ≡ media_or in_digest (first_value (codes "Content-Type") octets.now)) }
+    ensures { let value = first_value (codes "Content-Type") octets.now in
+        IfOk result (λ media. media ≡ media_or in_digest value) }
 {
     match first_value(alloc, octets, b"Content-Type")? {
         Some(value) => media_in(alloc, value.as_slice()),
@@ -133,8 +134,8 @@ fn with_charset(alloc: Global, media: MediaType) -> Result<MediaType, AllocError
     })
 }
 
-/// Returns the media type of a part that begins with its header. `in_digest` says whether the part stands in a
-/// digest.
+/// Returns the media type of a part that begins with its header. `in_digest` says whether the part stands in
+/// a digest.
 pub fn media_of(alloc: Global, octets: &[u8], in_digest: bool) -> Result<MediaType, AllocError>
     ensures { IfOk result (λ media. media ≡ media_of in_digest octets.now) }
 {

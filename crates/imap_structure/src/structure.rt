@@ -2,31 +2,22 @@
 
 ghost use Rattle.std.specs.Prelude.{◌≡◌, ◌<◌, ◌++◌, ◌∷◌, OnOk, decimal, flat_map, map};
 ghost use Rattle.imap_mime.specs.Envelope.{envelope_of, envelope_text};
-ghost use Rattle.imap_text.specs.Sections.{text};
 ghost use Rattle.imap_structure.specs.Structure.{entity_by, entity_text, limit_text, lines_text, message_text};
 ghost use Rattle.imap_structure.specs.Structure.{multipart_end, multipart_text, other_text, plain_text};
 ghost use Rattle.imap_structure.specs.Structure.{structure_of, structure_text};
 
 use crate::disposition::push_place;
+use crate::header::text;
 use crate::lines::line_count;
 use crate::media::{Kind, MediaType, boundary_of, media_of, type_of};
 use crate::params::push_params;
 use crate::parts::parts_of;
 use crate::single::{push_end, push_front, push_further_number};
 use imap_mime::{push_envelope, push_string};
-use imap_text::header_length;
 use std::alloc::{AllocError, Global};
 
 /// How deep parts stand in one another. What stands deeper isn't read.
 pub const MAX_DEPTH: u32 = 64;
-
-/// Returns what follows the header.
-fn text(octets: &[u8]) -> &[u8]
-    ensures { result.now ≡ text octets.now }
-{
-    let (_, text) = octets.split_at(header_length(octets));
-    text
-}
 
 /// Appends a part that is told with its size alone.
 fn push_other(
