@@ -1,9 +1,8 @@
 //! SELECT and EXAMINE (RFC 9051, sections 6.3.2 and 6.3.3).
 
-ghost use Rattle.std.specs.Prelude.{◌≡◌, length, map, Some, IfOk};
+ghost use Rattle.std.specs.Prelude.{◌≡◌, length, Some, IfOk};
 ghost use Rattle.std.specs.List.{AllByRecursion};
 ghost use Rattle.imap_answer.specs.Answer.{preceded_by};
-ghost use Rattle.imap_mailbox.specs.Brought.{told_of};
 ghost use Rattle.imap_mailbox.specs.Lent.{row_uids};
 ghost use Rattle.imap_mailbox.specs.Order.{AreRowsInOrder};
 ghost use Rattle.imap_mailbox.specs.Rows.{first_uid};
@@ -184,7 +183,7 @@ fn count(rows: &Rows<'_>, next_uid: u32) -> u32
 /// The messages as a session knows them that was told of all.
 fn known_list(alloc: Global, rows: &Rows<'_>, next_uid: u32) -> Result<KnownList, AllocError>
     requires { Rises first_uid next_uid (row_uids rows.now) }
-    ensures { IfOk result (λ known. known.list ≡ map told_of rows.now) }
+    ensures { IfOk result (λ known. known.list ≡ row_uids rows.now) }
 {
     KnownList::of_rows(alloc, rows)
 }
