@@ -3,12 +3,19 @@ use Rattle.std.proofs.lemmas.List.{length-map}
 use Rattle.std.specs.List.{AllByRecursion}
 use Rattle.imap_mailbox.specs.Lent.{row_uids}
 use Rattle.imap_mailbox.specs.Rows.{Row}
-use Rattle.imap_session.proofs.ByUid.{uids_of}
+use Rattle.imap_session.proofs.ByUid.{agree_of, uids_of}
 use Rattle.imap_print.specs.Lines.{IsPrintable}
+use Rattle.imap_session.specs.ByUid.{AgreeByUid}
 use Rattle.imap_session.specs.Notices.{exists_line}
 use Rattle.imap_session.specs.Walked.{Findings}
 use Rattle.imap_session.proofs.Telling.{it_is_told, length_fits, exists_is, delta_brings, lines_joined}
 use Rattle.imap_session.proofs.notices.find_notices.Goals as goal
+
+pub compare-requires-clause-agree : goal.compare-requires-clause-agree
+compare-requires-clause-agree g c =
+    let can = c.requires.step.1.1 in
+    let known = c.args.known.now.list in
+    subst (AgreeByUid c.args.up_to known) can.shows (agree_of c.args.up_to known c.requires.step.1.0 can.brought)
 
 pub compare-requires-clause-few : goal.compare-requires-clause-few
 compare-requires-clause-few g c =
