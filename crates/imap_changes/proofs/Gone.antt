@@ -1,7 +1,6 @@
 -- Which messages EXPUNGE takes.
 use Rattle.std.proofs.Common.{◌≡◌, ℕ, zero, suc, ◌≤◌, Bool, true, false, cond, ◌||◌, ◌&&◌, List, [], ◌∷◌, eqb, filter, length, take, Option, refl, sym, ap, ◌∙◌, arith}
 use Rattle.std.proofs.lemmas.Bool.{eqb-true}
-use Rattle.imap_mailbox.specs.declared.known.KnownMessage.{KnownMessage}
 use Rattle.imap_mailbox.specs.Lent.{row_uids}
 use Rattle.imap_mailbox.specs.Rows.{Row, is_among}
 use Rattle.imap_syntax.specs.declared.set.MessageSet.{MessageSet}
@@ -46,7 +45,7 @@ fewer p (r ∷ rows) = by (p r) (fewer p rows)
 
 -- ---- the rows that are taken
 
-module _ (set : Option MessageSet) (last : ℕ) (known : List KnownMessage) (uid : ℕ) where
+module _ (set : Option MessageSet) (last : ℕ) (known : List ℕ) (uid : ℕ) where
   among_taken : (rows : List Row) → is_among uid (row_uids (filter (is_taken set last known) rows)) ≡ (is_deleted uid rows && is_wanted set last known uid)
   among_taken [] = refl
   among_taken (r ∷ rows) = by (eqb r.uid uid) refl r.flags.deleted (is_wanted set last known r.uid) refl (among_taken rows)

@@ -7,13 +7,13 @@ use Rattle.imap_batch.specs.Batch.{mark_uids, one_if}
 use Rattle.imap_batch.specs.Planned.{own_after, row_marked, row_with_flags, row_with_seen, rows_marked}
 use Rattle.imap_commands.specs.declared.commands.store.StoreSpec.{StoreSpec}
 use Rattle.imap_mailbox.specs.declared.flags.SharedFlags.{SharedFlags}
-use Rattle.imap_mailbox.specs.declared.known.KnownMessage.{KnownMessage}
 use Rattle.imap_mailbox.specs.Lent.{row_uids}
 use Rattle.imap_mailbox.specs.Rows.{Row, first_uid, is_among}
 use Rattle.imap_mailbox.specs.Summary.{Rises}
 use Rattle.imap_modseq.specs.Numbers.{max_events, number_after}
 use Rattle.imap_targets.specs.declared.message_numbers.Numbered.{Numbered}
 use Rattle.imap_targets.specs.MessageNumbers.{row_with}
+use Rattle.imap_session.specs.State.{Selection}
 use Rattle.imap_changes.specs.declared.store_outcome.StoreOutcome.{StoreOutcome}
 use Rattle.imap_changes.specs.Laws.{SkippedMessagesStay}
 use Rattle.imap_changes.specs.Store.{is_skipped, marks_of, number_with, stored_all, stored_if_named, stored_of, unskipped, was_changed}
@@ -69,9 +69,9 @@ stays shared own uid (k ∷ marks) (r ∷ rows) out =
         ∙ sym (ap (λ u. cond (eqb u uid) (Some r) (row_with uid rows)) (sym at) ∙ ap (λ b. cond b (Some r) (row_with uid rows)) apart)
     by false other apart marked others = ap (λ row. cond (eqb r.uid uid) (Some r) row) others
 
-module _ (rights : ℕ) (spec : StoreSpec) (known : List KnownMessage) (messages : List Numbered) where
+module _ (rights : ℕ) (spec : StoreSpec) (selection : Selection) (messages : List Numbered) where
   abbrev marks_in : List Row → List FlagUpdate
-  marks_in rows = marks_of (stored_all rights spec known messages rows)
+  marks_in rows = marks_of (stored_all rights spec selection messages rows)
 
   -- a message that isn't named has none
   unmarked : (uid : ℕ) (rows : List Row) → number_with uid messages ≡ None → is_among uid (mark_uids (marks_in rows)) ≡ false
@@ -88,10 +88,10 @@ module _ (rights : ℕ) (spec : StoreSpec) (known : List KnownMessage) (messages
       by_change m other false false rest = rest
 
       by_name : (o : Option ℕ) → number_with r.uid messages ≡ o → is_among uid (mark_uids (marks_in rows)) ≡ false
-          → is_among uid (mark_uids (marks_of (stored_if_named rights spec known o r ++ stored_all rights spec known messages rows))) ≡ false
+          → is_among uid (mark_uids (marks_of (stored_if_named rights spec selection o r ++ stored_all rights spec selection messages rows))) ≡ false
       by_name None is rest = rest
       by_name (Some n) is rest =
-          let m = stored_of rights spec known n r in
+          let m = stored_of rights spec selection n r in
           by_change m (apart n is) m.flags_change m.seen_changes rest
 
 -- ---- a message that is skipped
@@ -111,9 +111,9 @@ not_stored since rows m (n ∷ messages) skip = by (is_skipped since rows n) ref
         ∙ rest
 
 pub skipped_stay : SkippedMessagesStay
-skipped_stay user rights spec known messages c m ordered skip =
+skipped_stay user rights spec selection messages c m ordered skip =
     let named = unskipped spec.unchanged_since c.rows messages in
-    let marks = marks_of (stored_all rights spec known named c.rows) in
+    let marks = marks_of (stored_all rights spec selection named c.rows) in
     let rises : Rises first_uid c.next (row_uids c.rows) = ordered.uids in
-    ap (row_with m.uid) (rows_after user marks c rises (marks_known rights spec known named 0 first_uid c.next c.rows (omega arith) rises))
-    ∙ stays c.shared c.own m.uid marks c.rows (unmarked rights spec known named m.uid c.rows (not_stored spec.unchanged_since c.rows m messages skip))
+    ap (row_with m.uid) (rows_after user marks c rises (marks_known rights spec selection named 0 first_uid c.next c.rows (omega arith) rises))
+    ∙ stays c.shared c.own m.uid marks c.rows (unmarked rights spec selection named m.uid c.rows (not_stored spec.unchanged_since c.rows m messages skip))

@@ -11,7 +11,6 @@ use Rattle.imap_answer.proofs.Fits.{fits_alone, fits_enabling, fits_telling}
 use Rattle.imap_batch.specs.declared.batch.FlagUpdate.{FlagUpdate}
 use Rattle.imap_batch.specs.Batch.{are_few, are_known, flag_count, mark_uids}
 use Rattle.imap_commands.specs.declared.commands.store.StoreSpec.{StoreSpec}
-use Rattle.imap_mailbox.specs.declared.known.KnownMessage.{KnownMessage}
 use Rattle.imap_mailbox.specs.Flags.{has_too_many}
 use Rattle.imap_mailbox.specs.Lent.{row_uids}
 use Rattle.imap_mailbox.specs.Rows.{Row, first_uid, is_among}
@@ -69,9 +68,9 @@ events_counted (m ∷ messages) = by m.flags_change m.seen_changes (events_count
     by false false rest = rest ∙ (let z : flag_changes messages ≡ 0 + flag_changes messages = omega arith in z)
 
 -- their UIDs rise, and are those of rows
-module _ (rights : ℕ) (spec : StoreSpec) (known : List KnownMessage) (messages : List Numbered) where
+module _ (rights : ℕ) (spec : StoreSpec) (selection : Selection) (messages : List Numbered) where
   abbrev uids_in : List Row → List ℕ
-  uids_in rows = mark_uids (marks_of (stored_all rights spec known messages rows))
+  uids_in rows = mark_uids (marks_of (stored_all rights spec selection messages rows))
 
   pub marks_known : (l low high : ℕ) (rows : List Row) → l ≤ low → Rises low high (row_uids rows) → are_known l (uids_in rows) (row_uids rows) ≡ true
   marks_known l low high [] le h = refl
@@ -91,15 +90,15 @@ module _ (rights : ℕ) (spec : StoreSpec) (known : List KnownMessage) (messages
           (known_more (r.uid + 1) r.uid (uids_in rows) (row_uids rows) (later (r.uid + 1) (omega arith))))
 
       by_change : (m : StoreOutcome) → m.uid ≡ r.uid → (f s : Bool) → Later
-          → are_known l (mark_uids (cond (f || s) (record { uid = m.uid; flags = cond f (Some m.flags) None; seen = cond s (Some m.seen) None } ∷ []) [] ++ marks_of (stored_all rights spec known messages rows))) (r.uid ∷ row_uids rows) ≡ true
+          → are_known l (mark_uids (cond (f || s) (record { uid = m.uid; flags = cond f (Some m.flags) None; seen = cond s (Some m.seen) None } ∷ []) [] ++ marks_of (stored_all rights spec selection messages rows))) (r.uid ∷ row_uids rows) ≡ true
       by_change m is true s later = with_mark m.uid is later
       by_change m is false true later = with_mark m.uid is later
       by_change m is false false later = known_more l r.uid (uids_in rows) (row_uids rows) (later l (omega (arith, le, at)))
 
-      by_name : (o : Option ℕ) → Later → are_known l (mark_uids (marks_of (stored_if_named rights spec known o r ++ stored_all rights spec known messages rows))) (r.uid ∷ row_uids rows) ≡ true
+      by_name : (o : Option ℕ) → Later → are_known l (mark_uids (marks_of (stored_if_named rights spec selection o r ++ stored_all rights spec selection messages rows))) (r.uid ∷ row_uids rows) ≡ true
       by_name None later = known_more l r.uid (uids_in rows) (row_uids rows) (later l (omega (arith, le, at)))
       by_name (Some n) later =
-          let m = stored_of rights spec known n r in
+          let m = stored_of rights spec selection n r in
           by_change m refl m.flags_change m.seen_changes later
 
 -- ---- what is asked
@@ -118,15 +117,15 @@ module _ (view : View) (s : Selection) (mailbox : Readable) (e : readable_in vie
     tt,
   )
 
-  may_ask : (rights : ℕ) (spec : StoreSpec) (messages : List Numbered) → IsViewed view → are_many (stored_all rights spec s.known messages mailbox.rows) ≡ false
-      → lacks_changes mailbox (stored_all rights spec s.known messages mailbox.rows) ≡ false
-      → MayBeAsked view (marking_effect view.user s.name (marks_of (stored_all rights spec s.known messages mailbox.rows)))
+  may_ask : (rights : ℕ) (spec : StoreSpec) (messages : List Numbered) → IsViewed view → are_many (stored_all rights spec s messages mailbox.rows) ≡ false
+      → lacks_changes mailbox (stored_all rights spec s messages mailbox.rows) ≡ false
+      → MayBeAsked view (marking_effect view.user s.name (marks_of (stored_all rights spec s messages mailbox.rows)))
   may_ask rights spec messages viewed few suffice =
-      let stored = stored_all rights spec s.known messages mailbox.rows in
+      let stored = stored_all rights spec s messages mailbox.rows in
       let rise = rows_rise view viewed s.name mailbox e in
       let left = ltb-false (events_left mailbox) (flag_changes stored) (both_false (nat_lt (events_left mailbox) (flag_changes stored)) _ suffice) in
       by_marks viewed (marks_of stored) (few_marks stored few) (omega (arith, left, events_counted stored))
-      (marks_known rights spec s.known messages 0 first_uid rise.0 mailbox.rows (omega arith) rise.1)
+      (marks_known rights spec s messages 0 first_uid rise.0 mailbox.rows (omega arith) rise.1)
 
 -- ---- answers
 
@@ -178,7 +177,7 @@ module _ (view : View) (enabled : EnabledCapabilities) (tag : List ℕ) (argumen
   events_fit mailbox skipped messages false may = carried mailbox skipped messages (marking_effect view.user s.name (marks_of messages)) (may refl)
 
   abbrev stored : Readable → List Numbered → List StoreOutcome
-  stored mailbox messages = stored_all rights spec s.known messages mailbox.rows
+  stored mailbox messages = stored_all rights spec s messages mailbox.rows
 
   messages_fit : (mailbox : Readable) → readable_in view s.name ≡ Some mailbox → (skipped : List ℕ) (messages : List Numbered) → (many : Bool) → are_many (stored mailbox messages) ≡ many
       → IsFit view (cond many (refusal tag Limit) (store_events view enabled tag arguments s mailbox skipped (stored mailbox messages)))

@@ -22,6 +22,7 @@ use Rattle.imap_mailbox.proofs.Sameness.{flags_are_tested}
 use Rattle.imap_modseq.specs.Numbers.{highest_after, max_events, number_after}
 use Rattle.imap_print.specs.declared.response.Response.{Response}
 use Rattle.imap_targets.specs.declared.message_numbers.Numbered.{Numbered}
+use Rattle.imap_session.specs.State.{Selection}
 use Rattle.imap_changes.specs.declared.store_outcome.StoreOutcome.{StoreOutcome}
 use Rattle.imap_changes.specs.Laws.{StoreTellsWhatItLeaves, line_if_named, lines_of, marking}
 use Rattle.imap_changes.specs.Store.{full_line, lines_from, marks_of, number_with, seen_changes, stored_all, stored_if_named, stored_of}
@@ -50,13 +51,13 @@ skipped shared own low high r (k ∷ marks) rows lt h =
     ap (λ b. cond b (row_marked shared own k r ∷ rows_marked (shared + one_if (is_some k.flags)) (own_after own k.seen) marks rows) (r ∷ rows_marked shared own (k ∷ marks) rows))
     (ne_eqb k.uid r.uid (λ e. omega (arith, e, at, lt)))
 
-module _ (rights : ℕ) (spec : StoreSpec) (known : List KnownMessage) (condstore : Bool) (messages : List Numbered) where
+module _ (rights : ℕ) (spec : StoreSpec) (selection : Selection) (condstore : Bool) (messages : List Numbered) where
   abbrev stored : List Row → List StoreOutcome
-  stored rows = stored_all rights spec known messages rows
+  stored rows = stored_all rights spec selection messages rows
 
   rise : (low high : ℕ) (rows : List Row) → Rises low high (row_uids rows) → Rises low high (mark_uids (marks_of (stored rows)))
   rise low high rows h =
-      known_within low low high (mark_uids (marks_of (stored rows))) (row_uids rows) (rises_end low high (row_uids rows) h) h (marks_known rights spec known messages low low high rows (omega arith) h)
+      known_within low low high (mark_uids (marks_of (stored rows))) (row_uids rows) (rises_end low high (row_uids rows) h) h (marks_known rights spec selection messages low low high rows (omega arith) h)
 
   -- a message that is named, and those after it
   joined : (n : ℕ) (r : Row) → number_with r.uid messages ≡ Some n → (left : Row) → left.uid ≡ r.uid → (k : KnownMessage) → k ≡ told_of left
@@ -86,7 +87,7 @@ module _ (rights : ℕ) (spec : StoreSpec) (known : List KnownMessage) (condstor
 
     module _ (n : ℕ) (e : number_with r.uid messages ≡ Some n) where
       abbrev m : StoreOutcome
-      m = stored_of rights spec known n r
+      m = stored_of rights spec selection n r
 
       same_flags_left : m.flags_change ≡ false → m.flags ≡ r.flags
       same_flags_left kept = sym ((flags_are_tested r.flags m.flags).0 (not_false (same_flags r.flags m.flags) kept))
@@ -139,13 +140,13 @@ module _ (rights : ℕ) (spec : StoreSpec) (known : List KnownMessage) (condstor
           (later (shared + 1) (own + 1) (before + (1 + 1)) (omega (arith, is)) (omega (arith, few)))
           ∙ ap (lines_of condstore messages) (sym (seen_marked (Some m.flags) (omega (arith, few))))
 
-    by_name : (o : Option ℕ) → number_with r.uid messages ≡ o → own + seen_changes (stored_if_named rights spec known o r ++ stored rows) ≤ max_events → Later
-        → lines_from false condstore before (stored_if_named rights spec known o r ++ stored rows) ≡ lines_of condstore messages (rows_marked shared own (marks_of (stored_if_named rights spec known o r ++ stored rows)) (r ∷ rows))
+    by_name : (o : Option ℕ) → number_with r.uid messages ≡ o → own + seen_changes (stored_if_named rights spec selection o r ++ stored rows) ≤ max_events → Later
+        → lines_from false condstore before (stored_if_named rights spec selection o r ++ stored rows) ≡ lines_of condstore messages (rows_marked shared own (marks_of (stored_if_named rights spec selection o r ++ stored rows)) (r ∷ rows))
     by_name None e few later =
         later shared own before is few
         ∙ ap (λ o. line_if_named condstore o r ++ lines_of condstore messages (rows_marked shared own marks rows)) (sym e)
         ∙ ap (lines_of condstore messages) (sym skip)
-    by_name (Some n) e few later = by_change n e (stored_of rights spec known n r).flags_change (stored_of rights spec known n r).seen_changes refl refl few later
+    by_name (Some n) e few later = by_change n e (stored_of rights spec selection n r).flags_change (stored_of rights spec selection n r).seen_changes refl refl few later
 
   walk : (shared own before low high : ℕ) (rows : List Row) → before ≡ highest_after shared own → Rises low high (row_uids rows) → own + seen_changes (stored rows) ≤ max_events
       → lines_from false condstore before (stored rows) ≡ lines_of condstore messages (rows_marked shared own (marks_of (stored rows)) rows)
@@ -162,8 +163,8 @@ rows_after user marks c rises known =
     ∙ append-nil (rows_left [] (rows_marked (c.shared + 0) c.own marks c.rows)) ∙ none_left (rows_marked (c.shared + 0) c.own marks c.rows) ∙ ap (λ n. rows_marked n c.own marks c.rows) shared
 
 pub told_as_left : StoreTellsWhatItLeaves
-told_as_left user rights spec known condstore messages c ordered few =
-    let marks : List FlagUpdate = marks_of (stored_all rights spec known messages c.rows) in
+told_as_left user rights spec selection condstore messages c ordered few =
+    let marks : List FlagUpdate = marks_of (stored_all rights spec selection messages c.rows) in
     let rises : Rises first_uid c.next (row_uids c.rows) = ordered.uids in
-    walk rights spec known condstore messages c.shared c.own (highest_in c) first_uid c.next c.rows refl rises few
-    ∙ ap (lines_of condstore messages) (sym (rows_after user marks c rises (marks_known rights spec known messages 0 first_uid c.next c.rows (omega arith) rises)))
+    walk rights spec selection condstore messages c.shared c.own (highest_in c) first_uid c.next c.rows refl rises few
+    ∙ ap (lines_of condstore messages) (sym (rows_after user marks c rises (marks_known rights spec selection messages 0 first_uid c.next c.rows (omega arith) rises)))

@@ -3,8 +3,6 @@ use Rattle.std.specs.Prelude.{ℕ, ◌+◌, Bool, true, false, not, ◌&&◌, Li
 use Rattle.std.specs.Prelude.{Option, Some, None, if◌then◌else◌}
 use Rattle.imap_answer.specs.Answer.{Answer, carried_out, refusal}
 use Rattle.imap_batch.specs.Batch.{expunging}
-use Rattle.imap_mailbox.specs.declared.known.KnownMessage.{KnownMessage}
-use Rattle.imap_mailbox.specs.Brought.{known_uids}
 use Rattle.imap_mailbox.specs.Lent.{row_uids}
 use Rattle.imap_mailbox.specs.Rows.{Row, is_among}
 use Rattle.imap_names.specs.Name.{Name}
@@ -31,15 +29,15 @@ is_in_asked None last uid = true
 is_in_asked (Some set) last uid = in_set last (ranges_of set) uid
 
 -- and the session knows the message
-abbrev pub is_wanted : (set : Option MessageSet) → (last : ℕ) → List KnownMessage → (uid : ℕ) → Bool
-is_wanted set last known uid = is_among uid (known_uids known) && is_in_asked set last uid
+abbrev pub is_wanted : (set : Option MessageSet) → (last : ℕ) → (known : List ℕ) → (uid : ℕ) → Bool
+is_wanted set last known uid = is_among uid known && is_in_asked set last uid
 
 -- and it has \Deleted
-abbrev pub is_taken : (set : Option MessageSet) → (last : ℕ) → List KnownMessage → Row → Bool
+abbrev pub is_taken : (set : Option MessageSet) → (last : ℕ) → (known : List ℕ) → Row → Bool
 is_taken set last known r = r.flags.deleted && is_wanted set last known r.uid
 
 -- as many as the mailbox has events left for, in the order of UIDs
-abbrev pub expunged_uids : (set : Option MessageSet) → List KnownMessage → Readable → List ℕ
+abbrev pub expunged_uids : (set : Option MessageSet) → (known : List ℕ) → Readable → List ℕ
 expunged_uids set known mailbox =
     let last = last_of numbering.Uid mailbox.next_uid known in
     take (events_left mailbox) (row_uids (filter (is_taken set last known) mailbox.rows))

@@ -7,12 +7,12 @@ use Rattle.imap_batch.specs.declared.batch.Batch.{Batch}
 use Rattle.imap_batch.specs.declared.batch.FlagUpdate.{FlagUpdate}
 use Rattle.imap_batch.specs.Seen.{content_batched}
 use Rattle.imap_commands.specs.declared.commands.store.StoreSpec.{StoreSpec}
-use Rattle.imap_mailbox.specs.declared.known.KnownMessage.{KnownMessage}
 use Rattle.imap_mailbox.specs.Brought.{IsOrdered, highest_in, told_of}
 use Rattle.imap_mailbox.specs.Rows.{Row, is_among}
 use Rattle.imap_mailbox.specs.Shown.{Content}
 use Rattle.imap_modseq.specs.Numbers.{max_events}
 use Rattle.imap_print.specs.declared.response.Response.{Response}
+use Rattle.imap_session.specs.State.{Selection}
 use Rattle.imap_syntax.specs.declared.set.MessageSet.{MessageSet}
 use Rattle.imap_syntax.specs.declared.set.Numbering.TheVariants as numbering
 use Rattle.imap_targets.specs.declared.message_numbers.Numbered.{Numbered}
@@ -30,20 +30,20 @@ abbrev pub is_deleted : (uid : ℕ) → List Row → Bool
 is_deleted uid rows = list_any (λ r. (r.uid == uid) && r.flags.deleted) rows
 
 -- it is deleted, the session knows it, and the set has its UID, if there is one
-abbrev pub may_go : (set : Option MessageSet) → List KnownMessage → Readable → (uid : ℕ) → Bool
+abbrev pub may_go : (set : Option MessageSet) → (known : List ℕ) → Readable → (uid : ℕ) → Bool
 may_go set known mailbox uid =
     is_deleted uid mailbox.rows && is_wanted set (last_of numbering.Uid mailbox.next_uid known) known uid
 
 -- no other message goes
 abbrev pub ExpungesDeleted : Type 0
 ExpungesDeleted =
-    (set : Option MessageSet) (known : List KnownMessage) (mailbox : Readable) (uid : ℕ)
+    (set : Option MessageSet) (known : List ℕ) (mailbox : Readable) (uid : ℕ)
     → is_among uid (expunged_uids set known mailbox) ≡ true → may_go set known mailbox uid ≡ true
 
 -- and each of them goes, if the mailbox has an event left for every row
 abbrev pub ExpungesAll : Type 0
 ExpungesAll =
-    (set : Option MessageSet) (known : List KnownMessage) (mailbox : Readable) (uid : ℕ)
+    (set : Option MessageSet) (known : List ℕ) (mailbox : Readable) (uid : ℕ)
     → length mailbox.rows ≤ events_left mailbox
     → is_among uid (expunged_uids set known mailbox) ≡ may_go set known mailbox uid
 
@@ -65,9 +65,9 @@ marking user marks = record { user = user; added = []; marks = marks; expunged =
 -- The lines of a STORE that isn't silent tell each message that it names as the user then sees it.
 abbrev pub StoreTellsWhatItLeaves : Type 0
 StoreTellsWhatItLeaves =
-    (user : List ℕ) (rights : ℕ) (spec : StoreSpec) (known : List KnownMessage) (condstore : Bool)
+    (user : List ℕ) (rights : ℕ) (spec : StoreSpec) (s : Selection) (condstore : Bool)
     (messages : List Numbered) (mailbox : Content) → IsOrdered mailbox →
-    let stored = stored_all rights spec known messages mailbox.rows in
+    let stored = stored_all rights spec s messages mailbox.rows in
     mailbox.own + seen_changes stored ≤ max_events
     → lines_from false condstore (highest_in mailbox) stored
     ≡ lines_of condstore messages (content_batched (marking user (marks_of stored)) mailbox).rows
@@ -75,10 +75,10 @@ StoreTellsWhatItLeaves =
 -- A message that UNCHANGEDSINCE skips is afterwards as it was, whatever the command names.
 abbrev pub SkippedMessagesStay : Type 0
 SkippedMessagesStay =
-    (user : List ℕ) (rights : ℕ) (spec : StoreSpec) (known : List KnownMessage) (messages : List Numbered)
+    (user : List ℕ) (rights : ℕ) (spec : StoreSpec) (s : Selection) (messages : List Numbered)
     (mailbox : Content) (m : Numbered) → IsOrdered mailbox →
     let since = spec.unchanged_since in
-    let stored = stored_all rights spec known (unskipped since mailbox.rows messages) mailbox.rows in
+    let stored = stored_all rights spec s (unskipped since mailbox.rows messages) mailbox.rows in
     is_skipped since mailbox.rows m ≡ true
     → row_with m.uid (content_batched (marking user (marks_of stored)) mailbox).rows
     ≡ row_with m.uid mailbox.rows

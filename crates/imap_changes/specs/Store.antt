@@ -12,7 +12,7 @@ use Rattle.imap_mailbox.specs.declared.flags.SharedFlags.{SharedFlags}
 use Rattle.imap_mailbox.specs.declared.known.KnownMessage.{KnownMessage}
 use Rattle.imap_mailbox.specs.Calls.{is_same, same_flags}
 use Rattle.imap_mailbox.specs.Flags.{has_too_many, without_flag}
-use Rattle.imap_mailbox.specs.Rows.{Row}
+use Rattle.imap_mailbox.specs.Rows.{Row, is_among}
 use Rattle.imap_modseq.specs.Numbers.{max_events}
 use Rattle.imap_print.specs.declared.enabled.EnabledCapabilities.{EnabledCapabilities}
 use Rattle.imap_print.specs.declared.response.Code.{Code}
@@ -35,7 +35,7 @@ use Rattle.imap_targets.specs.Effects.{marking_effect}
 use Rattle.imap_targets.specs.Left.{lacks_events}
 use Rattle.imap_changes.specs.declared.store_outcome.StoreOutcome.{StoreOutcome}
 use Rattle.imap_targets.specs.declared.message_numbers.Numbered.{Numbered}
-use Rattle.imap_targets.specs.MessageNumbers.{has_known_numbers, is_by_uid, is_refused, is_saved, known_with, messages_named, number_by, ranges_of, row_with}
+use Rattle.imap_targets.specs.MessageNumbers.{has_known_numbers, is_by_uid, is_refused, is_saved, messages_named, number_by, ranges_of, row_with}
 use Rattle.imap_targets.specs.NewFlags.{is_seen, right_for, with_permitted}
 
 -- the arguments of STORE
@@ -136,10 +136,9 @@ enabled_by spec = record { condstore = is_some spec.unchanged_since; imap4rev2 =
 
 -- ---- a message with its flags afterwards
 
--- the session knows an older state of the message
-abbrev pub is_behind : Option KnownMessage → Row → Bool
-is_behind None row = false
-is_behind (Some k) row = nat_lt k.number row.number
+-- the session knows the message, but was not told all of it
+abbrev pub is_behind : Selection → Row → Bool
+is_behind s row = is_among row.uid s.known && nat_lt s.up_to row.number
 
 abbrev pub stored_as : (number : ℕ) → (behind : Bool) → Row → SharedFlags → (is : Bool) → StoreOutcome
 stored_as number behind row flags is = record {
@@ -153,8 +152,8 @@ stored_as number behind row flags is = record {
   seen_changes = not (is_same row.seen is);
 }
 
-abbrev pub stored_of : (rights : ℕ) → StoreSpec → List KnownMessage → (number : ℕ) → Row → StoreOutcome
-stored_of rights spec known number row = stored_as number (is_behind (known_with row.uid known) row) row
+abbrev pub stored_of : (rights : ℕ) → StoreSpec → Selection → (number : ℕ) → Row → StoreOutcome
+stored_of rights spec s number row = stored_as number (is_behind s row) row
     (flags_changed rights spec.change spec.flags row.flags)
     (seen_if_permitted rights spec.change spec.flags row.seen)
 
@@ -163,18 +162,18 @@ abbrev pub number_with : (uid : ℕ) → List Numbered → Option ℕ
 number_with uid [] = None
 number_with uid (m ∷ messages) = if uid == m.uid then Some m.number else number_with uid messages
 
-abbrev pub stored_if_named : (rights : ℕ) → StoreSpec → List KnownMessage → (number : Option ℕ) → Row →
+abbrev pub stored_if_named : (rights : ℕ) → StoreSpec → Selection → (number : Option ℕ) → Row →
     List StoreOutcome
-stored_if_named rights spec known None row = []
-stored_if_named rights spec known (Some number) row = stored_of rights spec known number row ∷ []
+stored_if_named rights spec s None row = []
+stored_if_named rights spec s (Some number) row = stored_of rights spec s number row ∷ []
 
 -- the messages that are named and are there, in the order of UIDs
-abbrev pub stored_all : (rights : ℕ) → StoreSpec → List KnownMessage → List Numbered → List Row →
+abbrev pub stored_all : (rights : ℕ) → StoreSpec → Selection → List Numbered → List Row →
     List StoreOutcome
-stored_all rights spec known messages [] = []
-stored_all rights spec known messages (row ∷ rows) =
-    stored_if_named rights spec known (number_with row.uid messages) row
-    ++ stored_all rights spec known messages rows
+stored_all rights spec s messages [] = []
+stored_all rights spec s messages (row ∷ rows) =
+    stored_if_named rights spec s (number_with row.uid messages) row
+    ++ stored_all rights spec s messages rows
 
 -- ---- what is asked of the mailbox
 
@@ -288,7 +287,7 @@ store_unskipped view enabled tag arguments rights s mailbox messages =
     let since = arguments.spec.unchanged_since in
     let skipped = skipped_numbers arguments.numbering since mailbox.rows messages in
     store_messages view enabled tag arguments s mailbox skipped
-    (stored_all rights arguments.spec s.known (unskipped since mailbox.rows messages) mailbox.rows)
+    (stored_all rights arguments.spec s (unskipped since mailbox.rows messages) mailbox.rows)
 
 abbrev pub store_named : View → EnabledCapabilities → (tag : List ℕ) → StoreArguments → (rights : ℕ) →
     Selection → Readable → List Numbered → Answer
@@ -296,7 +295,7 @@ store_named view enabled tag arguments rights s mailbox messages =
     if is_refused (is_by_uid arguments.numbering) mailbox.rows messages then refusal tag ExpungeIssued
     else store_unskipped view enabled tag arguments rights s mailbox messages
 
-abbrev pub messages_of : StoreArguments → (next_uid : ℕ) → List KnownMessage → List Numbered
+abbrev pub messages_of : StoreArguments → (next_uid : ℕ) → (known : List ℕ) → List Numbered
 messages_of arguments next_uid known =
     messages_named arguments.numbering next_uid (ranges_of arguments.messages) known
 

@@ -2,26 +2,26 @@
 use Rattle.std.specs.Prelude.{◌≡◌, ℕ, ◌+◌, Bool, true, false, List, [], ◌∷◌, ◌++◌, Option, Some, None, Vec}
 use Rattle.std.specs.declared.alloc.Global.{Global}
 use Rattle.imap_commands.specs.declared.commands.store.StoreSpec.{StoreSpec}
-use Rattle.imap_mailbox.specs.declared.known.KnownMessage.{KnownMessage}
 use Rattle.imap_mailbox.specs.Rows.{Row}
+use Rattle.imap_session.specs.State.{Selection}
 use Rattle.imap_targets.specs.declared.message_numbers.Numbered.{Numbered}
 use Rattle.imap_targets.specs.MessageNumbers.{row_with}
 use Rattle.imap_changes.specs.declared.store_outcome.StoreOutcome.{StoreOutcome}
 use Rattle.imap_changes.specs.Store.{are_many, event_count, stored_of}
 
 -- a message that is gone is passed over
-abbrev pub stored_if_there : (rights : ℕ) → StoreSpec → List KnownMessage → (number : ℕ) → Option Row →
+abbrev pub stored_if_there : (rights : ℕ) → StoreSpec → Selection → (number : ℕ) → Option Row →
     List StoreOutcome
-stored_if_there rights spec known number None = []
-stored_if_there rights spec known number (Some row) = stored_of rights spec known number row ∷ []
+stored_if_there rights spec s number None = []
+stored_if_there rights spec s number (Some row) = stored_of rights spec s number row ∷ []
 
 -- in the order in which they are named
-abbrev pub stored_named : (rights : ℕ) → StoreSpec → List KnownMessage → List Row → List Numbered →
+abbrev pub stored_named : (rights : ℕ) → StoreSpec → Selection → List Row → List Numbered →
     List StoreOutcome
-stored_named rights spec known rows [] = []
-stored_named rights spec known rows (m ∷ messages) =
-    stored_if_there rights spec known m.number (row_with m.uid rows)
-    ++ stored_named rights spec known rows messages
+stored_named rights spec s rows [] = []
+stored_named rights spec s rows (m ∷ messages) =
+    stored_if_there rights spec s m.number (row_with m.uid rows)
+    ++ stored_named rights spec s rows messages
 
 -- these are the messages that are meant; or there are none, as one of them would have too many keywords
 abbrev pub Stores : (meant : List StoreOutcome) → Option (Vec StoreOutcome Global) → Type 0

@@ -2,7 +2,6 @@
 
 ghost use Rattle.std.specs.Prelude.{◌≡◌, ◌<◌, ◌≤◌, None, Some, length, filter, option_copied, slice_index_or, IfOk};
 ghost use Rattle.imap_changes.specs.Expunge as specs;
-ghost use Rattle.imap_mailbox.specs.Brought.{known_uids};
 ghost use Rattle.imap_mailbox.specs.Lent.{row_uids};
 ghost use Rattle.imap_mailbox.specs.Rows.{Row, is_among};
 ghost use Rattle.imap_modseq.specs.Numbers.{max_events, max_number};
@@ -190,8 +189,8 @@ fn is_wanted(set: Option<&MessageSet>, last: u32, known: &KnownList, uid: u32) -
 }
 
 /// Whether the session knows the message, by a search that halves.
-fn knows(known: &KnownList, uid: u32) -> bool
-    ensures { result ≡ is_among uid (known_uids known.now.list) }
+pub(crate) fn knows(known: &KnownList, uid: u32) -> bool
+    ensures { result ≡ is_among uid known.now.list }
 {
     known.place_of(uid).is_some()
 }

@@ -178,8 +178,7 @@ fn store_named(
     let rows = &mailbox.rows;
     let skipped = skipped_numbers(alloc, arguments.numbering, since, rows, named.as_slice())?;
     remove_skipped(&mut named, since, rows);
-    let known = &selected.known;
-    match stored_all(alloc, rights, spec, known, rows, named.as_slice())? {
+    match stored_all(alloc, rights, spec, selected, rows, named.as_slice())? {
         Some(stored) => store_messages(
             context,
             enabled,

@@ -1,21 +1,23 @@
 //! Messages with the flags that STORE gives them.
 
-ghost use Rattle.std.specs.Prelude.{◌≡◌, ◌++◌, ◌∷◌, [], Some, None, IfOk, OnOk, map, option_copied, option_map};
+ghost use Rattle.std.specs.Prelude.{◌≡◌, ◌++◌, ◌∷◌, [], Some, None, IfOk, OnOk, map, option_map};
 ghost use Rattle.std.specs.Prelude.{◌≤◌, length, if◌then◌else◌};
 ghost use Rattle.imap_changes.specs.Store as specs;
 ghost use Rattle.imap_changes.specs.Storing.{AddsStored, Stores, stored_if_there, stored_named};
 ghost use Rattle.imap_mailbox.specs.Lent.{row_shown, row_uids};
 ghost use Rattle.imap_mailbox.specs.Summary.{AreRising};
 ghost use Rattle.imap_rights.specs.Rights.{bits};
+ghost use Rattle.imap_session.specs.State.{selection_of};
 ghost use Rattle.imap_targets.specs.MessageNumbers.{uids_of};
 
+use crate::expunge::knows;
 use crate::store_flags::{flags_changed, is_seen_after};
 use imap_batch::FlagUpdate;
 use imap_grammar::StoreSpec;
-use imap_mailbox::{KnownMessage, Row, Rows, SharedFlags};
+use imap_mailbox::{Row, Rows, SharedFlags};
 use imap_rights::Rights;
-use imap_session::KnownList;
-use imap_targets::{Numbered, known_with, row_with};
+use imap_session::Selected;
+use imap_targets::{Numbered, row_with};
 use imap_values::TryCopy;
 use std::alloc::{AllocError, Global};
 
@@ -27,7 +29,7 @@ pub(crate) struct StoreOutcome {
     pub(crate) uid: u32,
     /// Its mod-sequence before.
     pub(crate) before: u64,
-    /// Whether the session knows an older state of it.
+    /// Whether the session knows it, but was not told all of it.
     pub(crate) behind: bool,
     /// The flags that all users share, afterwards.
     pub(crate) flags: SharedFlags,
@@ -44,16 +46,17 @@ pub(crate) fn stored_all(
     alloc: Global,
     rights: Rights,
     spec: &StoreSpec,
-    known: &KnownList,
+    selected: &Selected,
     rows: &Rows<'_>,
     messages: &[Numbered],
 ) -> Result<Option<Vec<StoreOutcome>>, AllocError>
     requires named { AreRising (uids_of messages.now) }
     requires rows { AreRising (row_uids rows.now) }
-    ensures { let meant = specs.stored_all (bits rights) spec.now known.now.list messages.now rows.now in
+    ensures { let s = selection_of selected.now in
+        let meant = specs.stored_all (bits rights) spec.now s messages.now rows.now in
         IfOk result (Stores meant) }
 {
-    stored_named(alloc, rights, spec, known, rows, messages)
+    stored_named(alloc, rights, spec, selected, rows, messages)
 }
 
 /// The same, in the order in which they are named.
@@ -61,11 +64,12 @@ fn stored_named(
     alloc: Global,
     rights: Rights,
     spec: &StoreSpec,
-    known: &KnownList,
+    selected: &Selected,
     rows: &Rows<'_>,
     messages: &[Numbered],
 ) -> Result<Option<Vec<StoreOutcome>>, AllocError>
-    ensures { let meant = stored_named (bits rights) spec.now known.now.list rows.now messages.now in
+    ensures { let s = selection_of selected.now in
+        let meant = stored_named (bits rights) spec.now s rows.now messages.now in
         IfOk result (Stores meant) }
 {
     let mut stored = Vec::new(alloc);
@@ -76,7 +80,7 @@ fn stored_named(
             alloc,
             rights,
             spec,
-            known,
+            selected,
             message.number,
             &row,
         )? {
@@ -92,16 +96,16 @@ fn add_if_there(
     alloc: Global,
     rights: Rights,
     spec: &StoreSpec,
-    known: &KnownList,
+    selected: &Selected,
     number: u32,
     row: &Option<Row<'_>>,
 ) -> Result<bool, AllocError>
     ensures { let row = option_map row_shown row.now in
-        let meant = stored_if_there (bits rights) spec.now known.now.list number row in
+        let meant = stored_if_there (bits rights) spec.now (selection_of selected.now) number row in
         IfOk result (AddsStored meant stored.old.items stored.new.items) }
 {
     match row {
-        Some(row) => add(stored, alloc, rights, spec, known, number, row),
+        Some(row) => add(stored, alloc, rights, spec, selected, number, row),
         None => Ok(true),
     }
 }
@@ -111,17 +115,18 @@ fn add(
     alloc: Global,
     rights: Rights,
     spec: &StoreSpec,
-    known: &KnownList,
+    selected: &Selected,
     number: u32,
     row: &Row<'_>,
 ) -> Result<bool, AllocError>
-    ensures { let meant = specs.stored_of (bits rights) spec.now known.now.list number (row_shown row.now) in
+    ensures { let s = selection_of selected.now in
+        let meant = specs.stored_of (bits rights) spec.now s number (row_shown row.now) in
         IfOk result (AddsStored (meant ∷ []) stored.old.items stored.new.items) }
 {
     match flags_changed(alloc, rights, spec, row.flags)? {
         Some(flags) => {
             let seen = is_seen_after(rights, spec, row.seen);
-            let behind = is_behind(known_with(known, row.uid), row);
+            let behind = is_behind(selected, row);
             stored.push(StoreOutcome {
                 number,
                 uid: row.uid,
@@ -138,14 +143,11 @@ fn add(
     }
 }
 
-/// Whether the session knows an older state of the message.
-fn is_behind(known: Option<&KnownMessage>, row: &Row<'_>) -> bool
-    ensures { result ≡ specs.is_behind (option_copied known.entry) (row_shown row.now) }
+/// Whether the session knows the message, but was not told all of it.
+fn is_behind(selected: &Selected, row: &Row<'_>) -> bool
+    ensures { result ≡ specs.is_behind (selection_of selected.now) (row_shown row.now) }
 {
-    match known {
-        Some(known) => known.number < row.number,
-        None => false,
-    }
+    knows(&selected.known, row.uid) && selected.up_to < row.number
 }
 
 /// The marks of those that change.

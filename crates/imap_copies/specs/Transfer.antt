@@ -6,7 +6,6 @@ use Rattle.imap_answer.specs.Answer.{Answer, carried_out, refusal}
 use Rattle.imap_answer.specs.Name.{if_named}
 use Rattle.imap_batch.specs.Batch.{adding, expunging}
 use Rattle.imap_batch.specs.declared.batch.NewMessage.{NewMessage}
-use Rattle.imap_mailbox.specs.declared.known.KnownMessage.{KnownMessage}
 use Rattle.imap_mailbox.specs.Lent.{row_uids}
 use Rattle.imap_mailbox.specs.Rows.{Row}
 use Rattle.imap_names.specs.Name.{Name}
@@ -139,7 +138,7 @@ transfer_named view tag arguments s mailbox target seen messages =
     if is_refused (is_by_uid arguments.numbering) mailbox.rows messages then refusal tag ExpungeIssued
     else transfer_rows arguments.kind view tag s mailbox target seen (rows_named messages mailbox.rows)
 
-abbrev pub messages_of : TransferArguments → (next_uid : ℕ) → List KnownMessage → List Numbered
+abbrev pub messages_of : TransferArguments → (next_uid : ℕ) → (known : List ℕ) → List Numbered
 messages_of arguments next_uid known =
     messages_named arguments.numbering next_uid (ranges_of arguments.messages) known
 

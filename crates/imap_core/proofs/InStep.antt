@@ -10,11 +10,14 @@ use Rattle.std.proofs.lemmas.Slice.Eq.{bytes_eq-Decides}
 use Rattle.imap_answer.proofs.Alike.{after_asking, viewed}
 use Rattle.imap_answer.specs.Alike.{effects_of, view_after_asking}
 use Rattle.imap_answer.specs.Answer.{Answer, done, nothing_enabled, preceded_by, refusal}
-use Rattle.imap_mailbox.proofs.BroughtUp.{all_told_is_brought, shown_is_ordered}
-use Rattle.imap_mailbox.specs.Brought.{IsBrought, told_of}
+use Rattle.imap_mailbox.proofs.BroughtUp.{shown_is_ordered}
+use Rattle.imap_mailbox.specs.Lent.{row_uids}
+use Rattle.imap_mailbox.specs.Rows.{first_uid}
 use Rattle.imap_mailbox.specs.Shown.{content_of}
 use Rattle.imap_names.specs.Name.{Name}
 use Rattle.imap_session.proofs.Applying.{changes_are_applied}
+use Rattle.imap_session.proofs.ByUid.{all_told_by_uid, later_by_uid, uids_of}
+use Rattle.imap_session.specs.ByUid.{IsBroughtByUid}
 use Rattle.imap_session.proofs.Kept.{told_is_brought}
 use Rattle.imap_session.specs.declared.options.NoticeOptions.{NoticeOptions}
 use Rattle.imap_session.specs.Lost.{has_other_validity, is_lost, is_lost_selection}
@@ -86,11 +89,12 @@ module _ (old new : World) (grown : MessagesGrown old new) (user : List ℕ) whe
   }
     where
       of_old : (m : Mailbox) → m.validity ≡ s.validity → (before : Option Mailbox) → map.get old.mailboxes s.name ≡ before → IsGrownFromSome m before
-          → IsBrought s.up_to s.known (content_of user m.messages)
+          → IsBroughtByUid s.up_to s.known (content_of user m.messages)
       of_old m same None there g = absurd g
-      of_old m same (Some before) there g = g.messages.later user s.up_to s.known (h.brought before there (g.validity ∙ same))
+      of_old m same (Some before) there g =
+          later_by_uid (content_of user before.messages) (content_of user m.messages) s.up_to s.known (g.messages.later user) (h.brought before there (g.validity ∙ same))
 
-      by : (m : Mailbox) → m.validity ≡ s.validity → IsGrownOrNew old s.name m → IsBrought s.up_to s.known (content_of user m.messages)
+      by : (m : Mailbox) → m.validity ≡ s.validity → IsGrownOrNew old s.name m → IsBroughtByUid s.up_to s.known (content_of user m.messages)
       by m same (inl g) = of_old m same (map.get old.mailboxes s.name) refl g
       by m same (inr above) = absurd (omega (arith, h.used, above, same))
 
@@ -114,37 +118,38 @@ module _ (site : Site) (user : List ℕ) (world : World) (kept : AreKept world.m
       let validity : r.validity ≡ read.mailbox.validity = ap (λ (r : Readable). r.validity) read.is in
       let used = sound.used name read.mailbox read.there in
       let content = content_of user read.mailbox.messages in
-      let told = all_told_is_brought content (shown_is_ordered read.mailbox.messages user (kept.at name read.mailbox read.there)) in
+      let told = all_told_by_uid content (shown_is_ordered read.mailbox.messages user (kept.at name read.mailbox read.there)) in
       record {
         used = omega (arith, validity, used);
         brought = λ m there same.
             let one : read.mailbox ≡ m = some_same read.mailbox m (sym read.there ∙ there) in
-            subst (λ (m : Mailbox). IsBrought r.highest (map_list told_of r.rows) (content_of user m.messages)) one
-            (subst (λ (r : Readable). IsBrought r.highest (map_list told_of r.rows) content) (sym read.is) told);
+            subst (λ (m : Mailbox). IsBroughtByUid r.highest (row_uids r.rows) (content_of user m.messages)) one
+            (subst (λ (r : Readable). IsBroughtByUid r.highest (row_uids r.rows) content) (sym read.is) told);
       }
 
   -- a session that is told of it
   module _ (o : NoticeOptions) (s : Selection) (r : Readable) (is : readable_in view s.name ≡ Some r) (same : r.validity ≡ s.validity) (h : IsSelectedInStep world user s) where
-    told_in_step : IsSelectedInStep world user (with_telling (difference o.expunges s.known r.rows r.highest) s)
+    told_in_step : IsSelectedInStep world user (with_telling (difference o.expunges s.up_to s.known r.rows r.highest) s)
     told_in_step =
         let read = read_of site user world s.name r is in
         let validity : r.validity ≡ read.mailbox.validity = ap (λ (r : Readable). r.validity) read.is in
         let content = content_of user read.mailbox.messages in
         let ordered = shown_is_ordered read.mailbox.messages user (kept.at s.name read.mailbox read.there) in
-        let brought = told_is_brought content o.expunges s.up_to s.known ordered (h.brought read.mailbox read.there (sym validity ∙ same)) in
+        let before = h.brought read.mailbox read.there (sym validity ∙ same) in
+        let brought = told_is_brought content o.expunges s.up_to s.known ordered before in
         record {
           used = h.used;
           brought = λ m there _.
               let one : read.mailbox ≡ m = some_same read.mailbox m (sym read.there ∙ there) in
-              subst (λ (m : Mailbox). IsBrought r.highest (known_with (difference o.expunges s.known r.rows r.highest) s.known) (content_of user m.messages)) one
-              (subst (λ known. IsBrought r.highest known content) (sym (changes_are_applied o s.known r.rows))
-              (subst (λ (r : Readable). IsBrought r.highest (known_after o.expunges s.known r.rows) content) (sym read.is) brought));
+              subst (λ (m : Mailbox). IsBroughtByUid r.highest (known_with (difference o.expunges s.up_to s.known r.rows r.highest) s.known) (content_of user m.messages)) one
+              (subst (λ known. IsBroughtByUid r.highest known content) (sym (changes_are_applied o s.known r.rows (first_uid, content.next, uids_of s.up_to s.known content before)))
+              (subst (λ (r : Readable). IsBroughtByUid r.highest (known_after o.expunges s.known r.rows) content) (sym read.is) brought));
         }
 
     noted_in_step : IsSelectedInStep world user (selection_after (selection_telling o r.rows r.highest s) s)
-    noted_in_step = by (is_empty (difference o.expunges s.known r.rows r.highest))
+    noted_in_step = by (is_empty (difference o.expunges s.up_to s.known r.rows r.highest))
       where
-        by : (none : Bool) → IsSelectedInStep world user (selection_after (cond none None (Some (difference o.expunges s.known r.rows r.highest))) s)
+        by : (none : Bool) → IsSelectedInStep world user (selection_after (cond none None (Some (difference o.expunges s.up_to s.known r.rows r.highest))) s)
         by true = h
         by false = told_in_step
 
@@ -300,10 +305,10 @@ module _ (site : Site) (user : List ℕ) (world : World) (sound : IsSound world)
     told_of_mailbox after kept_after o None step (Some r) left = tt
     told_of_mailbox after kept_after o (Some s) step (Some r) left =
         let is = left s r refl refl in
-        by (is_empty (difference o.expunges s.known r.rows r.highest)) (noted_in_step site user after kept_after o s r is.readable is.same step)
+        by (is_empty (difference o.expunges s.up_to s.known r.rows r.highest)) (noted_in_step site user after kept_after o s r is.readable is.same step)
       where
-        by : (none : Bool) → IsSelectedInStep after user (selection_after (cond none None (Some (difference o.expunges s.known r.rows r.highest))) s)
-            → IsInStep after user (told_selection (cond none None (Some (difference o.expunges s.known r.rows r.highest))) (Some s))
+        by : (none : Bool) → IsSelectedInStep after user (selection_after (cond none None (Some (difference o.expunges s.up_to s.known r.rows r.highest))) s)
+            → IsInStep after user (told_selection (cond none None (Some (difference o.expunges s.up_to s.known r.rows r.highest))) (Some s))
         by true h = h
         by false h = h
 

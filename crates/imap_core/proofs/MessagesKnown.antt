@@ -1,5 +1,5 @@
 -- After a step in which expunges may be told, its session knows the messages of its mailbox.
-use Rattle.std.proofs.Common.{◌≡◌, ℕ, Bool, true, false, cond, List, [], ◌∷◌, ◌++◌, ◌||◌, map as map_list, Option, Some, None, refl, sym, ap, subst, ◌∙◌}
+use Rattle.std.proofs.Common.{◌≡◌, ℕ, Bool, true, false, cond, List, [], ◌∷◌, ◌++◌, ◌||◌, Option, Some, None, refl, sym, ap, subst, ◌∙◌}
 use Rattle.std.specs.List.{list_any}
 use Rattle.std.specs.Prelude.{option_and_then}
 use Rattle.std.proofs.lemmas.List.Folds.{list_any-append}
@@ -12,19 +12,24 @@ use Rattle.imap_commands.specs.declared.command.Command.{Command}
 use Rattle.imap_commands.specs.declared.command.Command.TheVariants as command
 use Rattle.imap_commands.specs.declared.commands.select.SelectParameters.{SelectParameters}
 use Rattle.imap_commands.specs.declared.request.Request.TheVariants as request
-use Rattle.imap_mailbox.specs.Brought.{told_of}
+use Rattle.imap_mailbox.proofs.BroughtUp.{shown_is_ordered}
+use Rattle.imap_mailbox.specs.Order.{AreAtMost}
+use Rattle.imap_mailbox.specs.Rows.{first_uid}
+use Rattle.imap_mailbox.specs.Shown.{content_of}
+use Rattle.imap_mailbox.specs.Summary.{AreRising}
 use Rattle.imap_names.specs.Name.{Name}
 use Rattle.imap_print.specs.declared.enabled.EnabledCapabilities.{EnabledCapabilities}
 use Rattle.imap_print.specs.declared.response.Refusal.TheVariants.{Malformed}
 use Rattle.imap_print.specs.declared.response.Response.{Response}
 use Rattle.imap_session.proofs.AfterNotices.{notices_tell_selection}
+use Rattle.imap_session.proofs.ByUid.{uids_of}
 use Rattle.imap_session.specs.declared.options.NoticeOptions.{NoticeOptions}
 use Rattle.imap_session.specs.Lost.{has_other_validity, is_lost, is_lost_selection}
 use Rattle.imap_resync.specs.Select.{is_malformed, lines_if_asked, select_with_parameters, with_lines}
 use Rattle.imap_session.specs.Select.{select_if_named, select_if_readable, selected_as}
 use Rattle.imap_session.specs.State.{Selection, SessionState}
 use Rattle.imap_session.specs.Telling.{Telling}
-use Rattle.imap_session.specs.Told.{selection_after, selection_telling}
+use Rattle.imap_session.specs.Told.{KnowsRows, selection_after, selection_telling}
 use Rattle.imap_syntax.specs.Moments.{Moment}
 use Rattle.imap_view.specs.declared.readable.Readable.{Readable}
 use Rattle.imap_view.specs.Readable.{readable_in}
@@ -41,9 +46,13 @@ use Rattle.imap_core.specs.Outcome.{Outcome, answered}
 use Rattle.imap_core.specs.Answers.{command_answer}
 use Rattle.imap_core.specs.Reply.{command_outcome, enables_nothing, idle_outcome, if_selected, kept, noting, outcome_of_answer, outcome_of_selecting, reply_by_idle, reply_by_session, reply_when_open, select_outcome, unless_lost, with_highest, with_notices}
 use Rattle.imap_core.specs.Sessions.{Own, edited}
-use Rattle.imap_core.proofs.InStep.{session_there, session_with, some_same, told_selection}
+use Rattle.imap_core.proofs.InStep.{grown_by, left_is, session_there, session_with, some_same, stays, told_selection}
 use Rattle.imap_core.proofs.Preparing.{outcome_known}
-use Rattle.imap_core.proofs.Steps.{view_in-next}
+use Rattle.imap_core.proofs.Steps.{kept_next, view_in-next}
+use Rattle.imap_core.specs.InStep.{IsInStep}
+use Rattle.imap_upcoming.proofs.Reading.{read_of}
+use Rattle.imap_world.specs.Kept.{AreKept}
+use Rattle.imap_world.specs.World.{World}
 
 -- ---- the mailbox that is told
 
@@ -62,23 +71,30 @@ module _ (view : View) where
 
   -- what a session knows that is told of the mailbox
   told_knows : (o : NoticeOptions) → o.expunges ≡ true → (selected : Option Selection) (s : Selection) (mailbox : Readable)
-      → told_selection (notice_telling o selected (left_of view selected)) selected ≡ Some s → left_of view (Some s) ≡ Some mailbox → s.known ≡ map_list told_of mailbox.rows
-  told_knows o all None s mailbox is there = absurd (cc is)
-  told_knows o all (Some old) s mailbox is there = by (left_of view (Some old)) refl is
+      → ((old : Selection) (r : Readable) → selected ≡ Some old → left_of view (Some old) ≡ Some r → AreRising old.known × AreAtMost r.highest r.rows)
+      → told_selection (notice_telling o selected (left_of view selected)) selected ≡ Some s → left_of view (Some s) ≡ Some mailbox → KnowsRows mailbox.rows s
+  told_knows o all None s mailbox fits is there = absurd (cc is)
+  told_knows o all (Some old) s mailbox fits is there = by (left_of view (Some old)) refl is
     where
-      by : (left : Option Readable) → left_of view (Some old) ≡ left → told_selection (notice_telling o (Some old) left) (Some old) ≡ Some s → s.known ≡ map_list told_of mailbox.rows
+      by : (left : Option Readable) → left_of view (Some old) ≡ left → told_selection (notice_telling o (Some old) left) (Some old) ≡ Some s → KnowsRows mailbox.rows s
       by None left is = absurd (cc (sym left ∙ ap (λ s. left_of view (Some s)) (some_same old s is) ∙ there))
       by (Some r) left is =
           let t : Option Telling = selection_telling o r.rows r.highest old in
           let new : selection_after t old ≡ s = some_same (selection_after t old) s (sym (told_is t old) ∙ is) in
           let one : r ≡ mailbox = some_same r mailbox (sym left ∙ sym (left_same t old) ∙ ap (λ s. left_of view (Some s)) new ∙ there) in
-          ap (λ (s : Selection). s.known) (sym new) ∙ notices_tell_selection o r.highest r.rows old all ∙ ap (λ (r : Readable). map_list told_of r.rows) one
+          let fit = fits old r refl left in
+          subst (λ (r : Readable). KnowsRows r.rows s) one (subst (KnowsRows r.rows) new (notices_tell_selection o r.highest r.rows old all fit.0 fit.1))
 
 -- ---- after a step
 
+-- what a session that is told of its mailbox is in step with
+record Fits (view : View) (own : SessionState) : Type 0 where
+  rows : (name : Name) (r : Readable) → readable_in view name ≡ Some r → AreAtMost r.highest r.rows
+  rising : (s : Selection) (r : Readable) → own.selected ≡ Some s → mailbox_left view own ≡ Some r → AreRising s.known
+
 -- the session after what a step asks of it knows the messages of its mailbox
 abbrev Knows : View → SessionState → Outcome → Type 0
-Knows view own outcome = (after : SessionState) → session_with outcome.session (Some own) ≡ Some after → KnowsMessages (view_after_asking outcome.effect view) after
+Knows view own outcome = Fits (view_after_asking outcome.effect view) own → (after : SessionState) → session_with outcome.session (Some own) ≡ Some after → KnowsMessages (view_after_asking outcome.effect view) after
 
 noted : (enables : EnabledCapabilities) (t : Option Telling) (own after : SessionState) → session_with (noting enables t) (Some own) ≡ Some after → told_selection t own.selected ≡ after.selected
 noted enables None own after is = by (enables_nothing enables) is
@@ -102,15 +118,25 @@ left_none false b e = refl
 
 module _ (view : View) (own : SessionState) where
   -- a session that is told of its mailbox
-  told_so : (after_view : View) (o : NoticeOptions) → o.expunges ≡ true → (after : SessionState)
+  told_so : (after_view : View) (o : NoticeOptions) → o.expunges ≡ true → Fits after_view own → (after : SessionState)
       → told_selection (notice_telling o own.selected (mailbox_left after_view own)) own.selected ≡ after.selected → KnowsMessages after_view after
-  told_so after_view o all after is s mailbox selected left =
-      told_knows after_view o all own.selected s mailbox (is ∙ selected) (ap (left_of after_view) (sym selected) ∙ left)
+  told_so after_view o all fits after is s mailbox selected left =
+      told_knows after_view o all own.selected s mailbox fit (is ∙ selected) (ap (left_of after_view) (sym selected) ∙ left)
+    where
+      readable_left : (lost : Bool) (r : Readable) (found : Option Readable) → cond lost None found ≡ Some r → found ≡ Some r
+      readable_left true r found e = absurd (cc e)
+      readable_left false r found e = e
+
+      fit : (old : Selection) (r : Readable) → own.selected ≡ Some old → left_of after_view (Some old) ≡ Some r → AreRising old.known × AreAtMost r.highest r.rows
+      fit old r selected left = (
+        fits.rising old r selected (ap (left_of after_view) selected ∙ left),
+        fits.rows old.name r (readable_left (is_lost_selection after_view (Some old)) r (readable_in after_view old.name) left),
+      )
 
   idle_knows : (what : Idling) → Knows view own (idle_outcome view own what)
-  idle_knows (idling.Begins tag) after is = told_so view (notice_options true own.enabled) refl after (idled (Some tag) (idle_telling view own) own after is)
-  idle_knows idling.Polls after is = told_so view (notice_options true own.enabled) refl after (noted nothing_enabled (idle_telling view own) own after is)
-  idle_knows (idling.Ends tag) after is = told_so view (notice_options true own.enabled) refl after (idled None (idle_telling view own) own after is)
+  idle_knows (idling.Begins tag) fits after is = told_so view (notice_options true own.enabled) refl fits after (idled (Some tag) (idle_telling view own) own after is)
+  idle_knows idling.Polls fits after is = told_so view (notice_options true own.enabled) refl fits after (noted nothing_enabled (idle_telling view own) own after is)
+  idle_knows (idling.Ends tag) fits after is = told_so view (notice_options true own.enabled) refl fits after (idled None (idle_telling view own) own after is)
 
   -- the last line isn't BAD
   last_good : (answer : Answer) (lines : List Response) → list_any is_bad ((answer.untagged ++ lines) ++ answer.last ∷ []) ≡ false → is_bad answer.last ≡ false
@@ -119,12 +145,12 @@ module _ (view : View) (own : SessionState) where
       (sym (list_any-append is_bad (answer.untagged ++ lines) (answer.last ∷ [])) ∙ good))
 
   notices_know : (answer : Answer) → list_any is_bad (with_notices view own true answer).replies ≡ false → Knows view own (with_notices view own true answer)
-  notices_know answer good after is =
+  notices_know answer good fits after is =
       let o = options_after true own answer in
       let seen = view_after_asking answer.effect view in
       let mailbox = mailbox_after view own answer in
       let bad = last_good answer (notice_lines o answer.told own.selected mailbox) good in
-      told_so seen o refl after
+      told_so seen o refl fits after
       (ap (λ b. told_selection (notice_telling o own.selected (cond b None (mailbox_left seen own))) own.selected) (sym bad)
       ∙ noted answer.enables (notice_telling o own.selected mailbox) own after is)
 
@@ -135,16 +161,17 @@ module _ (view : View) (own : SessionState) where
   -- ---- mailboxes that are selected
 
   selects_none : (answer : Answer) (more : EnabledCapabilities) → Knows view own (answered answer (session.Select more None))
-  selects_none answer more after is s mailbox selected left = absurd (cc (ap (λ (state : SessionState). state.selected) (some_same (edited (session.Select more None) own) after is) ∙ selected))
+  selects_none answer more fits after is s mailbox selected left = absurd (cc (ap (λ (state : SessionState). state.selected) (some_same (edited (session.Select more None) own) after is) ∙ selected))
 
-  selected_knows : (more : EnabledCapabilities) (name : Name) (read_only : Bool) (mailbox : Readable) → readable_in view name ≡ Some mailbox → (after : SessionState)
+  selected_knows : (more : EnabledCapabilities) (name : Name) (read_only : Bool) (mailbox : Readable) → readable_in view name ≡ Some mailbox → Fits view own → (after : SessionState)
       → session_with (session.Select more (Some (selected_as name read_only mailbox))) (Some own) ≡ Some after → KnowsMessages view after
-  selected_knows more name read_only mailbox readable after is s found selected left =
+  selected_knows more name read_only mailbox readable fits after is s found selected left =
       let new : Selection = selected_as name read_only mailbox in
       let same : new ≡ s = some_same new s (ap (λ (state : SessionState). state.selected) (some_same (edited (session.Select more (Some new)) own) after is) ∙ selected) in
       let there : left_of view (Some new) ≡ Some found = ap (λ s. left_of view (Some s)) same ∙ ap (left_of view) (sym selected) ∙ left in
       let one : mailbox ≡ found = by (has_other_validity new.validity (Some mailbox)) (sym (ap (λ o. cond (has_other_validity new.validity o) None o) readable) ∙ there) in
-      ap (λ (s : Selection). s.known) (sym same) ∙ ap (λ (r : Readable). map_list told_of r.rows) one
+      let knows : KnowsRows mailbox.rows new = record { uids = refl; told = fits.rows name mailbox readable } in
+      subst (λ (r : Readable). KnowsRows r.rows s) one (subst (KnowsRows mailbox.rows) same knows)
     where
       by : {r : Readable} (other : Bool) → cond other None (Some mailbox) ≡ Some r → mailbox ≡ r
       by true e = absurd (cc e)
@@ -186,7 +213,7 @@ module _ (view : View) (own : SessionState) where
   -- ---- commands and acts
 
   command_knows : (tag : List ℕ) (at : Moment) (asked : Command) → may_tell_expunges asked ≡ true → list_any is_bad (command_outcome view own tag at asked).replies ≡ false → Knows view own (command_outcome view own tag at asked)
-  command_knows tag at command.Logout may good = λ after is. absurd (cc is)
+  command_knows tag at command.Logout may good = λ fits after is. absurd (cc is)
   command_knows tag at (command.Select mailbox parameters) may good = select_knows tag false mailbox parameters good
   command_knows tag at (command.Examine mailbox parameters) may good = select_knows tag true mailbox parameters good
   command_knows tag at command.Close may good = closes tag (close_answer view own tag) own.selected good
@@ -209,7 +236,7 @@ module _ (view : View) (own : SessionState) where
   idle_act_knows at act.Leave (Some tag) may good = absurd (cc may)
 
   unless_lost_knows : (is : Bool) (outcome : Outcome) → (list_any is_bad outcome.replies ≡ false → Knows view own outcome) → list_any is_bad (unless_lost is outcome).replies ≡ false → Knows view own (unless_lost is outcome)
-  unless_lost_knows true outcome h good = λ after is. absurd (cc is)
+  unless_lost_knows true outcome h good = λ fits after is. absurd (cc is)
   unless_lost_knows false outcome h good = h good
 
   never_told : (asked : Act) (idle : Option (List ℕ)) → may_be_told idle asked ≡ true → {P : Type 0} → ((idle : Option (List ℕ)) → may_be_told idle asked ≡ false) → P
@@ -221,7 +248,7 @@ module _ (view : View) (own : SessionState) where
       by : (idle : Option (List ℕ)) → may_be_told idle act.Open ≡ false
       by None = refl
       by (Some tag) = refl
-  open_knows at act.Leave may good = λ after is. absurd (cc is)
+  open_knows at act.Leave may good = λ fits after is. absurd (cc is)
   open_knows at (act.Do asked) may good = unless_lost_knows (is_lost view own) (reply_by_idle view own at (act.Do asked) own.idle) (idle_act_knows at (act.Do asked) own.idle may) good
   open_knows at act.Poll may good = unless_lost_knows (is_lost view own) (reply_by_idle view own at act.Poll own.idle) (idle_act_knows at act.Poll own.idle may) good
   open_knows at act.Done may good = unless_lost_knows (is_lost view own) (reply_by_idle view own at act.Done own.idle) (idle_act_knows at act.Done own.idle may) good
@@ -235,12 +262,37 @@ messages_known state step before after kept there may good left = by (own_in sta
     view = view_in state step.who.user
 
     Claim : Outcome → Type 0
-    Claim o = list_any is_bad o.replies ≡ false → session_with o.session (Some before) ≡ Some after → KnowsMessages (view_after_asking o.effect view) after
+    Claim o = list_any is_bad o.replies ≡ false → session_with o.session (Some before) ≡ Some after → Fits (view_after_asking o.effect view) before → KnowsMessages (view_after_asking o.effect view) after
+
+    world : World
+    world = (next state step).world
+
+    kept_after : AreKept world.mailboxes
+    kept_after = kept_next state step kept.messages
+
+    step_after : IsInStep world step.who.user before.selected
+    step_after = stays state.world world (grown_by state.world kept.messages (outcome state step).effect) step.who.user before.selected (kept.sessions.at step.who.user step.who.number before there)
+
+    fits : Fits (view_in (next state step) step.who.user) before
+    fits = record {
+      rows = λ name r is.
+          let read = read_of state.site step.who.user world name r is in
+          let ordered = shown_is_ordered read.mailbox.messages step.who.user (kept_after.at name read.mailbox read.there) in
+          subst (λ (r : Readable). AreAtMost r.highest r.rows) (sym read.is) ordered.numbers;
+      rising = λ s r selected left.
+          let found = left_is state.site step.who.user world kept_after before s r selected left in
+          let read = read_of state.site step.who.user world s.name r found.readable in
+          let own = subst (IsInStep world step.who.user) selected step_after in
+          let validity : r.validity ≡ read.mailbox.validity = ap (λ (r : Readable). r.validity) read.is in
+          let content = content_of step.who.user read.mailbox.messages in
+          (first_uid, content.next, uids_of s.up_to s.known content (own.brought read.mailbox read.there (sym validity ∙ found.same)));
+    }
 
     by : (own : Option Own) → map.get state.accounts step.who.user ≡ own → option_and_then (λ own. map.get own step.who.number) own ≡ Some before → KnowsMessages (view_in (next state step) step.who.user) after
     by None is there = absurd (cc there)
     by (Some own) is there =
         let replied : reply_when_open view before step.at step.act ≡ outcome state step = sym (outcome_known state step own is ∙ ap (reply_by_session view own step) there) in
         let changed = ap (session_with (outcome state step).session) (sym there) ∙ sym (session_there state.accounts step.who (outcome state step).session own is) ∙ left in
-        subst (λ view. KnowsMessages view after) (sym (view_in-next state step kept))
-        (subst Claim replied (λ good is. open_knows view before step.at step.act may good after is) good changed)
+        subst (λ view. KnowsMessages view after) (sym (view_in-next state step kept.messages))
+        (subst Claim replied (λ good is fits. open_knows view before step.at step.act may good fits after is) good changed
+        (subst (λ view. Fits view before) (view_in-next state step kept.messages) fits))

@@ -3,15 +3,13 @@ use Rattle.std.proofs.Common.{◌≡◌, ℕ, ◌+◌, Bool, true, false, cond, 
 use Rattle.std.specs.List.{list_any}
 use Rattle.std.proofs.lemmas.List.Folds.{list_any-append}
 use Rattle.imap_mailbox.specs.Brought.{told_of}
-use Rattle.imap_mailbox.specs.declared.known.KnownMessage.{KnownMessage}
 use Rattle.imap_mailbox.specs.Rows.{Row}
 use Rattle.imap_print.specs.declared.fetch.FetchedItems.{FetchedItems}
 use Rattle.imap_print.specs.declared.response.Response.{Response}
 use Rattle.imap_print.specs.declared.response.Response.TheVariants as response
-use Rattle.imap_session.specs.Compared.{Comparison, Expunged, Present, comparisons, is_known, known_after, new_rows}
+use Rattle.imap_session.specs.Compared.{Comparison, Expunged, Present, comparisons, is_told, known_after, new_rows}
 use Rattle.imap_session.specs.declared.options.NoticeOptions.{NoticeOptions}
 use Rattle.imap_session.specs.Notices.{exists_line, expunge_lines, expunge_notices, expunged_uids, fetch_line, fetch_lines, notice_items, notices, vanished_line}
-use Rattle.imap_session.specs.Retold.{retold}
 use Rattle.imap_session.specs.State.{Selection}
 use Rattle.imap_view.specs.declared.readable.Readable.{Readable}
 use Rattle.imap_core.specs.Notices.{notice_lines}
@@ -27,7 +25,7 @@ module _ (test : Response → Bool) (expunge : (n : ℕ) → test (response.Expu
   no_expunge : (n : ℕ) (cs : List Comparison) → list_any test (expunge_lines n cs) ≡ false
   no_expunge n [] = refl
   no_expunge n (Expunged k ∷ cs) = first (response.Expunge n) (expunge_lines n cs) (expunge n) (no_expunge n cs)
-  no_expunge n (Present k r ∷ cs) = no_expunge (n + 1) cs
+  no_expunge n (Present r ∷ cs) = no_expunge (n + 1) cs
 
   no_vanished : (uids : List ℕ) → list_any test (vanished_line uids) ≡ false
   no_vanished [] = refl
@@ -37,18 +35,18 @@ module _ (test : Response → Bool) (expunge : (n : ℕ) → test (response.Expu
   no_exists count [] = refl
   no_exists count (r ∷ new) = first (response.Exists count) [] (exists count) refl
 
-  no_fetch : (o : NoticeOptions) (n : ℕ) (cs : List Comparison) → list_any test (fetch_lines o n cs) ≡ false
-  no_fetch o n [] = refl
-  no_fetch o n (Expunged k ∷ cs) = by o.expunges (no_fetch o n cs) (no_fetch o (n + 1) cs)
+  no_fetch : (o : NoticeOptions) (up_to : ℕ) (told : List ℕ) (n : ℕ) (cs : List Comparison) → list_any test (fetch_lines o up_to told n cs) ≡ false
+  no_fetch o up_to told n [] = refl
+  no_fetch o up_to told n (Expunged k ∷ cs) = by o.expunges (no_fetch o up_to told n cs) (no_fetch o up_to told (n + 1) cs)
     where
-      by : (b : Bool) → list_any test (fetch_lines o n cs) ≡ false → list_any test (fetch_lines o (n + 1) cs) ≡ false → list_any test (cond b (fetch_lines o n cs) (fetch_lines o (n + 1) cs)) ≡ false
+      by : (b : Bool) → list_any test (fetch_lines o up_to told n cs) ≡ false → list_any test (fetch_lines o up_to told (n + 1) cs) ≡ false → list_any test (cond b (fetch_lines o up_to told n cs) (fetch_lines o up_to told (n + 1) cs)) ≡ false
       by true here next = here
       by false here next = next
-  no_fetch o n (Present k r ∷ cs) = by (is_known k r) (no_fetch o (n + 1) cs)
+  no_fetch o up_to told n (Present r ∷ cs) = by (is_told up_to told r) (no_fetch o up_to told (n + 1) cs)
     where
-      by : (b : Bool) → list_any test (fetch_lines o (n + 1) cs) ≡ false → list_any test (cond b (fetch_lines o (n + 1) cs) (fetch_line o n (told_of r) ∷ fetch_lines o (n + 1) cs)) ≡ false
+      by : (b : Bool) → list_any test (fetch_lines o up_to told (n + 1) cs) ≡ false → list_any test (cond b (fetch_lines o up_to told (n + 1) cs) (fetch_line o n (told_of r) ∷ fetch_lines o up_to told (n + 1) cs)) ≡ false
       by true next = next
-      by false next = first (fetch_line o n (told_of r)) (fetch_lines o (n + 1) cs) (fetch n (notice_items o.condstore (told_of r))) next
+      by false next = first (fetch_line o n (told_of r)) (fetch_lines o up_to told (n + 1) cs) (fetch n (notice_items o.condstore (told_of r))) next
 
   no_expunges : (o : NoticeOptions) (cs : List Comparison) → list_any test (expunge_notices o cs) ≡ false
   no_expunges o cs = by o.expunges o.qresync
@@ -58,14 +56,14 @@ module _ (test : Response → Bool) (expunge : (n : ℕ) → test (response.Expu
       by true true = no_vanished (expunged_uids cs)
       by true false = no_expunge 1 cs
 
-  no_notice : (o : NoticeOptions) (known : List KnownMessage) (rows : List Row) → list_any test (notices o known rows) ≡ false
-  no_notice o known rows =
+  no_notice : (o : NoticeOptions) (up_to : ℕ) (told known : List ℕ) (rows : List Row) → list_any test (notices o up_to told known rows) ≡ false
+  no_notice o up_to told known rows =
       let cs = comparisons known rows in
       let count = length (known_after o.expunges known rows) in
-      both (expunge_notices o cs) (exists_line count (new_rows known rows) ++ fetch_lines o 1 cs) (no_expunges o cs)
-      (both (exists_line count (new_rows known rows)) (fetch_lines o 1 cs) (no_exists count (new_rows known rows)) (no_fetch o 1 cs))
+      both (expunge_notices o cs) (exists_line count (new_rows known rows) ++ fetch_lines o up_to told 1 cs) (no_expunges o cs)
+      (both (exists_line count (new_rows known rows)) (fetch_lines o up_to told 1 cs) (no_exists count (new_rows known rows)) (no_fetch o up_to told 1 cs))
 
   pub no_line_refuses : (o : NoticeOptions) (told : List ℕ) (selected : Option Selection) (mailbox : Option Readable) → list_any test (notice_lines o told selected mailbox) ≡ false
   no_line_refuses o told selected None = refl
   no_line_refuses o told None (Some mailbox) = refl
-  no_line_refuses o told (Some s) (Some mailbox) = no_notice o (retold told s.known mailbox.rows) mailbox.rows
+  no_line_refuses o told (Some s) (Some mailbox) = no_notice o s.up_to told s.known mailbox.rows

@@ -1,8 +1,8 @@
 -- Sessions in step with their mailboxes (RFC 7162, section 3.1.2.1, HIGHESTMODSEQ): what the machine's type keeps.
 use Rattle.std.specs.Prelude.{◌≡◌, ℕ, ◌≤◌, List, Option, Some, None, option_and_then}
 use Rattle.std.specs.FinMap as map
-use Rattle.imap_mailbox.specs.Brought.{IsBrought}
 use Rattle.imap_mailbox.specs.Shown.{content_of}
+use Rattle.imap_session.specs.ByUid.{IsBroughtByUid}
 use Rattle.imap_session.specs.State.{Selection, SessionState}
 use Rattle.imap_world.specs.Kept.{AreKept, IsSound}
 use Rattle.imap_world.specs.Mailbox.{Mailbox}
@@ -17,7 +17,7 @@ pub record IsSelectedInStep (world : World) (user : List ℕ) (s : Selection) : 
   pub used : s.validity ≤ epoch world.epochs s.name
   pub brought : (mailbox : Mailbox)
       → map.get world.mailboxes s.name ≡ Some mailbox → mailbox.validity ≡ s.validity
-      → IsBrought s.up_to s.known (content_of user mailbox.messages)
+      → IsBroughtByUid s.up_to s.known (content_of user mailbox.messages)
 
 abbrev pub IsInStep : World → (user : List ℕ) → Option Selection → Type 0
 IsInStep world user None = Unit {0}

@@ -1,15 +1,15 @@
 -- What holds of every step.
 use Rattle.std.specs.Prelude.{◌≡◌, ◌⊎◌, ℕ, ◌-◌, ◌≤◌, Bool, true, false, not, ◌==◌, ◌&&◌, List, [], ◌∷◌, ◌++◌}
-use Rattle.std.specs.Prelude.{Option, Some, None, bytes_eq, is_some, length, map as map_list}
+use Rattle.std.specs.Prelude.{Option, Some, None, bytes_eq, is_some, length}
 use Rattle.std.specs.FinMap as map
 use Rattle.std.specs.List.{list_any}
 use Rattle.imap_answer.specs.Fit.{is_refusal, is_unavailable}
 use Rattle.imap_answer.specs.Answer.{nothing_enabled}
-use Rattle.imap_mailbox.specs.Brought.{told_of}
 use Rattle.imap_names.specs.Name.{Name}
 use Rattle.imap_session.specs.State.{Selection, SessionState}
 use Rattle.imap_session.specs.Telling.{Telling}
-use Rattle.imap_core.specs.InStep.{session_at}
+use Rattle.imap_session.specs.Told.{KnowsRows}
+use Rattle.imap_core.specs.InStep.{IsMachineKept, session_at}
 use Rattle.imap_commands.specs.declared.command.Command.{Command}
 use Rattle.imap_commands.specs.declared.command.Command.TheVariants as command
 use Rattle.imap_commands.specs.declared.request.Request.{Request}
@@ -172,17 +172,17 @@ may_be_told (Some tag) act.Poll = true
 may_be_told (Some tag) act.Done = true
 may_be_told idle _ = false
 
--- the session knows the messages of its mailbox with their flags and mod-sequences as the user sees them, unless
--- it has lost the mailbox
+-- the session knows the messages of its mailbox, and was told all of each, so with its flags and mod-sequence as the
+-- user sees them, unless it has lost the mailbox
 abbrev pub KnowsMessages : View → SessionState → Type 0
 KnowsMessages view own = (s : Selection) (mailbox : Readable)
-    → own.selected ≡ Some s → mailbox_left view own ≡ Some mailbox → s.known ≡ map_list told_of mailbox.rows
+    → own.selected ≡ Some s → mailbox_left view own ≡ Some mailbox → KnowsRows mailbox.rows s
 
 -- After a step in which expunges may be told, and which isn't answered BAD, its session knows the messages of its
 -- mailbox (RFC 9051, section 7.5.1).
 abbrev pub MessagesAreKnown : Type 0
 MessagesAreKnown = (state : State) (step : Step) (before after : SessionState)
-    → AreKept state.world.mailboxes
+    → IsMachineKept state.world state.accounts
     → session_in state step.who.user step.who.number ≡ Some before
     → may_be_told before.idle step.act ≡ true → list_any is_bad (answer state step) ≡ false
     → session_in (next state step) step.who.user step.who.number ≡ Some after

@@ -72,7 +72,7 @@ fn plain_lines(
     match world.mailbox(&selected.name.as_ref()) {
         Some(entry) => {
             let rows = entry.messages.as_ref().rows(user);
-            notices_plain(alloc, &selected.known, &rows, options)?.ok_or(AllocError)
+            notices_plain(alloc, &selected.known, &rows, options, selected.up_to)?.ok_or(AllocError)
         }
         None => Err(AllocError),
     }

@@ -4,7 +4,6 @@ use Rattle.std.specs.Prelude.{nat_lt}
 use Rattle.std.specs.List.{AllByRecursion, list_any}
 use Rattle.std.proofs.lemmas.Bool.{ltb-true, not-true}
 use Rattle.std.proofs.lemmas.List.{append-nil}
-use Rattle.imap_mailbox.specs.declared.known.KnownMessage.{KnownMessage}
 use Rattle.imap_mailbox.specs.Rows.{Row}
 use Rattle.imap_syntax.specs.declared.set.Numbering.{Numbering}
 use Rattle.imap_syntax.specs.declared.set.SeqRange.{SeqRange}
@@ -61,7 +60,7 @@ gone_or_changed None row kept low = absurd (cc low)
 gone_or_changed (Some since) None kept low = refl
 gone_or_changed (Some since) (Some row) kept low = absurd (cc (sym (ap not low) ∙ kept))
 
-module _ (by_uid : Bool) (since : Option ℕ) (wanted : Wanted) (sets : Bool) (mailbox : Readable) (by : Numbering) (last : ℕ) (ranges : List SeqRange) (known : List KnownMessage) where
+module _ (by_uid : Bool) (since : Option ℕ) (wanted : Wanted) (sets : Bool) (mailbox : Readable) (by : Numbering) (last : ℕ) (ranges : List SeqRange) (known : List ℕ) where
   abbrev chosen : List Numbered → List Numbered
   chosen messages = changed_of since mailbox.rows messages
 
@@ -111,14 +110,14 @@ module _ (by_uid : Bool) (since : Option ℕ) (wanted : Wanted) (sets : Bool) (m
       no_more false = refl
 
   -- the message at the place i
-  module _ (i n uid : ℕ) (d : KnownMessage) (within : i < length known) (number : n ≡ i + 1) (is : uid ≡ (get_or known i d).uid) where
+  module _ (i n uid : ℕ) (d : ℕ) (within : i < length known) (number : n ≡ i + 1) (is : uid ≡ (get_or known i d)) where
     abbrev message : Numbered
     message = record { number = n; uid = uid }
 
     abbrev later : List Numbered
     later = messages_from by last ranges (i + 1 + 1) (drop (i + 1) known)
 
-    abbrev front : ℕ → ℕ → List KnownMessage → List Numbered
+    abbrev front : ℕ → ℕ → List ℕ → List Numbered
     front n uid known = let m : Numbered = record { number = n; uid = uid } in
         cond (in_set last ranges (number_by by m)) (m ∷ messages_from by last ranges (i + 1 + 1) known) (messages_from by last ranges (i + 1 + 1) known)
 
@@ -235,17 +234,17 @@ module _ (by_uid : Bool) (since : Option ℕ) (wanted : Wanted) (sets : Bool) (m
         left named (row_with uid mailbox.rows) refl found there.0 there.1 before
 
   -- it refuses nothing and hasn't changed, whether it is named or not
-  pub left_over : (i : ℕ) → i < length known → ((d : KnownMessage) → ((not by_uid && not (is_some (row_with (get_or known i d).uid mailbox.rows))) ≡ false) × (is_changed since (row_with (get_or known i d).uid mailbox.rows) ≡ false))
+  pub left_over : (i : ℕ) → i < length known → ((d : ℕ) → ((not by_uid && not (is_some (row_with (get_or known i d) mailbox.rows))) ≡ false) × (is_changed since (row_with (get_or known i d) mailbox.rows) ≡ false))
       → (found : Reading) → IsSoFar i found → IsSoFar (i + 1) found
   left_over i within h found before = from known refl
     where
-      at : (d : KnownMessage) (b : Bool) → in_set last ranges (number_by by (record { number = i + 1; uid = (get_or known i d).uid })) ≡ b → IsSoFar (i + 1) found
-      at d true e = left i (i + 1) (get_or known i d).uid d within refl refl e (row_with (get_or known i d).uid mailbox.rows) refl found (h d).0 (h d).1 before
-      at d false e = skipped i (i + 1) (get_or known i d).uid d within refl refl found e before
+      at : (d : ℕ) (b : Bool) → in_set last ranges (number_by by (record { number = i + 1; uid = (get_or known i d) })) ≡ b → IsSoFar (i + 1) found
+      at d true e = left i (i + 1) (get_or known i d) d within refl refl e (row_with (get_or known i d) mailbox.rows) refl found (h d).0 (h d).1 before
+      at d false e = skipped i (i + 1) (get_or known i d) d within refl refl found e before
 
-      from : (ks : List KnownMessage) → ks ≡ known → IsSoFar (i + 1) found
+      from : (ks : List ℕ) → ks ≡ known → IsSoFar (i + 1) found
       from [] same = let none = ap length same in absurd (omega (arith, none, within))
-      from (k ∷ ks) same = at k (in_set last ranges (number_by by (record { number = i + 1; uid = (get_or known i k).uid }))) refl
+      from (k ∷ ks) same = at k (in_set last ranges (number_by by (record { number = i + 1; uid = (get_or known i k) }))) refl
 
-pub skipped_from : (skips : Bool) (since : Option ℕ) (rows : List Row) (known : List KnownMessage) (i next : ℕ) → AreSkipped skips since rows known i next → AreSkipped skips since rows known (i + 1) next
+pub skipped_from : (skips : Bool) (since : Option ℕ) (rows : List Row) (known : List ℕ) (i next : ℕ) → AreSkipped skips since rows known i next → AreSkipped skips since rows known (i + 1) next
 skipped_from skips since rows known i next h j d from to within = h j d (omega (arith, from)) to within

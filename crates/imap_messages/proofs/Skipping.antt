@@ -6,8 +6,6 @@ use Rattle.std.proofs.lemmas.Bool.{cases_lt, eq-eqb, le-ltb, ltb-true}
 use Rattle.std.proofs.lemmas.List.{get_or-map, get_or_default, length-map}
 use Rattle.std.proofs.lemmas.List.Sums.{prefix_len_passes}
 use Rattle.imap_mailbox.specs.Above.{AreAtMostFrom}
-use Rattle.imap_mailbox.specs.Brought.{known_uids}
-use Rattle.imap_mailbox.specs.declared.known.KnownMessage.{KnownMessage}
 use Rattle.imap_mailbox.specs.Lent.{place_in, row_uids}
 use Rattle.imap_mailbox.specs.Rows.{Row, first_uid}
 use Rattle.imap_mailbox.specs.Summary.{AreRising}
@@ -30,19 +28,19 @@ row_here uid (r ∷ rows) i lt is = by (eqb r.uid uid) refl (λ j. row_here uid 
     by false e rest (suc i) lt is = rest i (omega (arith, lt)) is
 
 -- one more is there
-pub there_more : (rows : List Row) (known : List KnownMessage) (start index place x : ℕ) → place < length rows → ((r : Row) → r ≡ get_or rows place r → x ≡ r.uid) → ((d : KnownMessage) → x ≡ (get_or known index d).uid)
+pub there_more : (rows : List Row) (known : List ℕ) (start index place x : ℕ) → place < length rows → ((r : Row) → r ≡ get_or rows place r → x ≡ r.uid) → ((d : ℕ) → x ≡ get_or known index d)
     → AreThere rows known start index → AreThere rows known start (index + 1)
 there_more rows known start index place x lt is same before i d from to = by (cases_lt i index)
   where
-    by : (i < index) ⊎ (index ≤ i) → is_some (row_with (get_or known i d).uid rows) ≡ true
+    by : (i < index) ⊎ (index ≤ i) → is_some (row_with (get_or known i d) rows) ≡ true
     by (inl below) = before i d from below
     by (inr at) =
         let here : i ≡ index = omega (arith, at, to) in
-        subst (λ j. is_some (row_with (get_or known j d).uid rows) ≡ true) (sym here) (row_here (get_or known index d).uid rows place lt (λ r e. sym (same d) ∙ is r e))
+        subst (λ j. is_some (row_with (get_or known j d) rows) ≡ true) (sym here) (row_here (get_or known index d) rows place lt (λ r e. sym (same d) ∙ is r e))
 
 -- the message at the index, by any default
-pub uid_is : (known : List KnownMessage) (index : ℕ) (m : KnownMessage) → index < length known → m ≡ get_or known index m → (d : KnownMessage) → m.uid ≡ (get_or known index d).uid
-uid_is known index m lt is d = ap (λ (k : KnownMessage). k.uid) (is ∙ get_or_default known index m d lt)
+pub uid_is : (known : List ℕ) (index : ℕ) (m : ℕ) → index < length known → m ≡ get_or known index m → (d : ℕ) → m ≡ get_or known index d
+uid_is known index m lt is d = is ∙ get_or_default known index m d lt
 
 -- ---- rows between that haven't changed
 
@@ -81,22 +79,19 @@ module _ (since u place p : ℕ) (rows : List Row) (rises : AreRising (row_uids 
       by [] same (Some i) e = ap (λ rs. is_changed (Some since) (row_with uid rs)) (sym same)
       by (r ∷ rs) same (Some i) e = low_at uid i r le (stop r) e
 
-  module _ (known : List KnownMessage) (index : ℕ) (order : UidsRise known) (first : (d : KnownMessage) → u ≡ (get_or known index d).uid) where
-    uids_up : (i : ℕ) (d : KnownMessage) → index ≤ i → i < length known → u ≤ (get_or known i d).uid
+  module _ (known : List ℕ) (index : ℕ) (order : UidsRise known) (first : (d : ℕ) → u ≡ (get_or known index d)) where
+    uids_up : (i : ℕ) (d : ℕ) → index ≤ i → i < length known → u ≤ (get_or known i d)
     uids_up i d le lt =
-        let count = length-map known (λ (k : KnownMessage). k.uid) in
-        let rise = up first_uid uid_limit (known_uids known) index i 0 order le (omega (arith, count, lt)) in
-        let here = get_or-map (λ (k : KnownMessage). k.uid) known i d 0 lt in
-        let there = get_or-map (λ (k : KnownMessage). k.uid) known index d 0 (omega (arith, le, lt)) in
-        omega (arith, rise, here, there, first d)
+        let rise = up first_uid uid_limit known index i d order le lt in
+        omega (arith, rise, first d)
 
     pub left_to_end : (end : ℕ) → p ≡ length rows → AreLeft since rows known index end
-    left_to_end end none i d le to lt = low_row (get_or known i d).uid (uids_up i d le lt) (λ r less. absurd (omega (arith, none, less)))
+    left_to_end end none i d le to lt = low_row (get_or known i d) (uids_up i d le lt) (λ r less. absurd (omega (arith, none, less)))
 
-    pub left_to_next : (next x : ℕ) → p < length rows → ((r : Row) → r ≡ get_or rows p r → x ≡ r.uid) → next ≡ prefix_len (λ k. nat_lt k.uid x) known → AreLeft since rows known index next
+    pub left_to_next : (next x : ℕ) → p < length rows → ((r : Row) → r ≡ get_or rows p r → x ≡ r.uid) → next ≡ prefix_len (λ k. nat_lt k x) known → AreLeft since rows known index next
     left_to_next next x within is stops i d le to lt =
-        low_row (get_or known i d).uid (uids_up i d le lt) (λ r less.
-        let passes = prefix_len_passes (λ (k : KnownMessage). nat_lt k.uid x) known i d (subst (λ n. i < n) stops to) in
-        let lower = ltb-true (get_or known i d).uid x passes in
+        low_row (get_or known i d) (uids_up i d le lt) (λ r less.
+        let passes = prefix_len_passes (λ (k : ℕ). nat_lt k x) known i d (subst (λ n. i < n) stops to) in
+        let lower = ltb-true (get_or known i d) x passes in
         let uid_is = is (get_or rows p r) (get_or_default rows p r (get_or rows p r) less) in
         omega (arith, lower, uid_is))

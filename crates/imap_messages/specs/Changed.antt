@@ -1,7 +1,6 @@
 -- CHANGEDSINCE of FETCH, and VANISHED of UID FETCH (RFC 7162, sections 3.1.4.1 and 3.2.6).
 use Rattle.std.specs.Prelude.{◌≡◌, ℕ, ◌-◌, ◌<◌, ◌≤◌, nat_le, nat_lt, Bool, true, false, not, ◌&&◌}
 use Rattle.std.specs.Prelude.{List, [], filter, length, slice_index_or, Option, Some, None, is_some}
-use Rattle.imap_mailbox.specs.declared.known.KnownMessage.{KnownMessage}
 use Rattle.imap_mailbox.specs.Rows.{Row, first_uid}
 use Rattle.imap_names.specs.Name.{Name}
 use Rattle.imap_print.specs.declared.response.Response.{Response}
@@ -35,27 +34,27 @@ is_up_to_date (Some since) highest = nat_le highest since
 -- ---- along the known messages
 
 -- those from the index `start` on and before `end` are there
-abbrev pub AreThere : (rows : List Row) → List KnownMessage → (start end : ℕ) → Type 0
-AreThere rows known start end = (index : ℕ) (d : KnownMessage) → start ≤ index → index < end
-    → is_some (row_with (slice_index_or known index d).uid rows) ≡ true
+abbrev pub AreThere : (rows : List Row) → (known : List ℕ) → (start end : ℕ) → Type 0
+AreThere rows known start end = (index d : ℕ) → start ≤ index → index < end
+    → is_some (row_with (slice_index_or known index d) rows) ≡ true
 
 -- none of them refuses a command that names it
-abbrev pub NoneRefuses : (by_uid : Bool) (rows : List Row) → List KnownMessage → (start end : ℕ) → Type 0
-NoneRefuses by_uid rows known start end = (index : ℕ) (d : KnownMessage) → start ≤ index → index < end
-    → (not by_uid && not (is_some (row_with (slice_index_or known index d).uid rows))) ≡ false
+abbrev pub NoneRefuses : (by_uid : Bool) (rows : List Row) → (known : List ℕ) → (start end : ℕ) → Type 0
+NoneRefuses by_uid rows known start end = (index d : ℕ) → start ≤ index → index < end
+    → (not by_uid && not (is_some (row_with (slice_index_or known index d) rows))) ≡ false
 
 -- those from the index `start` on and before `end` haven't changed after the number, or are gone
-abbrev pub AreLeft : (since : ℕ) (rows : List Row) → List KnownMessage → (start end : ℕ) → Type 0
-AreLeft since rows known start end = (index : ℕ) (d : KnownMessage) → start ≤ index → index < end
+abbrev pub AreLeft : (since : ℕ) (rows : List Row) → (known : List ℕ) → (start end : ℕ) → Type 0
+AreLeft since rows known start end = (index d : ℕ) → start ≤ index → index < end
     → index < length known
-    → is_changed (Some since) (row_with (slice_index_or known index d).uid rows) ≡ false
+    → is_changed (Some since) (row_with (slice_index_or known index d) rows) ≡ false
 
 -- they are skipped, if that is allowed
-abbrev pub AreSkipped : (skips : Bool) (since : Option ℕ) (rows : List Row) → List KnownMessage
+abbrev pub AreSkipped : (skips : Bool) (since : Option ℕ) (rows : List Row) → (known : List ℕ)
     → (start end : ℕ) → Type 0
-AreSkipped skips since rows known start end = (index : ℕ) (d : KnownMessage) → start ≤ index → index < end
+AreSkipped skips since rows known start end = (index d : ℕ) → start ≤ index → index < end
     → index < length known
-    → (skips ≡ true) × (is_changed since (row_with (slice_index_or known index d).uid rows) ≡ false)
+    → (skips ≡ true) × (is_changed since (row_with (slice_index_or known index d) rows) ≡ false)
 
 -- ---- the messages that went
 

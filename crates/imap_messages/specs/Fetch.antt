@@ -3,7 +3,6 @@ use Rattle.std.specs.Prelude.{ℕ, Bool, true, false, not, ◌&&◌, ◌||◌, L
 use Rattle.std.specs.Prelude.{Option, Some, None, is_some, if◌then◌else◌}
 use Rattle.std.specs.List.{list_any}
 use Rattle.imap_answer.specs.Answer.{Answer, carried_out, enabling, preceded_by, refusal, telling}
-use Rattle.imap_mailbox.specs.declared.known.KnownMessage.{KnownMessage}
 use Rattle.imap_print.specs.declared.enabled.EnabledCapabilities.{EnabledCapabilities}
 use Rattle.imap_print.specs.declared.response.Refusal.TheVariants.{Cannot, ExpungeIssued, Malformed, NonExistent, WrongState}
 use Rattle.imap_print.specs.declared.response.Response.{Response}
@@ -84,7 +83,7 @@ wanted_by enabled arguments =
     let condstore = enabled.condstore || is_some arguments.changed_since in
     wanted_of (is_by_uid arguments.numbering) condstore arguments.items
 
-abbrev pub messages_of : FetchArguments → List KnownMessage → Readable → List Numbered
+abbrev pub messages_of : FetchArguments → (known : List ℕ) → Readable → List Numbered
 messages_of arguments known mailbox =
     messages_named arguments.numbering mailbox.next_uid (ranges_of arguments.messages) known
 

@@ -55,10 +55,10 @@ fn are_there(known: &KnownList, start: usize, end: usize, rows: &Rows<'_>) -> bo
     if start == end {
         return true;
     }
-    let first = rows.place_from(known.get(start).uid);
+    let first = rows.place_from(known.uid(start));
     for index in start..end {
         let place = first.saturating_add(index - start);
-        if place >= rows.len() || rows.uid(place) != known.get(index).uid {
+        if place >= rows.len() || rows.uid(place) != known.uid(index) {
             return false;
         }
     }
@@ -73,7 +73,7 @@ fn next_changed(known: &KnownList, index: usize, rows: &Rows<'_>, since: u64) ->
     ensures { AreLeft since rows.now known.now.list index result }
 {
     let count = known.len();
-    let start = rows.place_from(known.get(index).uid);
+    let start = rows.place_from(known.uid(index));
     let place = rows.skip_unchanged(start, rows.len(), since);
     if place == rows.len() {
         return count;

@@ -405,7 +405,7 @@ fn read_named(
             continue;
         }
         let number = number_at(known, index);
-        let uid = known.get(index).uid;
+        let uid = known.uid(index);
         if !messages.has(number, uid) {
             continue;
         }

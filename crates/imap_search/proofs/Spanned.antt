@@ -3,7 +3,6 @@ use Rattle.std.proofs.Common.{◌≡◌, ◌∙◌, ℕ, zero, suc, ◌+◌, ◌
 use Rattle.std.specs.List.{list_all}
 use Rattle.std.proofs.lemmas.Bool.{cases_lt, eqb-true}
 use Rattle.std.proofs.lemmas.List.{get_or-drop, length-drop}
-use Rattle.imap_mailbox.specs.declared.known.KnownMessage.{KnownMessage}
 use Rattle.imap_mailbox.specs.Rows.{Row}
 use Rattle.imap_query.specs.declared.search.SearchKey.{SearchKey}
 use Rattle.imap_query.specs.Keys.{Key, all_tokens, key_of, numbers, plain}
@@ -25,17 +24,17 @@ use Rattle.imap_search.proofs.Finding.{tokens_find}
 -- ---- one set
 
 module _ (by : Numbering) (last : ℕ) (ranges : List SeqRange) where
-  abbrev named : (n : ℕ) → KnownMessage → Bool
-  named n k = in_set last ranges (number_by by (record { number = n; uid = k.uid }))
+  abbrev named : (n : ℕ) → ℕ → Bool
+  named n k = in_set last ranges (number_by by (record { number = n; uid = k }))
 
-  abbrev first_if : (n : ℕ) → KnownMessage → List KnownMessage → Bool → List Numbered
-  first_if n k known b = cond b (record { number = n; uid = k.uid } ∷ messages_from by last ranges (n + 1) known) (messages_from by last ranges (n + 1) known)
+  abbrev first_if : (n : ℕ) → ℕ → List ℕ → Bool → List Numbered
+  first_if n k known b = cond b (record { number = n; uid = k } ∷ messages_from by last ranges (n + 1) known) (messages_from by last ranges (n + 1) known)
 
-  abbrev count : (n : ℕ) → List KnownMessage → ℕ
+  abbrev count : (n : ℕ) → List ℕ → ℕ
   count n known = length (messages_from by last ranges n known)
 
   -- no more messages are named among some of them
-  fewer : (i n : ℕ) (known : List KnownMessage) → count (n + i) (drop i known) ≤ count n known
+  fewer : (i n : ℕ) (known : List ℕ) → count (n + i) (drop i known) ≤ count n known
   fewer zero n known =
       let same : count (n + 0) known ≡ count n known = ap (λ m. count m known) (let z : n + 0 ≡ n = omega arith in z) in
       omega (arith, same)
@@ -50,7 +49,7 @@ module _ (by : Numbering) (last : ℕ) (ranges : List SeqRange) where
       either false rest = let same = turned in omega (arith, rest, same)
 
   -- where no more are named than among the others, none of the first is named
-  not_first : (i n : ℕ) (known : List KnownMessage) (index : ℕ) (d : KnownMessage) → index < i → index < length known
+  not_first : (i n : ℕ) (known : List ℕ) (index : ℕ) (d : ℕ) → index < i → index < length known
       → count (n + i) (drop i known) ≡ count n known → named (n + index) (get_or known index d) ≡ false
   not_first zero n known index d lt le same = absurd (omega (arith, lt))
   not_first (suc i) n [] index d lt le same = absurd (omega (arith, le))
@@ -77,7 +76,7 @@ module _ (by : Numbering) (last : ℕ) (ranges : List SeqRange) where
       either false unnamed same index lt le later = by_index index lt le unnamed same later
 
   -- where none is named, none of them is
-  not_one : (n : ℕ) (known : List KnownMessage) (index : ℕ) (d : KnownMessage) → index < length known → messages_from by last ranges n known ≡ [] → named (n + index) (get_or known index d) ≡ false
+  not_one : (n : ℕ) (known : List ℕ) (index : ℕ) (d : ℕ) → index < length known → messages_from by last ranges n known ≡ [] → named (n + index) (get_or known index d) ≡ false
   not_one n [] index d le none = absurd (omega (arith, le))
   not_one n (k ∷ known) index d le none = either (named n k) refl none index le (λ j l e. not_one (n + 1) known j d l e)
     where
@@ -93,7 +92,7 @@ module _ (by : Numbering) (last : ℕ) (ranges : List SeqRange) where
       either true named_here none index le later = absurd (cc none)
       either false unnamed none index le later = by_index index le unnamed none later
 
-pub named_among : (m : MessageNumbers) (known : List KnownMessage) (start end : ℕ) → IsSpan m known start end → AreNamedAmong m.numbering m.last m.ranges.now known start end
+pub named_among : (m : MessageNumbers) (known : List ℕ) (start end : ℕ) → IsSpan m known start end → AreNamedAmong m.numbering m.last m.ranges.now known start end
 named_among m known start end is = record {
   order = is.order;
   within = is.within;
@@ -107,7 +106,7 @@ named_among m known start end is = record {
     turn : (j : ℕ) → (end + 1) + j ≡ (end + j) + 1
     turn j = omega arith
 
-    later : (j index : ℕ) (d : KnownMessage) → index ≡ end + j → index < length known → in_set m.last m.ranges.now (name_at m.numbering known index d) ≡ false
+    later : (j index : ℕ) (d : ℕ) → index ≡ end + j → index < length known → in_set m.last m.ranges.now (name_at m.numbering known index d) ≡ false
     later j index d is_at lt =
         ap (λ i. named m.numbering m.last m.ranges.now (i + 1) (get_or known i d)) is_at
         ∙ sym (λ i. named m.numbering m.last m.ranges.now (turn j i) (get_or-drop end known j d i))
@@ -115,7 +114,7 @@ named_among m known start end is = record {
 
 -- ---- keys
 
-pub whole : (keys : List Key) (last last_uid : ℕ) (known : List KnownMessage) (end : ℕ) → end ≡ length known → AreAmong keys last last_uid known 0 end
+pub whole : (keys : List Key) (last last_uid : ℕ) (known : List ℕ) (end : ℕ) → end ≡ length known → AreAmong keys last last_uid known 0 end
 whole keys last last_uid known end all = record {
   order = omega arith;
   within = omega (arith, all);
@@ -123,7 +122,7 @@ whole keys last last_uid known end all = record {
   after = λ index le lt. absurd (omega (arith, le, lt, all));
 }
 
-pub numbers_among : (messages : MessageSet) (last last_uid : ℕ) (known : List KnownMessage) (start end : ℕ) → AreNamedAmong Sequence last (ranges_of messages) known start end → AreAmong (plain (numbers messages) ∷ []) last last_uid known start end
+pub numbers_among : (messages : MessageSet) (last last_uid : ℕ) (known : List ℕ) (start end : ℕ) → AreNamedAmong Sequence last (ranges_of messages) known start end → AreAmong (plain (numbers messages) ∷ []) last last_uid known start end
 numbers_among messages last last_uid known start end is = record {
   order = is.order;
   within = is.within;
@@ -149,7 +148,7 @@ missed_by c [] i d lt e = absurd (omega (arith, lt))
 missed_by c (k ∷ keys) zero d lt e = and_false (finds c (key_of k)) (list_all (finds c) (map key_of keys)) e
 missed_by c (k ∷ keys) (suc i) d lt e = and_second (finds c (key_of k)) (list_all (finds c) (map key_of keys)) (missed_by c keys i d (omega (arith, lt)) e)
 
-pub narrowed : (keys : List SearchKey) (i : ℕ) (k : SearchKey) (last last_uid : ℕ) (known : List KnownMessage) (start end first after later s e : ℕ) (t : Bool)
+pub narrowed : (keys : List SearchKey) (i : ℕ) (k : SearchKey) (last last_uid : ℕ) (known : List ℕ) (start end first after later s e : ℕ) (t : Bool)
     → later ≡ cond t start first → e ≡ min end after → s ≡ min later e → i < length keys → k ≡ get_or keys i k
     → AreAmong (key_of k ∷ []) last last_uid known first after → AreAmong (map key_of keys) last last_uid known start end
     → AreAmong (map key_of keys) last last_uid known s e
@@ -187,10 +186,10 @@ row_uid uid (s ∷ rows) r e = by (eqb s.uid uid) refl e (row_uid uid rows r)
     by false is e later = later e
 
 module _ (arguments : SearchArguments) (last last_uid : ℕ) (rows : List Row) where
-  abbrev here : (n : ℕ) → KnownMessage → List FoundMessage
-  here n k = found_if_there arguments last last_uid n (row_with k.uid rows)
+  abbrev here : (n : ℕ) → ℕ → List FoundMessage
+  here n k = found_if_there arguments last last_uid n (row_with k rows)
 
-  skipped_to : (known : List KnownMessage) (i : ℕ) (d : KnownMessage) → i ≤ length known → ((k : ℕ) → k < i → here (k + 1) (get_or known k d) ≡ [])
+  skipped_to : (known : List ℕ) (i : ℕ) (d : ℕ) → i ≤ length known → ((k : ℕ) → k < i → here (k + 1) (get_or known k d) ≡ [])
       → found_from arguments last last_uid rows (i + 1) (drop i known) ≡ found_from arguments last last_uid rows 1 known
   skipped_to known zero d le none = refl
   skipped_to known (suc i) d le none =
@@ -200,29 +199,29 @@ module _ (arguments : SearchArguments) (last last_uid : ℕ) (rows : List Row) w
       ∙ ap (λ n. found_from arguments last last_uid rows n (drop (suc i) known)) (let z : i + 1 + 1 ≡ suc i + 1 = omega arith in z))
       ∙ skipped_to known i d (omega arith) (λ k lt. none k (omega (arith, lt)))
 
-  none_found : (n : ℕ) (known : List KnownMessage) (d : KnownMessage) → ((k : ℕ) → k < length known → here (n + k) (get_or known k d) ≡ []) → found_from arguments last last_uid rows n known ≡ []
+  none_found : (n : ℕ) (known : List ℕ) (d : ℕ) → ((k : ℕ) → k < length known → here (n + k) (get_or known k d) ≡ []) → found_from arguments last last_uid rows n known ≡ []
   none_found n [] d none = refl
   none_found n (k ∷ known) d none =
       ap (λ f. f ++ found_from arguments last last_uid rows (n + 1) known) (ap (λ i. here i k) (let z : n ≡ n + 0 = omega arith in z) ∙ none 0 (omega arith))
       ∙ none_found (n + 1) known d (λ j lt. ap (λ i. here i (get_or known j d)) (let z : (n + 1) + j ≡ n + suc j = omega arith in z) ∙ none (suc j) (omega (arith, lt)))
 
   module _ (keys : List SearchKey) (are : all_tokens (map key_of keys) ≡ arguments.keys) where
-    missed : (known : List KnownMessage) (index : ℕ) (d : KnownMessage) → IsMissed (map key_of keys) last last_uid known index → here (index + 1) (get_or known index d) ≡ []
-    missed known index d is = by (row_with (get_or known index d).uid rows) refl
+    missed : (known : List ℕ) (index : ℕ) (d : ℕ) → IsMissed (map key_of keys) last last_uid known index → here (index + 1) (get_or known index d) ≡ []
+    missed known index d is = by (row_with (get_or known index d) rows) refl
       where
-        by : (o : Option Row) → row_with (get_or known index d).uid rows ≡ o → found_if_there arguments last last_uid (index + 1) o ≡ []
+        by : (o : Option Row) → row_with (get_or known index d) rows ≡ o → found_if_there arguments last last_uid (index + 1) o ≡ []
         by None e = refl
         by (Some r) e =
             let c = candidate_of last last_uid (index + 1) r in
-            let found : finds_all c arguments.keys ≡ false = ap (finds_all c) (sym are) ∙ tokens_find c (map key_of keys) ∙ is d r (row_uid (get_or known index d).uid rows r e) in
+            let found : finds_all c arguments.keys ≡ false = ap (finds_all c) (sym are) ∙ tokens_find c (map key_of keys) ∙ is d r (row_uid (get_or known index d) rows r e) in
             ap (λ b. cond b (found_of arguments.numbering (index + 1) r ∷ []) []) found
 
-    before_all : (known : List KnownMessage) (start end : ℕ) → AreAmong (map key_of keys) last last_uid known start end
+    before_all : (known : List ℕ) (start end : ℕ) → AreAmong (map key_of keys) last last_uid known start end
         → found_from arguments last last_uid rows (start + 1) (drop start known) ≡ found_from arguments last last_uid rows 1 known
     before_all [] start end is = ap (λ i. found_from arguments last last_uid rows (i + 1) (drop i [])) (let z : start ≡ 0 = omega (arith, is.order, is.within) in z)
     before_all (d ∷ ks) start end is = skipped_to (d ∷ ks) start d (omega (arith, is.order, is.within)) (λ k lt. missed (d ∷ ks) k d (is.before k lt))
 
-    after_all : (known : List KnownMessage) (start end : ℕ) → AreAmong (map key_of keys) last last_uid known start end
+    after_all : (known : List ℕ) (start end : ℕ) → AreAmong (map key_of keys) last last_uid known start end
         → found_from arguments last last_uid rows (end + 1) (drop end known) ≡ []
     after_all [] start end is = ap (λ i. found_from arguments last last_uid rows (i + 1) (drop i [])) (let z : end ≡ 0 = omega (arith, is.within) in z)
     after_all (d ∷ ks) start end is =
@@ -234,7 +233,7 @@ module _ (arguments : SearchArguments) (last last_uid : ℕ) (rows : List Row) w
         turn k = omega arith
 
 pub found_among : (arguments : SearchArguments) (last last_uid : ℕ) (keys : List SearchKey) → all_tokens (map key_of keys) ≡ arguments.keys
-    → (known : List KnownMessage) (start end : ℕ) → AreAmong (map key_of keys) last last_uid known start end → FindsAmong arguments last last_uid known start end
+    → (known : List ℕ) (start end : ℕ) → AreAmong (map key_of keys) last last_uid known start end → FindsAmong arguments last last_uid known start end
 found_among arguments last last_uid keys are known start end is = record {
   order = is.order;
   within = is.within;
@@ -243,6 +242,6 @@ found_among arguments last last_uid keys are known start end is = record {
 }
 
 -- ---- the walk
-pub at_end : (arguments : SearchArguments) (last last_uid : ℕ) (rows : List Row) (known : List KnownMessage) (start end : ℕ) (found all : List FoundMessage) → FindsAmong arguments last last_uid known start end
+pub at_end : (arguments : SearchArguments) (last last_uid : ℕ) (rows : List Row) (known : List ℕ) (start end : ℕ) (found all : List FoundMessage) → FindsAmong arguments last last_uid known start end
     → found ++ found_from arguments last last_uid rows (end + 1) (drop end known) ≡ all → found ≡ all
 at_end arguments last last_uid rows known start end found all among is = sym (append-nil found) ∙ ap (λ l. found ++ l) (sym (among.after rows)) ∙ is

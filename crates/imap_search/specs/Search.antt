@@ -4,7 +4,6 @@ use Rattle.std.specs.Prelude.{Option, Some, None, if◌then◌else◌}
 use Rattle.std.specs.List.{list_any}
 use Rattle.std.specs.Str.{str_eq_ignore_ascii_case}
 use Rattle.imap_answer.specs.Answer.{Answer, done_after, enabling, refusal}
-use Rattle.imap_mailbox.specs.declared.known.KnownMessage.{KnownMessage}
 use Rattle.imap_mailbox.specs.Rows.{Row}
 use Rattle.imap_print.specs.declared.enabled.EnabledCapabilities.{EnabledCapabilities}
 use Rattle.imap_print.specs.declared.response.Refusal.TheVariants.{BadCharset, Cannot, Malformed, NonExistent, WrongState}
@@ -84,14 +83,14 @@ found_if_there arguments last last_uid number (Some row) =
     else []
 
 -- The messages that all keys find, of those that the session knows. The first one has the number n.
-abbrev pub found_from : SearchArguments → (last last_uid : ℕ) → List Row → (n : ℕ) → List KnownMessage →
+abbrev pub found_from : SearchArguments → (last last_uid : ℕ) → List Row → (n : ℕ) → (known : List ℕ) →
     List FoundMessage
 found_from arguments last last_uid rows n [] = []
-found_from arguments last last_uid rows n (k ∷ known) =
-    found_if_there arguments last last_uid n (row_with k.uid rows)
+found_from arguments last last_uid rows n (uid ∷ known) =
+    found_if_there arguments last last_uid n (row_with uid rows)
     ++ found_from arguments last last_uid rows (n + 1) known
 
-abbrev pub found_in : SearchArguments → (next_uid : ℕ) → List Row → List KnownMessage → List FoundMessage
+abbrev pub found_in : SearchArguments → (next_uid : ℕ) → List Row → (known : List ℕ) → List FoundMessage
 found_in arguments next_uid rows known =
     found_from arguments (length known) (last_uid next_uid known) rows 1 known
 

@@ -266,7 +266,7 @@ fn look_at(
         OnOk result (found.new.items ++ from (place + 1 + 1) (drop (place + 1) known.now.list)
         ≡ found.old.items ++ from (place + 1) (drop place known.now.list)) }
 {
-    match finder.index_of(rows, known.get(place).uid) {
+    match finder.index_of(rows, known.uid(place)) {
         Some(index) => {
             let row = finder.row_at(rows, index);
             let number = number_at(known, place);

@@ -6,8 +6,9 @@ use Rattle.imap_syntax.specs.declared.month.Month.TheVariants as month
 use Rattle.imap_mailbox.specs.declared.known.KnownMessage.{KnownMessage}
 use Rattle.imap_mailbox.specs.Rows.{Row}
 use Rattle.imap_mailbox.specs.Brought.{told_of}
+use Rattle.imap_mailbox.specs.Lent.{row_uids}
 use Rattle.imap_session.specs.declared.options.NoticeOptions.{NoticeOptions}
-use Rattle.imap_session.specs.Compared.{Comparison, Expunged, Present, comparisons, new_rows, messages_after, known_after, is_known}
+use Rattle.imap_session.specs.Compared.{Comparison, Expunged, Present, comparisons, new_rows, uids_after, known_after, is_told}
 use Rattle.imap_session.specs.Notices.{fetch_line, expunge_lines, expunged_uids, vanished_line, exists_line, fetch_lines, expunge_notices, notices}
 use Rattle.imap_session.specs.Laws.{AlikeIsToldAlike}
 
@@ -29,60 +30,61 @@ bare_rows rows = map bare (map told_of rows)
 
 abbrev bared : List Comparison → List Comparison
 bared [] = []
-bared (Expunged k ∷ cs) = Expunged k ∷ bared cs
-bared (Present k r ∷ cs) = Present k (bare (told_of r)) ∷ bared cs
+bared (Expunged u ∷ cs) = Expunged u ∷ bared cs
+bared (Present r ∷ cs) = Present (bare (told_of r)) ∷ bared cs
 
-compared_bare : (known : List KnownMessage) (rows : List Row) → comparisons known (bare_rows rows) ≡ bared (comparisons known rows)
+compared_bare : (known : List ℕ) (rows : List Row) → comparisons known (bare_rows rows) ≡ bared (comparisons known rows)
 compared_bare [] rows = refl
 compared_bare (k ∷ known) [] = ap (λ l. Expunged k ∷ l) (compared_bare known [])
-compared_bare (k ∷ known) (r ∷ rows) = by (eqb k.uid r.uid) (compared_bare known rows) (compared_bare known (r ∷ rows))
+compared_bare (k ∷ known) (r ∷ rows) = by (eqb k r.uid) (compared_bare known rows) (compared_bare known (r ∷ rows))
   where
     by : (b : Bool) → comparisons known (bare_rows rows) ≡ bared (comparisons known rows) → comparisons known (bare_rows (r ∷ rows)) ≡ bared (comparisons known (r ∷ rows))
-        → cond b (Present k (bare (told_of r)) ∷ comparisons known (bare_rows rows)) (Expunged k ∷ comparisons known (bare_rows (r ∷ rows)))
-        ≡ bared (cond b (Present k r ∷ comparisons known rows) (Expunged k ∷ comparisons known (r ∷ rows)))
-    by true there gone = ap (λ l. Present k (bare (told_of r)) ∷ l) there
+        → cond b (Present (bare (told_of r)) ∷ comparisons known (bare_rows rows)) (Expunged k ∷ comparisons known (bare_rows (r ∷ rows)))
+        ≡ bared (cond b (Present r ∷ comparisons known rows) (Expunged k ∷ comparisons known (r ∷ rows)))
+    by true there gone = ap (λ l. Present (bare (told_of r)) ∷ l) there
     by false there gone = ap (λ l. Expunged k ∷ l) gone
 
-new_bare : (known : List KnownMessage) (rows : List Row) → new_rows known (bare_rows rows) ≡ bare_rows (new_rows known rows)
+new_bare : (known : List ℕ) (rows : List Row) → new_rows known (bare_rows rows) ≡ bare_rows (new_rows known rows)
 new_bare [] rows = refl
 new_bare (k ∷ known) [] = new_bare known []
-new_bare (k ∷ known) (r ∷ rows) = by (eqb k.uid r.uid) (new_bare known rows) (new_bare known (r ∷ rows))
+new_bare (k ∷ known) (r ∷ rows) = by (eqb k r.uid) (new_bare known rows) (new_bare known (r ∷ rows))
   where
     by : (b : Bool) → new_rows known (bare_rows rows) ≡ bare_rows (new_rows known rows) → new_rows known (bare_rows (r ∷ rows)) ≡ bare_rows (new_rows known (r ∷ rows))
         → cond b (new_rows known (bare_rows rows)) (new_rows known (bare_rows (r ∷ rows))) ≡ bare_rows (cond b (new_rows known rows) (new_rows known (r ∷ rows)))
     by true there gone = there
     by false there gone = gone
 
-after_bare : (may : Bool) (cs : List Comparison) → messages_after may (bared cs) ≡ messages_after may cs
+after_bare : (may : Bool) (cs : List Comparison) → uids_after may (bared cs) ≡ uids_after may cs
 after_bare may [] = refl
 after_bare may (Expunged k ∷ cs) = ap (λ l. cond may l (k ∷ l)) (after_bare may cs)
-after_bare may (Present k r ∷ cs) = ap (λ l. told_of r ∷ l) (after_bare may cs)
+after_bare may (Present r ∷ cs) = ap (λ l. r.uid ∷ l) (after_bare may cs)
 
 uids_bare : (cs : List Comparison) → expunged_uids (bared cs) ≡ expunged_uids cs
 uids_bare [] = refl
-uids_bare (Expunged k ∷ cs) = ap (λ l. k.uid ∷ l) (uids_bare cs)
-uids_bare (Present k r ∷ cs) = uids_bare cs
+uids_bare (Expunged k ∷ cs) = ap (λ l. k ∷ l) (uids_bare cs)
+uids_bare (Present r ∷ cs) = uids_bare cs
 
 expunges_bare : (n : ℕ) (cs : List Comparison) → expunge_lines n (bared cs) ≡ expunge_lines n cs
 expunges_bare n [] = refl
 expunges_bare n (Expunged k ∷ cs) = ap (λ l. response.Expunge n ∷ l) (expunges_bare n cs)
-expunges_bare n (Present k r ∷ cs) = expunges_bare (n + 1) cs
+expunges_bare n (Present r ∷ cs) = expunges_bare (n + 1) cs
 
-fetches_bare : (o : NoticeOptions) (n : ℕ) (cs : List Comparison) → fetch_lines o n (bared cs) ≡ fetch_lines o n cs
-fetches_bare o n [] = refl
-fetches_bare o n (Expunged k ∷ cs) = λ i. cond o.expunges (fetches_bare o n cs i) (fetches_bare o (n + 1) cs i)
-fetches_bare o n (Present k r ∷ cs) = λ i. cond (is_known k r) (fetches_bare o (n + 1) cs i) (fetch_line o n (told_of r) ∷ fetches_bare o (n + 1) cs i)
+fetches_bare : (o : NoticeOptions) (up_to : ℕ) (told : List ℕ) (n : ℕ) (cs : List Comparison) → fetch_lines o up_to told n (bared cs) ≡ fetch_lines o up_to told n cs
+fetches_bare o up_to told n [] = refl
+fetches_bare o up_to told n (Expunged u ∷ cs) = λ i. cond o.expunges (fetches_bare o up_to told n cs i) (fetches_bare o up_to told (n + 1) cs i)
+fetches_bare o up_to told n (Present r ∷ cs) =
+    λ i. cond (is_told up_to told r) (fetches_bare o up_to told (n + 1) cs i) (fetch_line o n (told_of r) ∷ fetches_bare o up_to told (n + 1) cs i)
 
 exists_bare : (n : ℕ) (rows : List Row) → exists_line n (bare_rows rows) ≡ exists_line n rows
 exists_bare n [] = refl
 exists_bare n (r ∷ rows) = refl
 
-told_bare : (rows : List Row) → map told_of (bare_rows rows) ≡ map told_of rows
+told_bare : (rows : List Row) → row_uids (bare_rows rows) ≡ row_uids rows
 told_bare [] = refl
-told_bare (r ∷ rows) = ap (λ l. told_of r ∷ l) (told_bare rows)
+told_bare (r ∷ rows) = ap (λ l. r.uid ∷ l) (told_bare rows)
 
-bare_notices : (o : NoticeOptions) (known : List KnownMessage) (rows : List Row) → notices o known (bare_rows rows) ≡ notices o known rows
-bare_notices o known rows = λ i. gone i ++ (exists i ++ fetches i)
+bare_notices : (o : NoticeOptions) (up_to : ℕ) (told known : List ℕ) (rows : List Row) → notices o up_to told known (bare_rows rows) ≡ notices o up_to told known rows
+bare_notices o up_to told known rows = λ i. gone i ++ (exists i ++ fetches i)
   where
     gone : expunge_notices o (comparisons known (bare_rows rows)) ≡ expunge_notices o (comparisons known rows)
     gone =
@@ -91,7 +93,7 @@ bare_notices o known rows = λ i. gone i ++ (exists i ++ fetches i)
 
     list : known_after o.expunges known (bare_rows rows) ≡ known_after o.expunges known rows
     list =
-        (λ i. messages_after o.expunges (compared_bare known rows i) ++ map told_of (new_bare known rows i))
+        (λ i. uids_after o.expunges (compared_bare known rows i) ++ row_uids (new_bare known rows i))
         ∙ (λ i. after_bare o.expunges (comparisons known rows) i ++ told_bare (new_rows known rows) i)
 
     exists : exists_line (length (known_after o.expunges known (bare_rows rows))) (new_rows known (bare_rows rows)) ≡ exists_line (length (known_after o.expunges known rows)) (new_rows known rows)
@@ -99,9 +101,9 @@ bare_notices o known rows = λ i. gone i ++ (exists i ++ fetches i)
         (λ i. exists_line (length (list i)) (new_bare known rows i))
         ∙ exists_bare (length (known_after o.expunges known rows)) (new_rows known rows)
 
-    fetches : fetch_lines o 1 (comparisons known (bare_rows rows)) ≡ fetch_lines o 1 (comparisons known rows)
-    fetches = ap (fetch_lines o 1) (compared_bare known rows) ∙ fetches_bare o 1 (comparisons known rows)
+    fetches : fetch_lines o up_to told 1 (comparisons known (bare_rows rows)) ≡ fetch_lines o up_to told 1 (comparisons known rows)
+    fetches = ap (fetch_lines o up_to told 1) (compared_bare known rows) ∙ fetches_bare o up_to told 1 (comparisons known rows)
 
 pub alike_is_told_alike : AlikeIsToldAlike
-alike_is_told_alike o known rows others e =
-    sym (bare_notices o known rows) ∙ ap (λ l. notices o known (map bare l)) e ∙ bare_notices o known others
+alike_is_told_alike o up_to told known rows others e =
+    sym (bare_notices o up_to told known rows) ∙ ap (λ l. notices o up_to told known (map bare l)) e ∙ bare_notices o up_to told known others

@@ -1,12 +1,11 @@
+pub mod ByUid
 pub mod Matching
 pub mod Applying
 pub mod Kept
 pub mod Quieting
-pub mod Retelling
 pub mod Following
 pub mod Differing
 pub mod Alike
-pub mod Listing
 pub mod Finding
 pub mod Unchanged
 pub mod Walking

@@ -1,42 +1,45 @@
--- A row of which the session knows all.
-use Rattle.std.proofs.Common.{◌≡◌, ℕ, ◌<◌, ◌≤◌, eqb, ◌&&◌, Bool, true, false, refl, sym, ap, subst, arith}
-use Rattle.std.proofs.lemmas.Bool.{ne_eqb, eq-eqb, eqb-true, and_parts}
-use Rattle.imap_mailbox.specs.declared.known.KnownMessage.{KnownMessage}
-use Rattle.imap_mailbox.specs.Rows.{Row}
-use Rattle.imap_mailbox.specs.Calls.{is_same, same_flags}
-use Rattle.imap_mailbox.specs.Brought.{told_of}
-use Rattle.imap_mailbox.proofs.Sameness.{flags_are_tested}
-use Rattle.imap_session.specs.Compared.{is_known}
+-- Known UIDs beside the rows that have them.
+use Rattle.std.proofs.Common.{◌≡◌, ℕ, ◌+◌, ◌<◌, ◌≤◌, eqb, ltb, not, ◌||◌, Bool, true, false, cond, List, [], ◌∷◌, refl, sym, ap, ◌∙◌, arith}
+use Rattle.std.proofs.lemmas.Bool.{ne_eqb, eqb-true, ltb-false, le-ltb}
+use Rattle.imap_mailbox.specs.Rows.{Row, is_among}
+use Rattle.imap_mailbox.specs.Summary.{Rises}
+use Rattle.imap_mailbox.proofs.Rising.{rises_lower}
+use Rattle.imap_session.specs.Compared.{Comparison, Expunged, Present, comparisons, uids_after, is_known}
+use Rattle.imap_session.specs.Notices.{expunged_uids}
 
-bools_are : (a b : Bool) → is_same a b ≡ true → a ≡ b
-bools_are true true e = refl
-bools_are true false e = absurd (cc e)
-bools_are false true e = absurd (cc e)
-bools_are false false e = refl
+-- if expunged messages stay, all do
+pub known_is : (uids : List ℕ) (rows : List Row) → uids_after false (comparisons uids rows) ≡ uids
+known_is [] rows = refl
+known_is (u ∷ uids) [] = ap (λ l. u ∷ l) (known_is uids [])
+known_is (u ∷ uids) (r ∷ rows) = by (eqb u r.uid) refl (known_is uids rows) (known_is uids (r ∷ rows))
+  where
+    by : (b : Bool) → eqb u r.uid ≡ b → uids_after false (comparisons uids rows) ≡ uids → uids_after false (comparisons uids (r ∷ rows)) ≡ uids
+        → uids_after false (cond b (Present r ∷ comparisons uids rows) (Expunged u ∷ comparisons uids (r ∷ rows))) ≡ u ∷ uids
+    by true is there gone = λ i. sym (eqb-true u r.uid is) i ∷ there i
+    by false is there gone = ap (λ l. u ∷ l) gone
 
-bool_itself : (a : Bool) → is_same a a ≡ true
-bool_itself true = refl
-bool_itself false = refl
+-- no expunged UID is below `low`
+pub not_below : (low high uid : ℕ) (cs : List Comparison) → Rises low high (uids_after false cs) → uid < low → is_among uid (expunged_uids cs) ≡ false
+not_below low high uid [] h lt = refl
+not_below low high uid (Expunged u ∷ cs) h lt =
+    let first : low ≤ u = h.0 in
+    (λ i. ne_eqb u uid (λ e. omega arith) i || is_among uid (expunged_uids cs)) ∙ not_below (u + 1) high uid cs h.1 (omega arith)
+not_below low high uid (Present r ∷ cs) h lt = let first : low ≤ r.uid = h.0 in not_below (r.uid + 1) high uid cs h.1 (omega arith)
 
-pub known_itself : (r : Row) → is_known (told_of r) r ≡ true
-known_itself r = λ i. eq-eqb r.number r.number refl i && ((flags_are_tested r.flags r.flags).1 refl i && bool_itself r.seen i)
+pub expunged_rise : (low high : ℕ) (cs : List Comparison) → Rises low high (uids_after false cs) → Rises low high (expunged_uids cs)
+expunged_rise low high [] h = h
+expunged_rise low high (Expunged u ∷ cs) h = (h.0, expunged_rise (u + 1) high cs h.1)
+expunged_rise low high (Present r ∷ cs) h =
+    let first : low ≤ r.uid = h.0 in rises_lower (r.uid + 1) low high (expunged_uids cs) (omega arith) (expunged_rise (r.uid + 1) high cs h.1)
 
-pub all_of : (k : KnownMessage) (r : Row) → k.uid ≡ r.uid → is_known k r ≡ true → told_of r ≡ k
-all_of k r uid is =
-    let first = and_parts (eqb k.number r.number) (same_flags k.flags r.flags && is_same k.seen r.seen) is in
-    let second = and_parts (same_flags k.flags r.flags) (is_same k.seen r.seen) first.1 in
-    λ i. record {
-      uid = sym uid i;
-      flags = sym ((flags_are_tested k.flags r.flags).0 second.0) i;
-      seen = sym (bools_are k.seen r.seen second.1) i;
-      number = sym (eqb-true k.number r.number first.0) i;
-    }
+-- ---- what is known of a row
 
-pub known_same : (k : KnownMessage) (r : Row) → told_of r ≡ k → is_known k r ≡ true
-known_same k r e = subst (λ (x : KnownMessage). is_known x r ≡ true) e (known_itself r)
+not_of_false : (b : Bool) → not b ≡ true → b ≡ false
+not_of_false true e = absurd (cc e)
+not_of_false false e = refl
 
-pub known_below : (n : ℕ) (k : KnownMessage) (r : Row) → (r.number ≤ n → told_of r ≡ k) → r.number ≤ n → is_known k r ≡ true
-known_below n k r agree le = known_same k r (agree le)
+pub known_low : (n : ℕ) (r : Row) → is_known n r ≡ true → r.number ≤ n
+known_low n r e = ltb-false n r.number (not_of_false (ltb n r.number) e)
 
-pub changed_above : (n : ℕ) (k : KnownMessage) (r : Row) → k.number ≤ n → n < r.number → is_known k r ≡ false
-changed_above n k r told lt = ap (λ b. b && (same_flags k.flags r.flags && is_same k.seen r.seen)) (ne_eqb k.number r.number (λ e. omega arith))
+pub low_known : (n : ℕ) (r : Row) → r.number ≤ n → is_known n r ≡ true
+low_known n r le = ap not (le-ltb n r.number le)

@@ -15,7 +15,7 @@ all_append (x ∷ xs) ys front back = (front.0, all_append xs ys front.1 back)
 expunges_are : (n : ℕ) (cs : List Comparison) → AllByRecursion IsPrintable (expunge_lines n cs)
 expunges_are n [] = tt
 expunges_are n (Expunged k ∷ cs) = (record { plain = tt; held = tt }, expunges_are n cs)
-expunges_are n (Present k r ∷ cs) = expunges_are (n + 1) cs
+expunges_are n (Present r ∷ cs) = expunges_are (n + 1) cs
 
 collected_are : (b : Bool) (cs : List Comparison) → AllByRecursion IsPrintable (collected b (expunge_lines 1 cs))
 collected_are true cs = expunges_are 1 cs

@@ -1,25 +1,20 @@
--- A walk along known messages and rows.
-use Rattle.std.proofs.Common.{◌≡◌, ℕ, suc, Result, Ok, Err, OnOk, ◌+◌, ◌<◌, ◌≤◌, eqb, ltb, not, ◌&&◌, Bool, true, false, cond, MatchBool, List, [], ◌∷◌, ◌++◌, length, drop, get_or, refl, sym, ap, subst, ◌∙◌, arith}
-use Rattle.std.proofs.lemmas.Bool.{eq-eqb, eqb-true, ltb-true, ltb-false, and_parts}
+-- A walk along known UIDs and rows.
+use Rattle.std.proofs.Common.{◌≡◌, ℕ, suc, Result, Ok, Err, OnOk, ◌+◌, ◌<◌, ◌≤◌, eqb, ltb, not, ◌&&◌, ◌||◌, Bool, true, false, cond, MatchBool, List, [], ◌∷◌, ◌++◌, length, drop, refl, sym, ap, subst, ◌∙◌, arith}
+use Rattle.std.proofs.lemmas.Bool.{eq-eqb, eqb-true, ltb-true, ltb-false, lt-ltb, and_parts}
 use Rattle.std.specs.declared.alloc.AllocError.{AllocError}
-use Rattle.std.proofs.lemmas.List.{append_assoc, append-nil, drop_more, drop-map}
+use Rattle.std.proofs.lemmas.List.{append_assoc, append-nil}
 use Rattle.imap_print.specs.declared.response.Response.{Response}
 use Rattle.imap_print.specs.declared.response.Response.TheVariants as response
-use Rattle.imap_mailbox.specs.declared.known.KnownMessage.{KnownMessage}
 use Rattle.imap_mailbox.specs.Rows.{Row, is_among}
-use Rattle.imap_mailbox.specs.Brought.{told_of, Agree}
+use Rattle.imap_mailbox.specs.Brought.{told_of}
+use Rattle.imap_session.specs.ByUid.{AgreeByUid}
 use Rattle.imap_session.specs.declared.options.NoticeOptions.{NoticeOptions}
-use Rattle.imap_session.specs.declared.delta.ChangedMessage.{ChangedMessage}
-use Rattle.imap_session.specs.declared.entry.Entry.{Entry}
 use Rattle.imap_session.specs.declared.walk.Walk.{Walk}
-use Rattle.imap_session.specs.Compared.{Comparison, Expunged, Present, comparisons, new_rows, messages_after, is_known}
-use Rattle.imap_session.specs.Notices.{expunge_lines, expunged_uids, fetch_line}
-use Rattle.imap_session.specs.Retold.{other_lines}
-use Rattle.imap_session.specs.Delta.{changes_from, expunged_from}
+use Rattle.imap_session.specs.Compared.{Comparison, Expunged, Present, comparisons, new_rows, uids_after, any_changed, is_known}
+use Rattle.imap_session.specs.Notices.{expunge_lines, expunged_uids, fetch_line, fetch_lines}
 use Rattle.imap_session.specs.Cursors.{is_next, is_unchanged}
-use Rattle.imap_session.specs.Held.{list_in}
-use Rattle.imap_session.proofs.Matching.{known_below, changed_above}
 use Rattle.imap_session.specs.Walked.{Findings, collected, by_number, by_uid, finished, found, Passes, PassesChanged, PassesExpunged}
+use Rattle.imap_session.proofs.Matching.{low_known}
 
 -- ---- lists that are collected
 
@@ -31,7 +26,7 @@ pub choose_step : {X : Type 0} (b : Bool) (front : List X) (x : X) (rest : List 
 choose_step true front x rest = ap (λ l. l ++ rest) (append-nil front)
 choose_step false front x rest = append_assoc front (x ∷ []) rest
 
-told_step : {X : Type 0} (t b : Bool) (front : List X) (x : X) (rest : List X) → (front ++ collected (not t && not b) (x ∷ [])) ++ rest ≡ front ++ cond t rest (cond b rest (x ∷ rest))
+told_step : {X : Type 0} (t b : Bool) (front : List X) (x : X) (rest : List X) → (front ++ collected (not t && not b) (x ∷ [])) ++ rest ≡ front ++ cond (t || b) rest (x ∷ rest)
 told_step true b front x rest = ap (λ l. l ++ rest) (append-nil front)
 told_step false b front x rest = choose_step b front x rest
 
@@ -44,117 +39,130 @@ collected_none : {X : Type 0} (b : Bool) (front : List X) → front ++ collected
 collected_none true front = append-nil front
 collected_none false front = append-nil front
 
--- ---- one known message
+or_assoc : (a b d : Bool) → ((a || b) || d) ≡ (a || (b || d))
+or_assoc true b d = refl
+or_assoc false b d = refl
 
-abbrev out : List ℕ → NoticeOptions → ℕ → ℕ → List ℕ → List Response → List ℕ → List ChangedMessage → List Response → List Comparison → List Row → Findings
-out told o p n gone expunges vanished changed fetches cs new = record {
-  gone = gone ++ collected o.expunges (expunged_from p cs);
+or_none : (a : Bool) → (a || false) ≡ a
+or_none true = refl
+or_none false = refl
+
+or_all : (a : Bool) → (a || true) ≡ true
+or_all true = refl
+or_all false = refl
+
+-- ---- one known UID
+
+abbrev out : List ℕ → NoticeOptions → ℕ → ℕ → List ℕ → List Response → List ℕ → Bool → List Response → List Comparison → List Row → Findings
+out told o up_to n gone expunges vanished changed fetches cs new = record {
+  gone = gone ++ collected o.expunges (expunged_uids cs);
   expunges = expunges ++ collected (by_number o) (expunge_lines n cs);
   vanished = vanished ++ collected (by_uid o) (expunged_uids cs);
-  changed = changed ++ changes_from p cs;
-  fetches = fetches ++ other_lines told o n cs;
+  changed = changed || any_changed up_to cs;
+  fetches = fetches ++ fetch_lines o up_to told n cs;
   new = new;
-  number = n + length (messages_after o.expunges cs);
+  number = n + length (uids_after o.expunges cs);
 }
 
 pub longer : (n m : ℕ) → n + 1 + m ≡ n + suc m
 longer n m = omega arith
 
-after_longer : (may : Bool) (n : ℕ) (k : KnownMessage) (t : List KnownMessage) → cond may n (n + 1) + length t ≡ n + length (cond may t (k ∷ t))
-after_longer true n k t = refl
-after_longer false n k t = longer n (length t)
+after_longer : (may : Bool) (n u : ℕ) (t : List ℕ) → cond may n (n + 1) + length t ≡ n + length (cond may t (u ∷ t))
+after_longer true n u t = refl
+after_longer false n u t = longer n (length t)
 
-lines_chosen : (b : Bool) (told : List ℕ) (o : NoticeOptions) (n : ℕ) (cs : List Comparison) → other_lines told o (cond b n (n + 1)) cs ≡ cond b (other_lines told o n cs) (other_lines told o (n + 1) cs)
-lines_chosen true told o n cs = refl
-lines_chosen false told o n cs = refl
+lines_chosen : (b : Bool) (told : List ℕ) (o : NoticeOptions) (up_to n : ℕ) (cs : List Comparison)
+    → fetch_lines o up_to told (cond b n (n + 1)) cs ≡ cond b (fetch_lines o up_to told n cs) (fetch_lines o up_to told (n + 1) cs)
+lines_chosen true told o up_to n cs = refl
+lines_chosen false told o up_to n cs = refl
 
-expunged_out : (told : List ℕ) (o : NoticeOptions) (p n : ℕ) (gone : List ℕ) (expunges : List Response) (vanished : List ℕ) (changed : List ChangedMessage) (fetches : List Response)
-    (k : KnownMessage) (cs : List Comparison) (new : List Row)
-    → out told o (p + 1) (cond o.expunges n (n + 1)) (gone ++ collected o.expunges (p ∷ [])) (expunges ++ collected (by_number o) (response.Expunge n ∷ []))
-    (vanished ++ collected (by_uid o) (k.uid ∷ [])) changed fetches cs new
-    ≡ out told o p n gone expunges vanished changed fetches (Expunged k ∷ cs) new
-expunged_out told o p n gone expunges vanished changed fetches k cs new = λ j. record {
-  gone = collect_step o.expunges gone p (expunged_from (p + 1) cs) j;
+expunged_out : (told : List ℕ) (o : NoticeOptions) (up_to n : ℕ) (gone : List ℕ) (expunges : List Response) (vanished : List ℕ) (changed : Bool) (fetches : List Response)
+    (u : ℕ) (cs : List Comparison) (new : List Row)
+    → out told o up_to (cond o.expunges n (n + 1)) (gone ++ collected o.expunges (u ∷ [])) (expunges ++ collected (by_number o) (response.Expunge n ∷ []))
+    (vanished ++ collected (by_uid o) (u ∷ [])) changed fetches cs new
+    ≡ out told o up_to n gone expunges vanished changed fetches (Expunged u ∷ cs) new
+expunged_out told o up_to n gone expunges vanished changed fetches u cs new = λ j. record {
+  gone = collect_step o.expunges gone u (expunged_uids cs) j;
   expunges = number_step o.expunges o.qresync n expunges (response.Expunge n) (λ m. expunge_lines m cs) j;
-  vanished = collect_step (by_uid o) vanished k.uid (expunged_uids cs) j;
-  changed = changed ++ changes_from (p + 1) cs;
-  fetches = fetches ++ lines_chosen o.expunges told o n cs j;
+  vanished = collect_step (by_uid o) vanished u (expunged_uids cs) j;
+  changed = changed || any_changed up_to cs;
+  fetches = fetches ++ lines_chosen o.expunges told o up_to n cs j;
   new = new;
-  number = after_longer o.expunges n k (messages_after o.expunges cs) j;
+  number = after_longer o.expunges n u (uids_after o.expunges cs) j;
 }
 
-present_out : (told : List ℕ) (o : NoticeOptions) (p n : ℕ) (gone : List ℕ) (expunges : List Response) (vanished : List ℕ) (changed : List ChangedMessage) (fetches : List Response)
-    (k : KnownMessage) (r : Row) (cs : List Comparison) (new : List Row)
-    → out told o (p + 1) (n + 1) gone expunges vanished (changed ++ collected (not (is_known k r)) (record { place = p; message = told_of r } ∷ []))
-    (fetches ++ collected (not (is_among r.uid told) && not (is_known k r)) (fetch_line o n (told_of r) ∷ [])) cs new
-    ≡ out told o p n gone expunges vanished changed fetches (Present k r ∷ cs) new
-present_out told o p n gone expunges vanished changed fetches k r cs new = λ j. record {
-  gone = gone ++ collected o.expunges (expunged_from (p + 1) cs);
+present_out : (told : List ℕ) (o : NoticeOptions) (up_to n : ℕ) (gone : List ℕ) (expunges : List Response) (vanished : List ℕ) (changed : Bool) (fetches : List Response)
+    (r : Row) (cs : List Comparison) (new : List Row)
+    → out told o up_to (n + 1) gone expunges vanished (changed || not (is_known up_to r))
+    (fetches ++ collected (not (is_among r.uid told) && not (is_known up_to r)) (fetch_line o n (told_of r) ∷ [])) cs new
+    ≡ out told o up_to n gone expunges vanished changed fetches (Present r ∷ cs) new
+present_out told o up_to n gone expunges vanished changed fetches r cs new = λ j. record {
+  gone = gone ++ collected o.expunges (expunged_uids cs);
   expunges = expunges ++ collected (by_number o) (expunge_lines (n + 1) cs);
   vanished = vanished ++ collected (by_uid o) (expunged_uids cs);
-  changed = choose_step (is_known k r) changed (record { place = p; message = told_of r }) (changes_from (p + 1) cs) j;
-  fetches = told_step (is_among r.uid told) (is_known k r) fetches (fetch_line o n (told_of r)) (other_lines told o (n + 1) cs) j;
+  changed = or_assoc changed (not (is_known up_to r)) (any_changed up_to cs) j;
+  fetches = told_step (is_among r.uid told) (is_known up_to r) fetches (fetch_line o n (told_of r)) (fetch_lines o up_to told (n + 1) cs) j;
   new = new;
-  number = longer n (length (messages_after o.expunges cs)) j;
+  number = longer n (length (uids_after o.expunges cs)) j;
 }
 
 -- the known message is not the first row
-pub record IsGone (k : KnownMessage) (rows : List Row) : Type 0 where
-  pub fate : (known : List KnownMessage) → comparisons (k ∷ known) rows ≡ Expunged k ∷ comparisons known rows
-  pub new : (known : List KnownMessage) → new_rows (k ∷ known) rows ≡ new_rows known rows
-  pub agree : (n : ℕ) (known : List KnownMessage) → Agree n (k ∷ known) rows → Agree n known rows
+pub record IsGone (u : ℕ) (rows : List Row) : Type 0 where
+  pub fate : (uids : List ℕ) → comparisons (u ∷ uids) rows ≡ Expunged u ∷ comparisons uids rows
+  pub new : (uids : List ℕ) → new_rows (u ∷ uids) rows ≡ new_rows uids rows
+  pub agree : (n : ℕ) (uids : List ℕ) → AgreeByUid n (u ∷ uids) rows → AgreeByUid n uids rows
 
-pub gone_here : (k : KnownMessage) (rows : List Row) → is_next k.uid rows ≡ false → IsGone k rows
-gone_here k [] is = record { fate = λ known. refl; new = λ known. refl; agree = λ n known h. h }
-gone_here k (r ∷ rows) is = record {
-  fate = λ known. ap (λ b. cond b (Present k r ∷ comparisons known rows) (Expunged k ∷ comparisons known (r ∷ rows))) is;
-  new = λ known. ap (λ b. cond b (new_rows known rows) (new_rows known (r ∷ rows))) is;
-  agree = λ n known h. (subst (λ b. MatchBool b ((r.number ≤ n → told_of r ≡ k) × Agree n known rows) ((k.uid < r.uid) × Agree n known (r ∷ rows))) is h).1;
+pub gone_here : (u : ℕ) (rows : List Row) → is_next u rows ≡ false → IsGone u rows
+gone_here u [] is = record { fate = λ uids. refl; new = λ uids. refl; agree = λ n uids h. h }
+gone_here u (r ∷ rows) is = record {
+  fate = λ uids. ap (λ b. cond b (Present r ∷ comparisons uids rows) (Expunged u ∷ comparisons uids (r ∷ rows))) is;
+  new = λ uids. ap (λ b. cond b (new_rows uids rows) (new_rows uids (r ∷ rows))) is;
+  agree = λ n uids h. (subst (λ b. MatchBool b (AgreeByUid n uids rows) ((u < r.uid) × AgreeByUid n uids (r ∷ rows))) is h).1;
 }
 
 number_chosen : (b : Bool) (n : ℕ) → cond b n (n + 1) ≤ n + 1
 number_chosen true n = omega arith
 number_chosen false n = omega arith
 
-pub passes_expunged : (told : List ℕ) (o : NoticeOptions) (n p : ℕ) (k : KnownMessage) (rows : List Row) (old new : Walk) → is_next k.uid rows ≡ false
-    → PassesExpunged o p k old new → Passes told o n p k rows rows old new
-passes_expunged told o n p k rows old new is h = record {
-  finds = λ known.
-      (λ j. out told o (p + 1) (h.number j) (h.gone j) (h.expunges j) (h.vanished j) (h.changed j) (h.fetches j) (comparisons known rows) (new_rows known rows))
-      ∙ expunged_out told o p old.number old.gone.items old.expunges.items old.vanished.items old.changed.items old.fetches k (comparisons known rows) (new_rows known rows)
-      ∙ (λ j. out told o p old.number old.gone.items old.expunges.items old.vanished.items old.changed.items old.fetches (sym (gone.fate known) j) (sym (gone.new known) j));
-  agree = λ known a. gone.agree n known a;
+pub passes_expunged : (told : List ℕ) (o : NoticeOptions) (n u : ℕ) (rows : List Row) (old new : Walk) → is_next u rows ≡ false
+    → PassesExpunged o u old new → Passes told o n u rows rows old new
+passes_expunged told o n u rows old new is h = record {
+  finds = λ uids.
+      (λ j. out told o n (h.number j) (h.gone j) (h.expunges j) (h.vanished j) (h.changed j) (h.fetches j) (comparisons uids rows) (new_rows uids rows))
+      ∙ expunged_out told o n old.number old.gone.items old.expunges.items old.vanished.items old.changed old.fetches u (comparisons uids rows) (new_rows uids rows)
+      ∙ (λ j. out told o n old.number old.gone.items old.expunges.items old.vanished.items old.changed old.fetches (sym (gone.fate uids) j) (sym (gone.new uids) j));
+  agree = λ uids a. gone.agree n uids a;
   number = omega (arith, h.number, number_chosen o.expunges old.number);
 }
   where
-    gone : IsGone k rows
-    gone = gone_here k rows is
+    gone : IsGone u rows
+    gone = gone_here u rows is
 
 -- what is found of a message that is there, before its number is passed
-pub record FindsPresent (told : List ℕ) (o : NoticeOptions) (p : ℕ) (k : KnownMessage) (r : Row) (old new : Walk) : Type 0 where
+pub record FindsPresent (told : List ℕ) (o : NoticeOptions) (up_to : ℕ) (r : Row) (old new : Walk) : Type 0 where
   gone : new.gone.items ≡ old.gone.items
   expunges : new.expunges.items ≡ old.expunges.items
   vanished : new.vanished.items ≡ old.vanished.items
-  changed : new.changed.items ≡ old.changed.items ++ collected (not (is_known k r)) (record { place = p; message = told_of r } ∷ [])
-  fetches : new.fetches ≡ old.fetches ++ collected (not (is_among r.uid told) && not (is_known k r)) (fetch_line o old.number (told_of r) ∷ [])
+  changed : new.changed ≡ (old.changed || not (is_known up_to r))
+  fetches : new.fetches ≡ old.fetches ++ collected (not (is_among r.uid told) && not (is_known up_to r)) (fetch_line o old.number (told_of r) ∷ [])
   number : new.number ≡ old.number
 
-pub passes_present : (told : List ℕ) (o : NoticeOptions) (n p : ℕ) (k : KnownMessage) (rows left : List Row) (r : Row) (later : List Row) (old mid : Walk)
-    → rows ≡ r ∷ later → left ≡ later → k.uid ≡ r.uid → FindsPresent told o p k r old mid → Passes told o n p k rows left old (record mid { number = mid.number + 1 })
-passes_present told o n p k rows left r later old mid is is_left same h = record {
-  finds = λ known.
-      (λ j. out told o (p + 1) (h.number j + 1) (h.gone j) (h.expunges j) (h.vanished j) (h.changed j) (h.fetches j) (comparisons known (is_left j)) (new_rows known (is_left j)))
-      ∙ present_out told o p old.number old.gone.items old.expunges.items old.vanished.items old.changed.items old.fetches k r (comparisons known later) (new_rows known later)
-      ∙ (λ j. out told o p old.number old.gone.items old.expunges.items old.vanished.items old.changed.items old.fetches
-      (cond (sym test j) (Present k r ∷ comparisons known later) (Expunged k ∷ comparisons known (r ∷ later))) (cond (sym test j) (new_rows known later) (new_rows known (r ∷ later))))
-      ∙ (λ j. out told o p old.number old.gone.items old.expunges.items old.vanished.items old.changed.items old.fetches (comparisons (k ∷ known) (sym is j)) (new_rows (k ∷ known) (sym is j)));
-  agree = λ known a. subst (Agree n known) (sym is_left)
-      (subst (λ b. MatchBool b ((r.number ≤ n → told_of r ≡ k) × Agree n known later) ((k.uid < r.uid) × Agree n known (r ∷ later))) test (subst (Agree n (k ∷ known)) is a)).1;
+pub passes_present : (told : List ℕ) (o : NoticeOptions) (n u : ℕ) (rows left : List Row) (r : Row) (later : List Row) (old mid : Walk)
+    → rows ≡ r ∷ later → left ≡ later → u ≡ r.uid → FindsPresent told o n r old mid → Passes told o n u rows left old (record mid { number = mid.number + 1 })
+passes_present told o n u rows left r later old mid is is_left same h = record {
+  finds = λ uids.
+      (λ j. out told o n (h.number j + 1) (h.gone j) (h.expunges j) (h.vanished j) (h.changed j) (h.fetches j) (comparisons uids (is_left j)) (new_rows uids (is_left j)))
+      ∙ present_out told o n old.number old.gone.items old.expunges.items old.vanished.items old.changed old.fetches r (comparisons uids later) (new_rows uids later)
+      ∙ (λ j. out told o n old.number old.gone.items old.expunges.items old.vanished.items old.changed old.fetches
+      (cond (sym test j) (Present r ∷ comparisons uids later) (Expunged u ∷ comparisons uids (r ∷ later))) (cond (sym test j) (new_rows uids later) (new_rows uids (r ∷ later))))
+      ∙ (λ j. out told o n old.number old.gone.items old.expunges.items old.vanished.items old.changed old.fetches (comparisons (u ∷ uids) (sym is j)) (new_rows (u ∷ uids) (sym is j)));
+  agree = λ uids a. subst (AgreeByUid n uids) (sym is_left)
+      (subst (λ b. MatchBool b (AgreeByUid n uids later) ((u < r.uid) × AgreeByUid n uids (r ∷ later))) test (subst (AgreeByUid n (u ∷ uids)) is a));
   number = omega (arith, h.number);
 }
   where
-    test : eqb k.uid r.uid ≡ true
-    test = eq-eqb k.uid r.uid same
+    test : eqb u r.uid ≡ true
+    test = eq-eqb u r.uid same
 
 -- ---- the first row
 
@@ -198,30 +206,18 @@ first_changed : (uid n : ℕ) (r : Row) (later : List Row) → uid ≡ r.uid →
 first_changed uid n r later same e =
     ltb-true n r.number (not_false (ltb n r.number) (ap (λ b. b && not (ltb n r.number)) (sym (eq-eqb uid r.uid same)) ∙ e))
 
-pub first_agrees : (n : ℕ) (k : KnownMessage) (others : List KnownMessage) (rows : List Row) (r : Row) (later : List Row) → rows ≡ r ∷ later → is_next k.uid rows ≡ true
-    → Agree n (k ∷ others) rows → r.number ≤ n → told_of r ≡ k
-first_agrees n k others rows r later is next h =
-    (subst (λ b. MatchBool b ((r.number ≤ n → told_of r ≡ k) × Agree n others later) ((k.uid < r.uid) × Agree n others (r ∷ later)))
-    (sym (ap (is_next k.uid) is) ∙ next) (subst (Agree n (k ∷ others)) is h)).0
-
 -- ---- along the known list
-
-pub next_known : (es : List Entry) (p : ℕ) (e : Entry) → p < length es → e ≡ get_or es p e → drop p (list_in es) ≡ e.message ∷ drop (p + 1) (list_in es)
-next_known es p e lt is =
-    drop-map (λ (e : Entry). e.message) p es
-    ∙ ap list_in (drop_more es p e lt ∙ ap (λ x. x ∷ drop (p + 1) es) (sym is))
-    ∙ ap (λ l. e.message ∷ l) (sym (drop-map (λ (e : Entry). e.message) (p + 1) es))
 
 zero_more : (n : ℕ) → n + 0 ≡ n
 zero_more n = omega arith
 
 -- at the end of the known list
-pub ended : (told : List ℕ) (o : NoticeOptions) (p : ℕ) (w : Walk) (rows : List Row) → finished told o p w [] rows ≡ found w rows
-ended told o p w rows = λ j. record {
+pub ended : (told : List ℕ) (o : NoticeOptions) (up_to : ℕ) (w : Walk) (rows : List Row) → finished told o up_to w [] rows ≡ found w rows
+ended told o up_to w rows = λ j. record {
   gone = collected_none o.expunges w.gone.items j;
   expunges = collected_none (by_number o) w.expunges.items j;
   vanished = collected_none (by_uid o) w.vanished.items j;
-  changed = append-nil w.changed.items j;
+  changed = or_none w.changed j;
   fetches = append-nil w.fetches j;
   new = rows;
   number = zero_more w.number j;
@@ -230,13 +226,13 @@ ended told o p w rows = λ j. record {
 -- ---- what is found of a message that is there
 
 -- all of it is known
-pub none_changed : (told : List ℕ) (o : NoticeOptions) (p : ℕ) (k : KnownMessage) (r : Row) (w : Walk) → is_known k r ≡ true → FindsPresent told o p k r w w
-none_changed told o p k r w is = record {
+pub none_changed : (told : List ℕ) (o : NoticeOptions) (up_to : ℕ) (r : Row) (w : Walk) → is_known up_to r ≡ true → FindsPresent told o up_to r w w
+none_changed told o up_to r w is = record {
   gone = refl;
   expunges = refl;
   vanished = refl;
-  changed = sym (ap (λ b. w.changed.items ++ collected (not b) (record { place = p; message = told_of r } ∷ [])) is ∙ append-nil w.changed.items);
-  fetches = sym ((λ j. w.fetches ++ none (is_among r.uid told) (is_known k r) is j) ∙ append-nil w.fetches);
+  changed = sym (ap (λ b. w.changed || not b) is ∙ or_none w.changed);
+  fetches = sym ((λ j. w.fetches ++ none (is_among r.uid told) (is_known up_to r) is j) ∙ append-nil w.fetches);
   number = refl;
 }
   where
@@ -246,18 +242,17 @@ none_changed told o p k r w is = record {
     none false false e = absurd (cc e)
 
 -- it changed
-one_changed : (told : List ℕ) (o : NoticeOptions) (p : ℕ) (k : KnownMessage) (r : Row) (old new : Walk) (m : KnownMessage) (t : Bool) → is_known k r ≡ false → m ≡ told_of r → t ≡ is_among r.uid told
+one_changed : (told : List ℕ) (o : NoticeOptions) (up_to : ℕ) (r : Row) (old new : Walk) → is_known up_to r ≡ false
     → new.gone.items ≡ old.gone.items → new.expunges.items ≡ old.expunges.items → new.vanished.items ≡ old.vanished.items
-    → new.changed.items ≡ old.changed.items ++ record { place = p; message = m } ∷ []
-    → new.fetches ≡ old.fetches ++ collected (not t) (fetch_line o old.number m ∷ []) → new.number ≡ old.number
-    → FindsPresent told o p k r old new
-one_changed told o p k r old new m t is is_m is_t gone expunges vanished changed fetches number = record {
+    → new.changed ≡ true
+    → new.fetches ≡ old.fetches ++ collected (not (is_among r.uid told)) (fetch_line o old.number (told_of r) ∷ []) → new.number ≡ old.number
+    → FindsPresent told o up_to r old new
+one_changed told o up_to r old new is gone expunges vanished changed fetches number = record {
   gone = gone;
   expunges = expunges;
   vanished = vanished;
-  changed = changed ∙ (λ j. old.changed.items ++ collected (not (sym is j)) (record { place = p; message = is_m j } ∷ []));
-  fetches = fetches ∙ (λ j. old.fetches ++ collected (not (is_t j)) (fetch_line o old.number (is_m j) ∷ []))
-      ∙ (λ j. old.fetches ++ collected (both (is_among r.uid told) (is_known k r) is j) (fetch_line o old.number (told_of r) ∷ []));
+  changed = changed ∙ sym (or_all old.changed) ∙ (λ j. old.changed || not (sym is j));
+  fetches = fetches ∙ (λ j. old.fetches ++ collected (both (is_among r.uid told) (is_known up_to r) is j) (fetch_line o old.number (told_of r) ∷ []));
   number = number;
 }
   where
@@ -268,26 +263,25 @@ one_changed told o p k r old new m t is is_m is_t gone expunges vanished changed
 
 -- ---- the walk passes a message that is there
 
-pub passes_unchanged : (told : List ℕ) (o : NoticeOptions) (n p : ℕ) (k : KnownMessage) (rows left : List Row) (old : Walk) → ((others : List KnownMessage) × Agree n (k ∷ others) rows)
-    → is_unchanged k.uid n rows ≡ true → left ≡ drop 1 rows → Passes told o n p k rows left old (record old { number = old.number + 1 })
-passes_unchanged told o n p k rows left old agree e is_left =
-    let first = first_unchanged k.uid n rows e in
-    let next = ap (is_next k.uid) first.is ∙ eq-eqb k.uid first.row.uid first.same in
-    let same = known_below n k first.row (first_agrees n k agree.0 rows first.row first.later first.is next agree.1) first.low in
-    passes_present told o n p k rows left first.row first.later old old first.is (is_left ∙ ap (drop 1) first.is) first.same (none_changed told o p k first.row old same)
+pub passes_unchanged : (told : List ℕ) (o : NoticeOptions) (n u : ℕ) (rows left : List Row) (old : Walk)
+    → is_unchanged u n rows ≡ true → left ≡ drop 1 rows → Passes told o n u rows left old (record old { number = old.number + 1 })
+passes_unchanged told o n u rows left old e is_left =
+    let first = first_unchanged u n rows e in
+    passes_present told o n u rows left first.row first.later old old first.is (is_left ∙ ap (drop 1) first.is) first.same
+    (none_changed told o n first.row old (low_known n first.row first.low))
 
-pub passes_changed : (told : List ℕ) (o : NoticeOptions) (n p : ℕ) (k : KnownMessage) (rows left : List Row) (old new : Walk) → k.number ≤ n
-    → is_next k.uid rows ≡ true → is_unchanged k.uid n rows ≡ false → left ≡ drop 1 rows
-    → ((r : Row) (later : List Row) → rows ≡ r ∷ later → PassesChanged told o p r old new) → Passes told o n p k rows left old new
-passes_changed told o n p k rows left old new told_by next changed is_left found =
-    let first = first_is k.uid rows next in
+pub passes_changed : (told : List ℕ) (o : NoticeOptions) (n u : ℕ) (rows left : List Row) (old new : Walk)
+    → is_next u rows ≡ true → is_unchanged u n rows ≡ false → left ≡ drop 1 rows
+    → ((r : Row) (later : List Row) → rows ≡ r ∷ later → PassesChanged told o r old new) → Passes told o n u rows left old new
+passes_changed told o n u rows left old new next changed is_left found =
+    let first = first_is u rows next in
     let r = first.row in
     let h = found r first.later first.is in
-    let above = first_changed k.uid n r first.later first.same (sym (ap (is_unchanged k.uid n) first.is) ∙ changed) in
+    let above = first_changed u n r first.later first.same (sym (ap (is_unchanged u n) first.is) ∙ changed) in
     let mid : Walk = record new { number = old.number } in
-    let one = one_changed told o p k r old mid (told_of r) (is_among r.uid told) (changed_above n k r told_by above) refl refl h.gone h.expunges h.vanished h.changed h.fetches refl in
-    subst (Passes told o n p k rows left old) (λ j. record new { number = sym h.number j })
-    (passes_present told o n p k rows left r first.later old mid first.is (is_left ∙ ap (drop 1) first.is) first.same one)
+    let one = one_changed told o n r old mid (ap not (lt-ltb n r.number above)) h.gone h.expunges h.vanished h.changed h.fetches refl in
+    subst (Passes told o n u rows left old) (λ j. record new { number = sym h.number j })
+    (passes_present told o n u rows left r first.later old mid first.is (is_left ∙ ap (drop 1) first.is) first.same one)
 
 -- ---- results
 

@@ -5,12 +5,10 @@ use Rattle.imap_print.specs.declared.response.Response.{Response}
 use Rattle.imap_print.specs.declared.response.Response.TheVariants as response
 use Rattle.imap_print.specs.declared.fetch.FetchedItems.{FetchedItems}
 use Rattle.imap_print.specs.declared.flag.FlagSet.{FlagSet}
-use Rattle.imap_mailbox.specs.declared.known.KnownMessage.{KnownMessage}
 use Rattle.imap_mailbox.specs.Rows.{Row, is_among}
-use Rattle.imap_mailbox.specs.Brought.{told_of, known_uids}
 use Rattle.imap_mailbox.specs.Summary.{AreRising}
 use Rattle.imap_session.specs.declared.options.NoticeOptions.{NoticeOptions}
-use Rattle.imap_session.specs.Compared.{comparisons, new_rows, messages_after}
+use Rattle.imap_session.specs.Compared.{Comparison, Expunged, Present, comparisons, new_rows, is_told}
 use Rattle.imap_session.specs.Notices.{flag_set, notices}
 
 -- what a client holds of a message. Of one that EXISTS told it holds nothing at first
@@ -68,23 +66,44 @@ after_lines (line ∷ lines) held = after_lines lines (after_line line held)
 
 -- ---- what is told is enough
 
-abbrev pub client_message : KnownMessage → ClientMessage
-client_message k = record { uid = Some k.uid; flags = Some (flag_set k.flags k.seen) }
+-- all of a message
+abbrev pub client_message : Row → ClientMessage
+client_message r = record { uid = Some r.uid; flags = Some (flag_set r.flags r.seen) }
 
--- a client that held what the session knew holds what the session knows now, and of new messages that they
--- exist
+-- the client holds the UIDs that the session knows, and the flags of each message that is still there and of which
+-- the command's own lines told, or the session was told all
+abbrev pub HoldsWhatIsTold : (up_to : ℕ) → (told : List ℕ) → List ClientMessage → List Comparison → Type 0
+HoldsWhatIsTold up_to told [] [] = Unit {0}
+HoldsWhatIsTold up_to told [] (c ∷ cs) = ⊥
+HoldsWhatIsTold up_to told (m ∷ held) [] = ⊥
+HoldsWhatIsTold up_to told (m ∷ held) (Expunged u ∷ cs) =
+    (m.uid ≡ Some u) × HoldsWhatIsTold up_to told held cs
+HoldsWhatIsTold up_to told (m ∷ held) (Present r ∷ cs) =
+    (m.uid ≡ Some r.uid) × ((is_told up_to told r ≡ true → m.flags ≡ Some (flag_set r.flags r.seen))
+    × HoldsWhatIsTold up_to told held cs)
+
+-- what it holds afterwards: all of the messages that are still there, and what it held of others, if expunges may
+-- not be told
+abbrev pub held_after : (expunges : Bool) → List ClientMessage → List Comparison → List ClientMessage
+held_after expunges [] cs = []
+held_after expunges (m ∷ held) [] = []
+held_after expunges (m ∷ held) (Expunged u ∷ cs) =
+    if expunges then held_after expunges held cs else m ∷ held_after expunges held cs
+held_after expunges (m ∷ held) (Present r ∷ cs) = client_message r ∷ held_after expunges held cs
+
+-- a client that held what it was told holds all of these messages now, and of new messages that they exist
 abbrev pub ClientFollows : Type 0
 ClientFollows =
-    (o : NoticeOptions) (known : List KnownMessage) (rows : List Row) → AreRising (known_uids known)
-    → after_lines (notices o known rows) (map client_message known)
-    ≡ map client_message (messages_after o.expunges (comparisons known rows))
-    ++ unknown_messages (length (new_rows known rows))
+    (o : NoticeOptions) (up_to : ℕ) (told uids : List ℕ) (rows : List Row) (held : List ClientMessage)
+    → AreRising uids → HoldsWhatIsTold up_to told held (comparisons uids rows)
+    → after_lines (notices o up_to told uids rows) held
+    ≡ held_after o.expunges held (comparisons uids rows) ++ unknown_messages (length (new_rows uids rows))
 
 -- so that, if expunges may be told, it holds the messages of the mailbox, but for items of the new ones
 abbrev pub ClientHoldsMailbox : Type 0
 ClientHoldsMailbox =
-    (o : NoticeOptions) (known : List KnownMessage) (rows : List Row)
-    → o.expunges ≡ true → AreRising (known_uids known)
-    → (old : List Row) × ((old ++ new_rows known rows ≡ rows)
-    × (after_lines (notices o known rows) (map client_message known)
-    ≡ map client_message (map told_of old) ++ unknown_messages (length (new_rows known rows))))
+    (o : NoticeOptions) (up_to : ℕ) (told uids : List ℕ) (rows : List Row) (held : List ClientMessage)
+    → o.expunges ≡ true → AreRising uids → HoldsWhatIsTold up_to told held (comparisons uids rows)
+    → (old : List Row) × ((old ++ new_rows uids rows ≡ rows)
+    × (after_lines (notices o up_to told uids rows) held
+    ≡ map client_message old ++ unknown_messages (length (new_rows uids rows))))

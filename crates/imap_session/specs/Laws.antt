@@ -1,59 +1,62 @@
 -- What holds of notices and known lists.
-use Rattle.std.specs.Prelude.{◌≡◌, ◌↔◌, ℕ, true, List, [], map, if◌then◌else◌}
-use Rattle.imap_mailbox.specs.declared.known.KnownMessage.{KnownMessage}
+use Rattle.std.specs.Prelude.{◌≡◌, ◌↔◌, ℕ, Bool, true, false, not, List, [], map, filter, if◌then◌else◌}
+use Rattle.imap_print.specs.declared.response.Response.{Response}
+use Rattle.imap_print.specs.declared.response.Response.TheVariants as response
 use Rattle.imap_mailbox.specs.Rows.{Row}
 use Rattle.imap_mailbox.specs.Brought.{told_of}
+use Rattle.imap_mailbox.specs.Lent.{row_uids}
+use Rattle.imap_mailbox.specs.Order.{AreAtMost}
 use Rattle.imap_session.specs.declared.options.NoticeOptions.{NoticeOptions}
-use Rattle.imap_session.specs.Compared.{comparisons, new_rows, known_after}
-use Rattle.imap_session.specs.Notices.{notices, fetch_lines}
-use Rattle.imap_session.specs.Retold.{retold, other_lines}
-use Rattle.imap_session.specs.Delta.{applied, changes_from, expunged_from}
+use Rattle.imap_session.specs.Compared.{Comparison, comparisons, new_rows, any_changed, known_after}
+use Rattle.imap_session.specs.Notices.{notices, fetch_lines, expunged_uids}
+use Rattle.imap_session.specs.Following.{has_uid}
+use Rattle.imap_session.specs.Delta.{applied}
 
 -- if expunges may be told, the session knows the messages of the mailbox afterwards
 abbrev pub ToldIsThere : Type 0
-ToldIsThere = (known : List KnownMessage) (rows : List Row) → known_after true known rows ≡ map told_of rows
+ToldIsThere = (uids : List ℕ) (rows : List Row) → known_after true uids rows ≡ row_uids rows
+
+-- the known list stays, and each message that is there is known as it is
+pub record StaysKnown (o : NoticeOptions) (up_to : ℕ) (uids : List ℕ) (rows : List Row) : Type 0 where
+  pub list : known_after o.expunges uids rows ≡ uids
+  pub changed : any_changed up_to (comparisons uids rows) ≡ false
 
 -- nothing is told exactly if nothing differs
 abbrev pub ToldIfDifferent : Type 0
 ToldIfDifferent =
-    (o : NoticeOptions) (known : List KnownMessage) (rows : List Row)
-    → (notices o known rows ≡ []) ↔ (known_after o.expunges known rows ≡ known)
+    (o : NoticeOptions) (up_to : ℕ) (uids : List ℕ) (rows : List Row)
+    → (notices o up_to [] uids rows ≡ []) ↔ StaysKnown o up_to uids rows
 
--- a session that knows all messages of the mailbox is told nothing
+-- a session that knows all messages of the mailbox, and was told all of them, is told nothing
 abbrev pub AllKnownIsQuiet : Type 0
-AllKnownIsQuiet = (o : NoticeOptions) (rows : List Row) → notices o (map told_of rows) rows ≡ []
+AllKnownIsQuiet =
+    (o : NoticeOptions) (up_to : ℕ) (told : List ℕ) (rows : List Row)
+    → AreAtMost up_to rows → notices o up_to told (row_uids rows) rows ≡ []
 
 -- notices tell of a row its UID, flags and mod-sequence alone
 abbrev pub AlikeIsToldAlike : Type 0
 AlikeIsToldAlike =
-    (o : NoticeOptions) (known : List KnownMessage) (rows others : List Row)
-    → map told_of rows ≡ map told_of others → notices o known rows ≡ notices o known others
+    (o : NoticeOptions) (up_to : ℕ) (told uids : List ℕ) (rows others : List Row)
+    → map told_of rows ≡ map told_of others
+    → notices o up_to told uids rows ≡ notices o up_to told uids others
 
--- the change that notices make, by places, gives what the session knows afterwards
-abbrev pub ChangesAreApplied : Type 0
-ChangesAreApplied =
-    (o : NoticeOptions) (known : List KnownMessage) (rows : List Row) →
-    let cs = comparisons known rows in
-    applied (changes_from 0 cs) (if o.expunges then expunged_from 0 cs else [])
-    (map told_of (new_rows known rows)) known
-    ≡ known_after o.expunges known rows
+-- the change that notices make of known UIDs gives what the session knows afterwards
+abbrev pub ChangesAreApplied : (uids : List ℕ) → Type 0
+ChangesAreApplied uids =
+    (o : NoticeOptions) (rows : List Row)
+    → applied (if o.expunges then expunged_uids (comparisons uids rows) else [])
+    (row_uids (new_rows uids rows)) uids
+    ≡ known_after o.expunges uids rows
 
 -- ---- messages of which the command's own lines told
 
--- the walk is made along the list from before these lines: the session knows the same in the end, and is
--- told of the other messages
-pub record IsToldOnce (uids : List ℕ) (o : NoticeOptions) (known : List KnownMessage) (rows : List Row)
-    : Type 0 where
-  pub list : known_after o.expunges (retold uids known rows) rows ≡ known_after o.expunges known rows
-  pub new : new_rows (retold uids known rows) rows ≡ new_rows known rows
-  pub lines : fetch_lines o 1 (comparisons (retold uids known rows) rows)
-      ≡ other_lines uids o 1 (comparisons known rows)
+-- the line is a FETCH line with one of the UIDs
+abbrev pub tells_of : (uids : List ℕ) → Response → Bool
+tells_of uids (response.Fetch n items) = has_uid uids items.uid
+tells_of uids _ = false
 
+-- the session is told of the other messages, as it would be without these lines
 abbrev pub ToldOnce : Type 0
 ToldOnce =
-    (uids : List ℕ) (o : NoticeOptions) (known : List KnownMessage) (rows : List Row)
-    → IsToldOnce uids o known rows
-
--- without lines the session knows what it knew
-abbrev pub NoneIsRetold : Type 0
-NoneIsRetold = (known : List KnownMessage) (rows : List Row) → retold [] known rows ≡ known
+    (o : NoticeOptions) (up_to : ℕ) (told : List ℕ) (n : ℕ) (cs : List Comparison)
+    → fetch_lines o up_to told n cs ≡ filter (λ line. not (tells_of told line)) (fetch_lines o up_to [] n cs)

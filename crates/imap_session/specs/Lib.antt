@@ -2,7 +2,7 @@
 pub mod Compared
 pub mod Lost
 pub mod Notices
-pub mod Retold
+pub mod ByUid
 pub mod Delta
 pub mod Held
 pub mod Cursors

@@ -1,11 +1,11 @@
 -- SELECT and EXAMINE (RFC 9051, sections 6.3.2 and 6.3.3).
-use Rattle.std.specs.Prelude.{ℕ, Bool, not, ◌&&◌, ◌||◌, List, [], ◌∷◌, length, map as map_list}
+use Rattle.std.specs.Prelude.{ℕ, Bool, not, ◌&&◌, ◌||◌, List, [], ◌∷◌, length}
 use Rattle.std.specs.Prelude.{Option, Some, None, if◌then◌else◌}
 use Rattle.imap_answer.specs.Access.{missing_right_refusal}
 use Rattle.imap_answer.specs.Answer.{carried_out, preceded_by, refusal}
 use Rattle.imap_answer.specs.Name.{name_of_text}
 use Rattle.imap_list.specs.MailboxLine.{mailbox_line}
-use Rattle.imap_mailbox.specs.Brought.{told_of}
+use Rattle.imap_mailbox.specs.Lent.{row_uids}
 use Rattle.imap_mailbox.specs.Rows.{Row}
 use Rattle.imap_names.specs.Name.{Name}
 use Rattle.imap_print.specs.declared.flag.FlagSet.{FlagSet}
@@ -83,7 +83,7 @@ selected_as name read_only mailbox = record {
   name = name;
   validity = mailbox.validity;
   read_only = read_only;
-  known = map_list told_of mailbox.rows;
+  known = row_uids mailbox.rows;
   up_to = mailbox.highest;
 }
 

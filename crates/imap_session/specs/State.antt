@@ -1,10 +1,8 @@
 -- An open session, and what becomes of it (RFC 9051, section 3).
 use Rattle.std.specs.Prelude.{ℕ, ◌≤◌, Bool, ◌||◌, List, Option, Some, None, option_map, refl}
 use Rattle.std.specs.Coded.{Coded, code_by, coded×, coded_ℕ, coded_bool, coded_list, coded_option}
-use Rattle.imap_mailbox.specs.contracts.known.KnownMessage as known_message
 use Rattle.imap_print.specs.contracts.enabled.EnabledCapabilities as enabled
 use Rattle.imap_answer.specs.Answer.{nothing_enabled}
-use Rattle.imap_mailbox.specs.declared.known.KnownMessage.{KnownMessage}
 use Rattle.imap_names.specs.Name.{Name}
 use Rattle.imap_print.specs.declared.enabled.EnabledCapabilities.{EnabledCapabilities}
 use Rattle.imap_session.specs.declared.session.Selected.{Selected}
@@ -13,13 +11,13 @@ use Rattle.imap_session.specs.Telling.{Telling, IsTellingOf, known_with, room_fo
 
 -- ---- a session as definitions see it: without room
 
--- the selected mailbox, with the UIDVALIDITY that it had, and its messages as the session knows them. The
+-- the selected mailbox, with the UIDVALIDITY that it had, and the UIDs of its messages that the session knows. The
 -- session was told all up to the mod-sequence `up_to`, but for expunges that were held back
 pub record Selection : Type 0 where
   pub name : Name
   pub validity : ℕ
   pub read_only : Bool
-  pub known : List KnownMessage
+  pub known : List ℕ
   pub up_to : ℕ
 
 pub record SessionState : Type 0 where
@@ -29,9 +27,9 @@ pub record SessionState : Type 0 where
 
 abbrev pub selection_code : Coded Selection
 selection_code =
-    code_by (Name × (ℕ × (Bool × (List KnownMessage × ℕ))))
+    code_by (Name × (ℕ × (Bool × (List ℕ × ℕ))))
     (coded× (coded_list (coded_list coded_ℕ)) (coded× coded_ℕ
-    (coded× coded_bool (coded× (coded_list known_message.the_row.coded) coded_ℕ))))
+    (coded× coded_bool (coded× (coded_list coded_ℕ) coded_ℕ))))
     (λ s. (s.name, (s.validity, (s.read_only, (s.known, s.up_to)))))
     (λ p. record {
       name = p.0;

@@ -1,7 +1,9 @@
 -- What a session is told of its mailbox at the end of a command, and what it knows afterwards.
-use Rattle.std.specs.Prelude.{◌≡◌, ℕ, ◌<◌, Bool, true, List, [], map, Option, Some, None}
+use Rattle.std.specs.Prelude.{◌≡◌, ℕ, ◌<◌, Bool, true, List, [], Option, Some, None}
 use Rattle.imap_print.specs.declared.response.Response.{Response}
-use Rattle.imap_mailbox.specs.Brought.{told_of, highest_in, IsOrdered}
+use Rattle.imap_mailbox.specs.Brought.{highest_in, IsOrdered}
+use Rattle.imap_mailbox.specs.Lent.{row_uids}
+use Rattle.imap_mailbox.specs.Order.{AreAtMost}
 use Rattle.imap_mailbox.specs.Rows.{Row}
 use Rattle.imap_mailbox.specs.Shown.{Content}
 use Rattle.imap_names.specs.Name.{Name}
@@ -10,7 +12,6 @@ use Rattle.imap_session.specs.declared.options.NoticeOptions.{NoticeOptions}
 use Rattle.imap_session.specs.Held.{uid_limit}
 use Rattle.imap_session.specs.InStep.{IsInStep}
 use Rattle.imap_session.specs.Notices.{notices}
-use Rattle.imap_session.specs.Retold.{retold}
 use Rattle.imap_session.specs.Select.{selected_as}
 use Rattle.imap_session.specs.State.{Selection, SessionState, with_telling, with_told}
 use Rattle.imap_session.specs.Telling.{Telling, difference, if_any}
@@ -26,14 +27,14 @@ IsInStepIfSelected highest rows (Some s) = (c : Content) × IsSelectedInStep hig
 
 -- ---- lines, and what the session then knows. The rows are those after the command
 
--- the command's own lines told of the messages with the UIDs `uids`
-abbrev pub session_lines : NoticeOptions → (uids : List ℕ) → List Row → Option Selection → List Response
-session_lines o uids rows None = []
-session_lines o uids rows (Some s) = notices o (retold uids s.known rows) rows
+-- the command's own lines told of the messages with the UIDs `told`
+abbrev pub session_lines : NoticeOptions → (told : List ℕ) → List Row → Option Selection → List Response
+session_lines o told rows None = []
+session_lines o told rows (Some s) = notices o s.up_to told s.known rows
 
--- None if the known list stays
+-- None if the session knows all that is there as it is
 abbrev pub selection_telling : NoticeOptions → List Row → (highest : ℕ) → Selection → Option Telling
-selection_telling o rows highest s = if_any (difference o.expunges s.known rows highest)
+selection_telling o rows highest s = if_any (difference o.expunges s.up_to s.known rows highest)
 
 abbrev pub session_telling : NoticeOptions → List Row → (highest : ℕ) → Option Selection → Option Telling
 session_telling o rows highest None = None
@@ -66,17 +67,22 @@ NoticesKeepSelectionInStep =
     → IsSelectedInStep highest rows c s
     → IsSelectedInStep highest rows c (selection_after (selection_telling o rows highest s) s)
 
--- if expunges may be told, the session knows the messages of the mailbox afterwards
-abbrev pub NoticesTellSelection : Type 0
-NoticesTellSelection =
-    (o : NoticeOptions) (highest : ℕ) (rows : List Row) (s : Selection) → o.expunges ≡ true
-    → (selection_after (selection_telling o rows highest s) s).known ≡ map told_of rows
+-- the session knows the messages that are there, and was told all of each
+pub record KnowsRows (rows : List Row) (s : Selection) : Type 0 where
+  pub uids : s.known ≡ row_uids rows
+  pub told : AreAtMost s.up_to rows
 
--- a session whose known list stays is given no line
+-- if expunges may be told, the session knows the messages of the mailbox afterwards
+abbrev pub NoticesTellSelection : Selection → Type 0
+NoticesTellSelection s =
+    (o : NoticeOptions) (highest : ℕ) (rows : List Row) → o.expunges ≡ true → AreAtMost highest rows
+    → KnowsRows rows (selection_after (selection_telling o rows highest s) s)
+
+-- a session that is told nothing is given no line
 abbrev pub UntoldIsSilent : Type 0
 UntoldIsSilent =
-    (o : NoticeOptions) (uids : List ℕ) (rows : List Row) (highest : ℕ) (selected : Option Selection)
-    → session_telling o rows highest selected ≡ None → session_lines o uids rows selected ≡ []
+    (o : NoticeOptions) (told : List ℕ) (rows : List Row) (highest : ℕ) (selected : Option Selection)
+    → session_telling o rows highest selected ≡ None → session_lines o told rows selected ≡ []
 
 -- a session that selects a mailbox is in step with it
 abbrev pub SelectingIsInStep : Type 0

@@ -1,126 +1,62 @@
 //! Changes of a known list.
 
-ghost use Rattle.std.specs.Prelude.{◌≡◌, ◌+◌, ◌≤◌, ◌++◌, ◌<◌, true, false, length, not, slice_set, vec_len};
+ghost use Rattle.std.specs.Prelude.{◌≡◌, ◌+◌, ◌≤◌, ◌++◌, length, not, vec_len};
 ghost use Rattle.std.specs.Vec.{vec_capacity};
-ghost use Rattle.imap_session.specs.Delta.{with_changes, without_places, list_after, AreChangedBelow, ArePlacesBelow};
-ghost use Rattle.imap_session.specs.Delta.{IsChangeOf};
-ghost use Rattle.imap_session.specs.Held.{list_in, are_staying, leaving_from};
+ghost use Rattle.imap_mailbox.specs.Rows.{is_among};
+ghost use Rattle.imap_mailbox.specs.Summary.{AreRising};
+ghost use Rattle.imap_session.specs.Delta.{without_uids, list_after, IsChangeOf};
 
-use crate::entry::{Entry, mark};
-use imap_mailbox::KnownMessage;
+use crate::uids::RisingUids;
 
-/// A message of a known list, as it becomes.
-#[derive(Drop)]
-pub struct ChangedMessage {
-    /// Its place in the known list: one less than its message sequence number.
-    pub place: usize,
-    pub message: KnownMessage,
-}
-
-/// A change of a known list, by places in the list from before.
+/// A change of a known list.
 #[derive(Drop)]
 pub struct Delta {
-    pub changed: Vec<ChangedMessage>,
-    /// The places of messages that leave.
-    pub gone: Vec<usize>,
-    /// The messages that come, which stand last.
-    pub added: Vec<KnownMessage>,
+    /// A message that stays is not as it was known. The list has its UID alone.
+    pub changed: bool,
+    /// The UIDs of messages that leave, rising.
+    pub gone: Vec<u32>,
+    /// The UIDs of messages that come, which stand last.
+    pub added: Vec<u32>,
 }
 
-/// Puts a changed message at its place.
-fn put(entries: &mut Vec<Entry>, change: ChangedMessage)
-    requires { change.place < length entries.old.items }
-    ensures items { entries.new.items
-        ≡ slice_set entries.old.items change.place (record { message = change.message; leaving = false }) }
-    ensures len { vec_len entries.new ≡ vec_len entries.old }
-    ensures capacity { vec_capacity entries.new ≡ vec_capacity entries.old }
+/// Removes the UIDs that are among `gone`, in one pass.
+fn remove_all(uids: &mut Vec<u32>, gone: &[u32])
+    requires { AreRising gone.now }
+    ensures list { uids.new.items ≡ without_uids gone.now uids.old.items }
+    ensures len { vec_len uids.new ≤ vec_len uids.old }
+    ensures capacity { vec_capacity uids.new ≡ vec_capacity uids.old }
 {
-    let ChangedMessage { place, message } = change;
-    entries[place] = Entry {
-        message,
-        leaving: false,
-    };
-}
-
-/// Puts each changed message at its place.
-fn put_all(entries: &mut Vec<Entry>, changed: Vec<ChangedMessage>)
-    requires places { AreChangedBelow (length entries.old.items) changed.items }
-    requires staying { are_staying entries.old.items ≡ true }
-    ensures list { list_in entries.new.items ≡ with_changes changed.items (list_in entries.old.items) }
-    ensures staying { are_staying entries.new.items ≡ true }
-    ensures len { vec_len entries.new ≡ vec_len entries.old }
-    ensures capacity { vec_capacity entries.new ≡ vec_capacity entries.old }
-{
-    for change in changed {
-        put(entries, change);
-    }
-}
-
-/// Notes of the entries at these places that they are about to be removed.
-fn mark_all(entries: &mut Vec<Entry>, places: &[usize])
-    requires { ArePlacesBelow (length entries.old.items) places.now }
-    ensures entries { entries.new.items ≡ leaving_from 0 places.now entries.old.items }
-    ensures len { vec_len entries.new ≡ vec_len entries.old }
-    ensures capacity { vec_capacity entries.new ≡ vec_capacity entries.old }
-{
-    for place in places {
-        mark(&mut entries[*place]);
-    }
-}
-
-/// Removes the entries at these places, in one pass.
-fn remove_all(entries: &mut Vec<Entry>, places: &[usize])
-    requires places { ArePlacesBelow (length entries.old.items) places.now }
-    requires staying { are_staying entries.old.items ≡ true }
-    ensures list { list_in entries.new.items ≡ without_places 0 places.now (list_in entries.old.items) }
-    ensures staying { are_staying entries.new.items ≡ true }
-    ensures len { vec_len entries.new ≤ vec_len entries.old }
-    ensures capacity { vec_capacity entries.new ≡ vec_capacity entries.old }
-{
-    if places.is_empty() {
+    if gone.is_empty() {
         return;
     }
-    mark_all(entries, places);
-    entries.retain(
-        |entry: &Entry| -> bool
-            ensures { result ≡ not entry.now.leaving }
-        { !entry.leaving },
+    let gone = RisingUids { uids: gone };
+    uids.retain(
+        |uid: &u32| -> bool
+            ensures { result ≡ not (is_among uid.now gone.entry) }
+        { !gone.contains(*uid) },
     );
 }
 
-/// Appends the messages, in room that is there.
-fn push_all(entries: &mut Vec<Entry>, added: Vec<KnownMessage>)
-    requires room { vec_len entries.old + length added.items ≤ vec_capacity entries.old }
-    requires staying { are_staying entries.old.items ≡ true }
-    ensures list { list_in entries.new.items ≡ list_in entries.old.items ++ added.items }
-    ensures staying { are_staying entries.new.items ≡ true }
-    ensures len { vec_len entries.new ≡ vec_len entries.old + length added.items }
-    ensures capacity { vec_capacity entries.new ≡ vec_capacity entries.old }
+/// Appends the UIDs, in room that is there.
+fn push_all(uids: &mut Vec<u32>, added: &[u32])
+    requires { vec_len uids.old + length added.now ≤ vec_capacity uids.old }
+    ensures list { uids.new.items ≡ uids.old.items ++ added.now }
+    ensures len { vec_len uids.new ≡ vec_len uids.old + length added.now }
+    ensures capacity { vec_capacity uids.new ≡ vec_capacity uids.old }
 {
-    for message in added {
-        entries.push_reserved(Entry {
-            message,
-            leaving: false,
-        });
+    for uid in added {
+        uids.push_reserved(*uid);
     }
 }
 
 /// Makes a change, in room that is there.
-pub(crate) fn change_entries(entries: &mut Vec<Entry>, delta: Delta)
-    requires change { IsChangeOf (list_in entries.old.items) delta }
-    requires staying { are_staying entries.old.items ≡ true }
-    requires room { vec_len entries.old + length delta.added.items ≤ vec_capacity entries.old }
-    ensures list { list_in entries.new.items ≡ list_after delta (list_in entries.old.items) }
-    ensures staying { are_staying entries.new.items ≡ true }
-    ensures len { vec_len entries.new ≤ vec_len entries.old + length delta.added.items }
-    ensures capacity { vec_capacity entries.new ≡ vec_capacity entries.old }
+pub(crate) fn change_uids(uids: &mut Vec<u32>, delta: &Delta)
+    requires change { IsChangeOf uids.old.items delta.now }
+    requires room { vec_len uids.old + length delta.now.added.items ≤ vec_capacity uids.old }
+    ensures list { uids.new.items ≡ list_after delta.now uids.old.items }
+    ensures len { vec_len uids.new ≤ vec_len uids.old + length delta.now.added.items }
+    ensures capacity { vec_capacity uids.new ≡ vec_capacity uids.old }
 {
-    let Delta {
-        changed,
-        gone,
-        added,
-    } = delta;
-    put_all(entries, changed);
-    remove_all(entries, gone.as_slice());
-    push_all(entries, added);
+    remove_all(uids, delta.gone.as_slice());
+    push_all(uids, delta.added.as_slice());
 }

@@ -1,41 +1,40 @@
 //! The messages that a session knows.
 //!
-//! If the last known message has its UID at its place in the mailbox, and those before it have lower UIDs,
+//! If the last known UID is that of the message at its place in the mailbox, and messages before it have lower UIDs,
 //! all known ones are there. Then mod-sequences alone are compared.
 
-ghost use Rattle.std.specs.Prelude.{◌≡◌, ◌+◌, ◌<◌, ◌≤◌, [], length, map, nat_lt, slice_index_or, IfOk, OnOk};
+ghost use Rattle.std.specs.Prelude.{◌≡◌, ◌+◌, ◌<◌, ◌≤◌, [], length, nat_lt, slice_index_or, IfOk, OnOk};
 ghost use Rattle.std.specs.List.{prefix_len};
-ghost use Rattle.imap_mailbox.specs.Lent.{place_in};
-ghost use Rattle.imap_mailbox.specs.Brought.{told_of, known_uids};
+ghost use Rattle.imap_mailbox.specs.Lent.{place_in, row_uids};
 ghost use Rattle.imap_session.specs.Delta.{list_after, IsChangeOf};
-ghost use Rattle.imap_session.specs.Held.{list_in, UidsRise};
+ghost use Rattle.imap_session.specs.Held.{UidsRise};
 
-use crate::delta::{Delta, change_entries};
-use crate::entry::{Entry, copy_entries, count_lower, entries_of, find_entry};
-use crate::shared_entries::{Place, make_own, reserve_in, share_in, shared};
-use imap_mailbox::{KnownMessage, Rows};
+use crate::delta::{Delta, change_uids};
+use crate::shared_uids::{Place, make_own, reserve_in, share_in, shared};
+use crate::uids::{copy_uids, count_lower, find_uid, uids_of};
+use imap_mailbox::Rows;
 use std::alloc::{AllocError, Global};
 use std::marker::Model;
 use std::sync::Arc;
 
-/// The messages of the selected mailbox as a session was told of them last, by their message sequence
-/// numbers. Their UIDs rise. Copies share them until they change.
+/// The UIDs of the messages of the selected mailbox that a session was told of last, by their message sequence
+/// numbers. They rise. Copies share them until they change.
 #[derive(Drop)]
 pub struct KnownList {
     place: Place,
 }
 
 impl Model for KnownList {
-    ghost use Rattle.imap_session.specs.Held.{HeldList, held_code, list_in, AreKept};
-    ghost use Rattle.imap_session.specs.Shared.{items_in, room_at};
+    ghost use Rattle.imap_session.specs.Held.{HeldList, held_code, UidsRise};
+    ghost use Rattle.imap_session.specs.Shared.{uids_in, room_at};
 
     ghost Value = { HeldList };
 
     ghost coded = { held_code };
 
-    ghost view = { λ k. record { list = list_in (items_in k.place); room = room_at k.place } };
+    ghost view = { λ k. record { list = uids_in k.place; room = room_at k.place } };
 
-    ghost invariant = { λ k. AreKept (items_in k.place) };
+    ghost invariant = { λ k. UidsRise (uids_in k.place) };
 }
 
 impl KnownList {
@@ -50,35 +49,34 @@ impl KnownList {
 
     /// Returns the list of a session that was told of all messages, as by SELECT (RFC 9051, section 6.3.2).
     pub fn of_rows(alloc: Global, rows: &Rows<'_>) -> Result<KnownList, AllocError>
-        requires { UidsRise (map told_of rows.now) }
-        ensures { IfOk result (λ known. known.list ≡ map told_of rows.now) }
+        requires { UidsRise (row_uids rows.now) }
+        ensures { IfOk result (λ known. known.list ≡ row_uids rows.now) }
     {
-        let entries = entries_of(alloc, rows)?;
+        let uids = uids_of(alloc, rows)?;
         Ok(KnownList {
-            place: shared(alloc, entries)?,
+            place: shared(alloc, uids)?,
         })
     }
 
-    /// Returns a copy, which shares the messages if they are shared already, and else keywords. Its room may be
-    /// another.
+    /// Returns a copy, which shares the UIDs if they are shared already. Its room may be another.
     pub fn try_copy(&self, alloc: Global) -> Result<KnownList, AllocError>
         ensures { IfOk result (λ copy. copy.list ≡ self.now.list) }
     {
         let place = match &self.place {
-            Place::Own(entries, _) => shared(alloc, copy_entries(alloc, entries.as_slice())?)?,
-            Place::Shared(entries) => Place::Shared(Arc::try_clone(entries)?),
+            Place::Own(uids, _) => shared(alloc, copy_uids(alloc, uids.as_slice())?)?,
+            Place::Shared(uids) => Place::Shared(Arc::try_clone(uids)?),
         };
         Ok(KnownList { place })
     }
 
-    /// The entries.
-    pub(crate) fn entries(&self) -> &[Entry]
-        ensures list { list_in result.now ≡ self.now.list }
+    /// The UIDs.
+    pub(crate) fn uids(&self) -> &[u32]
+        ensures list { result.now ≡ self.now.list }
         ensures valid { UidsRise self.now.list }
     {
         match &self.place {
-            Place::Own(entries, _) => entries.as_slice(),
-            Place::Shared(entries) => entries.as_slice(),
+            Place::Own(uids, _) => uids.as_slice(),
+            Place::Shared(uids) => uids.as_slice(),
         }
     }
 
@@ -87,35 +85,35 @@ impl KnownList {
         ensures count { result ≡ length self.now.list }
         ensures valid { UidsRise self.now.list }
     {
-        self.entries().len()
+        self.uids().len()
     }
 
-    /// The message at `place`, from 0: one less than its message sequence number.
-    pub fn get(&self, place: usize) -> &KnownMessage
+    /// The UID of the message at `place`, from 0: one less than its message sequence number.
+    pub fn uid(&self, place: usize) -> u32
         requires { place < length self.now.list }
-        ensures { result.now ≡ slice_index_or self.now.list place result.now }
+        ensures { result ≡ slice_index_or self.now.list place result }
     {
-        &self.entries()[place].message
+        self.uids()[place]
     }
 
     /// The number of messages with a lower UID, by a search that halves. It is the place of the first message
     /// with this UID or a greater one.
     pub fn place_from(&self, uid: u32) -> usize
-        ensures place { result ≡ prefix_len (λ k. nat_lt k.uid uid) self.now.list }
+        ensures place { result ≡ prefix_len (λ u. nat_lt u uid) self.now.list }
         ensures within { result ≤ length self.now.list }
     {
-        count_lower(self.entries(), uid)
+        count_lower(self.uids(), uid)
     }
 
     /// The place of the message with the UID, by a search that halves.
     pub fn place_of(&self, uid: u32) -> Option<usize>
-        ensures { result ≡ place_in uid (known_uids self.now.list) }
+        ensures { result ≡ place_in uid self.now.list }
     {
-        find_entry(self.entries(), uid)
+        find_uid(self.uids(), uid)
     }
 
     /// Makes room: none is taken by a list that stays. A change takes one more than the number of messages that
-    /// come. Copies messages that are shared.
+    /// come. Copies UIDs that are shared.
     pub fn reserve(&mut self, room: usize) -> Result<(), AllocError>
         ensures list { self.new.list ≡ self.old.list }
         ensures ok { OnOk result (room ≤ self.new.room) }
@@ -136,12 +134,12 @@ impl KnownList {
         ensures room { self.old.room ≤ self.new.room + length delta.added.items }
     {
         match &mut self.place {
-            Place::Own(entries, _) => change_entries(entries, delta),
+            Place::Own(uids, _) => change_uids(uids, &delta),
             Place::Shared(_) => {}
         }
     }
 
-    /// Lets copies share the messages, and gives up the room.
+    /// Lets copies share the UIDs, and gives up the room.
     pub fn share(&mut self)
         ensures { self.new.list ≡ self.old.list }
     {

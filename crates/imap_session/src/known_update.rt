@@ -26,7 +26,7 @@ impl Model for KnownUpdate {
 }
 
 impl KnownUpdate {
-    /// Returns the change with the mod-sequence, or `None` if the known list stays.
+    /// Returns the change with the mod-sequence, or `None` if no message changed, left or came.
     pub(crate) fn if_any(delta: Delta, up_to: u64) -> Option<KnownUpdate>
         ensures { result ≡ if_any (telling_of delta up_to) }
     {
@@ -37,7 +37,7 @@ impl KnownUpdate {
     fn is_empty(&self) -> bool
         ensures { result ≡ is_empty self.now }
     {
-        let none_changed = self.delta.changed.is_empty();
+        let none_changed = !self.delta.changed;
         let none_gone = self.delta.gone.is_empty();
         let none_added = self.delta.added.is_empty();
         none_changed && (none_gone && none_added)

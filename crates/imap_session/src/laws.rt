@@ -1,34 +1,46 @@
 //! What holds of notices and known lists.
 ghost use Rattle.imap_session.specs.Laws.{ToldIsThere, ToldIfDifferent, AllKnownIsQuiet, AlikeIsToldAlike};
-ghost use Rattle.imap_session.specs.Laws.{ChangesAreApplied, ToldOnce, NoneIsRetold};
+ghost use Rattle.imap_session.specs.Laws.{ChangesAreApplied, ToldOnce};
+ghost use Rattle.imap_session.specs.ByUid.{LaterByUid};
 ghost use Rattle.imap_session.specs.InStep.{InStepIsQuiet, NoticesKeepInStep};
 ghost use Rattle.imap_session.specs.Following.{ClientFollows, ClientHoldsMailbox};
 ghost use Rattle.imap_session.specs.Told.{NotesWhatIsTold, NoticesKeepSelectionInStep, NoticesTellSelection};
 ghost use Rattle.imap_session.specs.Told.{UntoldIsSilent, SelectingIsInStep};
+ghost use Rattle.imap_session.specs.State.{selection_of};
+
+use crate::known_list::KnownList;
+use crate::session::Selected;
 
 /// If expunges may be told, the session knows the messages of the mailbox after notices.
 pub fn told_is_there()
     ensures { ToldIsThere }
 {}
 
-/// Nothing is told exactly if nothing differs: then the known list stays.
+/// Nothing is told exactly if nothing differs: then the known list stays, and no message is changed.
 pub fn told_if_different()
     ensures { ToldIfDifferent }
 {}
 
-/// A session that knows all messages of the mailbox is told nothing.
+/// A session that knows all messages of the mailbox, and was told all of them, is told nothing.
 pub fn all_known_is_quiet()
     ensures { AllKnownIsQuiet }
 {}
 
-/// Notices depend on the known list, and on the UIDs, flags and mod-sequences of the rows, alone.
+/// Notices depend on what the session knows, and on the UIDs, flags and mod-sequences of the rows, alone.
 pub fn alike_is_told_alike()
     ensures { AlikeIsToldAlike }
 {}
 
-/// The change by places that notices make gives what the session knows after them.
-pub fn changes_are_applied()
-    ensures { ChangesAreApplied }
+/// The change that notices make of a known list gives what the session knows after them.
+pub fn changes_are_applied(known: &KnownList)
+    ensures { ChangesAreApplied known.now.list }
+{
+    let _ = known.len();
+}
+
+/// Who was brought up to a mod-sequence stays so while the mailbox changes.
+pub fn later_by_uid()
+    ensures { LaterByUid }
 {}
 
 /// A session in step that was told all up to HIGHESTMODSEQ has nothing to be told, but for expunges that were
@@ -45,8 +57,8 @@ pub fn notices_keep_in_step()
 /// A client that follows EXPUNGE or VANISHED, EXISTS and FETCH lines holds what the session knows. Of messages
 /// that EXISTS alone tells it knows that they are there.
 ///
-/// This is said of one step of notices. It asks that the client held all that the session knew before, the flags of
-/// each message too, which it doesn't of a message that only EXISTS told it of.
+/// This is said of one step of notices. It asks that the client held the UIDs that the session knew, and the flags of
+/// messages that didn't change since, which it doesn't of a message that only EXISTS told it of.
 pub fn client_follows()
     ensures { ClientFollows }
 {}
@@ -57,14 +69,9 @@ pub fn client_holds_mailbox()
     ensures { ClientHoldsMailbox }
 {}
 
-/// What a command's own lines told is not told again, and is known in the end.
+/// What a command's own lines told is not told again, and all else is.
 pub fn told_once()
     ensures { ToldOnce }
-{}
-
-/// Without lines of its own a command tells all.
-pub fn none_is_retold()
-    ensures { NoneIsRetold }
 {}
 
 /// [`crate::Session::tell`] notes what the session is told of the selected mailbox.
@@ -78,12 +85,15 @@ pub fn session_stays_in_step()
     ensures { NoticesKeepSelectionInStep }
 {}
 
-/// If expunges may be told, a session knows the messages of its mailbox after [`crate::Session::notices`].
-pub fn session_knows_mailbox()
-    ensures { NoticesTellSelection }
-{}
+/// If expunges may be told, a session knows the messages of its mailbox after [`crate::Session::notices`], and was
+/// told all of each.
+pub fn session_knows_mailbox(selected: &Selected)
+    ensures { NoticesTellSelection (selection_of selected.now) }
+{
+    let _ = selected.known.len();
+}
 
-/// A session whose known list stays is given no line.
+/// A session that is told nothing is given no line.
 pub fn untold_session_is_silent()
     ensures { UntoldIsSilent }
 {}

@@ -2,7 +2,7 @@
 //!
 //! A [`Session`] has what it selected and enabled. [`Session::notices`] finds what it is told at the end of a
 //! command, and [`Session::tell`] notes that without memory.
-//! A [`KnownList`] holds the messages of the selected mailbox as the session was told of them last.
+//! A [`KnownList`] holds the UIDs of the messages of the selected mailbox that the session was told of last.
 //! [`KnownList::notices`] finds the difference to the messages that are there: untagged lines, and a
 //! [`Delta`] of the known list, which [`KnownList::apply`] makes without memory. The messages come from a
 //! [`RowCursor`]: those that are there ([`MailboxRows`]), or those that will be there after a change.
@@ -10,7 +10,6 @@
 #![tactic(auto)]
 
 mod delta;
-mod entry;
 mod fetch_lines;
 mod known_list;
 mod known_update;
@@ -26,10 +25,11 @@ mod select;
 mod selection;
 mod session;
 mod session_notices;
-mod shared_entries;
+mod shared_uids;
+mod uids;
 mod walk;
 
-pub use delta::{ChangedMessage, Delta};
+pub use delta::Delta;
 pub use known_list::KnownList;
 pub use known_update::KnownUpdate;
 pub use lines::{fetch_line, flag_set};

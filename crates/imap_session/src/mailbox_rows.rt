@@ -1,7 +1,7 @@
 //! The messages that are there.
 
 ghost use Rattle.std.specs.Prelude.{◌≡◌, ◌+◌, ◌^◌, ◌<◌, ◌≤◌, ℕ, drop, length, IsTrue};
-ghost use Rattle.imap_mailbox.specs.Brought.{Agree};
+ghost use Rattle.imap_session.specs.ByUid.{AgreeByUid};
 ghost use Rattle.imap_session.specs.Cursors.{AreFirst};
 
 use crate::known_list::KnownList;
@@ -47,13 +47,13 @@ fn are_there(rows: &Rows<'_>, start: usize, known: &KnownList, place: usize, len
     requires fits { place + len < 2 ^ 64 }
     ensures within { IsTrue result → start + len ≤ length rows.now }
     ensures there { IsTrue result → (number : ℕ)
-        → Agree number (drop place known.now.list) (drop start rows.now)
+        → AgreeByUid number (drop place known.now.list) (drop start rows.now)
         → AreFirst len (drop place known.now.list) (drop start rows.now) }
 {
     if rows.len().saturating_sub(start) < len {
         return false;
     }
-    let last = known.get(place + len - 1).uid;
+    let last = known.uid(place + len - 1);
     let end = start + len - 1;
     last == rows.uid(end) && rows.place_from(last) == end
 }
@@ -63,7 +63,7 @@ fn are_there(rows: &Rows<'_>, start: usize, known: &KnownList, place: usize, len
 fn len_there(rows: &Rows<'_>, start: usize, known: &KnownList, place: usize) -> usize
     ensures within { 0 < result → start + result ≤ length rows.now }
     ensures there { (number : ℕ)
-        → Agree number (drop place known.now.list) (drop start rows.now)
+        → AgreeByUid number (drop place known.now.list) (drop start rows.now)
         → AreFirst result (drop place known.now.list) (drop start rows.now) }
 {
     let mut len = known.len().saturating_sub(place);
@@ -111,6 +111,10 @@ impl<'a> RowCursor for MailboxRows<'a> {
         let run = next - self.place;
         self.place = next;
         run
+    }
+
+    fn uid(&self) -> u32 {
+        self.rows.uid(self.place)
     }
 
     fn message(&self, alloc: Global) -> Result<KnownMessage, AllocError> {

@@ -5,7 +5,7 @@
 //! each row up to what was told is known. One look stands for all of them. If it is another one, half of
 //! the run is tried.
 
-ghost use Rattle.std.specs.Prelude.{◌≡◌, ℕ, [], ◌++◌, true, IfOk, if◌then◌else◌};
+ghost use Rattle.std.specs.Prelude.{◌≡◌, ℕ, [], ◌++◌, true, false, IfOk, if◌then◌else◌};
 ghost use Rattle.imap_print.specs.declared.response.Response.TheVariants as response;
 ghost use Rattle.std.specs.List.{AllByRecursion};
 ghost use Rattle.imap_print.specs.Lines.{IsPrintable};
@@ -13,7 +13,6 @@ ghost use Rattle.imap_print.specs.Sets.{rise_above};
 ghost use Rattle.imap_mailbox.specs.Shown.{Content};
 ghost use Rattle.imap_mailbox.specs.Summary.{AreRising};
 ghost use Rattle.imap_session.specs.Notices.{notices, vanished_line};
-ghost use Rattle.imap_session.specs.Retold.{retold};
 ghost use Rattle.imap_session.specs.Delta.{IsDeltaOf, Brings};
 ghost use Rattle.imap_session.specs.InStep.{IsInStep};
 
@@ -22,7 +21,7 @@ use crate::known_list::KnownList;
 use crate::lines::{vanished_lines, with_exists};
 use crate::options::NoticeOptions;
 use crate::row_cursor::RowCursor;
-use crate::walk::{Walk, compare, messages_left};
+use crate::walk::{Walk, compare, uids_left};
 use imap_print::Response;
 use std::alloc::{AllocError, Global};
 
@@ -54,8 +53,8 @@ impl KnownList {
         requires step { (c : Content) × IsInStep up_to highest self.now.list (C.rest rows.old) c }
         requires told { AreRising told.now }
         ensures lines { IfOk result (λ n. n.lines.items
-            ≡ notices options.now (retold told.now self.now.list (C.rest rows.old)) (C.rest rows.old)) }
-        ensures delta { IfOk result (λ n. IsDeltaOf options.now self.now.list (C.rest rows.old) n.delta) }
+            ≡ notices options.now up_to told.now self.now.list (C.rest rows.old)) }
+        ensures delta { IfOk result (λ n. IsDeltaOf options.now up_to self.now.list (C.rest rows.old) n.delta) }
         ensures brings { IfOk result (λ n. Brings options.now self.now.list (C.rest rows.old) n.delta) }
         ensures printable { IfOk result (λ n. AllByRecursion IsPrintable n.lines.items) }
     {
@@ -68,14 +67,14 @@ impl KnownList {
 
 fn no_notices(alloc: Global) -> Notices
     ensures lines { result.lines.items ≡ [] }
-    ensures changed { result.delta.changed.items ≡ [] }
+    ensures changed { result.delta.changed ≡ false }
     ensures gone { result.delta.gone.items ≡ [] }
     ensures added { result.delta.added.items ≡ [] }
 {
     Notices {
         lines: Vec::new(alloc),
         delta: Delta {
-            changed: Vec::new(alloc),
+            changed: false,
             gone: Vec::new(alloc),
             added: Vec::new(alloc),
         },
@@ -95,13 +94,13 @@ fn find_notices<C: RowCursor>(
         × IsInStep up_to highest known.now.list (C.rest rows.old) c) }
     requires told { AreRising told.now }
     ensures lines { IfOk result (λ n. n.lines.items
-        ≡ notices options.now (retold told.now known.now.list (C.rest rows.old)) (C.rest rows.old)) }
-    ensures delta { IfOk result (λ n. IsDeltaOf options.now known.now.list (C.rest rows.old) n.delta) }
+        ≡ notices options.now up_to told.now known.now.list (C.rest rows.old)) }
+    ensures delta { IfOk result (λ n. IsDeltaOf options.now up_to known.now.list (C.rest rows.old) n.delta) }
     ensures brings { IfOk result (λ n. Brings options.now known.now.list (C.rest rows.old) n.delta) }
     ensures printable { IfOk result (λ n. AllByRecursion IsPrintable n.lines.items) }
 {
     let walk = compare(alloc, known, rows, up_to, options, told)?;
-    let added = messages_left(alloc, rows)?;
+    let added = uids_left(alloc, rows)?;
     let Walk {
         number,
         gone,

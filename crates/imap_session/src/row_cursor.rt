@@ -2,7 +2,8 @@
 
 ghost use Rattle.std.specs.Prelude.{◌≡◌, ◌<◌, ◌∷◌, List, length, drop, IfOk, if◌then◌else◌};
 ghost use Rattle.imap_mailbox.specs.Rows.{Row};
-ghost use Rattle.imap_mailbox.specs.Brought.{Agree, told_of};
+ghost use Rattle.imap_mailbox.specs.Brought.{told_of};
+ghost use Rattle.imap_session.specs.ByUid.{AgreeByUid};
 ghost use Rattle.imap_session.specs.Cursors.{is_next, is_unchanged, IsKnownRun};
 
 use crate::known_list::KnownList;
@@ -28,13 +29,18 @@ pub trait RowCursor {
         ensures unchanged { result ≡ is_unchanged uid number (rest self.old) }
         ensures rest { rest self.new ≡ (if result then drop 1 (rest self.old) else rest self.old) };
 
-    /// Moves past next messages that are as `known` has them from `place` on, and returns how many: a run of
-    /// which this is quick to tell without a look at each, and which may be shorter than it could be, or 0. The
-    /// session was told all up to the mod-sequence `number`.
+    /// Moves past next messages that have the UIDs of `known` from `place` on, and mod-sequences that aren't above
+    /// `number`, and returns how many: a run of which this is quick to tell without a look at each, and which may
+    /// be shorter than it could be, or 0. The session was told all up to the mod-sequence `number`.
     fn skip_known(&mut self, known: &KnownList, place: usize, number: u64) -> usize
-        requires agree { Agree number (drop place known.now.list) (rest self.old) }
-        ensures known { IsKnownRun result (drop place known.now.list) (rest self.old) }
+        requires agree { AgreeByUid number (drop place known.now.list) (rest self.old) }
+        ensures known { IsKnownRun number result (drop place known.now.list) (rest self.old) }
         ensures rest { rest self.new ≡ drop result (rest self.old) };
+
+    /// Returns the UID of the next message.
+    fn uid(&self) -> u32
+        requires { 0 < length (rest self.now) }
+        ensures { (r : Row) (later : List Row) → rest self.now ≡ r ∷ later → result ≡ r.uid };
 
     /// Returns what a session is told of the next message.
     fn message(&self, alloc: Global) -> Result<KnownMessage, AllocError>

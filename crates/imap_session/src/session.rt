@@ -53,7 +53,7 @@ impl Session {
         }
     }
 
-    /// Returns a copy that shares keywords and the texts of names. Its room may be another.
+    /// Returns a copy that shares the texts of names. Its room may be another.
     pub fn try_copy(&self, alloc: Global) -> Result<Session, AllocError>
         ensures { IfOk result (λ copy. state_of copy ≡ state_of self.now) }
     {

@@ -1,8 +1,6 @@
 -- The known messages of a set, one after another.
 use Rattle.std.proofs.Common.{◌≡◌, ℕ, zero, suc, ◌+◌, ◌<◌, ◌≤◌, Bool, true, false, cond, List, [], ◌∷◌, ◌++◌, append_assoc, add-one, drop, drop-cons, get_or, length, refl, sym, ap, subst, ◌∙◌, arith}
 use Rattle.std.proofs.lemmas.List.{append-nil}
-use Rattle.imap_mailbox.specs.declared.known.KnownMessage.{KnownMessage}
-use Rattle.imap_mailbox.specs.Brought.{known_uids}
 use Rattle.imap_mailbox.specs.Rows.{first_uid}
 use Rattle.imap_mailbox.specs.Summary.{AreRising, Rises}
 use Rattle.imap_mailbox.proofs.Rising.{rises_lower}
@@ -16,22 +14,17 @@ use Rattle.imap_targets.specs.Spans.{named_in}
 
 -- ---- the messages of a set rise, as those that are known do
 
-pub named_rise : (by : Numbering) (last : ℕ) (ranges : List SeqRange) (low high n : ℕ) (known : List KnownMessage) → Rises low high (known_uids known) → Rises low high (uids_of (messages_from by last ranges n known))
+pub named_rise : (by : Numbering) (last : ℕ) (ranges : List SeqRange) (low high n : ℕ) (known : List ℕ) → Rises low high known → Rises low high (uids_of (messages_from by last ranges n known))
 named_rise by last ranges low high n [] h = h
 named_rise by last ranges low high n (k ∷ known) h =
-    either (in_set last ranges (number_by by (record { number = n; uid = k.uid }))) (named_rise by last ranges (k.uid + 1) high (n + 1) known h.1)
+    either (in_set last ranges (number_by by (record { number = n; uid = k }))) (named_rise by last ranges (k + 1) high (n + 1) known h.1)
   where
-    either : (b : Bool) → Rises (k.uid + 1) high (uids_of (messages_from by last ranges (n + 1) known))
-        → Rises low high (uids_of (cond b (record { number = n; uid = k.uid } ∷ messages_from by last ranges (n + 1) known) (messages_from by last ranges (n + 1) known)))
+    either : (b : Bool) → Rises (k + 1) high (uids_of (messages_from by last ranges (n + 1) known))
+        → Rises low high (uids_of (cond b (record { number = n; uid = k } ∷ messages_from by last ranges (n + 1) known) (messages_from by last ranges (n + 1) known)))
     either true rest = (h.0, rest)
-    either false rest = let at : low ≤ k.uid = h.0 in rises_lower (k.uid + 1) low high (uids_of (messages_from by last ranges (n + 1) known)) (omega arith) rest
+    either false rest = let at : low ≤ k = h.0 in rises_lower (k + 1) low high (uids_of (messages_from by last ranges (n + 1) known)) (omega arith) rest
 
-known_at_index : (known : List KnownMessage) (index : ℕ) → index < length known → (d : KnownMessage) × (d ≡ get_or known index d)
-known_at_index [] index within = absurd (omega (arith, within))
-known_at_index (k ∷ known) zero within = (k, refl)
-known_at_index (k ∷ known) (suc index) within = known_at_index known index (omega (arith, within))
-
-module _ (m : MessageNumbers) (known : List KnownMessage) where
+module _ (m : MessageNumbers) (known : List ℕ) where
   abbrev later : ℕ → List Numbered
   later index = messages_from m.numbering m.last m.ranges.now (index + 1) (drop index known)
 
@@ -53,16 +46,13 @@ module _ (m : MessageNumbers) (known : List KnownMessage) where
         (named_rise m.numbering m.last m.ranges.now first_uid uid_limit 1 known rise),
   )
 
-  module _ (index : ℕ) (one : Numbered) (within : index < length known) (number : one.number ≡ index + 1) (is : (d : KnownMessage) → d ≡ get_or known index d → one.uid ≡ d.uid) where
-    abbrev front : ℕ → ℕ → List KnownMessage → List Numbered
+  module _ (index : ℕ) (one : Numbered) (within : index < length known) (number : one.number ≡ index + 1) (is : one.uid ≡ get_or known index one.uid) where
+    abbrev front : ℕ → ℕ → List ℕ → List Numbered
     front n uid rest = let x : Numbered = record { number = n; uid = uid } in
         cond (in_set m.last m.ranges.now (number_by m.numbering x)) (x ∷ messages_from m.numbering m.last m.ranges.now (index + 1 + 1) rest) (messages_from m.numbering m.last m.ranges.now (index + 1 + 1) rest)
 
     ahead : later index ≡ front one.number one.uid (drop (index + 1) known)
-    ahead =
-        let at = known_at_index known index within in
-        let uid : one.uid ≡ (get_or known index at.0).uid = is at.0 at.1 ∙ ap (λ (k : KnownMessage). k.uid) at.1 in
-        ap (messages_from m.numbering m.last m.ranges.now (index + 1)) (drop-cons known index at.0 within) ∙ λ j. front (sym number j) (sym uid j) (drop (sym (add-one index) j) known)
+    ahead = ap (messages_from m.numbering m.last m.ranges.now (index + 1)) (drop-cons known index one.uid within) ∙ λ j. front (sym number j) (sym is j) (drop (sym (add-one index) j) known)
 
     pub skipped : (named : List Numbered) → in_set m.last m.ranges.now (number_by m.numbering one) ≡ false → IsListed index named → IsListed (index + 1) named
     skipped named unnamed before = record {

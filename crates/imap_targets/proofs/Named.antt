@@ -3,8 +3,6 @@ use Rattle.std.proofs.Common.{◌≡◌, ℕ, zero, suc, ◌+◌, ◌-◌, ◌<�
 use Rattle.std.specs.Prelude.{nat_lt}
 use Rattle.std.proofs.lemmas.Bool.{eq-eqb, ne_eqb}
 use Rattle.std.proofs.lemmas.List.{length-map}
-use Rattle.imap_mailbox.specs.declared.known.KnownMessage.{KnownMessage}
-use Rattle.imap_mailbox.specs.Brought.{known_uids}
 use Rattle.imap_mailbox.specs.Lent.{place_in, row_uids}
 use Rattle.imap_mailbox.specs.Rows.{Row}
 use Rattle.imap_mailbox.specs.Summary.{Rises}
@@ -12,24 +10,24 @@ use Rattle.imap_mailbox.proofs.Finding.{at_least, inside}
 use Rattle.imap_session.specs.Held.{UidsRise, uid_limit}
 use Rattle.imap_session.proofs.Telling.{length_fits}
 use Rattle.imap_session.proofs.Worded.{row_at as standing}
-use Rattle.imap_targets.specs.MessageNumbers.{is_unchanged, known_with, last_uid, row_with}
+use Rattle.imap_targets.specs.MessageNumbers.{is_unchanged, last_uid, row_with}
 
 -- ---- the last UID
 
-pub none_is_last : (next : ℕ) (known : List KnownMessage) → length known ≡ 0 → next ≡ last_uid next known
+pub none_is_last : (next : ℕ) (known : List ℕ) → length known ≡ 0 → next ≡ last_uid next known
 none_is_last next [] e = refl
 none_is_last next (k ∷ known) e = absurd (omega (arith, e))
 
-pub last_is_last : (next : ℕ) (known : List KnownMessage) (d : KnownMessage) → 0 < length known → (get_or known (length known - 1) d).uid ≡ last_uid next known
+pub last_is_last : (next : ℕ) (known : List ℕ) (d : ℕ) → 0 < length known → get_or known (length known - 1) d ≡ last_uid next known
 last_is_last next [] d some = absurd (omega (arith, some))
 last_is_last next (k ∷ []) d some = refl
 last_is_last next (k ∷ l ∷ known) d some =
     let here : length (k ∷ l ∷ known) - 1 ≡ suc (length known) = omega arith in
     let there : length known ≡ length (l ∷ known) - 1 = omega arith in
-    ap (λ n. (get_or (k ∷ l ∷ known) n d).uid) here ∙ ap (λ n. (get_or (l ∷ known) n d).uid) there ∙ last_is_last k.uid (l ∷ known) d (omega arith)
+    ap (λ n. get_or (k ∷ l ∷ known) n d) here ∙ ap (λ n. get_or (l ∷ known) n d) there ∙ last_is_last k (l ∷ known) d (omega arith)
 
 -- so few that each has a number
-pub known_fit : (known : List KnownMessage) → UidsRise known → length known + 1 ≤ uid_limit
+pub known_fit : (known : List ℕ) → UidsRise known → length known + 1 ≤ uid_limit
 known_fit known rise = length_fits known uid_limit rise
 
 -- ---- a row by its UID
@@ -102,29 +100,3 @@ row_below uid low high (r ∷ rows) lt h =
     let at : low ≤ r.uid = h.0 in
     ap (λ b. cond b (Some r) (row_with uid rows)) (ne_eqb r.uid uid (λ e. omega (arith, e, at, lt)))
     ∙ row_below uid (r.uid + 1) high rows (omega (arith, at, lt)) h.1
-
--- ---- a known message by its UID
-
-known_by : (uid : ℕ) (b : Bool) (k d : KnownMessage) (known : List KnownMessage) (o : Option ℕ) (i : ℕ) → cond b (Some 0) (option_map (λ n. n + 1) o) ≡ Some i
-    → ((j : ℕ) → o ≡ Some j → known_with uid known ≡ Some (get_or known j d)) → cond b (Some k) (known_with uid known) ≡ Some (get_or (k ∷ known) i d)
-known_by uid true k d known o i e later = let z : 0 ≡ i = cc e in ap (λ n. Some (get_or (k ∷ known) n d)) z
-known_by uid false k d known None i e later = absurd (cc e)
-known_by uid false k d known (Some j) i e later =
-    let z : j + 1 ≡ i = cc e in let y : suc j ≡ i = omega (arith, z) in later j refl ∙ ap (λ n. Some (get_or (k ∷ known) n d)) y
-
-pub known_at : (uid : ℕ) (known : List KnownMessage) (i : ℕ) (d : KnownMessage) → place_in uid (known_uids known) ≡ Some i → known_with uid known ≡ Some (get_or known i d)
-known_at uid [] i d e = absurd (cc e)
-known_at uid (k ∷ known) i d e = known_by uid (eqb k.uid uid) k d known (place_in uid (known_uids known)) i e (λ j. known_at uid known j d)
-
-unknown_by : (uid : ℕ) (b : Bool) (k : KnownMessage) (known : List KnownMessage) (o : Option ℕ) → cond b (Some 0) (option_map (λ n. n + 1) o) ≡ None
-    → (o ≡ None → known_with uid known ≡ None) → cond b (Some k) (known_with uid known) ≡ None
-unknown_by uid true k known o e later = absurd (cc e)
-unknown_by uid false k known None e later = later refl
-unknown_by uid false k known (Some j) e later = absurd (cc e)
-
-pub known_nowhere : (uid : ℕ) (known : List KnownMessage) → place_in uid (known_uids known) ≡ None → known_with uid known ≡ None
-known_nowhere uid [] e = refl
-known_nowhere uid (k ∷ known) e = unknown_by uid (eqb k.uid uid) k known (place_in uid (known_uids known)) e (known_nowhere uid known)
-
-pub known_within : (uid : ℕ) (known : List KnownMessage) (i : ℕ) → place_in uid (known_uids known) ≡ Some i → i < length known
-known_within uid known i e = omega (arith, inside uid (known_uids known) i e, length-map known (λ (k : KnownMessage). k.uid))

@@ -4,8 +4,6 @@ use Rattle.std.specs.Prelude.{nat_le, nat_lt}
 use Rattle.std.specs.List.{prefix_len}
 use Rattle.std.proofs.lemmas.Bool.{leb-true, ltb-true, ltb-false}
 use Rattle.std.proofs.lemmas.List.{get_or-drop, length-drop}
-use Rattle.imap_mailbox.specs.declared.known.KnownMessage.{KnownMessage}
-use Rattle.imap_mailbox.specs.Brought.{known_uids}
 use Rattle.imap_mailbox.specs.Summary.{Rises}
 use Rattle.imap_session.specs.Held.{UidsRise}
 use Rattle.imap_syntax.specs.declared.set.Numbering.{Numbering}
@@ -69,12 +67,12 @@ unnamed last low high n ranges bounds out = by (in_set last ranges n) refl
 
 -- ---- along the known list
 
-module _ (by : Numbering) (last : ℕ) (ranges : List SeqRange) (known : List KnownMessage) where
+module _ (by : Numbering) (last : ℕ) (ranges : List SeqRange) (known : List ℕ) where
   -- none of the first messages is named
-  skipped_to : (i : ℕ) (d : KnownMessage) → i ≤ length known → ((k : ℕ) → k < i → in_set last ranges (name_at by known k d) ≡ false) → messages_from by last ranges (i + 1) (drop i known) ≡ messages_from by last ranges 1 known
+  skipped_to : (i : ℕ) (d : ℕ) → i ≤ length known → ((k : ℕ) → k < i → in_set last ranges (name_at by known k d) ≡ false) → messages_from by last ranges (i + 1) (drop i known) ≡ messages_from by last ranges 1 known
   skipped_to zero d le none = refl
   skipped_to (suc i) d le none =
-      let m : Numbered = record { number = i + 1; uid = (get_or known i d).uid } in
+      let m : Numbered = record { number = i + 1; uid = get_or known i d } in
       sym (
       ap (messages_from by last ranges (i + 1)) (drop-cons known i d (omega arith))
       ∙ ap (λ b. cond b (m ∷ messages_from by last ranges (i + 1 + 1) (drop (suc i) known)) (messages_from by last ranges (i + 1 + 1) (drop (suc i) known))) (none i (omega arith))
@@ -82,18 +80,18 @@ module _ (by : Numbering) (last : ℕ) (ranges : List SeqRange) (known : List Kn
       ∙ skipped_to i d (omega arith) (λ k lt. none k (omega (arith, lt)))
 
 -- none of the messages is named
-none_named : (by : Numbering) (last : ℕ) (ranges : List SeqRange) (n : ℕ) (known : List KnownMessage) (d : KnownMessage)
-    → ((k : ℕ) → k < length known → in_set last ranges (number_by by (record { number = n + k; uid = (get_or known k d).uid })) ≡ false) → messages_from by last ranges n known ≡ []
+none_named : (by : Numbering) (last : ℕ) (ranges : List SeqRange) (n : ℕ) (known : List ℕ) (d : ℕ)
+    → ((k : ℕ) → k < length known → in_set last ranges (number_by by (record { number = n + k; uid = get_or known k d })) ≡ false) → messages_from by last ranges n known ≡ []
 none_named by last ranges n [] d none = refl
 none_named by last ranges n (k ∷ known) d none =
-    let m : Numbered = record { number = n; uid = k.uid } in
-    let first : in_set last ranges (number_by by m) ≡ false = ap (λ i. in_set last ranges (number_by by (record { number = i; uid = k.uid }))) (let z : n ≡ n + 0 = omega arith in z) ∙ none 0 (omega arith) in
+    let m : Numbered = record { number = n; uid = k } in
+    let first : in_set last ranges (number_by by m) ≡ false = ap (λ i. in_set last ranges (number_by by (record { number = i; uid = k }))) (let z : n ≡ n + 0 = omega arith in z) ∙ none 0 (omega arith) in
     ap (λ b. cond b (m ∷ messages_from by last ranges (n + 1) known) (messages_from by last ranges (n + 1) known)) first
     ∙ none_named by last ranges (n + 1) known d (λ j lt.
-    ap (λ i. in_set last ranges (number_by by (record { number = i; uid = (get_or known j d).uid }))) (let z : (n + 1) + j ≡ n + suc j = omega arith in z) ∙ none (suc j) (omega (arith, lt)))
+    ap (λ i. in_set last ranges (number_by by (record { number = i; uid = get_or known j d }))) (let z : (n + 1) + j ≡ n + suc j = omega arith in z) ∙ none (suc j) (omega (arith, lt)))
 
 module _ (m : MessageNumbers) (low high : ℕ) (bounds : AreBounds m.last m.ranges.now low high) where
-  with_one : (known : List KnownMessage) (d : KnownMessage) (start end : ℕ) → UidsRise known → IsWithin m.numbering low high known start end → IsSpan m known start end
+  with_one : (known : List ℕ) (d : ℕ) (start end : ℕ) → UidsRise known → IsWithin m.numbering low high known start end → IsSpan m known start end
   with_one known d start end rise is = record {
     rise = rise;
     order = is.order;
@@ -101,7 +99,7 @@ module _ (m : MessageNumbers) (low high : ℕ) (bounds : AreBounds m.last m.rang
     before = skipped_to m.numbering m.last m.ranges.now known start d (omega (arith, is.order, is.within)) (λ k lt.
         unnamed m.last low high (name_at m.numbering known k d) m.ranges.now bounds (λ h. let x = h.0 in let y = is.less k d lt in omega (arith, x, y)));
     after = none_named m.numbering m.last m.ranges.now (end + 1) (drop end known) d (λ k lt.
-        ap (in_set m.last m.ranges.now) (λ j. number_by m.numbering (record { number = turn k j; uid = (get_or-drop end known k d j).uid }))
+        ap (in_set m.last m.ranges.now) (λ j. number_by m.numbering (record { number = turn k j; uid = get_or-drop end known k d j }))
         ∙ unnamed m.last low high (name_at m.numbering known (end + k) d) m.ranges.now bounds
         (λ h. let x = h.1 in let y = is.more (end + k) d (omega arith) (omega (arith, lt, length-drop end known)) in omega (arith, x, y)));
   }
@@ -109,7 +107,7 @@ module _ (m : MessageNumbers) (low high : ℕ) (bounds : AreBounds m.last m.rang
       turn : (k : ℕ) → (end + 1) + k ≡ (end + k) + 1
       turn k = omega arith
 
-  pub span_is : (known : List KnownMessage) (start end : ℕ) → UidsRise known → IsWithin m.numbering low high known start end → IsSpan m known start end
+  pub span_is : (known : List ℕ) (start end : ℕ) → UidsRise known → IsWithin m.numbering low high known start end → IsSpan m known start end
   span_is [] start end rise is =
       let none : end ≡ 0 = omega (arith, is.within) in
       let first : start ≡ 0 = omega (arith, none, is.order) in
@@ -124,7 +122,7 @@ module _ (m : MessageNumbers) (low high : ℕ) (bounds : AreBounds m.last m.rang
 
 -- ---- UIDs that rise
 
-below : (f : KnownMessage → Bool) (known : List KnownMessage) (k : ℕ) (d : KnownMessage) → k < prefix_len f known → f (get_or known k d) ≡ true
+below : (f : ℕ → Bool) (known : List ℕ) (k : ℕ) (d : ℕ) → k < prefix_len f known → f (get_or known k d) ≡ true
 below f [] k d lt = absurd (omega (arith, lt))
 below f (m ∷ known) k d lt = by (f m) refl k lt (λ j. below f known j d)
   where
@@ -133,21 +131,21 @@ below f (m ∷ known) k d lt = by (f m) refl k lt (λ j. below f known j d)
     by true e (suc k) lt later = later k (omega (arith, lt))
     by false e k lt later = absurd (omega (arith, lt))
 
-pub lower_uids : (uid : ℕ) (known : List KnownMessage) (k : ℕ) (d : KnownMessage) → k < prefix_len (λ (m : KnownMessage). nat_lt m.uid uid) known → (get_or known k d).uid < uid
-lower_uids uid known k d lt = ltb-true (get_or known k d).uid uid (below (λ (m : KnownMessage). nat_lt m.uid uid) known k d lt)
+pub lower_uids : (uid : ℕ) (known : List ℕ) (k : ℕ) (d : ℕ) → k < prefix_len (λ (m : ℕ). nat_lt m uid) known → get_or known k d < uid
+lower_uids uid known k d lt = ltb-true (get_or known k d) uid (below (λ (m : ℕ). nat_lt m uid) known k d lt)
 
-rising : (low high : ℕ) (known : List KnownMessage) (k : ℕ) (d : KnownMessage) → Rises low high (known_uids known) → k < length known → low ≤ (get_or known k d).uid
+rising : (low high : ℕ) (known : List ℕ) (k : ℕ) (d : ℕ) → Rises low high known → k < length known → low ≤ get_or known k d
 rising low high [] k d h lt = absurd (omega (arith, lt))
 rising low high (m ∷ known) zero d h lt = h.0
-rising low high (m ∷ known) (suc k) d h lt = let at : low ≤ m.uid = h.0 in let rest = rising (m.uid + 1) high known k d h.1 (omega (arith, lt)) in omega (arith, at, rest)
+rising low high (m ∷ known) (suc k) d h lt = let at : low ≤ m = h.0 in let rest = rising (m + 1) high known k d h.1 (omega (arith, lt)) in omega (arith, at, rest)
 
-pub upper_uids : (uid low high : ℕ) (known : List KnownMessage) (k : ℕ) (d : KnownMessage) → Rises low high (known_uids known) → prefix_len (λ (m : KnownMessage). nat_lt m.uid uid) known ≤ k → k < length known → uid ≤ (get_or known k d).uid
+pub upper_uids : (uid low high : ℕ) (known : List ℕ) (k : ℕ) (d : ℕ) → Rises low high known → prefix_len (λ (m : ℕ). nat_lt m uid) known ≤ k → k < length known → uid ≤ get_or known k d
 upper_uids uid low high [] k d h le lt = absurd (omega (arith, lt))
-upper_uids uid low high (m ∷ known) k d h le lt = by (nat_lt m.uid uid) refl k le lt (λ j. upper_uids uid (m.uid + 1) high known j d h.1)
+upper_uids uid low high (m ∷ known) k d h le lt = by (nat_lt m uid) refl k le lt (λ j. upper_uids uid (m + 1) high known j d h.1)
   where
-    by : (b : Bool) → nat_lt m.uid uid ≡ b → (k : ℕ) → cond b (1 + prefix_len (λ (m : KnownMessage). nat_lt m.uid uid) known) 0 ≤ k → k < length (m ∷ known)
-        → ((j : ℕ) → prefix_len (λ (m : KnownMessage). nat_lt m.uid uid) known ≤ j → j < length known → uid ≤ (get_or known j d).uid) → uid ≤ (get_or (m ∷ known) k d).uid
+    by : (b : Bool) → nat_lt m uid ≡ b → (k : ℕ) → cond b (1 + prefix_len (λ (m : ℕ). nat_lt m uid) known) 0 ≤ k → k < length (m ∷ known)
+        → ((j : ℕ) → prefix_len (λ (m : ℕ). nat_lt m uid) known ≤ j → j < length known → uid ≤ get_or known j d) → uid ≤ get_or (m ∷ known) k d
     by true e zero le lt later = absurd (omega (arith, le))
     by true e (suc k) le lt later = later k (omega (arith, le)) (omega (arith, lt))
-    by false e zero le lt later = ltb-false m.uid uid e
-    by false e (suc k) le lt later = let at = ltb-false m.uid uid e in let rest = rising (m.uid + 1) high known k d h.1 (omega (arith, lt)) in omega (arith, at, rest)
+    by false e zero le lt later = ltb-false m uid e
+    by false e (suc k) le lt later = let at = ltb-false m uid e in let rest = rising (m + 1) high known k d h.1 (omega (arith, lt)) in omega (arith, at, rest)

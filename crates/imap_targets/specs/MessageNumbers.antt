@@ -2,7 +2,6 @@
 use Rattle.std.specs.Prelude.{ℕ, ◌+◌, ◌==◌, nat_le, Bool, true, false, ◌&&◌, ◌||◌, List, [], ◌∷◌, length, map}
 use Rattle.std.specs.Prelude.{Option, Some, None, is_some, nat_lt, not, if◌then◌else◌}
 use Rattle.std.specs.List.{list_all, list_any}
-use Rattle.imap_mailbox.specs.declared.known.KnownMessage.{KnownMessage}
 use Rattle.imap_mailbox.specs.Rows.{Row}
 use Rattle.imap_targets.specs.declared.message_numbers.Numbered.{Numbered}
 use Rattle.imap_syntax.specs.declared.set.MessageSet.{MessageSet}
@@ -64,12 +63,12 @@ has_known_numbers by count messages = is_by_uid by || are_numbers count (ranges_
 -- ---- messages of a session
 
 -- the last UID that the session knows, or UIDNEXT if it knows none
-abbrev pub last_uid : (next_uid : ℕ) → List KnownMessage → ℕ
+abbrev pub last_uid : (next_uid : ℕ) → (known : List ℕ) → ℕ
 last_uid next_uid [] = next_uid
-last_uid next_uid (k ∷ known) = last_uid k.uid known
+last_uid next_uid (uid ∷ known) = last_uid uid known
 
 -- what `*` stands for
-abbrev pub last_of : Numbering → (next_uid : ℕ) → List KnownMessage → ℕ
+abbrev pub last_of : Numbering → (next_uid : ℕ) → (known : List ℕ) → ℕ
 last_of numbering.Sequence next_uid known = length known
 last_of numbering.Uid next_uid known = last_uid next_uid known
 
@@ -78,12 +77,11 @@ abbrev pub number_by : Numbering → Numbered → ℕ
 number_by numbering.Sequence m = m.number
 number_by numbering.Uid m = m.uid
 
--- those of the set. The first message has the number n
-abbrev pub messages_from : Numbering → (last : ℕ) → List SeqRange → (n : ℕ) → List KnownMessage →
-    List Numbered
+-- those of the set, by the UIDs that the session knows. The first message has the number n
+abbrev pub messages_from : Numbering → (last : ℕ) → List SeqRange → (n : ℕ) → (known : List ℕ) → List Numbered
 messages_from by last ranges n [] = []
-messages_from by last ranges n (k ∷ known) =
-    let m : Numbered = record { number = n; uid = k.uid } in
+messages_from by last ranges n (uid ∷ known) =
+    let m : Numbered = record { number = n; uid = uid } in
     if in_set last ranges (number_by by m)
     then m ∷ messages_from by last ranges (n + 1) known
     else messages_from by last ranges (n + 1) known
@@ -92,7 +90,7 @@ abbrev pub uids_of : List Numbered → List ℕ
 uids_of messages = map (λ m. m.uid) messages
 
 -- the known messages that a command names
-abbrev pub messages_named : Numbering → (next_uid : ℕ) → List SeqRange → List KnownMessage → List Numbered
+abbrev pub messages_named : Numbering → (next_uid : ℕ) → List SeqRange → (known : List ℕ) → List Numbered
 messages_named by next_uid ranges known = messages_from by (last_of by next_uid known) ranges 1 known
 
 -- the message with the UID, if it is there
@@ -104,11 +102,6 @@ row_with uid (r ∷ rows) = if r.uid == uid then Some r else row_with uid rows
 abbrev pub is_unchanged : (number : ℕ) → Option Row → Bool
 is_unchanged number None = false
 is_unchanged number (Some row) = not (nat_lt number row.number)
-
--- the known message with the UID, if there is one
-abbrev pub known_with : (uid : ℕ) → List KnownMessage → Option KnownMessage
-known_with uid [] = None
-known_with uid (k ∷ known) = if k.uid == uid then Some k else known_with uid known
 
 -- A message that is named by its number is gone (RFC 9051, section 7.5.1, and RFC 5530, EXPUNGEISSUED). UIDs of
 -- messages that are gone are passed over.

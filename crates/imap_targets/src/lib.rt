@@ -15,7 +15,7 @@ pub use flags::{has_seen, has_too_many, is_new_seen, new_flags, right_for, with_
 pub use left::{events_left, lacks_events};
 pub use message_numbers::{
     MessageNumbers, Numbered, end_of, has_known_numbers, in_set, is_by_uid, is_refused, is_saved,
-    known_count, known_with, last_of, messages_named, number_at, ranges_of, row_with,
+    known_count, last_of, messages_named, number_at, ranges_of, row_with,
 };
 pub use row_finder::RowFinder;
 pub use target::target_refusal;

@@ -1,8 +1,7 @@
 //! The messages that a command names (RFC 9051, section 2.3.1).
 
-ghost use Rattle.std.specs.Prelude.{◌≡◌, ◌+◌, ◌<◌, ◌≤◌, ℕ, IfOk, length, option_copied, option_map, slice_index_or};
+ghost use Rattle.std.specs.Prelude.{◌≡◌, ◌+◌, ◌<◌, ◌≤◌, ℕ, IfOk, length, option_map, slice_index_or};
 ghost use Rattle.std.specs.List.{list_any};
-ghost use Rattle.imap_mailbox.specs.declared.known.KnownMessage.{KnownMessage};
 ghost use Rattle.imap_mailbox.specs.Lent.{row_shown};
 ghost use Rattle.imap_mailbox.specs.Summary.{AreRising};
 ghost use Rattle.imap_targets.specs.Spans.{AreBounds, IsSpan, IsWithin, named_in};
@@ -10,7 +9,7 @@ ghost use Rattle.imap_targets.specs.declared.message_numbers.Numbered.{Numbered}
 ghost use Rattle.imap_targets.specs.MessageNumbers as specs;
 ghost use Rattle.imap_syntax.specs.declared.set.Numbering.TheVariants.{Sequence, Uid};
 
-use imap_mailbox::{KnownMessage, Row, Rows};
+use imap_mailbox::{Row, Rows};
 use imap_session::KnownList;
 use imap_syntax::{MessageSet, Numbering, SeqNumber, SeqRange};
 use std::alloc::{AllocError, Global};
@@ -104,11 +103,11 @@ fn numbers_named(
 fn numbered_at(known: &KnownList, index: usize) -> Numbered
     requires { index < length known.now.list }
     ensures number { result.number ≡ index + 1 }
-    ensures uid { (d : KnownMessage) → d ≡ slice_index_or known.now.list index d → result.uid ≡ d.uid }
+    ensures uid { result.uid ≡ slice_index_or known.now.list index result.uid }
 {
     Numbered {
         number: number_at(known, index),
-        uid: known.get(index).uid,
+        uid: known.uid(index),
     }
 }
 
@@ -150,8 +149,8 @@ fn uid_span(low: u32, high: u32, known: &KnownList) -> (usize, usize)
 /// The index after all messages with UIDs up to `high`.
 fn index_after(high: u32, known: &KnownList) -> usize
     ensures within { result ≤ length known.now.list }
-    ensures more { (index : ℕ) (d : KnownMessage) → result ≤ index → index < length known.now.list
-        → high < (slice_index_or known.now.list index d).uid }
+    ensures more { (index d : ℕ) → result ≤ index → index < length known.now.list
+        → high < slice_index_or known.now.list index d }
 {
     let count = known.len();
     match high.checked_add(1) {
@@ -263,7 +262,7 @@ fn last_uid(next_uid: u32, known: &KnownList) -> u32
     if count == 0 {
         return next_uid;
     }
-    known.get(count - 1).uid
+    known.uid(count - 1)
 }
 
 /// The message with the UID, if it is there, by a binary search.
@@ -303,15 +302,5 @@ pub fn is_saved(messages: &MessageSet) -> bool
     match messages {
         MessageSet::Saved => true,
         MessageSet::Numbers(_) => false,
-    }
-}
-
-/// What the session knows of the message with the UID, by a binary search.
-pub fn known_with(known: &KnownList, uid: u32) -> Option<&KnownMessage>
-    ensures { option_copied result ≡ specs.known_with uid known.now.list }
-{
-    match known.place_of(uid) {
-        Some(index) => Some(known.get(index)),
-        None => None,
     }
 }

@@ -9,7 +9,7 @@ use Rattle.imap_batch.specs.Batch.{event_count, has_uids}
 use Rattle.imap_batch.specs.Written.{MayWrite, with_batch}
 use Rattle.imap_batch.specs.declared.write.BatchWrite.{BatchWrite}
 use Rattle.imap_mailbox.proofs.BroughtUp.{shown_is_ordered}
-use Rattle.imap_mailbox.specs.Brought.{Agree, IsBrought, highest_in, known_uids}
+use Rattle.imap_mailbox.specs.Brought.{Agree, highest_in, known_uids}
 use Rattle.imap_mailbox.specs.declared.known.KnownMessage.{KnownMessage}
 use Rattle.imap_mailbox.specs.Held.{IsKept}
 use Rattle.imap_mailbox.specs.Rows.{first_uid}
@@ -17,6 +17,8 @@ use Rattle.imap_mailbox.specs.Shown.{content_of}
 use Rattle.imap_mailbox.specs.Summary.{Rises, Summary, highest_of, rows_of}
 use Rattle.imap_modseq.specs.Numbers.{max_events}
 use Rattle.imap_rights.specs.Acl.{AclMap}
+use Rattle.imap_session.proofs.ByUid.{later_by_uid}
+use Rattle.imap_session.specs.ByUid.{IsBroughtByUid}
 use Rattle.imap_session.specs.Held.{uid_limit}
 use Rattle.imap_view.specs.declared.readable.Readable.{Readable}
 use Rattle.imap_world.specs.Effects.{after_writes}
@@ -27,10 +29,10 @@ use Rattle.imap_upcoming.specs.Changed.{acl_after, batch_for, messages_after}
 use Rattle.imap_upcoming.specs.InStep.{IsInStepWith, OwnChangesKeepInStep}
 use Rattle.imap_upcoming.specs.Readable.{messages_for}
 
-module _ (user : List ℕ) (up_to : ℕ) (known : List KnownMessage) where
+module _ (user : List ℕ) (up_to : ℕ) (known : List ℕ) where
   -- what a session was told, by the messages themselves
   record IsTold (s : Summary) : Type 0 where
-    brought : IsBrought up_to known (content_of user s)
+    brought : IsBroughtByUid up_to known (content_of user s)
     few : s.next < uid_limit
 
   told : (validity : ℕ) (s : Summary) (r : Readable) → r ≡ messages_for user validity s → IsInStepWith up_to known r → IsTold s
@@ -40,10 +42,14 @@ module _ (user : List ℕ) (up_to : ℕ) (known : List KnownMessage) where
       let highest_is : highest_in c ≡ highest_of s user = step.ends ∙ ap (λ (r : Readable). r.highest) is in
       record {
         brought = record {
-          before = subst (λ n. up_to ≤ n) highest_is step.brought.before;
-          uids = subst (λ n. Rises first_uid n (known_uids known)) next_is step.brought.uids;
-          told = step.brought.told;
-          agree = subst (Agree up_to known) rows_are step.brought.agree;
+          messages = step.brought.messages;
+          known = step.brought.known;
+          brought = record {
+            before = subst (λ n. up_to ≤ n) highest_is step.brought.brought.before;
+            uids = subst (λ n. Rises first_uid n (known_uids step.brought.messages)) next_is step.brought.brought.uids;
+            told = step.brought.brought.told;
+            agree = subst (Agree up_to step.brought.messages) rows_are step.brought.brought.agree;
+          };
         };
         few = subst (λ n. n < uid_limit) next_is step.few;
       }
@@ -73,7 +79,7 @@ module _ (user : List ℕ) (up_to : ℕ) (known : List KnownMessage) where
       let write = (may w refl).0 in
       let keeps = batches_keep s w write kept in (
         keeps.0,
-        record { brought = keeps.1.later user up_to known is.brought; few = few_uids w s write is.few },
+        record { brought = later_by_uid (content_of user s) (content_of user (with_batch w.batch s)) up_to known (keeps.1.later user) is.brought; few = few_uids w s write is.few },
       )
 
 some_same : {A : Type 0} (x y : A) → Some x ≡ Some y → x ≡ y

@@ -1,6 +1,5 @@
 -- A session in step with its mailbox, before and after a change that its user asked for.
 use Rattle.std.specs.Prelude.{◌≡◌, ℕ, List, Some}
-use Rattle.imap_mailbox.specs.declared.known.KnownMessage.{KnownMessage}
 use Rattle.imap_mailbox.specs.Shown.{Content}
 use Rattle.imap_names.specs.Name.{Name}
 use Rattle.imap_session.specs.InStep.{IsInStep}
@@ -14,9 +13,9 @@ use Rattle.imap_world.specs.Effects.{after_writes}
 use Rattle.imap_world.specs.Kept.{AreKept, IsSound}
 use Rattle.imap_world.specs.World.{World}
 
--- The session knows `known`, and was told all up to the mod-sequence `up_to` of what its user may read, but
+-- The session knows the UIDs `known`, and was told all up to the mod-sequence `up_to` of what its user may read, but
 -- for messages that are expunged.
-abbrev pub IsInStepWith : (up_to : ℕ) → List KnownMessage → Readable → Type 0
+abbrev pub IsInStepWith : (up_to : ℕ) → (known : List ℕ) → Readable → Type 0
 IsInStepWith up_to known r =
     (c : Content) × (c.next ≡ r.next_uid) × IsInStep up_to r.highest known r.rows c
 
@@ -25,7 +24,7 @@ IsInStepWith up_to known r =
 abbrev pub OwnChangesKeepInStep : Type 0
 OwnChangesKeepInStep =
     (site : Site) (user : List ℕ) (world : World) (change : List Write) (name : Name)
-    (up_to : ℕ) (known : List KnownMessage) (before after : Readable)
+    (up_to : ℕ) (known : List ℕ) (before after : Readable)
     → IsSound world → AreKept world.mailboxes → IsAskedBy site user world change
     → readable_in (view_of site user world) name ≡ Some before
     → readable_in (view_of site user (after_writes change world)) name ≡ Some after

@@ -81,7 +81,7 @@ impl<'a> RowCursor for PlannedRows<'a> {
         let left = known.len().saturating_sub(place);
         let mut len = self.rows.untouched_len(number).min(left);
         while len > 0 {
-            let last = known.get(place + len - 1).uid;
+            let last = known.uid(place + len - 1);
             if self.rows.skip_untouched(len, last, number) {
                 self.len -= len;
                 return len;
@@ -89,6 +89,13 @@ impl<'a> RowCursor for PlannedRows<'a> {
             len /= 2;
         }
         0
+    }
+
+    fn uid(&self) -> u32 {
+        match self.rows.uid() {
+            Some(uid) => uid,
+            None => unreachable!(),
+        }
     }
 
     fn message(&self, alloc: Global) -> Result<KnownMessage, AllocError> {

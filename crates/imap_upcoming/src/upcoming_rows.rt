@@ -47,6 +47,13 @@ impl<'a> RowCursor for UpcomingRows<'a> {
         }
     }
 
+    fn uid(&self) -> u32 {
+        match self {
+            UpcomingRows::There(rows) => rows.uid(),
+            UpcomingRows::Planned(rows) => rows.uid(),
+        }
+    }
+
     fn message(&self, alloc: Global) -> Result<KnownMessage, AllocError> {
         match self {
             UpcomingRows::There(rows) => rows.message(alloc),

@@ -1,7 +1,6 @@
 use Rattle.std.proofs.Common.{◌∙◌, is_some, ap}
-use Rattle.imap_mailbox.specs.Brought.{known_uids}
 use Rattle.imap_changes.proofs.Taken.{known_is_among}
 use Rattle.imap_changes.proofs.expunge.knows.Goals as goal
 
 pub returns : goal.returns
-returns c = c.is_some.ensures ∙ ap is_some c.place_of.ensures ∙ known_is_among c.args.uid (known_uids c.args.known.now.list)
+returns c = c.is_some.ensures ∙ ap is_some c.place_of.ensures ∙ known_is_among c.args.uid c.args.known.now.list

@@ -1,6 +1,7 @@
 use Rattle.std.proofs.Common.{List, subst}
 use Rattle.std.specs.Prelude.{IfOk}
 use Rattle.imap_rights.specs.Rights.{bits}
+use Rattle.imap_session.specs.State.{selection_of}
 use Rattle.imap_changes.specs.declared.store_outcome.StoreOutcome.{StoreOutcome}
 use Rattle.imap_changes.specs.Storing.{Stores}
 use Rattle.imap_changes.proofs.Merged.{merged}
@@ -11,5 +12,5 @@ returns c =
     let named = c.requires.named in
     let rows = c.requires.rows in
     subst (λ (meant : List StoreOutcome). IfOk c.stored_named.result (Stores meant))
-    (merged (bits c.args.rights) c.args.spec.now c.args.known.now.list named.1 rows.0 rows.1 named.0 c.args.messages.now c.args.rows.now named.2 rows.2)
+    (merged (bits c.args.rights) c.args.spec.now (selection_of c.args.selected.now) named.1 rows.0 rows.1 named.0 c.args.messages.now c.args.rows.now named.2 rows.2)
     c.stored_named.ensures

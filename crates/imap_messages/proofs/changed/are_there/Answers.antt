@@ -6,6 +6,6 @@ pub loop-index-preserved : goal.loop-index-preserved
 loop-index-preserved c =
     let within : c.loop-index.index < length c.args.known.now.list = omega (arith, c.loop-index-test.true, c.requires.within) in
     let row : c.saturating_add-place.result < length c.args.rows.now = omega (arith, c.if-place-len.false, c.len.ensures) in
-    let same = uid_is c.args.known.now.list c.loop-index.index c.get-else-place-len.result.now within c.get-else-place-len.ensures in
-    there_more c.args.rows.now c.args.known.now.list c.args.start c.loop-index.index c.saturating_add-place.result c.uid.result row c.uid.ensures
-    (λ d. c.if-uid-get.false ∙ same d) c.loop-index.invariant
+    let same = uid_is c.args.known.now.list c.loop-index.index c.uid-else-place-len-2.result within c.uid-else-place-len-2.ensures in
+    there_more c.args.rows.now c.args.known.now.list c.args.start c.loop-index.index c.saturating_add-place.result c.uid-else-place-len.result row c.uid-else-place-len.ensures
+    (λ d. c.if-uid-uid.false ∙ same d) c.loop-index.invariant

@@ -1,17 +1,27 @@
-use Rattle.std.proofs.Common.{◌≡◌, ◌-◌, ◌+◌, ◌++◌, length, map, sym, ap, subst, ◌∙◌, arith}
+use Rattle.std.proofs.Common.{◌≡◌, ◌-◌, ◌+◌, ◌++◌, length, sym, ap, subst, ◌∙◌, arith}
 use Rattle.std.proofs.lemmas.List.{length-map}
 use Rattle.std.specs.List.{AllByRecursion}
-use Rattle.imap_mailbox.specs.Brought.{told_of}
+use Rattle.imap_mailbox.specs.Lent.{row_uids}
+use Rattle.imap_mailbox.specs.Rows.{Row}
+use Rattle.imap_session.proofs.ByUid.{agree_of, uids_of}
 use Rattle.imap_print.specs.Lines.{IsPrintable}
+use Rattle.imap_session.specs.ByUid.{AgreeByUid}
 use Rattle.imap_session.specs.Notices.{exists_line}
 use Rattle.imap_session.specs.Walked.{Findings}
 use Rattle.imap_session.proofs.Telling.{it_is_told, length_fits, exists_is, delta_brings, lines_joined}
 use Rattle.imap_session.proofs.notices.find_notices.Goals as goal
 
+pub compare-requires-clause-agree : goal.compare-requires-clause-agree
+compare-requires-clause-agree g c =
+    let can = c.requires.step.1.1 in
+    let known = c.args.known.now.list in
+    subst (AgreeByUid c.args.up_to known) can.shows (agree_of c.args.up_to known c.requires.step.1.0 can.brought)
+
 pub compare-requires-clause-few : goal.compare-requires-clause-few
 compare-requires-clause-few g c =
     let can = c.requires.step.1.1 in
-    let fits = length_fits c.args.known.now.list c.requires.step.1.0.next can.brought.uids in
+    let content = c.requires.step.1.0 in
+    let fits = length_fits c.args.known.now.list content.next (uids_of c.args.up_to c.args.known.now.list content can.brought) in
     omega (arith, fits, can.few)
 
 pub expunge_lines-requires : goal.expunge_lines-requires
@@ -25,7 +35,7 @@ with_exists-requires g c =
     let told = it_is_told c.args.told.now c.args.options.now c.args.up_to c.requires.step.0 c.args.known.now.list (g.C.RowCursor.rest c.args.rows.now) c.requires.step.1.0 c.in_ok-walk.walk
     new c.requires.step.1.1 c.in_ok-walk.ensures in
     let news = ap length c.in_ok-added.ensures in
-    let len = length-map new told_of in
+    let len = length-map new (λ (r : Row). r.uid) in
     omega (arith, told.count, news, len, c.len.ensures, c.in_ok-added.added.ok)
 
 pub returns-clause-lines : goal.returns-clause-lines
@@ -35,7 +45,7 @@ returns-clause-lines g c =
     let told = it_is_told c.args.told.now c.args.options.now c.args.up_to c.requires.step.0 c.args.known.now.list (g.C.RowCursor.rest c.args.rows.now) c.requires.step.1.0 w
     new c.requires.step.1.1 c.in_ok-walk.ensures in
     let news = ap length c.in_ok-added.ensures in
-    let len = length-map new told_of in
+    let len = length-map new (λ (r : Row). r.uid) in
     let same : c.len.result ≡ length new = omega (arith, news, len, c.len.ensures, c.in_ok-added.added.ok) in
     c.in_ok-lines-3.ensures
     ∙ ap (λ l. c.in_ok-lines-2.lines.items ++ l) c.into_vec.ensures.items
@@ -58,5 +68,5 @@ returns-clause-brings g c =
     (record {
       changed = ap (λ (f : Findings). f.changed) c.in_ok-walk.ensures;
       gone = ap (λ (f : Findings). f.gone) c.in_ok-walk.ensures;
-      added = c.in_ok-added.ensures ∙ ap (λ (f : Findings). map told_of f.new) c.in_ok-walk.ensures;
+      added = c.in_ok-added.ensures ∙ ap (λ (f : Findings). row_uids f.new) c.in_ok-walk.ensures;
     })

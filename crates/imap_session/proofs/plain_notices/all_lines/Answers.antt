@@ -1,8 +1,8 @@
-use Rattle.std.proofs.Common.{◌≡◌, ◌+◌, ◌-◌, ◌++◌, length, map, ap, ◌∙◌, arith}
+use Rattle.std.proofs.Common.{◌≡◌, ◌+◌, ◌-◌, ◌++◌, length, ap, ◌∙◌, arith}
 use Rattle.std.proofs.lemmas.List.{length-append, length-map}
-use Rattle.imap_mailbox.specs.Brought.{told_of}
-use Rattle.imap_session.specs.Held.{list_in}
-use Rattle.imap_session.specs.Compared.{comparisons, known_after, messages_after, new_rows}
+use Rattle.imap_mailbox.specs.Lent.{row_uids}
+use Rattle.imap_mailbox.specs.Rows.{Row}
+use Rattle.imap_session.specs.Compared.{comparisons, known_after, uids_after, new_rows}
 use Rattle.imap_session.specs.Notices.{exists_line}
 use Rattle.imap_session.specs.Notices as specs
 use Rattle.imap_session.proofs.Telling.{exists_is, lines_joined}
@@ -11,11 +11,11 @@ use Rattle.imap_session.proofs.plain_notices.all_lines.Goals as goal
 pub returns : goal.returns
 returns c =
     let o = c.args.options.now in
-    let known = list_in c.args.known.now in
+    let known = c.args.known.now in
     let rows = c.args.rows.now in
     let new = new_rows known rows in
-    let sum = length-append (messages_after o.expunges (comparisons known rows)) (map told_of new) in
-    let len = length-map new told_of in
+    let sum = length-append (uids_after o.expunges (comparisons known rows)) (row_uids new) in
+    let len = length-map new (λ (r : Row). r.uid) in
     let count : (c.in_ok-fetches.number - 1) + c.new_len.result ≡ length (known_after o.expunges known rows) = omega (arith, c.in_ok-fetches.ensures.number, c.new_len.ensures.count, sum, len) in
     c.in_ok-lines-2.ensures
     ∙ ap (λ l. l ++ c.in_ok-fetches.fetches.items) c.in_ok-lines.ensures
