@@ -100,11 +100,7 @@ fn expunged_uids(alloc: Global, known: &[u32], rows: &Rows<'_>) -> Result<Vec<u3
     Ok(uids)
 }
 
-fn expunge_lines(
-    alloc: Global,
-    known: &[u32],
-    rows: &Rows<'_>,
-) -> Result<Vec<Response>, AllocError>
+fn expunge_lines(alloc: Global, known: &[u32], rows: &Rows<'_>) -> Result<Vec<Response>, AllocError>
     requires { length known.now + 1 < uid_limit }
     ensures { IfOk result (λ lines. lines.items
         ≡ specs.expunge_lines 1 (comparisons known.now rows.now)) }

@@ -1,6 +1,6 @@
 //! SELECT and EXAMINE (RFC 9051, sections 6.3.2 and 6.3.3).
 
-ghost use Rattle.std.specs.Prelude.{◌≡◌, length, Some, IfOk};
+ghost use Rattle.std.specs.Prelude.{◌≡◌, length, Some, IfOk, OnOk};
 ghost use Rattle.std.specs.List.{AllByRecursion};
 ghost use Rattle.imap_answer.specs.Answer.{preceded_by};
 ghost use Rattle.imap_mailbox.specs.Lent.{row_uids};
@@ -11,6 +11,7 @@ ghost use Rattle.imap_print.specs.Lines.{IsPrintable};
 ghost use Rattle.imap_rights.specs.Rights.{bits};
 ghost use Rattle.imap_session.specs.Select as specs;
 ghost use Rattle.imap_session.specs.State.{state_of};
+ghost use Rattle.imap_syntax.specs.Keywords.{with_words};
 ghost use Rattle.imap_view.specs.Readable.{readable_in};
 
 use crate::known_list::KnownList;
@@ -194,9 +195,19 @@ fn keywords_of(alloc: Global, rows: &Rows<'_>) -> Result<Keywords, AllocError>
 {
     let mut keywords = Keywords::new(alloc);
     for place in 0..rows.len() {
-        keywords.insert_all(alloc, &rows.flags(place).keywords)?;
+        add_keywords(&mut keywords, alloc, &rows.flags(place).keywords)?;
     }
     Ok(keywords)
+}
+
+/// Adds the keywords of a message. Most have none, and take no memory.
+fn add_keywords(keywords: &mut Keywords, alloc: Global, more: &Keywords) -> Result<(), AllocError>
+    ensures { OnOk result (keywords.new ≡ with_words more.now keywords.old) }
+{
+    match more.as_slice() {
+        [] => Ok(()),
+        _ => keywords.insert_all(alloc, more),
+    }
 }
 
 /// The flags that a user with these rights may change.
