@@ -1,5 +1,5 @@
 -- What a session knows after it was told what notices find.
-use Rattle.std.proofs.Common.{◌≡◌, ℕ, eqb, not, ◌&&◌, Bool, true, false, cond, List, [], ◌∷◌, ◌++◌, length, Some, None, IfSome, option_map, refl, sym, ap, subst, ◌∙◌, arith}
+use Rattle.std.proofs.Common.{◌≡◌, ℕ, eqb, not, ◌&&◌, Bool, true, false, cond, List, [], ◌∷◌, length, Some, None, IfSome, option_map, refl, sym, ap, subst, ◌∙◌, arith}
 use Rattle.std.proofs.lemmas.Bool.{eqb-true, and_parts}
 use Rattle.std.proofs.lemmas.List.{append-nil}
 use Rattle.imap_mailbox.specs.Brought.{highest_in}
@@ -7,16 +7,17 @@ use Rattle.imap_mailbox.specs.Rows.{Row}
 use Rattle.imap_mailbox.specs.Lent.{row_uids}
 use Rattle.imap_mailbox.specs.Order.{AreAtMost}
 use Rattle.imap_mailbox.specs.Shown.{Content}
+use Rattle.imap_mailbox.specs.Summary.{AreRising}
 use Rattle.imap_session.specs.ByUid.{IsBroughtByUid}
 use Rattle.imap_session.specs.declared.options.NoticeOptions.{NoticeOptions}
-use Rattle.imap_session.specs.Compared.{Comparison, Expunged, Present, comparisons, new_rows, known_after, any_changed, is_known}
+use Rattle.imap_session.specs.Compared.{comparisons, new_rows, known_after}
 use Rattle.imap_session.specs.declared.delta.Delta.{Delta}
 use Rattle.imap_session.specs.Delta.{applied, without_uids, IsDeltaOf}
 use Rattle.imap_session.specs.InStep.{IsInStep}
-use Rattle.imap_session.specs.Notices.{expunged_uids, notices}
+use Rattle.imap_session.specs.Notices.{expunged_uids}
 use Rattle.imap_session.specs.State.{Selection, with_telling}
 use Rattle.imap_session.specs.Telling.{Telling, difference, if_any, is_empty, known_with, telling_of, IsTellingOf}
-use Rattle.imap_session.specs.Told.{IsSelectedInStep, KnowsRows, selection_after, NotesWhatIsTold, NoticesKeepSelectionInStep, NoticesTellSelection, UntoldIsSilent, SelectingIsInStep}
+use Rattle.imap_session.specs.Told.{IsSelectedInStep, KnowsRows, selection_after, NotesWhatIsTold, NoticesKeepSelectionInStep, UntoldIsSilent, SelectingIsInStep, selection_telling}
 use Rattle.imap_session.proofs.Applying.{changes_are_applied, without_none}
 use Rattle.imap_session.proofs.ByUid.{all_told_by_uid}
 use Rattle.imap_session.proofs.Differing.{rows_told}
@@ -90,7 +91,8 @@ nil_rows : (rows : List Row) → row_uids rows ≡ [] → rows ≡ []
 nil_rows [] e = refl
 nil_rows (r ∷ rows) e = absurd (cc e)
 
-pub notices_tell_selection : NoticesTellSelection
+pub notices_tell_selection : (o : NoticeOptions) (highest : ℕ) (rows : List Row) (s : Selection) → o.expunges ≡ true → AreRising s.known → AreAtMost highest rows
+    → KnowsRows rows (selection_after (selection_telling o rows highest s) s)
 notices_tell_selection o highest rows s may rising most =
     let t = difference o.expunges s.up_to s.known rows highest in
     record {

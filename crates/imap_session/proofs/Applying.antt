@@ -4,10 +4,10 @@ use Rattle.std.proofs.lemmas.Bool.{ne_eqb, eq-eqb}
 use Rattle.imap_mailbox.specs.Rows.{Row, is_among, first_uid}
 use Rattle.imap_mailbox.specs.Lent.{row_uids}
 use Rattle.imap_mailbox.specs.Summary.{Rises, AreRising}
-use Rattle.imap_session.specs.Compared.{Comparison, Expunged, Present, comparisons, new_rows, uids_after}
-use Rattle.imap_session.specs.Delta.{without_uids}
+use Rattle.imap_session.specs.Compared.{Comparison, Expunged, Present, comparisons, known_after, new_rows, uids_after}
+use Rattle.imap_session.specs.Delta.{applied, without_uids}
 use Rattle.imap_session.specs.Held.{UidsRise, uid_limit}
-use Rattle.imap_session.specs.Laws.{ChangesAreApplied}
+use Rattle.imap_session.specs.declared.options.NoticeOptions.{NoticeOptions}
 use Rattle.imap_session.specs.Notices.{expunged_uids}
 use Rattle.imap_session.proofs.Matching.{expunged_rise, known_is, not_below}
 
@@ -33,7 +33,8 @@ pub without_none : (us : List ℕ) → without_uids [] us ≡ us
 without_none [] = refl
 without_none (u ∷ us) = ap (λ l. u ∷ l) (without_none us)
 
-pub changes_are_applied : ChangesAreApplied
+pub changes_are_applied : (o : NoticeOptions) (uids : List ℕ) (rows : List Row) → AreRising uids
+    → applied (cond o.expunges (expunged_uids (comparisons uids rows)) []) (row_uids (new_rows uids rows)) uids ≡ known_after o.expunges uids rows
 changes_are_applied o uids rows h = ap (λ l. l ++ row_uids (new_rows uids rows)) (by o.expunges)
   where
     by : (b : Bool) → without_uids (cond b (expunged_uids (comparisons uids rows)) []) uids ≡ uids_after b (comparisons uids rows)

@@ -1,5 +1,5 @@
 -- A session that was told of a mailbox up to a mod-sequence, by UIDs.
-use Rattle.std.proofs.Common.{◌≡◌, ℕ, ◌+◌, ◌<◌, ◌≤◌, eqb, Bool, true, false, cond, MatchBool, List, [], ◌∷◌, map, refl, sym, subst, ap, ◌∙◌, arith}
+use Rattle.std.proofs.Common.{◌≡◌, ℕ, ◌<◌, ◌≤◌, eqb, Bool, true, false, MatchBool, List, [], ◌∷◌, map, refl, subst, ap}
 use Rattle.imap_mailbox.specs.declared.known.KnownMessage.{KnownMessage}
 use Rattle.imap_mailbox.specs.Rows.{Row, first_uid}
 use Rattle.imap_mailbox.specs.Summary.{Rises}

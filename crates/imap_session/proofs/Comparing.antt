@@ -1,8 +1,11 @@
 -- Known UIDs compared with rows, one after another.
 use Rattle.std.proofs.Common.{◌≡◌, ℕ, ◌+◌, ◌<◌, ◌≤◌, not, Bool, true, false, cond, List, [], ◌∷◌, ◌++◌, length, drop, get_or, refl, sym, ap, subst, ◌∙◌, arith}
+use Rattle.std.proofs.lemmas.Bool.{lt-ltb}
+use Rattle.std.proofs.lemmas.Grind.{get_or_default_zero}
 use Rattle.std.proofs.lemmas.List.{append_assoc}
 use Rattle.imap_print.specs.declared.response.Response.{Response}
 use Rattle.imap_print.specs.Sets.{rise_above}
+use Rattle.imap_mailbox.specs.declared.known.KnownMessage.{KnownMessage}
 use Rattle.imap_mailbox.specs.Rows.{Row, first_uid}
 use Rattle.imap_mailbox.specs.Summary.{Rises}
 use Rattle.imap_mailbox.specs.Brought.{told_of}
@@ -33,15 +36,15 @@ there_here k (r ∷ rows) is = record {
   new = λ known. ap (λ b. cond b (new_rows known rows) (new_rows known (r ∷ rows))) is;
 }
 
--- ---- the UID u at the place p
+-- ---- the UID u at the place p, as a loop reads it
 
 pub record IsGoneAt (us : List ℕ) (p u : ℕ) (rows : List Row) : Type 0 where
   pub fate : comparisons (drop p us) rows ≡ Expunged u ∷ comparisons (drop (p + 1) us) rows
   pub new : new_rows (drop p us) rows ≡ new_rows (drop (p + 1) us) rows
 
-pub gone_at : (us : List ℕ) (p u : ℕ) (rows : List Row) → p < length us → u ≡ get_or us p u → is_next u rows ≡ false → IsGoneAt us p u rows
+pub gone_at : (us : List ℕ) (p u : ℕ) (rows : List Row) → p < length us → u ≡ get_or us p 0 → is_next u rows ≡ false → IsGoneAt us p u rows
 gone_at us p u rows lt at is =
-    let next = known_from us p u lt at in
+    let next = known_from us p u lt (at ∙ sym (get_or_default_zero us p u lt)) in
     let gone = gone_here u rows is in
     record {
       fate = ap (λ known. comparisons known rows) next ∙ gone.fate (drop (p + 1) us);
@@ -54,9 +57,9 @@ pub record IsThereAt (us : List ℕ) (p : ℕ) (rows left : List Row) : Type 0 w
   pub fate : comparisons (drop p us) rows ≡ Present row ∷ comparisons (drop (p + 1) us) left
   pub new : new_rows (drop p us) rows ≡ new_rows (drop (p + 1) us) left
 
-pub there_at : (us : List ℕ) (p u : ℕ) (rows left : List Row) → p < length us → u ≡ get_or us p u → is_next u rows ≡ true → left ≡ drop 1 rows → IsThereAt us p rows left
+pub there_at : (us : List ℕ) (p u : ℕ) (rows left : List Row) → p < length us → u ≡ get_or us p 0 → is_next u rows ≡ true → left ≡ drop 1 rows → IsThereAt us p rows left
 there_at us p u rows left lt at is is_left =
-    let next = known_from us p u lt at in
+    let next = known_from us p u lt (at ∙ sym (get_or_default_zero us p u lt)) in
     let there = there_here u rows is in
     let later : List ℕ = drop (p + 1) us in
     record {
@@ -110,3 +113,12 @@ pub there_fetches : (o : NoticeOptions) (up_to n : ℕ) (r : Row) (cs : List Com
     → new ≡ old ++ collected (not (is_known up_to r)) (fetch_line o n (told_of r) ∷ []) → new ++ fetch_lines o up_to [] (n + 1) cs ≡ old ++ fetch_lines o up_to [] n (Present r ∷ cs)
 there_fetches o up_to n r cs old is =
     ap (λ l. l ++ fetch_lines o up_to [] (n + 1) cs) is ∙ choose_step (is_known up_to r) old (fetch_line o n (told_of r)) (fetch_lines o up_to [] (n + 1) cs)
+
+-- the line of a message that is not known as it is
+pub changed_line : (o : NoticeOptions) (up_to n : ℕ) (r : Row) (k : KnownMessage) (old : List Response) → k ≡ told_of r → up_to < k.number
+    → old ++ (fetch_line o n k ∷ []) ≡ old ++ collected (not (is_known up_to r)) (fetch_line o n (told_of r) ∷ [])
+changed_line o up_to n r k old is above =
+    let number = ap (λ (m : KnownMessage). m.number) is in
+    let later : up_to < r.number = omega (arith, above, number) in
+    (λ i. old ++ (fetch_line o n (is i) ∷ []))
+    ∙ ap (λ b. old ++ collected (not (not b)) (fetch_line o n (told_of r) ∷ [])) (sym (lt-ltb up_to r.number later))

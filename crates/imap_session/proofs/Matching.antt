@@ -1,6 +1,6 @@
 -- Known UIDs beside the rows that have them.
 use Rattle.std.proofs.Common.{◌≡◌, ℕ, ◌+◌, ◌<◌, ◌≤◌, eqb, ltb, not, ◌||◌, Bool, true, false, cond, List, [], ◌∷◌, refl, sym, ap, ◌∙◌, arith}
-use Rattle.std.proofs.lemmas.Bool.{ne_eqb, eqb-true, ltb-true, ltb-false, lt-ltb, le-ltb}
+use Rattle.std.proofs.lemmas.Bool.{ne_eqb, eqb-true, ltb-false, le-ltb}
 use Rattle.imap_mailbox.specs.Rows.{Row, is_among}
 use Rattle.imap_mailbox.specs.Summary.{Rises}
 use Rattle.imap_mailbox.proofs.Rising.{rises_lower}

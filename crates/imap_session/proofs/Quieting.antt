@@ -9,7 +9,7 @@ use Rattle.imap_mailbox.specs.Shown.{Content}
 use Rattle.imap_mailbox.specs.Brought.{told_of, highest_in}
 use Rattle.imap_session.specs.ByUid.{AgreeByUid}
 use Rattle.imap_session.specs.declared.options.NoticeOptions.{NoticeOptions}
-use Rattle.imap_session.specs.Compared.{Comparison, Expunged, Present, comparisons, new_rows, uids_after, known_after, any_changed, is_known, is_told}
+use Rattle.imap_session.specs.Compared.{Comparison, Expunged, Present, comparisons, new_rows, uids_after, known_after, any_changed, is_known}
 use Rattle.imap_session.specs.Notices.{fetch_line, expunge_lines, expunged_uids, vanished_line, exists_line, fetch_lines, expunge_notices, notices}
 use Rattle.imap_session.specs.InStep.{IsInStep, NoneHeldBack, InStepIsQuiet}
 use Rattle.imap_session.proofs.ByUid.{agree_of}

@@ -15,7 +15,7 @@ use Rattle.imap_mailbox.proofs.Rising.{rises_upper}
 use Rattle.imap_session.specs.declared.options.NoticeOptions.{NoticeOptions}
 use Rattle.imap_session.specs.declared.delta.Delta.{Delta}
 use Rattle.imap_session.specs.declared.walk.Walk.{Walk}
-use Rattle.imap_session.specs.Compared.{Comparison, Expunged, Present, comparisons, new_rows, uids_after, known_after, any_changed}
+use Rattle.imap_session.specs.Compared.{Comparison, Expunged, Present, comparisons, new_rows, uids_after, known_after}
 use Rattle.imap_session.specs.Notices.{expunge_lines, expunged_uids, vanished_line, exists_line, expunge_notices, fetch_lines, notices}
 use Rattle.imap_session.specs.Delta.{applied, IsDeltaOf, Brings}
 use Rattle.imap_session.specs.Held.{UidsRise, uid_limit}

@@ -10,7 +10,7 @@ use Rattle.imap_mailbox.specs.Brought.{told_of}
 use Rattle.imap_session.specs.ByUid.{AgreeByUid}
 use Rattle.imap_session.specs.declared.options.NoticeOptions.{NoticeOptions}
 use Rattle.imap_session.specs.declared.walk.Walk.{Walk}
-use Rattle.imap_session.specs.Compared.{Comparison, Expunged, Present, comparisons, new_rows, uids_after, any_changed, is_known, is_told}
+use Rattle.imap_session.specs.Compared.{Comparison, Expunged, Present, comparisons, new_rows, uids_after, any_changed, is_known}
 use Rattle.imap_session.specs.Notices.{expunge_lines, expunged_uids, fetch_line, fetch_lines}
 use Rattle.imap_session.specs.Cursors.{is_next, is_unchanged}
 use Rattle.imap_session.specs.Walked.{Findings, collected, by_number, by_uid, finished, found, Passes, PassesChanged, PassesExpunged}

@@ -1,12 +1,11 @@
 -- What holds of notices and known lists.
-use Rattle.std.specs.Prelude.{◌≡◌, ◌↔◌, ℕ, Bool, true, false, not, List, [], ◌∷◌, map, filter, if◌then◌else◌}
+use Rattle.std.specs.Prelude.{◌≡◌, ◌↔◌, ℕ, Bool, true, false, not, List, [], map, filter, if◌then◌else◌}
 use Rattle.imap_print.specs.declared.response.Response.{Response}
 use Rattle.imap_print.specs.declared.response.Response.TheVariants as response
 use Rattle.imap_mailbox.specs.Rows.{Row}
 use Rattle.imap_mailbox.specs.Brought.{told_of}
 use Rattle.imap_mailbox.specs.Lent.{row_uids}
 use Rattle.imap_mailbox.specs.Order.{AreAtMost}
-use Rattle.imap_mailbox.specs.Summary.{AreRising}
 use Rattle.imap_session.specs.declared.options.NoticeOptions.{NoticeOptions}
 use Rattle.imap_session.specs.Compared.{Comparison, comparisons, new_rows, any_changed, known_after}
 use Rattle.imap_session.specs.Notices.{notices, fetch_lines, expunged_uids}
@@ -41,10 +40,10 @@ AlikeIsToldAlike =
     → map told_of rows ≡ map told_of others
     → notices o up_to told uids rows ≡ notices o up_to told uids others
 
--- the change that notices make gives what the session knows afterwards
-abbrev pub ChangesAreApplied : Type 0
-ChangesAreApplied =
-    (o : NoticeOptions) (uids : List ℕ) (rows : List Row) → AreRising uids
+-- the change that notices make of known UIDs gives what the session knows afterwards
+abbrev pub ChangesAreApplied : (uids : List ℕ) → Type 0
+ChangesAreApplied uids =
+    (o : NoticeOptions) (rows : List Row)
     → applied (if o.expunges then expunged_uids (comparisons uids rows) else [])
     (row_uids (new_rows uids rows)) uids
     ≡ known_after o.expunges uids rows

@@ -6,7 +6,6 @@ use Rattle.imap_mailbox.specs.Lent.{row_uids}
 use Rattle.imap_mailbox.specs.Order.{AreAtMost}
 use Rattle.imap_mailbox.specs.Rows.{Row}
 use Rattle.imap_mailbox.specs.Shown.{Content}
-use Rattle.imap_mailbox.specs.Summary.{AreRising}
 use Rattle.imap_names.specs.Name.{Name}
 use Rattle.imap_view.specs.declared.readable.Readable.{Readable}
 use Rattle.imap_session.specs.declared.options.NoticeOptions.{NoticeOptions}
@@ -74,10 +73,9 @@ pub record KnowsRows (rows : List Row) (s : Selection) : Type 0 where
   pub told : AreAtMost s.up_to rows
 
 -- if expunges may be told, the session knows the messages of the mailbox afterwards
-abbrev pub NoticesTellSelection : Type 0
-NoticesTellSelection =
-    (o : NoticeOptions) (highest : ℕ) (rows : List Row) (s : Selection)
-    → o.expunges ≡ true → AreRising s.known → AreAtMost highest rows
+abbrev pub NoticesTellSelection : Selection → Type 0
+NoticesTellSelection s =
+    (o : NoticeOptions) (highest : ℕ) (rows : List Row) → o.expunges ≡ true → AreAtMost highest rows
     → KnowsRows rows (selection_after (selection_telling o rows highest s) s)
 
 -- a session that is told nothing is given no line

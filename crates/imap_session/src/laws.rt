@@ -6,6 +6,10 @@ ghost use Rattle.imap_session.specs.InStep.{InStepIsQuiet, NoticesKeepInStep};
 ghost use Rattle.imap_session.specs.Following.{ClientFollows, ClientHoldsMailbox};
 ghost use Rattle.imap_session.specs.Told.{NotesWhatIsTold, NoticesKeepSelectionInStep, NoticesTellSelection};
 ghost use Rattle.imap_session.specs.Told.{UntoldIsSilent, SelectingIsInStep};
+ghost use Rattle.imap_session.specs.State.{selection_of};
+
+use crate::known_list::KnownList;
+use crate::session::Selected;
 
 /// If expunges may be told, the session knows the messages of the mailbox after notices.
 pub fn told_is_there()
@@ -27,10 +31,12 @@ pub fn alike_is_told_alike()
     ensures { AlikeIsToldAlike }
 {}
 
-/// The change that notices make gives what the session knows after them.
-pub fn changes_are_applied()
-    ensures { ChangesAreApplied }
-{}
+/// The change that notices make of a known list gives what the session knows after them.
+pub fn changes_are_applied(known: &KnownList)
+    ensures { ChangesAreApplied known.now.list }
+{
+    let _ = known.len();
+}
 
 /// Who was brought up to a mod-sequence stays so while the mailbox changes.
 pub fn later_by_uid()
@@ -81,9 +87,11 @@ pub fn session_stays_in_step()
 
 /// If expunges may be told, a session knows the messages of its mailbox after [`crate::Session::notices`], and was
 /// told all of each.
-pub fn session_knows_mailbox()
-    ensures { NoticesTellSelection }
-{}
+pub fn session_knows_mailbox(selected: &Selected)
+    ensures { NoticesTellSelection (selection_of selected.now) }
+{
+    let _ = selected.known.len();
+}
 
 /// A session that is told nothing is given no line.
 pub fn untold_session_is_silent()

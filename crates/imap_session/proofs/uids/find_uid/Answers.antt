@@ -1,4 +1,4 @@
-use Rattle.std.proofs.Common.{sym, ◌∙◌, arith}
+use Rattle.std.proofs.Common.{sym, arith}
 use Rattle.imap_session.proofs.Finding.{place_at}
 use Rattle.imap_session.proofs.uids.find_uid.Goals.{else-place-uids-via-then-place-uids+else-uids-place, else-place-uids-via-else-place-uids}
 use Rattle.imap_session.proofs.uids.find_uid.Goals as goal
