@@ -10,7 +10,6 @@ use Rattle.imap_batch.specs.Written.{MayWrite, with_batch}
 use Rattle.imap_batch.specs.declared.write.BatchWrite.{BatchWrite}
 use Rattle.imap_mailbox.proofs.BroughtUp.{shown_is_ordered}
 use Rattle.imap_mailbox.specs.Brought.{Agree, highest_in, known_uids}
-use Rattle.imap_mailbox.specs.declared.known.KnownMessage.{KnownMessage}
 use Rattle.imap_mailbox.specs.Held.{IsKept}
 use Rattle.imap_mailbox.specs.Rows.{first_uid}
 use Rattle.imap_mailbox.specs.Shown.{content_of}

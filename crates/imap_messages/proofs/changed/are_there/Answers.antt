@@ -8,4 +8,4 @@ loop-index-preserved c =
     let row : c.saturating_add-place.result < length c.args.rows.now = omega (arith, c.if-place-len.false, c.len.ensures) in
     let same = uid_is c.args.known.now.list c.loop-index.index c.uid-else-place-len-2.result within c.uid-else-place-len-2.ensures in
     there_more c.args.rows.now c.args.known.now.list c.args.start c.loop-index.index c.saturating_add-place.result c.uid-else-place-len.result row c.uid-else-place-len.ensures
-    (λ d. c.if-uid-uid.false ∙ same d) c.loop-index.invariant
+    (λ d. c.if-uid.false ∙ same d) c.loop-index.invariant
