@@ -40,7 +40,9 @@ pub use accept_faults::AcceptFaults;
 pub use client_door::ClientDoor;
 pub use connection::Connection;
 pub use descriptors::{needed, read_limit};
-pub use exit_status::{report_file_fault, report_misuse, report_script_error, report_service_error, report_version};
+pub use exit_status::{
+    report_file_fault, report_misuse, report_script_error, report_service_error, report_version,
+};
 pub use guarded_stream::GuardedStream;
 pub use http_request::RequestLine;
 pub use idle_ticks::{IdleTicks, TICKS_PER_SECOND};
