@@ -3,6 +3,7 @@
 mod fetches;
 mod frames;
 mod names;
+mod parts;
 mod replies;
 mod rows;
 mod spellings;

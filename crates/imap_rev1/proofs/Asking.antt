@@ -1,5 +1,5 @@
 -- Items that are told one after another.
-use Rattle.std.proofs.Common.{◌≡◌, ◌∙◌, ap, sym, refl, subst, ℕ, ◌+◌, ◌<◌, Bool, true, false, ◌||◌, List, [], ◌∷◌, ◌++◌, append_assoc, append-nil, length, drop, get_or, drop-cons, add-one}
+use Rattle.std.proofs.Common.{◌≡◌, ◌∙◌, ap, sym, refl, subst, ℕ, ◌+◌, ◌<◌, Bool, true, false, ◌||◌, List, [], ◌∷◌, ◌++◌, append_assoc, append-nil, length, drop, get_or, drop-cons, add-one, suc}
 use Rattle.std.specs.Prelude.{codes}
 use Rattle.imap_lex.specs.Framing.{crlf}
 use Rattle.imap_print.specs.declared.fetch.FetchedSection.{FetchedSection}
@@ -36,9 +36,9 @@ asked_more old begun bodies rest later all i a out new before now is moved h g =
     (asked_next old begun whole (asked_words bodies rest a) (all_asked_words bodies (rest_after a rest) more) out new before now
     (subst (λ (l : List Asked). AreAsked old begun whole (all_asked_words bodies rest l) out before) is h) g)
 
--- the item at a place, whatever it would be past the end
-pub item_at : (all : List Asked) (i : ℕ) (d : Asked) → i < length all → drop i all ≡ get_or all i d ∷ drop (i + 1) all
-item_at all i d within = rw add-one (drop-cons all i d within)
+-- the item at a place
+pub item_at : (all : List Asked) (i : ℕ) (a : Asked) → i < length all → a ≡ get_or all i a → drop i all ≡ a ∷ drop (i + 1) all
+item_at all i a within is = rw add-one (drop-cons all i a within ∙ ap (λ (x : Asked). x ∷ drop (suc i) all) (sym is))
 
 none_further : (now : Bool) → further now 32 [] ≡ []
 none_further true = refl

@@ -1,7 +1,9 @@
 -- FETCH, as it is written and as its messages are told.
-use Rattle.std.proofs.Common.{◌≡◌, ◌∙◌, ap, sym, refl, subst, ℕ, Bool, true, false, cond, not, ◌&&◌, List, [], ◌∷◌, ◌++◌, append-nil, length, map, flat_map, Option, Some, None}
-use Rattle.std.specs.Prelude.{codes, decimal, ◌==◌, is_some}
-use Rattle.std.specs.List.{list_all, list_any, AllByRecursion}
+use Rattle.std.proofs.Common.{◌≡◌, ◌∙◌, ap, sym, refl, subst, ℕ, Bool, true, false, cond, not, ◌&&◌, ◌||◌, List, [], ◌∷◌, ◌++◌, append-nil, drop, length, map, flat_map, Option, Some, None}
+use Rattle.std.specs.Prelude.{codes, decimal, ◌==◌, is_some, option_map}
+use Rattle.std.specs.List.{concat, list_all, list_any, AllByRecursion}
+use Rattle.std.specs.Option.{option_and_then}
+use Rattle.std.proofs.lemmas.Option.{same_Some}
 use Rattle.imap_lex.specs.Framing.{crlf}
 use Rattle.imap_lex.specs.Stream.{IsLastLine}
 use Rattle.imap_lex.specs.declared.frame.Frame.TheVariants as frame
@@ -20,11 +22,14 @@ use Rattle.imap_rev1_frames.specs.declared.named.Named.{Named}
 use Rattle.imap_rev1_frames.specs.declared.named.Named.TheVariants as named
 use Rattle.imap_rev1.specs.declared.rev1.Rev1.{Rev1}
 use Rattle.imap_rev1_frames.specs.declared.scan.Depth.TheVariants as depth
-use Rattle.imap_rev1_frames.specs.Asked.{fetch_for, is_labelled, label_in, label_name, labelled_by, section_asked, section_by, without_repeats}
-use Rattle.imap_rev1.specs.FetchLaws.{fetch_octets, IsFetch, alone, AsksSections, AsksSection, AsksMacro, message_told, TellsAsAsked, labelled_line, TellsLabel, TellsListedLabel, PrintsUnlabelled, PrintsNotices}
+use Rattle.imap_rev1_frames.specs.declared.part.PartSection.{PartSection}
+use Rattle.imap_rev1_frames.specs.Asked.{fetch_for, is_labelled, is_section, label_for, label_in, labelled_by, other_asked, part_or_section, section_asked, section_by, unlabelled_by, without_repeats}
+use Rattle.imap_rev1_frames.specs.Part.{PartWords, after_bracket, is_ended, message_for, part_for, part_in, part_words, section_of, words_in}
+use Rattle.imap_rev1.specs.FetchLaws.{fetch_octets, IsFetch, alone, AsksSections, AsksSection, AsksMacro, AsksMessage, message_told, TellsAsAsked, labelled_line, TellsLabel, TellsListedLabel, part_line, TellsPart, TellsListedPart, PrintsUnlabelled, PrintsNotices}
 use Rattle.imap_rev1.specs.Labels.{stands_for, labelled_text, all_asked_words, fetch_text}
 use Rattle.imap_rev1.specs.Laws.{IsPlainWord, listed}
-use Rattle.imap_rev1_frames.specs.Named.{named_in}
+use Rattle.imap_rev1.specs.Parts.{section_text}
+use Rattle.imap_rev1_frames.specs.Named.{begins, named_in}
 use Rattle.imap_rev1.specs.Rev1.{rev1, rules_for}
 use Rattle.imap_rev1_frames.specs.Rewritten.{command_asked, command_for, asked_after}
 use Rattle.imap_rev1_frames.specs.declared.scan.Scan.{Scan}
@@ -51,8 +56,32 @@ module _ (set : List ℕ) (none : section_asked set ≡ None) (some : (length se
   set_asked : word_asked (within named.Fetch depth.None) set ≡ None
   set_asked = ap (λ b. cond (not b && true) (section_asked set) None) some ∙ none
 
+-- a word that doesn't begin as a section is no part
+no_bracket : (word : List ℕ) (sets peeks : Bool) → (sets || peeks) ≡ false → option_and_then words_in (cond sets (Some (drop 5 word)) (cond peeks (Some (drop 10 word)) None)) ≡ None
+no_bracket word true peeks e = absurd cc
+no_bracket word false true e = absurd cc
+no_bracket word false false e = refl
+
+same_none : (b : Bool) (found : Option PartWords) → found ≡ None → cond b found None ≡ None
+same_none true found e = e
+same_none false found e = refl
+
+no_section : (b : Bool) (a : Asked) → cond b (Some a) None ≡ None → b ≡ false
+no_section true a e = absurd cc
+no_section false a e = refl
+
+no_part : (word : List ℕ) → other_asked word ≡ None → part_for (part_words word) word ≡ word
+no_part word e =
+    ap (λ (found : Option PartWords). part_for found word)
+    (same_none (is_ended word) (option_and_then words_in (after_bracket word))
+    (no_bracket word (begins (codes "BODY[") word) (begins (codes "BODY.PEEK[") word) (no_section (is_section word) (part_or_section (part_in word)) e)))
+
+no_other : (o : Option Label) (word : List ℕ) → unlabelled_by o word ≡ None → part_for (part_words word) word ≡ word
+no_other None word e = no_part word e
+no_other (Some l) word e = absurd cc
+
 no_label : (o : Option Label) (word : List ℕ) → labelled_by o word ≡ None → section_by o word ≡ word
-no_label None word e = refl
+no_label None word e = no_other (label_for word) word e
 no_label (Some l) word e = absurd cc
 
 item_by : (word : List ℕ) (b : Bool) → b ≡ false → cond (not b && true) (section_asked word) None ≡ section_asked word
@@ -194,12 +223,54 @@ tells_listed_label state uid tag set word l number fetched body is word_is names
     (list_asked state uid tag set (word ∷ []) is (word_is, tt) ∙ append-nil (option_list (section_asked word)) ∙ word_stands word l names) refl
     ∙ line_told l number fetched body one stands
 
+-- ---- one part
+
+message_by : (found : Option PartWords) (p : PartSection) (word : List ℕ) → part_or_section (option_map section_of found) ≡ asked.Part p → part_for found word ≡ message_for word
+message_by None p word e = absurd cc
+message_by (Some w) p word e = refl
+
+other_part : (b : Bool) (p : PartSection) (word : List ℕ) → cond b (Some (part_or_section (part_in word))) None ≡ Some (asked.Part p) → part_for (part_words word) word ≡ message_for word
+other_part true p word e = message_by (part_words word) p word (same_Some _ _ e)
+other_part false p word e = absurd cc
+
+unlabelled_part : (o : Option Label) (p : PartSection) (word : List ℕ) → unlabelled_by o word ≡ Some (asked.Part p) → part_for (part_words word) word ≡ message_for word
+unlabelled_part None p word e = other_part (is_section word) p word e
+unlabelled_part (Some l) p word e = absurd cc
+
+labelled_part : (o : Option Label) (p : PartSection) (word : List ℕ) → labelled_by o word ≡ Some (asked.Part p) → section_by o word ≡ message_for word
+labelled_part None p word e = unlabelled_part (label_for word) p word e
+labelled_part (Some l) p word e = absurd cc
+
+pub asks_message : AsksMessage
+asks_message word p e = labelled_part (label_in word) p word e
+
+part_found : (p : PartSection) (body : FetchedSection) → stands_for label.Message body ≡ true → all_asked_words (body ∷ []) (body ∷ []) (asked.Part p ∷ []) ≡ section_text p (concat body.octets) ∷ []
+part_found p body is = ap (λ b. given_by (λ (at : FetchedSection). section_text p (concat at.octets)) (cond b (Some body) None) ++ []) is
+
+part_told : (p : PartSection) (number : ℕ) (fetched : FetchedItems) (body : FetchedSection) → fetched.sections ≡ body ∷ [] → stands_for label.Message body ≡ true
+    → fetch_text (asked.Part p ∷ []) number fetched ++ crlf ≡ part_line p number fetched body ++ crlf
+part_told p number fetched body one stands =
+    ap (λ (bodies : List FetchedSection). line_of number fetched (all_asked_words bodies bodies (asked.Part p ∷ []))) one
+    ∙ ap (line_of number fetched) (part_found p body stands)
+
+pub tells_part : TellsPart
+tells_part state uid tag set word p number fetched body is word_is asks one stands =
+    told_as state uid tag set (alone set word) is (asked.Part p ∷ []) true number fetched (alone_asked state uid tag set word is word_is ∙ ap option_list asks) refl
+    ∙ part_told p number fetched body one stands
+
+pub tells_listed_part : TellsListedPart
+tells_listed_part state uid tag set word p number fetched body is word_is asks one stands =
+    told_as state uid tag set (listed set (word ∷ [])) is (asked.Part p ∷ []) true number fetched
+    (list_asked state uid tag set (word ∷ []) is (word_is, tt) ∙ append-nil (option_list (section_asked word)) ∙ ap option_list asks) refl
+    ∙ part_told p number fetched body one stands
+
 -- ---- notices
 
 no_words : (all : List Asked) → all_asked_words [] [] all ≡ []
 no_words [] = refl
 no_words (asked.Labelled l ∷ more) = no_words more
 no_words (asked.Unlabelled l ∷ more) = no_words more
+no_words (asked.Part p ∷ more) = no_words more
 no_words (asked.Section ∷ more) = no_words more
 no_words (asked.Recent ∷ more) = no_words more
 no_words (asked.Value ∷ more) = no_words more

@@ -1,25 +1,107 @@
 -- A message that is told under labels is one line.
-use Rattle.std.proofs.Common.{ℕ, Bool, true, false, cond, List, [], ◌∷◌, ◌++◌, Option, Some, None, refl, map, flat_map, drop}
-use Rattle.std.specs.Prelude.{codes, find}
+use Rattle.std.proofs.Common.{◌≡◌, ap, arith, ℕ, Bool, true, false, cond, List, [], ◌∷◌, ◌++◌, Option, Some, None, refl, map, flat_map, drop, length, length-append, length-take, length-drop}
+use Rattle.std.specs.Prelude.{codes, find, decimal, option_map}
 use Rattle.std.specs.List.{concat, AllByRecursion}
 use Rattle.imap_print.specs.declared.fetch.FetchedItems.{FetchedItems}
 use Rattle.imap_print.specs.declared.fetch.FetchedSection.{FetchedSection}
 use Rattle.imap_print.specs.declared.response.Response.TheVariants as response
 use Rattle.imap_print.specs.Fetched.{item_words}
 use Rattle.imap_print.specs.Lines.{IsPlain, IsHeld, IsPrintable, flags_keywords, section_names}
-use Rattle.imap_print.specs.Words.{given_by}
+use Rattle.imap_print.specs.Fetched.{origin_text}
+use Rattle.imap_print.specs.Words.{before_each, given_by, joined}
 use Rattle.imap_print.proofs.Reader.{Settles, settled, settles-append, literal_settles, AllSettle, all_settle-append, words_settle}
 use Rattle.imap_print.proofs.OneLine.{number_settles, body_settles, items_settle}
 use Rattle.imap_mime.specs.Envelope.{envelope_of}
 use Rattle.imap_mime.proofs.Texts.{envelope_settles}
+use Rattle.imap_query.specs.declared.fetch.Partial.{Partial}
+use Rattle.imap_text.specs.Sections.{header, text}
+use Rattle.imap_text.proofs.Cuts.{header-text, header_within}
+use Rattle.imap_structure.specs.Laws.{IsPiece}
+use Rattle.imap_structure.specs.Numbered.{message_at, part_at}
 use Rattle.imap_structure.specs.Structure.{max_depth}
+use Rattle.imap_structure.proofs.PartLaws.{parts_are_pieces, messages_are_pieces}
 use Rattle.imap_structure.proofs.Texts.{structure_settles}
 use Rattle.imap_rev1_frames.specs.declared.asked.Asked.{Asked}
 use Rattle.imap_rev1_frames.specs.declared.asked.Asked.TheVariants as asked
 use Rattle.imap_rev1_frames.specs.declared.asked.Label.{Label}
 use Rattle.imap_rev1_frames.specs.declared.asked.Label.TheVariants as label
+use Rattle.imap_rev1_frames.specs.declared.part.PartSection.{PartSection}
+use Rattle.imap_rev1_frames.specs.declared.part.PartText.{PartText}
+use Rattle.imap_rev1_frames.specs.declared.part.PartText.TheVariants as part_text
 use Rattle.imap_rev1_frames.specs.Asked.{label_name}
+use Rattle.imap_rev1.specs.Parts.{found_text, octets_within, origin_of, part_name, part_octets, section_text, text_name}
 use Rattle.imap_rev1.specs.Labels.{stands_for, has_label, from_other, first_of, section_for, rest_after, labelled_contents, labelled_text, asked_text, asked_words, all_asked_words, fetch_words, fetch_text}
+
+-- ---- sections of parts
+
+-- the length of a piece
+piece_held : (piece whole : List ℕ) → IsPiece piece whole → IsHeld whole → IsHeld piece
+piece_held piece whole h held =
+    omega (arith, ap length h.stands, length-append h.before (piece ++ h.after), length-append piece h.after, held)
+
+header_held : (octets : List ℕ) → IsHeld octets → IsHeld (header octets)
+header_held octets held = omega (arith, header_within octets, held)
+
+text_held : (octets : List ℕ) → IsHeld octets → IsHeld (text octets)
+text_held octets held = omega (arith, ap length (header-text octets), length-append (header octets) (text octets), held)
+
+abbrev AreHeldIfThere : Option (List ℕ) → Type 0
+AreHeldIfThere None = Unit {0}
+AreHeldIfThere (Some octets) = IsHeld octets
+
+mapped_held : (cut : List ℕ → List ℕ) (found : Option (List ℕ)) → ((octets : List ℕ) → IsHeld octets → IsHeld (cut octets)) → AreHeldIfThere found → AreHeldIfThere (option_map cut found)
+mapped_held cut None each h = tt
+mapped_held cut (Some octets) each h = each octets h
+
+part_held_by : (found : Option (List ℕ)) (message : List ℕ) → ((piece : List ℕ) → found ≡ Some piece → IsPiece piece message) → IsHeld message → AreHeldIfThere found
+part_held_by None message pieces held = tt
+part_held_by (Some piece) message pieces held = piece_held piece message (pieces piece refl) held
+
+part_held : (t : PartText) (numbers message : List ℕ) → IsHeld message → AreHeldIfThere (part_octets t numbers message)
+part_held part_text.Body numbers message held = mapped_held text (part_at numbers message) text_held (part_held_by (part_at numbers message) message (parts_are_pieces numbers message) held)
+part_held part_text.Mime numbers message held = mapped_held header (part_at numbers message) header_held (part_held_by (part_at numbers message) message (parts_are_pieces numbers message) held)
+part_held part_text.Header numbers message held = mapped_held header (message_at numbers message) header_held (part_held_by (message_at numbers message) message (messages_are_pieces numbers message) held)
+part_held part_text.Text numbers message held = mapped_held text (message_at numbers message) text_held (part_held_by (message_at numbers message) message (messages_are_pieces numbers message) held)
+
+range_held : (range : Option Partial) (octets : List ℕ) → IsHeld octets → IsHeld (octets_within range octets)
+range_held None octets held = held
+range_held (Some range) octets held = omega (arith, length-take range.count (drop range.offset octets), length-drop range.offset octets, held)
+
+found_settles : (range : Option Partial) (found : Option (List ℕ)) → AreHeldIfThere found → Settles (found_text range found)
+found_settles range None h = settled (codes "NIL") refl
+found_settles range (Some octets) h = literal_settles (octets_within range octets) (range_held range octets h)
+
+each_number : (numbers : List ℕ) → AllSettle (map decimal numbers)
+each_number [] = tt
+each_number (n ∷ numbers) = (number_settles n, each_number numbers)
+
+each_further : (words : List (List ℕ)) → AllSettle words → Settles (before_each 46 words)
+each_further [] h = settled [] refl
+each_further (word ∷ words) h = settles-append (settles-append (settled (46 ∷ []) refl) h.0) (each_further words h.1)
+
+joined_settles : (words : List (List ℕ)) → AllSettle words → Settles (joined 46 words)
+joined_settles [] h = settled [] refl
+joined_settles (word ∷ words) h = settles-append h.0 (each_further words h.1)
+
+text_settles : (t : PartText) → Settles (text_name t)
+text_settles part_text.Body = settled _ refl
+text_settles part_text.Mime = settled _ refl
+text_settles part_text.Header = settled _ refl
+text_settles part_text.Text = settled _ refl
+
+origin_settles : (range : Option Partial) → Settles (origin_text (origin_of range))
+origin_settles None = settled [] refl
+origin_settles (Some range) = settles-append (settles-append (settled (60 ∷ []) refl) (number_settles range.offset)) (settled (62 ∷ []) refl)
+
+name_settles : (p : PartSection) → Settles (part_name p)
+name_settles p =
+    settles-append
+    (settles-append (settles-append (settles-append (settled (codes "BODY[") refl) (joined_settles (map decimal p.numbers) (each_number p.numbers))) (text_settles p.text)) (settled (codes "]") refl))
+    (origin_settles p.partial)
+
+section_settles : (p : PartSection) (message : List ℕ) → IsHeld message → Settles (section_text p message)
+section_settles p message held =
+    settles-append (settles-append (name_settles p) (settled (codes " ") refl)) (found_settles p.partial (part_octets p.text p.numbers message) (part_held p.text p.numbers message held))
 
 -- ---- a section
 
@@ -53,6 +135,7 @@ labelled_settles l body h = settles-append (settles-append (label_settles l) (se
 asked_settles : (a : Asked) (body : FetchedSection) → IsFine body → Settles (asked_text a body)
 asked_settles (asked.Labelled l) body h = labelled_settles l body h
 asked_settles (asked.Unlabelled l) body h = body_settles body h.plain h.held
+asked_settles (asked.Part p) body h = section_settles p (concat body.octets) h.held
 asked_settles asked.Section body h = body_settles body h.plain h.held
 asked_settles asked.Recent body h = body_settles body h.plain h.held
 asked_settles asked.Value body h = body_settles body h.plain h.held
@@ -101,6 +184,7 @@ module _ (bodies : List FetchedSection) (fine : AllByRecursion IsFine bodies) wh
   section_fine : (rest : List FetchedSection) (a : Asked) → AllByRecursion IsFine rest → IsFineOption (section_for bodies rest a)
   section_fine rest (asked.Labelled l) h = found_fine (stands_for l) bodies fine
   section_fine rest (asked.Unlabelled l) h = found_fine (stands_for l) bodies fine
+  section_fine rest (asked.Part p) h = found_fine (stands_for label.Message) bodies fine
   section_fine rest asked.Section h = first_fine (from_other rest) (other_fine rest h)
   section_fine rest asked.Recent h = tt
   section_fine rest asked.Value h = tt
@@ -108,6 +192,7 @@ module _ (bodies : List FetchedSection) (fine : AllByRecursion IsFine bodies) wh
 rest_fine : (rest : List FetchedSection) (a : Asked) → AllByRecursion IsFine rest → AllByRecursion IsFine (rest_after a rest)
 rest_fine rest (asked.Labelled l) h = h
 rest_fine rest (asked.Unlabelled l) h = h
+rest_fine rest (asked.Part p) h = h
 rest_fine rest asked.Section h = dropped_fine (from_other rest) (other_fine rest h)
 rest_fine rest asked.Recent h = h
 rest_fine rest asked.Value h = h

@@ -1,9 +1,8 @@
 -- Replies that are told with names in modified UTF-7.
-use Rattle.std.proofs.Common.{◌≡◌, ◌∙◌, ap, sym, refl, subst, ℕ, Bool, true, false, cond, ◌||◌, List, [], ◌∷◌, ◌++◌, append-nil, append_assoc, flat_map, Option, Some, None}
+use Rattle.std.proofs.Common.{◌≡◌, ◌∙◌, ap, refl, subst, ℕ, Bool, true, false, cond, ◌||◌, List, [], ◌∷◌, ◌++◌, append-nil, flat_map, Option, Some, None}
 use Rattle.std.specs.Prelude.{codes}
-use Rattle.std.specs.List.{AllByRecursion, concat, list_all, list_any}
+use Rattle.std.specs.List.{AllByRecursion, concat, list_any}
 use Rattle.imap_lex.specs.Framing.{crlf}
-use Rattle.imap_lex.specs.declared.frame.Frame.{Frame}
 use Rattle.imap_print.specs.declared.acl.AclEntry.{AclEntry}
 use Rattle.imap_print.specs.declared.enabled.EnabledCapabilities.{EnabledCapabilities}
 use Rattle.imap_print.specs.declared.list.ListAttributes.{ListAttributes}
@@ -12,17 +11,13 @@ use Rattle.imap_print.specs.declared.response.Response.TheVariants as response
 use Rattle.imap_print.specs.declared.status.StatusValue.{StatusValue}
 use Rattle.imap_rights.specs.declared.rights.Rights.{Rights}
 use Rattle.imap_print.specs.Lines.{AreReadFrom, IsPlain, IsPrintable}
-use Rattle.imap_print.specs.Printed.{line}
 use Rattle.imap_print.proofs.Reader.{Quiet, quiet, quiet-append, quiet_settles}
 use Rattle.imap_dialect.specs.Telling.{retold}
 use Rattle.imap_rev1_frames.specs.Enable.{asks_utf8}
-use Rattle.imap_rev1_frames.specs.Named.{named_by}
-use Rattle.imap_utf7.specs.Laws.{is_plain}
 use Rattle.imap_rev1.specs.declared.rev1.Rules.{Rules}
-use Rattle.imap_rev1.specs.declared.utf7_rev1.Utf7Rev1.{Utf7Rev1}
 use Rattle.imap_rev1.specs.Laws.{IsOneLine, names_capabilities}
 use Rattle.imap_rev1.specs.NameLaws.{AllAreRead, EachIsOneLine, EndsByEnabled, PlainRepliesStay, PrintsConditions, PrintsOthers, StaysEnabled, StaysUntilEnabled, accepted_lines, named_lines}
-use Rattle.imap_rev1.specs.Rev1.{lines_by, rev1, rules_for, told_by}
+use Rattle.imap_rev1.specs.Rev1.{rules_for, told_by}
 use Rattle.imap_rev1.specs.Shown.{name_in, named_or_same, other_shown, shown_by, shown_reply}
 use Rattle.imap_rev1.specs.Utf7.{accepted_by, accepted_text, ends_names, given_word, told_accepted, told_echoed, utf7_rev1}
 use Rattle.imap_rev1.proofs.Lines.{lines_are, read_more, settled_one, told_one}

@@ -1,9 +1,8 @@
 -- Commands with names in modified UTF-7, and those that the server sees in their place.
-use Rattle.std.proofs.Common.{◌≡◌, ◌∙◌, ap, sym, refl, ℕ, Bool, true, false, cond, List, [], ◌∷◌, ◌++◌, append_assoc, Option, Some, None}
+use Rattle.std.proofs.Common.{◌≡◌, ◌∙◌, ap, sym, refl, ℕ, Bool, true, false, cond, List, ◌∷◌, ◌++◌, Option, Some, None}
 use Rattle.imap_commands.specs.declared.command.Command.{Command}
 use Rattle.imap_commands.specs.declared.request.Request.{Request}
 use Rattle.imap_commands.specs.declared.request.Request.TheVariants as request
-use Rattle.imap_commands.specs.Reading.{command}
 use Rattle.imap_commands.specs.Spells.{Spells, request_read}
 use Rattle.imap_commands.specs.Writing.{written}
 use Rattle.imap_commands.proofs.Framed.{each_is_told}
@@ -13,7 +12,7 @@ use Rattle.imap_commands.proofs.WrittenRequests.{written_is_read, written_spelt}
 use Rattle.imap_lex.specs.CommandTag.{tag_of}
 use Rattle.imap_lex.specs.Stream.{Section}
 use Rattle.imap_lex.specs.declared.frame.Frame.TheVariants.{Whole}
-use Rattle.imap_rev1_frames.specs.Names.{other_command, renamed, renamed_frame, renamed_octets, request_has_names, request_renamed}
+use Rattle.imap_rev1_frames.specs.Names.{other_command, renamed, renamed_frame, request_has_names, request_renamed}
 use Rattle.imap_rev1_frames.specs.Rewritten.{instead_octets, rewritten_octets}
 use Rattle.imap_rev1.specs.Laws.{IsCommand}
 use Rattle.imap_rev1.specs.NameLaws.{NamesStay, SeesOne, SeesTexts, StaysOne}

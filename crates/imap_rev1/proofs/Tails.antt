@@ -1,11 +1,13 @@
 -- Words that are written in place of others leave lines and their marks.
-use Rattle.std.proofs.Common.{◌≡◌, ◌∙◌, ap, sym, refl, ℕ, Bool, true, false, cond, ◌||◌, List, [], ◌∷◌, ◌++◌, append_assoc, append-nil, arith, Option, Some, None}
-use Rattle.std.specs.Prelude.{codes, ◌==◌}
+use Rattle.std.proofs.Common.{◌≡◌, ◌∙◌, ap, sym, refl, ℕ, Bool, true, false, cond, ◌||◌, List, [], ◌∷◌, ◌++◌, append_assoc, append-nil, length, take, arith, Option, Some, None, ◌-◌}
+use Rattle.std.specs.Prelude.{codes, ◌==◌, eqb}
 use Rattle.std.specs.Char.{is_ascii_alphabetic, is_ascii_digit, to_ascii_lowercase}
-use Rattle.std.specs.List.{list_all}
+use Rattle.std.specs.List.{ends_with, list_all}
+use Rattle.std.specs.Option.{option_and_then}
 use Rattle.std.specs.Str.{str_to_ascii_lowercase}
-use Rattle.std.proofs.lemmas.Bool.Decides.{nat_tests}
+use Rattle.std.proofs.lemmas.Bool.Decides.{Decides-eqb, nat_tests}
 use Rattle.std.proofs.lemmas.List.Folds.{list_all-append}
+use Rattle.std.proofs.lemmas.Slice.Eq.{ends_is}
 use Rattle.imap_lex.specs.Mark.{LineTail, text, with_octet, with_octets}
 use Rattle.imap_lex.proofs.Tails.{with_octets-append}
 use Rattle.imap_print.specs.Lines.{is_plain}
@@ -19,7 +21,8 @@ use Rattle.imap_rev1_frames.specs.declared.scan.Scan.{Scan}
 use Rattle.imap_rev1_frames.specs.declared.asked.Label.TheVariants as label
 use Rattle.imap_rev1_frames.specs.declared.asked.Label.{Label}
 use Rattle.imap_rev1_frames.specs.Asked.{section_by, contents_label, envelope_section}
-use Rattle.imap_rev1_frames.specs.Named.{is_word}
+use Rattle.imap_rev1_frames.specs.Named.{begins, is_word}
+use Rattle.imap_rev1_frames.specs.Part.{PartWords, after_bracket, is_ended, part_for, part_words, words_in}
 use Rattle.imap_rev1_frames.specs.Scan.{is_in_word, exchanged, item_for, fetch_item_for, word_for, is_item, written_word, after_word, after_octet, written}
 
 -- ---- words that begin with a letter
@@ -106,12 +109,51 @@ envelope_plain false = refl
 envelope_alike : (word octets : List ℕ) → is_name word ≡ true → is_word word octets ≡ true → Alike octets (envelope_section octets)
 envelope_alike word octets name h = other_alike word (envelope_section octets) octets name h (envelope_tail (is_word (codes "ALL") octets)) (envelope_plain (is_word (codes "ALL") octets))
 
+-- ---- parts
+
+closed_tail : (t : LineTail) → with_octet t 93 ≡ text
+closed_tail t = refl
+
+angle_tail : (t : LineTail) → with_octet t 62 ≡ text
+angle_tail t = refl
+
+before_octet : (octets : List ℕ) (b : ℕ) → ends_with eqb octets (b ∷ []) ≡ true → (front : List ℕ) × (octets ≡ front ++ b ∷ [])
+before_octet octets b e = (take (length octets - 1) octets, (ends_is Decides-eqb octets (b ∷ []) _ refl).0 e)
+
+octet_tail : (t : LineTail) (octets : List ℕ) (b : ℕ) → ((s : LineTail) → with_octet s b ≡ text) → ends_with eqb octets (b ∷ []) ≡ true → with_octets t octets ≡ text
+octet_tail t octets b closes e =
+    let front = before_octet octets b e in
+    ap (with_octets t) front.1 ∙ with_octets-append t front.0 (b ∷ []) ∙ closes (with_octets t front.0)
+
+ended_tail_by : (t : LineTail) (octets : List ℕ) (closed angle : Bool) → ends_with eqb octets (93 ∷ []) ≡ closed → ends_with eqb octets (62 ∷ []) ≡ angle → (closed || angle) ≡ true → with_octets t octets ≡ text
+ended_tail_by t octets true angle e f h = octet_tail t octets 93 closed_tail e
+ended_tail_by t octets false true e f h = octet_tail t octets 62 angle_tail f
+ended_tail_by t octets false false e f h = absurd cc
+
+ended_tail : (t : LineTail) (octets : List ℕ) → is_ended octets ≡ true → with_octets t octets ≡ text
+ended_tail t octets h = ended_tail_by t octets _ _ refl refl h
+
+message_alike : (octets : List ℕ) (sets : Bool) → is_ended octets ≡ true → Alike octets (cond sets (codes "BODY[]") (codes "BODY.PEEK[]"))
+message_alike octets true h = record { tail = λ t. sym (ended_tail t octets h); plain = λ _. refl }
+message_alike octets false h = record { tail = λ t. sym (ended_tail t octets h); plain = λ _. refl }
+
+part_found : (octets : List ℕ) (found : Option PartWords) → is_ended octets ≡ true → Alike octets (part_for found octets)
+part_found octets (Some w) h = message_alike octets (begins (codes "BODY[") octets) h
+part_found octets None h = same_alike octets
+
+part_by : (octets : List ℕ) (b : Bool) → is_ended octets ≡ b → Alike octets (part_for (cond b (option_and_then words_in (after_bracket octets)) None) octets)
+part_by octets true h = part_found octets (option_and_then words_in (after_bracket octets)) h
+part_by octets false h = same_alike octets
+
+part_alike : (octets : List ℕ) → Alike octets (part_for (part_words octets) octets)
+part_alike octets = part_by octets (is_ended octets) refl
+
 structure_alike_by : (octets : List ℕ) (body structure full : Bool) → is_word (codes "BODY") octets ≡ body → is_word (codes "BODYSTRUCTURE") octets ≡ structure → is_word (codes "FULL") octets ≡ full
     → Alike octets (section_by (cond body (Some label.Body) (cond structure (Some label.Structure) (cond full (Some label.Full) None))) octets)
 structure_alike_by octets true structure full e f g = other_alike (codes "BODY") (codes "BODY.PEEK[]") octets refl e (λ t. refl) refl
 structure_alike_by octets false true full e f g = other_alike (codes "BODYSTRUCTURE") (codes "BODY.PEEK[]") octets refl f (λ t. refl) refl
 structure_alike_by octets false false true e f g = other_alike (codes "FULL") (codes "(FLAGS INTERNALDATE RFC822.SIZE BODY.PEEK[])") octets refl g (λ t. refl) refl
-structure_alike_by octets false false false e f g = same_alike octets
+structure_alike_by octets false false false e f g = part_alike octets
 
 abbrev structure_label : List ℕ → Option Label
 structure_label octets = cond (is_word (codes "BODY") octets) (Some label.Body) (cond (is_word (codes "BODYSTRUCTURE") octets) (Some label.Structure) (cond (is_word (codes "FULL") octets) (Some label.Full) None))

@@ -1,15 +1,15 @@
 -- Names as they are told.
-use Rattle.std.proofs.Common.{◌≡◌, ◌∙◌, ◌≤◌, ap, sym, refl, ℕ, zero, suc, ◌<◌, Bool, true, false, cond, not, ◌||◌, List, [], ◌∷◌, ◌++◌, arith, ◌==◌, Option, Some, None}
+use Rattle.std.proofs.Common.{◌≡◌, ◌∙◌, ◌≤◌, ap, sym, refl, ℕ, zero, suc, Bool, true, false, cond, not, ◌||◌, List, [], ◌∷◌, arith, ◌==◌, Some, None}
 use Rattle.std.specs.List.{list_all, list_any}
-use Rattle.std.specs.Prelude.{◌&&◌, IsUtf8, chars, encode_utf8_all, slice_index, nat_le}
+use Rattle.std.specs.Prelude.{IsUtf8, chars, encode_utf8_all, nat_le}
 use Rattle.std.specs.Str.{IsAscii, is_utf8}
 use Rattle.std.proofs.lemmas.Bool.{and_parts, and_from, leb-true, ne_eqb}
 use Rattle.std.proofs.lemmas.Str.{encodes-IsAscii, encodes-chars, is_utf8-from_IsUtf8, IsUtf8-from_is_utf8, scalars-chars}
 use Rattle.imap_print.specs.Lines as lines
-use Rattle.imap_rev1_frames.specs.Names.{is_ampersand, name_for, other_name}
+use Rattle.imap_rev1_frames.specs.Names.{is_ampersand, name_for}
 use Rattle.imap_rev1_frames.specs.Rewritten.{instead_octets}
 use Rattle.imap_utf7.specs.Laws.{is_plain}
-use Rattle.imap_utf7.specs.Spelling.{decoded, encoded, is_direct, read, read_after}
+use Rattle.imap_utf7.specs.Spelling.{decoded, encoded, is_direct, read_after}
 use Rattle.imap_utf7.proofs.Printable.{printable}
 use Rattle.imap_utf7.proofs.RoundTrip.{decoded-encoded, read-encoded}
 use Rattle.imap_rev1.specs.NameLaws.{ReadsShown, shown_name}

@@ -1,7 +1,7 @@
 -- Laws of FETCH in the dialect of IMAP4rev1 (RFC 3501, sections 6.4.5 and 7.4.2).
 use Rattle.std.specs.Prelude.{◌≡◌, ℕ, Bool, true, false, List, [], ◌∷◌, ◌++◌, codes, decimal, map, flat_map}
 use Rattle.std.specs.Prelude.{Option, Some, None}
-use Rattle.std.specs.List.{AllByRecursion, list_all, list_any}
+use Rattle.std.specs.List.{AllByRecursion, concat, list_all, list_any}
 use Rattle.imap_lex.specs.CommandTag.{IsTag}
 use Rattle.imap_lex.specs.Framing.{crlf}
 use Rattle.imap_lex.specs.Stream.{IsLastLine}
@@ -15,12 +15,17 @@ use Rattle.imap_print.specs.Lines.{is_plain}
 use Rattle.imap_print.specs.Printed.{line}
 use Rattle.imap_print.specs.Words.{in_parentheses}
 use Rattle.imap_rev1_frames.specs.declared.asked.Asked.{Asked}
+use Rattle.imap_rev1_frames.specs.declared.asked.Asked.TheVariants as asked
 use Rattle.imap_rev1_frames.specs.declared.asked.Label.{Label}
+use Rattle.imap_rev1_frames.specs.declared.asked.Label.TheVariants as label
 use Rattle.imap_rev1_frames.specs.declared.named.Named.TheVariants as named
 use Rattle.imap_rev1.specs.declared.rev1.Rev1.{Rev1}
 use Rattle.imap_rev1_frames.specs.Asked.{fetch_for, is_labelled, label_in, section_asked, without_repeats}
 use Rattle.imap_rev1.specs.Labels.{fetch_text, labelled_text, stands_for}
+use Rattle.imap_rev1_frames.specs.declared.part.PartSection.{PartSection}
+use Rattle.imap_rev1_frames.specs.Part.{message_for}
 use Rattle.imap_rev1.specs.Laws.{IsPlainWord, listed}
+use Rattle.imap_rev1.specs.Parts.{section_text}
 use Rattle.imap_rev1_frames.specs.Named.{named_in}
 use Rattle.imap_rev1.specs.Rev1.{rev1}
 use Rattle.imap_rev1_frames.specs.Scan.{option_list}
@@ -45,7 +50,7 @@ pub record IsFetch (state : Rev1) (uid : Bool) (tag set arguments : List ℕ) : 
 abbrev pub alone : (set item : List ℕ) → List ℕ
 alone set item = set ++ 32 ∷ item
 
--- Another item is asked in place of each label.
+-- Another item is asked in place of each label, and of each part.
 abbrev pub AsksSections : Type 0
 AsksSections =
     (state : Rev1) (uid : Bool) (tag set : List ℕ) (items : List (List ℕ))
@@ -85,7 +90,7 @@ abbrev pub message_told : Rev1 → (fetch : List ℕ) → (number : ℕ) → Fet
 message_told state fetch number fetched =
     rev1.told state (Some (Whole fetch)) (response.Fetch number fetched)
 
--- If a label is one of the items, the sections are told as they were asked for and in this order.
+-- If a label or a part is one of the items, the sections are told as they were asked for and in this order.
 abbrev pub TellsAsAsked : Type 0
 TellsAsAsked =
     (state : Rev1) (uid : Bool) (tag set : List ℕ) (items : List (List ℕ))
@@ -120,7 +125,43 @@ TellsListedLabel =
     → message_told state (fetch_octets uid tag (listed set (word ∷ []))) number fetched
     ≡ labelled_line label number fetched body ++ crlf
 
--- If none of the items is a label, messages are printed.
+-- ---- parts
+
+-- The message is asked in place of a part, and sets `\Seen` if the part's section does.
+abbrev pub AsksMessage : Type 0
+AsksMessage =
+    (word : List ℕ) (p : PartSection)
+    → section_asked word ≡ Some (asked.Part p) → fetch_for word ≡ message_for word
+
+abbrev pub part_line : PartSection → (number : ℕ) → FetchedItems → FetchedSection → List ℕ
+part_line p number fetched body =
+    codes "* " ++ decimal number ++ codes " FETCH "
+    ++ in_parentheses (item_words fetched ++ section_text p (concat body.octets) ∷ [])
+
+-- From the message that is fetched for it the part is told under its name, whether its word stands alone or in
+-- parentheses.
+abbrev pub TellsPart : Type 0
+TellsPart =
+    (state : Rev1) (uid : Bool) (tag set word : List ℕ) (p : PartSection)
+    → (number : ℕ) (fetched : FetchedItems) (body : FetchedSection)
+    → IsFetch state uid tag set (alone set word) → IsPlainWord word → section_asked word ≡ Some (asked.Part p)
+    → fetched.sections ≡ body ∷ [] → stands_for label.Message body ≡ true
+    → message_told state (fetch_octets uid tag (alone set word)) number fetched
+    ≡ part_line p number fetched body ++ crlf
+
+abbrev pub TellsListedPart : Type 0
+TellsListedPart =
+    (state : Rev1) (uid : Bool) (tag set word : List ℕ) (p : PartSection)
+    → (number : ℕ) (fetched : FetchedItems) (body : FetchedSection)
+    → IsFetch state uid tag set (listed set (word ∷ [])) → IsPlainWord word
+    → section_asked word ≡ Some (asked.Part p)
+    → fetched.sections ≡ body ∷ [] → stands_for label.Message body ≡ true
+    → message_told state (fetch_octets uid tag (listed set (word ∷ []))) number fetched
+    ≡ part_line p number fetched body ++ crlf
+
+-- ---- other items
+
+-- If none of the items is a label or a part, messages are printed.
 abbrev pub PrintsUnlabelled : Type 0
 PrintsUnlabelled =
     (state : Rev1) (uid : Bool) (tag set : List ℕ) (items : List (List ℕ))

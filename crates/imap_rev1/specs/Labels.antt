@@ -16,6 +16,7 @@ use Rattle.imap_rev1_frames.specs.declared.asked.Asked.TheVariants as asked
 use Rattle.imap_rev1_frames.specs.declared.asked.Label.{Label}
 use Rattle.imap_rev1_frames.specs.declared.asked.Label.TheVariants as label
 use Rattle.imap_rev1_frames.specs.Asked.{label_name}
+use Rattle.imap_rev1.specs.Parts.{section_text}
 
 -- ---- sections of a message
 
@@ -45,10 +46,12 @@ abbrev pub first_of : List FetchedSection → Option FetchedSection
 first_of [] = None
 first_of (body ∷ bodies) = Some body
 
--- The section for which an item asks. `rest` are those that may be for it if no label stands for it.
+-- The section for which an item asks, or the message for a part. `rest` are those that may be for it if no label
+-- stands for it.
 abbrev pub section_for : (bodies rest : List FetchedSection) → Asked → Option FetchedSection
 section_for bodies rest (asked.Labelled l) = find (stands_for l) bodies
 section_for bodies rest (asked.Unlabelled l) = find (stands_for l) bodies
+section_for bodies rest (asked.Part p) = find (stands_for label.Message) bodies
 section_for bodies rest asked.Section = first_of (from_other rest)
 section_for bodies rest _ = None
 
@@ -77,6 +80,7 @@ labelled_text l body = label_name l ++ codes " " ++ labelled_contents l (concat 
 -- how the section is told
 abbrev pub asked_text : Asked → FetchedSection → List ℕ
 asked_text (asked.Labelled l) body = labelled_text l body
+asked_text (asked.Part p) body = section_text p (concat body.octets)
 asked_text _ body = body_text body
 
 -- the word for an item; none if its section isn't there

@@ -2,7 +2,6 @@
 use Rattle.std.specs.Prelude.{ℕ, Bool, false, ◌||◌, List, [], ◌++◌, codes, Option, Some, None, if◌then◌else◌}
 use Rattle.imap_lex.specs.Framing.{crlf}
 use Rattle.std.specs.List.{list_any}
-use Rattle.imap_lex.specs.declared.frame.Frame.{Frame}
 use Rattle.imap_print.specs.declared.enabled.EnabledCapabilities.{EnabledCapabilities}
 use Rattle.imap_print.specs.declared.response.Response.{Response}
 use Rattle.imap_print.specs.declared.response.Response.TheVariants as response

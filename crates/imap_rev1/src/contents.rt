@@ -14,7 +14,7 @@ use imap_syntax::push_literal;
 use std::alloc::{AllocError, Global};
 
 /// Returns the octets of the parts.
-fn joined(alloc: Global, parts: &[Octets]) -> Result<Vec<u8>, AllocError>
+pub(crate) fn joined(alloc: Global, parts: &[Octets]) -> Result<Vec<u8>, AllocError>
     ensures { IfOk result (λ octets. octets.items ≡ concat parts.now) }
 {
     let mut octets = Vec::new(alloc);

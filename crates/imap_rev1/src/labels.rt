@@ -9,6 +9,7 @@ ghost use Rattle.imap_rev1.specs.Labels.{from_other, has_label, is_of, labelled_
 ghost use Rattle.imap_rev1.specs.Labels.{section_for, stands_for};
 
 use crate::contents::push_contents;
+use crate::parts::push_section;
 use imap_print::{FetchedItems, FetchedSection, Pieces, print_fetch_front, print_section};
 use imap_query::Section;
 use imap_rev1_frames::{Asked, Label};
@@ -64,24 +65,27 @@ fn from_other(bodies: &[FetchedSection]) -> &[FetchedSection]
     rest
 }
 
-/// Returns the section for which an item asks. `rest` are those that may be for it if it has no label.
+/// Returns the section for which an item asks, or the message for a part. `rest` are those that may be for it if
+/// it has no label.
 fn section_for<'a>(
     bodies: &'a [FetchedSection],
     rest: &'a [FetchedSection],
-    asked: Asked,
+    asked: &Asked,
 ) -> Option<&'a FetchedSection>
-    ensures { option_copied result ≡ section_for bodies.now rest.now asked }
+    ensures { option_copied result ≡ section_for bodies.now rest.now asked.now }
 {
     match asked {
-        Asked::Labelled(label) | Asked::Unlabelled(label) => labelled(bodies, label),
+        Asked::Labelled(label) => labelled(bodies, *label),
+        Asked::Unlabelled(label) => labelled(bodies, *label),
+        Asked::Part(_) => labelled(bodies, Label::Message),
         Asked::Section => from_other(rest).first(),
         _ => None,
     }
 }
 
 /// Returns the sections that may be for later items.
-fn rest_after(rest: &[FetchedSection], asked: Asked) -> &[FetchedSection]
-    ensures { result.now ≡ rest_after asked rest.now }
+fn rest_after<'a>(rest: &'a [FetchedSection], asked: &Asked) -> &'a [FetchedSection]
+    ensures { result.now ≡ rest_after asked.now rest.now }
 {
     match asked {
         Asked::Section => match from_other(rest).split_first() {
@@ -109,13 +113,14 @@ fn push_labelled(
 fn push_body(
     alloc: Global,
     out: &mut Pieces,
-    asked: Asked,
+    asked: &Asked,
     body: &FetchedSection,
 ) -> Result<(), AllocError>
-    ensures { OnOk result (octets_of out.new ≡ octets_of out.old ++ asked_text asked body.now) }
+    ensures { OnOk result (octets_of out.new ≡ octets_of out.old ++ asked_text asked.now body.now) }
 {
     match asked {
-        Asked::Labelled(label) => push_labelled(alloc, out, label, body),
+        Asked::Labelled(label) => push_labelled(alloc, out, *label, body),
+        Asked::Part(section) => push_section(alloc, out, section, body.octets.as_slice()),
         _ => print_section(out, body),
     }
 }
@@ -133,9 +138,9 @@ fn push_asked(
     begun: bool,
     bodies: &[FetchedSection],
     rest: &[FetchedSection],
-    asked: Asked,
+    asked: &Asked,
 ) -> Result<bool, AllocError>
-    ensures { let words = asked_words bodies.now rest.now asked in
+    ensures { let words = asked_words bodies.now rest.now asked.now in
         IfOk result (λ now. GoesOn (octets_of out.old) begun words (octets_of out.new) now) }
 {
     match section_for(bodies, rest, asked) {
@@ -161,8 +166,8 @@ fn push_all_asked(
     let mut begun = begun;
     let mut rest = bodies;
     for asked in all {
-        begun = push_asked(alloc, out, begun, bodies, rest, *asked)?;
-        rest = rest_after(rest, *asked);
+        begun = push_asked(alloc, out, begun, bodies, rest, asked)?;
+        rest = rest_after(rest, asked);
     }
     Ok(begun)
 }

@@ -1,7 +1,8 @@
 //! Laws of the dialect.
 
-ghost use Rattle.imap_rev1.specs.FetchLaws.{AsksMacro, AsksSection, AsksSections, PrintsNotices};
+ghost use Rattle.imap_rev1.specs.FetchLaws.{AsksMacro, AsksMessage, AsksSection, AsksSections, PrintsNotices};
 ghost use Rattle.imap_rev1.specs.FetchLaws.{PrintsUnlabelled, TellsAsAsked, TellsLabel, TellsListedLabel};
+ghost use Rattle.imap_rev1.specs.FetchLaws.{TellsListedPart, TellsPart};
 ghost use Rattle.imap_rev1.specs.Laws.{AllAreRead, AsksMessages, ChecksByNoop, EachIsOneLine, EndsByRev2};
 ghost use Rattle.imap_rev1.specs.Laws.{HandsOthersOn, IsReadAsOne, KeepsTags, ListsSubscribed};
 ghost use Rattle.imap_rev1.specs.Laws.{PrintsConditions, PrintsOthers, SearchesByKeys, StaysCommand};
@@ -31,8 +32,8 @@ pub fn tells_recent()
     ensures told { TellsRecent }
 {}
 
-/// Another item of FETCH is asked in place of each label, and its section is told under the label. Messages
-/// are printed if no label was asked for, or if they have no section.
+/// Another item of FETCH is asked in place of each label and part, and its section is told under the label.
+/// Messages are printed if no label or part was asked for, or if they have no section.
 pub fn tells_labels()
     ensures sections { AsksSections }
     ensures section { AsksSection }
@@ -42,6 +43,13 @@ pub fn tells_labels()
     ensures listed { TellsListedLabel }
     ensures unlabelled { PrintsUnlabelled }
     ensures notices { PrintsNotices }
+{}
+
+/// The message is asked in place of a part, and the part is told from it.
+pub fn tells_parts()
+    ensures asked { AsksMessage }
+    ensures told { TellsPart }
+    ensures listed { TellsListedPart }
 {}
 
 /// A client reads each line in which a reply is told as one line, and just these lines in all, if

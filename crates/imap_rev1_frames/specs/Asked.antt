@@ -6,7 +6,9 @@ use Rattle.imap_rev1_frames.specs.declared.asked.Asked.{Asked}
 use Rattle.imap_rev1_frames.specs.declared.asked.Asked.TheVariants as asked
 use Rattle.imap_rev1_frames.specs.declared.asked.Label.{Label}
 use Rattle.imap_rev1_frames.specs.declared.asked.Label.TheVariants as label
+use Rattle.imap_rev1_frames.specs.declared.part.PartSection.{PartSection}
 use Rattle.imap_rev1_frames.specs.Named.{begins, is_word}
+use Rattle.imap_rev1_frames.specs.Part.{is_same_part, part_for, part_in, part_words}
 
 -- ---- STATUS
 
@@ -63,7 +65,8 @@ label_in word =
 abbrev pub label_for : (word : List ℕ) → Option Label
 label_for word =
     if is_word (codes "BODY[]") word || is_word (codes "BODY.PEEK[]") word then Some label.Message
-    else (if is_word (codes "BODY[HEADER]") word || is_word (codes "BODY.PEEK[HEADER]") word then Some label.Header
+    else (if is_word (codes "BODY[HEADER]") word || is_word (codes "BODY.PEEK[HEADER]") word
+    then Some label.Header
     else (if is_word (codes "BODY[TEXT]") word || is_word (codes "BODY.PEEK[TEXT]") word then Some label.Text
     else None))
 
@@ -71,8 +74,12 @@ label_for word =
 abbrev pub is_section : (word : List ℕ) → Bool
 is_section word = begins (codes "BODY[") word || begins (codes "BODY.PEEK[") word
 
+abbrev pub part_or_section : Option PartSection → Asked
+part_or_section (Some p) = asked.Part p
+part_or_section None = asked.Section
+
 abbrev pub other_asked : (word : List ℕ) → Option Asked
-other_asked word = if is_section word then Some asked.Section else None
+other_asked word = if is_section word then Some (part_or_section (part_in word)) else None
 
 abbrev pub unlabelled_by : Option Label → (word : List ℕ) → Option Asked
 unlabelled_by (Some l) word = Some (asked.Unlabelled l)
@@ -88,9 +95,9 @@ section_asked word = labelled_by (label_in word) word
 
 abbrev pub section_by : Option Label → (word : List ℕ) → List ℕ
 section_by (Some l) word = label_section l word
-section_by None word = word
+section_by None word = part_for (part_words word) word
 
--- what is asked in place of the word
+-- What is asked in place of the word. For a part the message is.
 abbrev pub fetch_for : (word : List ℕ) → List ℕ
 fetch_for word = section_by (label_in word) word
 
@@ -106,10 +113,11 @@ is_same_label label.Structure label.Structure = true
 is_same_label label.Full label.Full = true
 is_same_label _ _ = false
 
--- both ask for the section of a label, and in the same way
+-- both ask for the section of a label, and in the same way, or for the same section of a part
 abbrev pub is_repeat : Asked → Asked → Bool
 is_repeat (asked.Labelled l) (asked.Labelled m) = is_same_label l m
 is_repeat (asked.Unlabelled l) (asked.Unlabelled m) = is_same_label l m
+is_repeat (asked.Part p) (asked.Part q) = is_same_part p q
 is_repeat _ _ = false
 
 abbrev pub with_asked : List Asked → Asked → List Asked
@@ -120,7 +128,8 @@ abbrev pub without_repeats : (kept : List Asked) → List Asked → List Asked
 without_repeats kept [] = kept
 without_repeats kept (a ∷ more) = without_repeats (with_asked kept a) more
 
--- an item is told under a label
+-- an item is told under a label, or is a part
 abbrev pub is_labelled : Asked → Bool
 is_labelled (asked.Labelled l) = true
+is_labelled (asked.Part p) = true
 is_labelled _ = false

@@ -82,7 +82,8 @@ single_renamed (command.Unsubscribe mailbox) = command.Unsubscribe (name_for mai
 single_renamed (command.Status mailbox items) = command.Status (name_for mailbox) items
 single_renamed (command.Append mailbox flags moment message) =
     command.Append (name_for mailbox) flags moment message
-single_renamed (command.SetAcl mailbox identifier rights) = command.SetAcl (name_for mailbox) identifier rights
+single_renamed (command.SetAcl mailbox identifier rights) =
+    command.SetAcl (name_for mailbox) identifier rights
 single_renamed (command.DeleteAcl mailbox identifier) = command.DeleteAcl (name_for mailbox) identifier
 single_renamed (command.GetAcl mailbox) = command.GetAcl (name_for mailbox)
 single_renamed (command.ListRights mailbox identifier) = command.ListRights (name_for mailbox) identifier

@@ -1,6 +1,6 @@
 //! Items that a command asks for.
 
-ghost use Rattle.std.specs.Prelude.{◌≡◌, [], IfOk, OnOk};
+ghost use Rattle.std.specs.Prelude.{◌≡◌, [], IfOk, OnOk, is_some};
 ghost use Rattle.std.specs.List.{list_any};
 ghost use Rattle.imap_rev1_frames.specs.Asked.{contents_label, envelope_section};
 ghost use Rattle.imap_rev1_frames.specs.Asked.{fetch_for, is_labelled, is_recent, is_repeat, is_same_label, is_section};
@@ -9,6 +9,7 @@ ghost use Rattle.imap_rev1_frames.specs.Asked.{section_asked, status_asked, unla
 ghost use Rattle.imap_rev1_frames.specs.Asked.{without_repeats};
 
 use crate::named::{begins, is_word};
+use crate::part::{PartSection, part_for, part_in};
 use std::alloc::{AllocError, Global};
 
 /// A name under which a section, or what stands in it, is told in place of its own (RFC 3501, section 6.4.5).
@@ -31,7 +32,7 @@ pub enum Label {
 }
 
 /// An item that a command asks for.
-#[derive(Clone, Copy, Debug, PartialEq, Eq)]
+#[derive(Debug, Drop)]
 pub enum Asked {
     /// RECENT in STATUS, for which MESSAGES is asked.
     Recent,
@@ -41,6 +42,8 @@ pub enum Asked {
     Labelled(Label),
     /// A section that has a label, by its other name.
     Unlabelled(Label),
+    /// A section of a part of the message.
+    Part(PartSection),
     /// A section that has no label.
     Section,
 }
@@ -90,29 +93,39 @@ impl Label {
 }
 
 impl Asked {
-    /// Whether both ask for the section of a label, and in the same way.
-    fn is_repeat(self, other: Asked) -> bool
-        ensures { result ≡ is_repeat self other }
+    /// Whether both ask for the section of a label, and in the same way, or for the same section of a part.
+    fn is_repeat(&self, other: &Asked) -> bool
+        ensures { result ≡ is_repeat self.now other.now }
     {
-        match (self, other) {
-            (Asked::Labelled(label), Asked::Labelled(other)) => label.is_same(other),
-            (Asked::Unlabelled(label), Asked::Unlabelled(other)) => label.is_same(other),
+        match self {
+            Asked::Labelled(label) => match other {
+                Asked::Labelled(other) => label.is_same(*other),
+                _ => false,
+            },
+            Asked::Unlabelled(label) => match other {
+                Asked::Unlabelled(other) => label.is_same(*other),
+                _ => false,
+            },
+            Asked::Part(part) => match other {
+                Asked::Part(other) => part.is_same(other),
+                _ => false,
+            },
             _ => false,
         }
     }
 
     /// Whether the item is told as RECENT.
-    pub fn is_recent(self) -> bool
-        ensures { result ≡ is_recent self }
+    pub fn is_recent(&self) -> bool
+        ensures { result ≡ is_recent self.now }
     {
         matches!(self, Asked::Recent)
     }
 
-    /// Whether the item is told under a label.
-    pub fn is_labelled(self) -> bool
-        ensures { result ≡ is_labelled self }
+    /// Whether the item is told under a label, or is a part.
+    pub fn is_labelled(&self) -> bool
+        ensures { result ≡ is_labelled self.now }
     {
-        matches!(self, Asked::Labelled(_))
+        matches!(self, Asked::Labelled(_) | Asked::Part(_))
     }
 }
 
@@ -191,34 +204,43 @@ fn is_section(word: &[u8]) -> bool
     begins(word, b"BODY[") || begins(word, b"BODY.PEEK[")
 }
 
-fn other_asked(word: &[u8]) -> Option<Asked>
-    ensures { result ≡ other_asked word.now }
+fn other_asked(alloc: Global, word: &[u8]) -> Result<Option<Asked>, AllocError>
+    ensures { IfOk result (λ asked. asked ≡ other_asked word.now) }
 {
-    if is_section(word) {
-        Some(Asked::Section)
-    } else {
-        None
+    if !is_section(word) {
+        return Ok(None);
+    }
+    match part_in(alloc, word)? {
+        Some(part) => Ok(Some(Asked::Part(part))),
+        None => Ok(Some(Asked::Section)),
     }
 }
 
-fn unlabelled_asked(word: &[u8]) -> Option<Asked>
-    ensures { result ≡ unlabelled_by (label_for word.now) word.now }
+fn unlabelled_asked(alloc: Global, word: &[u8]) -> Result<Option<Asked>, AllocError>
+    ensures { IfOk result (λ asked. asked ≡ unlabelled_by (label_for word.now) word.now) }
 {
     match label_for(word) {
-        Some(label) => Some(Asked::Unlabelled(label)),
-        None => other_asked(word),
+        Some(label) => Ok(Some(Asked::Unlabelled(label))),
+        None => other_asked(alloc, word),
     }
 }
 
 /// Returns the section for which a word of FETCH asks, if it does. If a list of header fields follows, the word
 /// is its front.
-pub(crate) fn section_asked(word: &[u8]) -> Option<Asked>
-    ensures { result ≡ section_asked word.now }
+pub(crate) fn section_asked(alloc: Global, word: &[u8]) -> Result<Option<Asked>, AllocError>
+    ensures { IfOk result (λ asked. asked ≡ section_asked word.now) }
 {
     match label_in(word) {
-        Some(label) => Some(Asked::Labelled(label)),
-        None => unlabelled_asked(word),
+        Some(label) => Ok(Some(Asked::Labelled(label))),
+        None => unlabelled_asked(alloc, word),
     }
+}
+
+/// Whether a word of FETCH asks for a section.
+pub(crate) fn asks_section(word: &[u8]) -> bool
+    ensures { result ≡ is_some (section_asked word.now) }
+{
+    label_in(word).is_some() || label_for(word).is_some() || is_section(word)
 }
 
 /// Returns what is asked in place of a word of FETCH.
@@ -227,32 +249,32 @@ pub(crate) fn fetch_for(word: &[u8]) -> &[u8]
 {
     match label_in(word) {
         Some(label) => label.section(word),
-        None => word,
+        None => part_for(word),
     }
 }
 
-fn has_repeat(kept: &[Asked], asked: Asked) -> bool
-    ensures { result ≡ list_any (is_repeat asked) kept.now }
+fn has_repeat(kept: &[Asked], asked: &Asked) -> bool
+    ensures { result ≡ list_any (is_repeat asked.now) kept.now }
 {
-    kept.iter().any(|other| asked.is_repeat(*other))
+    kept.iter().any(|other| asked.is_repeat(other))
 }
 
 fn push_once(kept: &mut Vec<Asked>, asked: Asked) -> Result<(), AllocError>
     ensures { OnOk result (kept.new.items ≡ with_asked kept.old.items asked) }
 {
-    if !has_repeat(kept.as_slice(), asked) {
+    if !has_repeat(kept.as_slice(), &asked) {
         kept.push(asked)?;
     }
     Ok(())
 }
 
 /// Returns the items without those that are asked for again. So no section is told twice in the same way.
-pub(crate) fn without_repeats(alloc: Global, all: &[Asked]) -> Result<Vec<Asked>, AllocError>
-    ensures { IfOk result (λ kept. kept.items ≡ without_repeats [] all.now) }
+pub(crate) fn without_repeats(alloc: Global, all: Vec<Asked>) -> Result<Vec<Asked>, AllocError>
+    ensures { IfOk result (λ kept. kept.items ≡ without_repeats [] all.items) }
 {
     let mut kept = Vec::new(alloc);
     for asked in all {
-        push_once(&mut kept, *asked)?;
+        push_once(&mut kept, asked)?;
     }
     Ok(kept)
 }

@@ -45,7 +45,7 @@ fn each_once(alloc: Global, named: Named, all: Vec<Asked>) -> Result<Vec<Asked>,
     ensures { IfOk result (λ asked. asked.items ≡ each_once named all.items) }
 {
     match named {
-        Named::Fetch => without_repeats(alloc, all.as_slice()),
+        Named::Fetch => without_repeats(alloc, all),
         _ => Ok(all),
     }
 }

@@ -1,6 +1,6 @@
 //! The words of a line.
 
-ghost use Rattle.std.specs.Prelude.{◌≡◌};
+ghost use Rattle.std.specs.Prelude.{◌≡◌, IfOk};
 ghost use Rattle.imap_rev1_frames.specs.Scan.{start, is_word_octet, is_in_word, takes_string, takes_atom};
 ghost use Rattle.imap_rev1_frames.specs.Scan.{arguments, key_for, is_among_items, exchanged, item_for, word_for};
 ghost use Rattle.imap_rev1_frames.specs.Scan.{fetch_item_for, asked_by_word, is_alone};
@@ -8,8 +8,9 @@ ghost use Rattle.imap_rev1_frames.specs.Scan.{is_item, written_word, word_asked,
 ghost use Rattle.imap_rev1_frames.specs.Scan.{deeper, less_deep, after_outside, after_inside, after_octet};
 ghost use Rattle.imap_rev1_frames.specs.Scan.{next_line};
 
-use crate::asked::{Asked, fetch_for, section_asked, status_asked};
+use crate::asked::{Asked, asks_section, fetch_for, section_asked, status_asked};
 use crate::named::{Named, is_word};
+use std::alloc::{AllocError, Global};
 
 /// How many parentheses are open.
 #[derive(Clone, Copy, Debug, PartialEq, Eq)]
@@ -123,12 +124,12 @@ impl Named {
     }
 
     /// Returns what a word among the items asks for, if it is one.
-    fn asked_by_word(self, word: &[u8]) -> Option<Asked>
-        ensures { result ≡ asked_by_word self word.now }
+    fn asked_by_word(self, alloc: Global, word: &[u8]) -> Result<Option<Asked>, AllocError>
+        ensures { IfOk result (λ asked. asked ≡ asked_by_word self word.now) }
     {
         match self {
-            Named::Fetch => section_asked(word),
-            _ => Some(status_asked(word)),
+            Named::Fetch => section_asked(alloc, word),
+            _ => Ok(Some(status_asked(word))),
         }
     }
 }
@@ -175,7 +176,7 @@ impl Depth {
     fn is_alone(self, word: &[u8]) -> bool
         ensures { result ≡ is_alone self word.now }
     {
-        matches!(self, Depth::None) && section_asked(word).is_some()
+        matches!(self, Depth::None) && asks_section(word)
     }
 }
 
@@ -217,13 +218,13 @@ impl Scan {
     }
 
     /// Returns what the word asks for, if it is an item.
-    pub(crate) fn word_asked(self, word: &[u8]) -> Option<Asked>
-        ensures { result ≡ word_asked self word.now }
+    pub(crate) fn word_asked(self, alloc: Global, word: &[u8]) -> Result<Option<Asked>, AllocError>
+        ensures { IfOk result (λ asked. asked ≡ word_asked self word.now) }
     {
         if !word.is_empty() && self.is_item() {
-            self.named.asked_by_word(word)
+            self.named.asked_by_word(alloc, word)
         } else {
-            None
+            Ok(None)
         }
     }
 

@@ -19,6 +19,7 @@ use std::alloc::{AllocError, Global};
 /// The command so far.
 #[derive(Drop)]
 pub(crate) struct Writing {
+    alloc: Global,
     scan: Scan,
     /// The octets of the word that has begun.
     word: Vec<u8>,
@@ -64,6 +65,7 @@ impl Writing {
         ensures asked { result.asked.items ≡ [] }
     {
         Writing {
+            alloc,
             scan: Scan::start(named),
             word: Vec::new(alloc),
             out: Vec::new(alloc),
@@ -82,7 +84,7 @@ impl Writing {
     {
         let word = self.word.as_slice();
         self.out.extend_from_slice(self.scan.written_word(word))?;
-        if let Some(asked) = self.scan.word_asked(word) {
+        if let Some(asked) = self.scan.word_asked(self.alloc, word)? {
             self.asked.push(asked)?;
         }
         self.scan = self.scan.after_word(word);

@@ -9,7 +9,7 @@ use std::alloc::{AllocError, Global};
 
 /// A section, its origin and its octets.
 #[derive(Clone, Copy)]
-enum Body {
+pub(crate) enum Body {
     Whole(Option<u64>, &'static [u8]),
     Header(Option<u64>, &'static [u8]),
     Text(Option<u64>, &'static [u8]),
@@ -50,7 +50,7 @@ fn sections(alloc: Global, bodies: &[Body]) -> Result<Items<FetchedSection>, All
 }
 
 /// Message 12 with its UID, its size and these sections.
-fn message(alloc: Global, bodies: &[Body]) -> Result<Response, AllocError> {
+pub(crate) fn message(alloc: Global, bodies: &[Body]) -> Result<Response, AllocError> {
     let sections = sections(alloc, bodies)?;
     let items = FetchedItems {
         uid: Some(7),

@@ -154,6 +154,31 @@ const FETCHES: &[(&[u8], &[u8])] = &[
         b"T FETCH 1 (BODY[HEADER.FIELDS (\"RFC822\" {6}\r\nRFC822)] RFC822)\r\n",
         b"T FETCH 1 (BODY[HEADER.FIELDS (\"RFC822\" {6}\r\nRFC822)] BODY[])\r\n",
     ),
+    (b"T FETCH 1 BODY[1]\r\n", b"T FETCH 1 BODY[]\r\n"),
+    (
+        b"T UID FETCH 1:* (UID body.peek[1.2.mime]<0.100> BODY[4294967295.TEXT] ENVELOPE)\r\n",
+        b"T UID FETCH 1:* (UID BODY.PEEK[] BODY[] BODY.PEEK[HEADER])\r\n",
+    ),
+    (
+        b"T FETCH 1 BODY[2.HEADER]<5.9223372036854775807> (CHANGEDSINCE 5)\r\n",
+        b"T FETCH 1 BODY[] (CHANGEDSINCE 5)\r\n",
+    ),
+    (
+        b"T FETCH 1 (BODY[0] BODY[01] BODY[1.] BODY[1..2] BODY[.1] BODY[1MIME] BODY[1.FOO] BODY[MIME])\r\n",
+        b"T FETCH 1 (BODY[0] BODY[01] BODY[1.] BODY[1..2] BODY[.1] BODY[1MIME] BODY[1.FOO] BODY[MIME])\r\n",
+    ),
+    (
+        b"T FETCH 1 (BODY[1]<> BODY[1]<1> BODY[1]<1.0> BODY[1]<1.01> BODY[1]<.1> BODY[1]<1.2.3> BODY[1]<1.2)\r\n",
+        b"T FETCH 1 (BODY[1]<> BODY[1]<1> BODY[1]<1.0> BODY[1]<1.01> BODY[1]<.1> BODY[1]<1.2.3> BODY[1]<1.2)\r\n",
+    ),
+    (
+        b"T FETCH 1 (BODY[1]<0.9223372036854775808> BODY[4294967296] BODY[1]] BODY[1]<0.1>> BODY[1]{1}\r\nx)\r\n",
+        b"T FETCH 1 (BODY[1]<0.9223372036854775808> BODY[4294967296] BODY[1]] BODY[1]<0.1>> BODY[1]{1}\r\nx)\r\n",
+    ),
+    (
+        b"T FETCH 1 BODY[2.HEADER.FIELDS (FROM)]\r\n",
+        b"T FETCH 1 BODY[2.HEADER.FIELDS (FROM)]\r\n",
+    ),
     (
         b"T FETCH 1 (UID RFC822.SIZE)\r\n",
         b"T FETCH 1 (UID RFC822.SIZE)\r\n",

@@ -1,0 +1,177 @@
+-- Sections of parts, as FETCH names them (RFC 3501, section 6.4.5; RFC 9051, section 9, `section-part`).
+use Rattle.std.specs.Prelude.{ℕ, ◌+◌, ◌*◌, ◌-◌, Bool, true, false, not, ◌==◌, ◌&&◌, ◌||◌, nat_lt, eqb, bytes_eq}
+use Rattle.std.specs.Prelude.{List, [], ◌∷◌, ◌++◌, length, take, drop, codes, Option, Some, None, option_map}
+use Rattle.std.specs.Prelude.{if◌then◌else◌}
+use Rattle.std.specs.Char.{is_ascii_alphabetic, is_ascii_digit}
+use Rattle.std.specs.List.{ends_with, list_all, prefix_len}
+use Rattle.std.specs.Option.{option_and_then}
+use Rattle.imap_query.specs.declared.fetch.Partial.{Partial}
+use Rattle.imap_syntax.specs.Lexical.{begins_with_zero, decimal}
+use Rattle.imap_syntax.specs.Written.{nz_number64}
+use Rattle.imap_rev1_frames.specs.declared.part.PartSection.{PartSection}
+use Rattle.imap_rev1_frames.specs.declared.part.PartText.{PartText}
+use Rattle.imap_rev1_frames.specs.declared.part.PartText.TheVariants as part_text
+use Rattle.imap_rev1_frames.specs.Named.{begins, is_word}
+
+-- ---- numbers (`section-part`)
+
+abbrev pub is_number_octet : ℕ → Bool
+is_number_octet b = is_ascii_digit b || b == 46
+
+-- what has begun of a number after an octet, if it may stand there
+abbrev pub number_step : (begun : Option ℕ) → ℕ → Option (Option ℕ)
+number_step None b = if nat_lt 48 b && nat_lt b 58 then Some (Some (b - 48)) else None
+number_step (Some n) b =
+    if b == 46 then Some None
+    else (if is_ascii_digit b && nat_lt (10 * n + (b - 48)) 4294967296 then Some (Some (10 * n + (b - 48)))
+    else None)
+
+abbrev pub are_by : Option (Option ℕ) → (more : Option ℕ → Bool) → Bool
+are_by (Some begun) more = more begun
+are_by None more = false
+
+-- numbers from 1 below 2^32, with a dot after each, or after each but the last
+abbrev pub are_numbers : (begun : Option ℕ) → List ℕ → Bool
+are_numbers begun [] = true
+are_numbers begun (b ∷ octets) = are_by (number_step begun b) (λ next. are_numbers next octets)
+
+-- the number that has begun, if it ends
+abbrev pub ended : (begun next : Option ℕ) → List ℕ
+ended (Some n) None = n ∷ []
+ended _ _ = []
+
+abbrev pub numbers_by : (begun : Option ℕ) → Option (Option ℕ) → (more : Option ℕ → List ℕ) → List ℕ
+numbers_by begun (Some next) more = ended begun next ++ more next
+numbers_by begun None more = []
+
+-- the numbers in them
+abbrev pub numbers_from : (begun : Option ℕ) → List ℕ → List ℕ
+numbers_from begun [] = ended begun None
+numbers_from begun (b ∷ octets) = numbers_by begun (number_step begun b) (λ next. numbers_from next octets)
+
+-- ---- what a section has of the part (`section-text`)
+
+abbrev pub text_named : (word : List ℕ) → Option PartText
+text_named word =
+    if is_word (codes "MIME") word then Some part_text.Mime
+    else (if is_word (codes "HEADER") word then Some part_text.Header
+    else (if is_word (codes "TEXT") word then Some part_text.Text else None))
+
+-- A word follows a dot.
+abbrev pub text_in : (dotted : Bool) → (word : List ℕ) → Option PartText
+text_in dotted word =
+    if dotted then text_named word
+    else (if length word == 0 then Some part_text.Body else None)
+
+-- ---- a range of octets (`partial`)
+
+abbrev pub number_in : (digits : List ℕ) → Option ℕ
+number_in digits =
+    if length digits == 0 || not (list_all is_ascii_digit digits)
+    || nat_lt 9223372036854775807 (decimal digits)
+    then None else Some (decimal digits)
+
+abbrev pub from_one : ℕ → Option ℕ
+from_one n = if nz_number64.fits n then Some n else None
+
+-- a dot, and a number of octets without leading zeros
+abbrev pub count_in : List ℕ → Option ℕ
+count_in [] = None
+count_in (b ∷ digits) =
+    if b == 46 && not (begins_with_zero digits) then option_and_then from_one (number_in digits) else None
+
+abbrev pub range_by : (offset count : Option ℕ) → Option Partial
+range_by (Some offset) (Some count) = Some (record { offset = offset; count = count })
+range_by _ _ = None
+
+-- what stands between `<` and `>`
+abbrev pub range_in : List ℕ → Option Partial
+range_in octets =
+    range_by (number_in (take (prefix_len is_ascii_digit octets) octets))
+    (count_in (drop (prefix_len is_ascii_digit octets) octets))
+
+abbrev pub range_or_none : List ℕ → Option (Option Partial)
+range_or_none [] = Some None
+range_or_none (b ∷ octets) =
+    if b == 60 && ends_with eqb octets (codes ">")
+    then option_map Some (range_in (take (length octets - 1) octets)) else None
+
+-- what ends a section, and perhaps a range
+abbrev pub end_in : List ℕ → Option (Option Partial)
+end_in [] = None
+end_in (b ∷ octets) = if b == 93 then range_or_none octets else None
+
+-- ---- a word
+
+-- a section of a part by its words: its numbers as they are written, and what it has of the part
+pub record PartWords : Type 0 where
+  pub numbers : List ℕ
+  pub text : PartText
+  pub partial : Option Partial
+
+abbrev pub words_by : (numbers : List ℕ) → Option PartText → Option (Option Partial) → Option PartWords
+words_by numbers (Some text) (Some partial) =
+    Some (record { numbers = numbers; text = text; partial = partial })
+words_by numbers _ _ = None
+
+abbrev pub words_after : (numbers rest : List ℕ) → Option PartWords
+words_after numbers rest =
+    words_by numbers
+    (text_in (ends_with eqb numbers (codes ".")) (take (prefix_len is_ascii_alphabetic rest) rest))
+    (end_in (drop (prefix_len is_ascii_alphabetic rest) rest))
+
+abbrev pub words_with : (numbers rest : List ℕ) → Option PartWords
+words_with numbers rest =
+    if not (length numbers == 0) && are_numbers None numbers then words_after numbers rest else None
+
+-- what stands after the bracket
+abbrev pub words_in : List ℕ → Option PartWords
+words_in octets =
+    words_with (take (prefix_len is_number_octet octets) octets)
+    (drop (prefix_len is_number_octet octets) octets)
+
+abbrev pub is_ended : (word : List ℕ) → Bool
+is_ended word = ends_with eqb word (codes "]") || ends_with eqb word (codes ">")
+
+abbrev pub after_bracket : (word : List ℕ) → Option (List ℕ)
+after_bracket word =
+    if begins (codes "BODY[") word then Some (drop 5 word)
+    else (if begins (codes "BODY.PEEK[") word then Some (drop 10 word) else None)
+
+-- the section of a part that a word is
+abbrev pub part_words : (word : List ℕ) → Option PartWords
+part_words word = if is_ended word then option_and_then words_in (after_bracket word) else None
+
+abbrev pub section_of : PartWords → PartSection
+section_of w = record { numbers = numbers_from None w.numbers; text = w.text; partial = w.partial }
+
+abbrev pub part_in : (word : List ℕ) → Option PartSection
+part_in word = option_map section_of (part_words word)
+
+-- ---- what is asked in its place
+
+abbrev pub message_for : (word : List ℕ) → List ℕ
+message_for word = if begins (codes "BODY[") word then codes "BODY[]" else codes "BODY.PEEK[]"
+
+-- the message in which the part stands. `\Seen` is set as by the word
+abbrev pub part_for : Option PartWords → (word : List ℕ) → List ℕ
+part_for (Some w) word = message_for word
+part_for None word = word
+
+-- ---- equal sections
+
+abbrev pub is_same_text : PartText → PartText → Bool
+is_same_text part_text.Body part_text.Body = true
+is_same_text part_text.Mime part_text.Mime = true
+is_same_text part_text.Header part_text.Header = true
+is_same_text part_text.Text part_text.Text = true
+is_same_text _ _ = false
+
+abbrev pub is_same_range : Option Partial → Option Partial → Bool
+is_same_range (Some p) (Some q) = p.offset == q.offset && p.count == q.count
+is_same_range None None = true
+is_same_range _ _ = false
+
+abbrev pub is_same_part : PartSection → PartSection → Bool
+is_same_part p q =
+    bytes_eq p.numbers q.numbers && is_same_text p.text q.text && is_same_range p.partial q.partial
