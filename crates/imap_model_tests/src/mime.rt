@@ -1,4 +1,5 @@
-//! Envelopes and structures of messages, beside those that Python found.
+//! Envelopes, structures and parts of messages, beside those that Python found.
 
 mod envelopes;
+mod numbered;
 mod structures;

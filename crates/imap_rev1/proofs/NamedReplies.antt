@@ -1,5 +1,5 @@
 -- Replies that are told with names in modified UTF-7.
-use Rattle.std.proofs.Common.{◌≡◌, ◌∙◌, ap, refl, subst, ℕ, Bool, true, false, cond, ◌||◌, List, [], ◌∷◌, ◌++◌, append-nil, flat_map, Option, Some, None}
+use Rattle.std.proofs.Common.{◌≡◌, ◌∙◌, ap, sym, refl, subst, ℕ, Bool, true, false, cond, ◌||◌, List, [], ◌∷◌, ◌++◌, append-nil, flat_map, Option, Some, None}
 use Rattle.std.specs.Prelude.{codes}
 use Rattle.std.specs.List.{AllByRecursion, concat, list_any}
 use Rattle.imap_lex.specs.Framing.{crlf}
@@ -11,6 +11,8 @@ use Rattle.imap_print.specs.declared.response.Response.TheVariants as response
 use Rattle.imap_print.specs.declared.status.StatusValue.{StatusValue}
 use Rattle.imap_rights.specs.declared.rights.Rights.{Rights}
 use Rattle.imap_print.specs.Lines.{AreReadFrom, IsPlain, IsPrintable}
+use Rattle.imap_print.specs.Words.{before_each, given}
+use Rattle.imap_print.proofs.Wording.{before_each-append}
 use Rattle.imap_print.proofs.Reader.{Quiet, quiet, quiet-append, quiet_settles}
 use Rattle.imap_dialect.specs.Telling.{retold}
 use Rattle.imap_rev1_frames.specs.Enable.{asks_utf8}
@@ -19,7 +21,7 @@ use Rattle.imap_rev1.specs.Laws.{IsOneLine, names_capabilities}
 use Rattle.imap_rev1.specs.NameLaws.{AllAreRead, EachIsOneLine, EndsByEnabled, PlainRepliesStay, PrintsConditions, PrintsOthers, StaysEnabled, StaysUntilEnabled, accepted_lines, named_lines}
 use Rattle.imap_rev1.specs.Rev1.{rules_for, told_by}
 use Rattle.imap_rev1.specs.Shown.{name_in, named_or_same, other_shown, shown_by, shown_reply}
-use Rattle.imap_rev1.specs.Utf7.{accepted_by, accepted_text, ends_names, given_word, told_accepted, told_echoed, utf7_rev1}
+use Rattle.imap_rev1.specs.Utf7.{accepted_by, accepted_text, ends_names, told_accepted, told_echoed, utf7_rev1}
 use Rattle.imap_rev1.proofs.Lines.{lines_are, read_more, settled_one, told_one}
 use Rattle.imap_rev1.proofs.Rev1Rules.{prints_others as rev1_prints_others}
 use Rattle.imap_rev1.proofs.Told.{plain_shown, shown_plain}
@@ -66,16 +68,20 @@ either_printable false reply h = shown_printable reply h
 
 -- ---- lines
 
-given_quiet : (given : Bool) (word : List ℕ) → Quiet word → Quiet (given_word given word)
-given_quiet true word q = q
-given_quiet false word q = quiet [] refl
+each_quiet : (given_one : Bool) (word : List ℕ) → Quiet word → Quiet (before_each 32 (given given_one word))
+each_quiet true word q = quiet-append (quiet-append (quiet (32 ∷ []) refl) q) (quiet [] refl)
+each_quiet false word q = quiet [] refl
+
+words_quiet : (xs ys zs : List (List ℕ)) → Quiet (before_each 32 xs) → Quiet (before_each 32 ys) → Quiet (before_each 32 zs) → Quiet (before_each 32 ((xs ++ ys) ++ zs))
+words_quiet xs ys zs p q r =
+    subst Quiet (sym (before_each-append 32 (xs ++ ys) zs ∙ ap (λ (l : List ℕ). l ++ before_each 32 zs) (before_each-append 32 xs ys))) (quiet-append (quiet-append p q) r)
 
 accepted_quiet : (enabled : EnabledCapabilities) → Quiet (accepted_text enabled)
 accepted_quiet enabled =
-    quiet-append (quiet-append (quiet-append (quiet-append (quiet (codes "* ENABLED") refl)
-    (given_quiet enabled.condstore (codes " CONDSTORE") (quiet _ refl)))
-    (given_quiet enabled.imap4rev2 (codes " IMAP4rev2") (quiet _ refl)))
-    (given_quiet enabled.qresync (codes " QRESYNC") (quiet _ refl)))
+    quiet-append
+    (quiet-append (quiet (codes "* ENABLED") refl)
+    (words_quiet (given enabled.condstore (codes "CONDSTORE")) (given enabled.imap4rev2 (codes "IMAP4rev2")) (given enabled.qresync (codes "QRESYNC"))
+    (each_quiet enabled.condstore (codes "CONDSTORE") (quiet _ refl)) (each_quiet enabled.imap4rev2 (codes "IMAP4rev2") (quiet _ refl)) (each_quiet enabled.qresync (codes "QRESYNC") (quiet _ refl))))
     (quiet (codes " UTF8=ACCEPT") refl)
 
 accepted_one : (rules : Rules) (reply : Response) (o : Option EnabledCapabilities) → IsPrintable reply

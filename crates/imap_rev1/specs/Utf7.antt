@@ -1,8 +1,9 @@
 -- The dialect of IMAP4rev1 with names in modified UTF-7 (RFC 3501, section 5.1.3).
-use Rattle.std.specs.Prelude.{ℕ, Bool, false, ◌||◌, List, [], ◌++◌, codes, Option, Some, None, if◌then◌else◌}
+use Rattle.std.specs.Prelude.{ℕ, Bool, false, ◌||◌, List, ◌++◌, codes, Option, Some, None, if◌then◌else◌}
 use Rattle.imap_lex.specs.Framing.{crlf}
 use Rattle.std.specs.List.{list_any}
 use Rattle.imap_print.specs.declared.enabled.EnabledCapabilities.{EnabledCapabilities}
+use Rattle.imap_print.specs.Printed.{line_text}
 use Rattle.imap_print.specs.declared.response.Response.{Response}
 use Rattle.imap_print.specs.declared.response.Response.TheVariants as response
 use Rattle.imap_rev1_frames.specs.Enable.{asks_utf8}
@@ -15,15 +16,9 @@ use Rattle.imap_rev1.specs.Shown.{shown_reply}
 
 -- ---- ENABLE
 
-abbrev pub given_word : (given : Bool) → (word : List ℕ) → List ℕ
-given_word given word = if given then word else []
-
--- the line that says that the capabilities and UTF8=ACCEPT are enabled (RFC 5161, section 3.2)
+-- the line that says that the capabilities are enabled, and UTF8=ACCEPT (RFC 5161, section 3.2)
 abbrev pub accepted_text : EnabledCapabilities → List ℕ
-accepted_text enabled =
-    codes "* ENABLED" ++ given_word enabled.condstore (codes " CONDSTORE")
-    ++ given_word enabled.imap4rev2 (codes " IMAP4rev2") ++ given_word enabled.qresync (codes " QRESYNC")
-    ++ codes " UTF8=ACCEPT"
+accepted_text enabled = line_text (response.Enabled enabled) ++ codes " UTF8=ACCEPT"
 
 -- After the reply names are in UTF-8. `asks` says whether the client's frame names UTF8=ACCEPT.
 abbrev pub ends_names : (asks : Bool) → Response → Bool

@@ -4,10 +4,11 @@ ghost use Rattle.std.specs.Prelude.{◌≡◌, ◌++◌, IfOk, OnOk, false};
 ghost use Rattle.std.specs.List.{list_any};
 ghost use Rattle.imap_lex.specs.Framing.{crlf};
 ghost use Rattle.imap_print.specs.Pieces.{octets_of};
+ghost use Rattle.imap_print.specs.Words.{before_each, given};
 ghost use Rattle.imap_rev1_frames.specs.Rewritten.{instead_frame};
 ghost use Rattle.imap_rev1_frames.specs.Names.{renamed_frame};
 ghost use Rattle.imap_rev1.specs.Shown.{shown_reply};
-ghost use Rattle.imap_rev1.specs.Utf7.{accepted_by, accepted_text, ends_names, given_word, named_told};
+ghost use Rattle.imap_rev1.specs.Utf7.{accepted_by, accepted_text, ends_names, named_told};
 ghost use Rattle.imap_rev1.specs.Utf7.{told_echoed, utf7_rev1};
 
 use crate::rev1::{Rev1, Rules};
@@ -76,10 +77,15 @@ fn accepted_by(echoes: bool, reply: &Response) -> Option<EnabledCapabilities>
     }
 }
 
-fn push_given(out: &mut Pieces, given: bool, word: &[u8]) -> Result<(), AllocError>
-    ensures { OnOk result (octets_of out.new ≡ octets_of out.old ++ given_word given word.now) }
+/// Appends the word after a space, if it is given.
+fn push_given(out: &mut Pieces, is_given: bool, word: &[u8]) -> Result<(), AllocError>
+    ensures { OnOk result (octets_of out.new ≡ octets_of out.old ++ before_each 32 (given is_given word.now)) }
 {
-    if given { out.push_octets(word) } else { Ok(()) }
+    if is_given {
+        out.push_octets(b" ")?;
+        out.push_octets(word)?;
+    }
+    Ok(())
 }
 
 /// Appends the line that says that the capabilities and UTF8=ACCEPT are enabled (RFC 5161, section 3.2).
@@ -87,11 +93,12 @@ fn push_accepted(out: &mut Pieces, enabled: EnabledCapabilities) -> Result<(), A
     ensures { OnOk result (octets_of out.new ≡ octets_of out.old ++ (accepted_text enabled ++ crlf)) }
 {
     out.push_octets(b"* ENABLED")?;
-    push_given(out, enabled.condstore, b" CONDSTORE")?;
-    push_given(out, enabled.imap4rev2, b" IMAP4rev2")?;
-    push_given(out, enabled.qresync, b" QRESYNC")?;
+    push_given(out, enabled.condstore, b"CONDSTORE")?;
+    push_given(out, enabled.imap4rev2, b"IMAP4rev2")?;
+    push_given(out, enabled.qresync, b"QRESYNC")?;
     out.push_octets(b" UTF8=ACCEPT")?;
-    out.push_octets(b"\r\n")
+    out.push_octets(b"\r\n")?;
+    Ok(())
 }
 
 /// Appends the octets in which a reply is told, whose name is as it is to be shown.

@@ -271,7 +271,7 @@ const ROWS: &[(&[u8], &[u8])] = &[
          la BODY[1]<0> {3}\r\n\
          one BODY[1]<2> {1}\r\n\
          e BODY[1]<3> {0}\r\n\
-          BODY[9]<5> NIL BODY[1] {3}\r\n\
+         \x20BODY[9]<5> NIL BODY[1] {3}\r\n\
          one BODY[4.1.MIME]<9> {4}\r\n\
          ype:)\r\n",
     ),
@@ -349,7 +349,7 @@ const OTHERS: &[(&[u8], &[u8], &[u8])] = &[
          body BODY[1.MIME] {14}\r\n\
          Subject: x\r\n\
          \r\n\
-          BODY[1.1] NIL BODY[2] NIL BODY[1.TEXT] NIL)\r\n",
+         \x20BODY[1.1] NIL BODY[2] NIL BODY[1.TEXT] NIL)\r\n",
     ),
     (
         b"Content-Type: message/rfc822\r\n\r\nSubject: y\r\n\r\nz",
@@ -360,7 +360,7 @@ const OTHERS: &[(&[u8], &[u8], &[u8])] = &[
          z BODY[1.HEADER] {14}\r\n\
          Subject: y\r\n\
          \r\n\
-          BODY[1.1] {1}\r\n\
+         \x20BODY[1.1] {1}\r\n\
          z BODY[1.TEXT] {1}\r\n\
          z BODY[1.1.1] NIL)\r\n",
     ),
@@ -377,7 +377,7 @@ const OTHERS: &[(&[u8], &[u8], &[u8])] = &[
         b"* 12 FETCH (UID 7 RFC822.SIZE 9 BODY[1.HEADER] {14}\r\n\
          Subject: s\r\n\
          \r\n\
-          BODY[1.1] {1}\r\n\
+         \x20BODY[1.1] {1}\r\n\
          t BODY[1.MIME] {2}\r\n\
          \r\n\
          )\r\n",
@@ -386,7 +386,7 @@ const OTHERS: &[(&[u8], &[u8], &[u8])] = &[
         b"Content-Type: multipart/mixed\r\n\r\nx",
         b"T FETCH 12 (BODY[1] BODY[2] BODYSTRUCTURE)\r\n",
         b"* 12 FETCH (UID 7 RFC822.SIZE 9 BODY[1] {0}\r\n\
-          BODY[2] NIL BODYSTRUCTURE ((\"text\" \"plain\" (\"charset\" \"us-ascii\") NIL NIL \"7BIT\" 0 0 NIL NIL NIL NIL) \"mixed\" NIL NIL NIL NIL))\r\n",
+         \x20BODY[2] NIL BODYSTRUCTURE ((\"text\" \"plain\" (\"charset\" \"us-ascii\") NIL NIL \"7BIT\" 0 0 NIL NIL NIL NIL) \"mixed\" NIL NIL NIL NIL))\r\n",
     ),
 ];
 
