@@ -8,10 +8,9 @@ use Rattle.imap_view.specs.View.{View}
 use Rattle.imap_world.specs.Kept.{AreKept}
 use Rattle.imap_core.specs.declared.step.Step.{Step}
 use Rattle.imap_core.specs.Laws.{OtherUsersStay, QuietPollsChangeNothing, StepsAreAlike}
-use Rattle.imap_core.specs.Machine.{State, after_steps, answer, answers, next, view_in}
+use Rattle.imap_core.specs.Machine.{State, after_steps, answer, answers, next, own_in, view_in}
 use Rattle.imap_core.specs.OwnSteps.{GivenBackTellsNothing, IsolationAtOwnSteps, UnseenStepsAreSilent, are_others, moments, own_moments, since}
 use Rattle.imap_core.specs.Trace.{Acts, Alike, AreIsolated, EqualViewsAreSame, Event, Isolation, IsolationOfReplies, Sees, is_quiet, octets_of, replies_among, replies_to, same_view, trace, with_replies}
-use Rattle.imap_core.specs.Unmarked.{sessions_in, unmarked_sessions}
 use Rattle.imap_core.proofs.Quiet.{quiet_act}
 
 abbrev Sent : Type 0
@@ -37,10 +36,10 @@ back user s t a = record { views = sym a.views; sessions = sym a.sessions; kept 
 
 -- a state that differs for the user in nothing but the view
 record Passes (user : List ℕ) (s t : State) : Type 0 where
-  sessions : sessions_in s user ≡ sessions_in t user
+  sessions : own_in s user ≡ own_in t user
   kept : AreKept t.world.mailboxes
 
-passes_on : (user : List ℕ) (s t r : State) → sessions_in s user ≡ sessions_in t user → Passes user t r → Passes user s r
+passes_on : (user : List ℕ) (s t r : State) → own_in s user ≡ own_in t user → Passes user t r → Passes user s r
 passes_on user s t r sessions p = record { sessions = sessions ∙ p.sessions; kept = p.kept }
 
 -- ---- a run, up to the first event of its trace
@@ -104,8 +103,8 @@ module _ (of_steps : StepsAreAlike) (of_others : OtherUsersStay) (of_polls : Qui
   kept_next s step kept = (of_steps s s step (itself step.who.user s kept)).1.kept
 
   -- the user's sessions after a step of another
-  stays : (user : List ℕ) (s : State) (step : Step) → bytes_eq step.who.user user ≡ false → sessions_in (next s step) user ≡ sessions_in s user
-  stays user s step apart = ap (option_map unmarked_sessions) (of_others s step user apart)
+  stays : (user : List ℕ) (s : State) (step : Step) → bytes_eq step.who.user user ≡ false → own_in (next s step) user ≡ own_in s user
+  stays user s step apart = of_others s step user apart
 
   own_step : (user : List ℕ) (s t : State) (step : Step) → step.who.user ≡ user → Alike user s t → (answer s step ≡ answer t step) × Alike user (next s step) (next t step)
   own_step user s t step is = subst (λ user. Alike user s t → (answer s step ≡ answer t step) × Alike user (next s step) (next t step)) is (λ alike. of_steps s t step alike)
@@ -231,7 +230,7 @@ module _ (of_steps : StepsAreAlike) (of_others : OtherUsersStay) (of_polls : Qui
 
   -- ---- a run, up to the user's next own step
 
-  passing : (user : List ℕ) (last : View) (s t : State) (steps rest : List Step) (later : List (Option View × Step)) → sessions_in s user ≡ sessions_in t user → replies_to user s steps ≡ replies_to user t rest → Comes user last t rest later → Comes user last s steps later
+  passing : (user : List ℕ) (last : View) (s t : State) (steps rest : List Step) (later : List (Option View × Step)) → own_in s user ≡ own_in t user → replies_to user s steps ≡ replies_to user t rest → Comes user last t rest later → Comes user last s steps later
   passing user last s t steps rest [] sessions e p = e ∙ p
   passing user last s t steps rest (m ∷ later) sessions e p = record {
     reached = p.reached;
@@ -281,7 +280,7 @@ module _ (of_steps : StepsAreAlike) (of_others : OtherUsersStay) (of_polls : Qui
       by false p true q e = absurd (cc e)
       by false p false q e = cc e
 
-  agree_at : (user : List ℕ) (last : View) (moments : List (Option View × Step)) (s t : State) (steps others : List Step) → sessions_in s user ≡ sessions_in t user
+  agree_at : (user : List ℕ) (last : View) (moments : List (Option View × Step)) (s t : State) (steps others : List Step) → own_in s user ≡ own_in t user
       → Comes user last s steps moments → Comes user last t others moments → replies_to user s steps ≡ replies_to user t others
   agree_at user last [] s t steps others sessions p q = p ∙ sym q
   agree_at user last (m ∷ later) s t steps others sessions p q =

@@ -7,7 +7,6 @@ pub mod InStep
 pub mod Lent
 pub mod MadeByEvents
 pub mod MailboxLeft
-pub mod Marks
 pub mod MessagesKnown
 pub mod Noticed
 pub mod Numbered
@@ -24,4 +23,3 @@ pub mod StepLaws
 pub mod Quotas
 pub mod Steps
 pub mod StepsAlike
-pub mod Unmarked

@@ -32,7 +32,6 @@ use Rattle.imap_world.specs.World.{World, epoch, inbox, max_validity}
 use Rattle.imap_core.specs.Accounts.{Accounts}
 use Rattle.imap_core.specs.Opening.{Admission, admission, needs_inbox, nobody, with_user, with_users}
 use Rattle.imap_core.specs.Starting.{StartsAreAlike, gets_inbox, is_one_of}
-use Rattle.imap_core.specs.Unmarked.{unmarked_sessions}
 use Rattle.imap_core.proofs.Starting.{admission_apart, asked_users, both, equal_users, fair, grown, inbox_row, inboxes, one_owner, or_true, room_left, written}
 
 -- ---- the accounts
@@ -262,7 +261,7 @@ starts_alike of_others of_creations of_hidden administrator users groups limits 
     let site : Site = record { administrator = administrator; limits = limits; groups = groups } in
     record {
       views = starts_seen of_others of_creations administrator users site user valid one other (of_hidden site user one other differ);
-      sessions = ap (λ (accounts : Accounts). option_map unmarked_sessions (map.get accounts user)) (same_users one other (administrator ∷ users) nobody nobody refl);
+      sessions = ap (λ (accounts : Accounts). map.get accounts user) (same_users one other (administrator ∷ users) nobody nobody refl);
       kept = kept_start administrator users one kept;
       kept_other = kept_start administrator users other kept_other;
     }

@@ -37,9 +37,7 @@ use Rattle.imap_core.specs.Reply.{command_outcome, highest_line, if_selected, ke
 use Rattle.imap_core.specs.Reply.{reply_when_closed, reply_when_open, request_outcome, select_outcome, unless_lost}
 use Rattle.imap_core.specs.Sessions.{Own, max_sessions}
 use Rattle.imap_core.specs.Trace.{Alike}
-use Rattle.imap_core.specs.Unmarked.{sessions_in, unmarked_sessions}
-use Rattle.imap_core.proofs.Steps.{kept_next, own_after_change, own_in-next}
-use Rattle.imap_core.proofs.Unmarked.{same_after, same_outcome}
+use Rattle.imap_core.proofs.Steps.{kept_next, own_after, own_in-next}
 
 -- what is asked of the mailboxes, by the view, leaves worlds alike that are alike
 abbrev AsksAlike : (View → Option Effect) → Type 0
@@ -155,28 +153,6 @@ module _ (of_commands : (own : SessionState) (tag : List ℕ) (at : Moment) (wha
   step_asks None step = none_asked
   step_asks (Some own) step = session_asks own step (map.get own step.who.number)
 
-  -- ---- the mod-sequence up to which a session was told makes no difference
-
-  -- what becomes of the acting user's sessions, by these, the view and the step
-  abbrev sessions_after : View → Option Own → Step → Option Own
-  sessions_after view own step = option_map unmarked_sessions (own_after_change own step.who.number (outcome_for view own step).session)
-
-  sessions_next : (state : State) (step : Step) → sessions_in (next state step) step.who.user ≡ sessions_after (view_in state step.who.user) (sessions_in state step.who.user) step
-  sessions_next state step =
-      let view = view_in state step.who.user in
-      let own = own_in state step.who.user in
-      let known = sessions_in state step.who.user in
-      ap (option_map unmarked_sessions) (own_in-next state step)
-      ∙ same_after own step.who.number (outcome_for view own step).session
-      ∙ ap (λ (outcome : Outcome). option_map unmarked_sessions (own_after_change known step.who.number outcome.session)) (same_outcome view own step)
-
-  outcome_is : (state : State) (step : Step) → outcome state step ≡ outcome_for (view_in state step.who.user) (sessions_in state step.who.user) step
-  outcome_is state step = same_outcome (view_in state step.who.user) (own_in state step.who.user) step
-
-  view_next : (state : State) (step : Step) → view_in (next state step) step.who.user
-      ≡ view_of state.site step.who.user (after_all (effects_of (outcome_for (view_in state step.who.user) (sessions_in state step.who.user) step).effect) state.world)
-  view_next state step = ap (λ (outcome : Outcome). view_of state.site step.who.user (after_all (effects_of outcome.effect) state.world)) (outcome_is state step)
-
   -- ---- a step
 
   module _ (s t : State) (step : Step) (alike : Alike step.who.user s t) where
@@ -191,23 +167,18 @@ module _ (of_commands : (own : SessionState) (tag : List ℕ) (at : Moment) (wha
 
     views_after : view_in (next s step) user ≡ view_in (next t step) user
     views_after =
-        view_next s step
-        ∙ step_asks (sessions_in s user) step s.site user s.world t.world alike.kept alike.kept_other one_site
+        step_asks (own_in s user) step s.site user s.world t.world alike.kept alike.kept_other one_site
         ∙ (λ i. view_of (sites i) user (after_all (effects_of (outcome_for (view_of (sites i) user t.world) (alike.sessions i) step).effect) t.world))
-        ∙ sym (view_next t step)
 
     answers_after : (outcome s step).replies ≡ (outcome t step).replies
-    answers_after =
-        ap (λ (outcome : Outcome). outcome.replies) (outcome_is s step)
-        ∙ (λ i. (outcome_for (alike.views i) (alike.sessions i) step).replies)
-        ∙ sym (ap (λ (outcome : Outcome). outcome.replies) (outcome_is t step))
+    answers_after = λ i. (outcome_for (alike.views i) (alike.sessions i) step).replies
 
   pub alike_on : StepsAreAlike
   alike_on s t step alike = (
     answers_after s t step alike,
     record {
       views = views_after s t step alike;
-      sessions = sessions_next s step ∙ (λ i. sessions_after (alike.views i) (alike.sessions i) step) ∙ sym (sessions_next t step);
+      sessions = own_in-next s step ∙ (λ i. own_after (alike.views i) (alike.sessions i) step) ∙ sym (own_in-next t step);
       kept = kept_next s step alike.kept;
       kept_other = kept_next t step alike.kept_other;
     },

@@ -34,7 +34,6 @@ use Rattle.imap_core.specs.Machine.{State, accounts_with, answer, next, outcome,
 use Rattle.imap_core.specs.Notices.{is_bad, mailbox_left, may_tell_expunges, notice_lines, notice_options}
 use Rattle.imap_core.specs.Notices.{notice_telling}
 use Rattle.imap_core.specs.Trace.{Alike, is_quiet}
-use Rattle.imap_core.specs.Unmarked.{sessions_in}
 
 -- A step in two states that are alike to its user is answered alike, and leaves them alike to that user.
 abbrev pub StepsAreAlike : Type 0
@@ -195,7 +194,7 @@ NeverUnavailable = (state : State) (step : Step) → list_any is_unavailable (an
 -- To a user, states are alike that differ in hidden mailboxes alone, and in used validities of names of which the
 -- user may not know. A name in use of which the user may know stays in use.
 abbrev pub HiddenIsAlike : Type 0
-HiddenIsAlike = (user : List ℕ) (s t : State) → s.site ≡ t.site → sessions_in s user ≡ sessions_in t user
+HiddenIsAlike = (user : List ℕ) (s t : State) → s.site ≡ t.site → own_in s user ≡ own_in t user
     → AreKept s.world.mailboxes → AreKept t.world.mailboxes
     → DifferInHidden s.site user s.world t.world → Alike user s t
 

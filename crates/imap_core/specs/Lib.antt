@@ -20,5 +20,4 @@ pub mod Same
 pub mod Sessions
 pub mod Starting
 pub mod Trace
-pub mod Unmarked
 pub mod Version

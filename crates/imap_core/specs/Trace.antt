@@ -8,9 +8,8 @@ use Rattle.imap_world.specs.Kept.{AreKept}
 use Rattle.imap_core.specs.declared.step.Act.{Act}
 use Rattle.imap_core.specs.declared.step.Act.TheVariants as act
 use Rattle.imap_core.specs.declared.step.Step.{Step}
-use Rattle.imap_core.specs.Machine.{State, answer, answers, next, view_in}
+use Rattle.imap_core.specs.Machine.{State, answer, answers, next, own_in, view_in}
 use Rattle.imap_core.specs.Same.{same}
-use Rattle.imap_core.specs.Unmarked.{sessions_in}
 
 -- ---- equal views
 
@@ -83,12 +82,11 @@ transcript user state steps = sent_to user steps (answers state steps)
 
 -- ---- isolation
 
--- The user sees the same in both states, and has the same sessions, whatever the mod-sequence up to which each
--- was told of its mailbox. What the type of a mailbox keeps holds of the messages of each in both, as it does
--- in every state of the machine.
+-- The user sees the same in both states, and has the same sessions. What the type of a mailbox keeps holds of the
+-- messages of each in both, as it does in every state of the machine.
 pub record Alike (user : List ℕ) (s t : State) : Type 0 where
   pub views : view_in s user ≡ view_in t user
-  pub sessions : sessions_in s user ≡ sessions_in t user
+  pub sessions : own_in s user ≡ own_in t user
   pub kept : AreKept s.world.mailboxes
   pub kept_other : AreKept t.world.mailboxes
 
