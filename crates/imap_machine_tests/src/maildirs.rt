@@ -301,18 +301,36 @@ fn shown<R: AllocGlobal>(rt: &R, world: &World) -> Result<String, AllocError> {
     format!(in rt.alloc(); "{} {} {octets}", entry.acl.len(), message.flags.flagged)
 }
 
+/// What came of two loads of the folder, and what the mailbox of the file has then.
+fn loaded_twice<R: Files + AllocGlobal + Clone + Drop>(
+    rt: &R,
+    kept: &mut KeptMailboxes<ListKeeper>,
+    path: &str,
+) -> Result<String, AllocError> {
+    let mut text = loaded(rt, kept, path)?;
+    text.push_str(loaded(rt, kept, path)?.as_str())?;
+    text.push_str(shown(rt, kept.world())?.as_str())?;
+    Ok(text)
+}
+
+/// The same in a new store.
+fn loaded_anew<R: Files + AllocGlobal + Clone + Drop>(
+    rt: &R,
+    path: &str,
+) -> Result<String, AllocError> {
+    let keeper = ListKeeper::new(World::new(rt.alloc()));
+    match KeptMailboxes::load(rt.alloc(), keeper) {
+        Ok(mut kept) => loaded_twice(rt, &mut kept, path),
+        Err(_) => Err(AllocError),
+    }
+}
+
 /// What came of a dump, of two loads of it with a file more, and what the mailbox of the file has.
 fn moved<R: Files + Clock + AllocGlobal + Clone + Drop>(rt: &R) -> Result<String, AllocError> {
     let path = new_path(rt)?;
-    let (mut text, ()) = both(dumped(rt, path.as_str()), Ok(()))?;
-    let added = add_file(rt, path.as_str());
-    let keeper = ListKeeper::new(World::new(rt.alloc()));
-    if let (Ok(()), Ok(mut kept)) = (added, KeptMailboxes::load(rt.alloc(), keeper)) {
-        for _ in 0..2 {
-            text.push_str(loaded(rt, &mut kept, path.as_str())?.as_str())?;
-        }
-        text.push_str(shown(rt, kept.world())?.as_str())?;
-    }
+    let mut text = dumped(rt, path.as_str())?;
+    add_file(rt, path.as_str())?;
+    text.push_str(loaded_anew(rt, path.as_str())?.as_str())?;
     let _gone = fs::remove_dir_all(rt, path.as_str());
     Ok(text)
 }
