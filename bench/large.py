@@ -36,8 +36,11 @@ class Client:
         self.number += 1
         tag = b"t%d " % self.number
         start = time.perf_counter()
-        self.socket.sendall(tag + command + (b" {%d+}\r\n" % len(literal) if literal else b"\r\n"))
+        self.socket.sendall(tag + command + (b" {%d}\r\n" % len(literal) if literal else b"\r\n"))
         if literal:
+            read = self.socket.recv_into(self.buffer)
+            if not self.buffer.startswith(b"+") or self.buffer[read - 2 : read] != b"\r\n":
+                sys.exit(f"{command}: {bytes(self.buffer[:read])}")
             self.socket.sendall(literal)
             self.socket.sendall(b"\r\n")
         tail = b""

@@ -27,7 +27,7 @@ AuthMechs LOGIN
 
 MaildirStore near
 Path {folder}/
-Inbox {folder}/Other Users/ann/INBOX
+Inbox "{folder}/Other Users/ann/INBOX"
 SubFolders Verbatim
 
 Channel mail
