@@ -103,7 +103,7 @@ def beside(path, box_of, kind, many, times):
     return processor, wall
 
 
-def changes(store, copy, first, first, what, kind, many, times, unit):
+def changes(store, copy, first, what, kind, many, times, unit):
     """A row of one kind of change: of the store, of python's sqlite3, their ratio, and of python's in the first version."""
     own = store.ask(f"{kind} {many} {times}")
     other = beside(copy, database.Box, kind, many, times)
