@@ -1,6 +1,8 @@
 -- The order of texts, and lists in this order.
 use Rattle.std.proofs.Common.{◌≡◌, ℕ, zero, suc, ◌+◌, ◌<◌, ◌≤◌, Bool, true, false, T, ◌&&◌, List, [], ◌∷◌, length, get_or, map, ltb, refl, sym, ap, ◌∙◌, subst, arith, inl, inr, Ordering, Less, Equal, Greater, Result, Ok, Err}
-use Rattle.std.specs.Prelude.{◌↔◌, ◌⊎◌, is_ok, is_some, bytes_eq}
+use Rattle.std.specs.Borrow.{Bor}
+use Rattle.std.specs.Prelude.{◌↔◌, ◌⊎◌, is_ok, is_some, bytes_eq, MatchOption, Option, Some}
+use Rattle.std.specs.Slice.{IsItemAt}
 use Rattle.std.proofs.lemmas.Bool.{ltb-true, ltb-false}
 use Rattle.std.specs.List.{AllByRecursion, Contains, dedup, list_any}
 use Rattle.std.specs.List.Sorted.{IsSearchInRange, IsSorted, IsStrictlySortedBy, IsPermutation, IsBinarySearchResult}
@@ -207,3 +209,10 @@ rises_sorted (x ∷ y ∷ xs) h (suc k) d low high =
     let next : suc k + 1 ≡ suc (k + 1) = omega arith in
     ap (λ j. is_lt (text_cmp (get_or (x ∷ y ∷ xs) j d) (get_or (y ∷ xs) k d))) next
     ∙ rises_sorted (y ∷ xs) h.1 k d (omega arith) (omega arith)
+
+-- what stands at a place is one of them
+pub item_is_there : (xs : List Text) (name : Text) (k : ℕ) (r : Option (Bor Text)) (item : Bor Text) → r ≡ Some item → IsItemAt xs k r → bytes_eq item.now name ≡ true → has xs name ≡ true
+item_is_there xs name k r item is at same =
+    let stands : (k < length xs) × ((d : Text) → item.now ≡ get_or xs k d) =
+    subst (λ o. MatchOption o (length xs ≤ k) (λ (x : Bor Text). (k < length xs) × ((d : Text) → x.now ≡ get_or xs k d))) is at.3 in
+    has_contained xs name (k, stands.0, sym (stands.1 name) ∙ same_texts item.now name same)

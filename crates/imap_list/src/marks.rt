@@ -34,14 +34,14 @@ impl<'a> Marks<'a> {
         })
     }
 
-    /// The line of a name.
-    fn line(&self, alloc: Global, name: &ShownRef<'_>) -> Result<Line, AllocError>
+    /// The line of a name. `near` is a hint where it stands among those that are there.
+    fn line(&self, alloc: Global, name: &ShownRef<'_>, near: &mut usize) -> Result<Line, AllocError>
         ensures { IfOk result (λ line.
             line ≡ line_by self.now.there self.now.above self.now.subscribed name.now) }
     {
         Ok(Line {
             name: name.to_shown(alloc)?,
-            is_there: self.there.has(name),
+            is_there: self.there.has_near(name, near),
             has_children: self.above.has(name),
             is_subscribed: self.subscribed.has(name),
         })
@@ -56,9 +56,10 @@ impl<'a> Marks<'a> {
         ensures { IfOk result (λ lines.
             lines.items ≡ map (line_by self.now.there self.now.above self.now.subscribed) names.now) }
     {
-        let mut lines = Vec::new(alloc);
+        let mut lines = Vec::with_capacity(alloc, names.len())?;
+        let mut near = 0;
         for name in names {
-            lines.push(self.line(alloc, name)?)?;
+            lines.push(self.line(alloc, name, &mut near)?)?;
         }
         Ok(lines)
     }
@@ -68,7 +69,7 @@ impl<'a> Marks<'a> {
 fn refs_of<'a>(alloc: Global, names: &'a [ShownName]) -> Result<Vec<ShownRef<'a>>, AllocError>
     ensures { IfOk result (λ refs. refs.items ≡ names.now) }
 {
-    let mut refs = Vec::new(alloc);
+    let mut refs = Vec::with_capacity(alloc, names.len())?;
     for name in names {
         refs.push(name.as_ref())?;
     }

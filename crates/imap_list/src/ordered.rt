@@ -1,5 +1,5 @@
 //! Shown names in their order.
-ghost use Rattle.std.specs.Prelude.{◌≡◌, IfOk};
+ghost use Rattle.std.specs.Prelude.{◌≡◌, true, is_some, IfOk};
 ghost use Rattle.imap_list.specs.Texts.{has, in_order};
 
 use crate::shown_name::ShownRef;
@@ -37,10 +37,45 @@ impl<'a> OrderedNames<'a> {
         self.0.as_slice()
     }
 
+    /// Returns the place of `name`, by a search that halves.
+    fn find(&self, name: &ShownRef<'_>) -> Option<usize>
+        ensures { is_some result ≡ has self.now name.now }
+    {
+        self.0.binary_search(name).ok()
+    }
+
     /// Whether `name` is one of them.
     pub(crate) fn has(&self, name: &ShownRef<'_>) -> bool
         ensures { result ≡ has self.now name.now }
     {
-        self.0.binary_search(name).is_ok()
+        self.find(name).is_some()
+    }
+
+    /// As [`has`](OrderedNames::has), by a look at the place `near` before the search. A name that is found leaves the
+    /// place after its own there, so that names that are asked for in their order are found without a search.
+    pub(crate) fn has_near(&self, name: &ShownRef<'_>, near: &mut usize) -> bool
+        ensures { result ≡ has self.now name.now }
+    {
+        if is_at(self.as_slice(), name, *near) {
+            *near = near.saturating_add(1);
+            return true;
+        }
+        match self.find(name) {
+            Some(place) => {
+                *near = place.saturating_add(1);
+                true
+            }
+            None => false,
+        }
+    }
+}
+
+/// Whether `name` stands at the place.
+fn is_at(names: &[ShownRef<'_>], name: &ShownRef<'_>, place: usize) -> bool
+    ensures { result ≡ true → has names.now name.now ≡ true }
+{
+    match names.get(place) {
+        Some(other) => other == name,
+        None => false,
     }
 }
