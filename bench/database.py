@@ -96,8 +96,13 @@ class Box:
 
     def rows(self, uids, places):
         """The statements that add messages."""
-        rows = [message_row(self.id, uid, place) for uid, place in zip(uids, places)]
-        return [(ADD, rows), (ADD_OCTETS, [octets_row(self.id, uid) for uid in uids])]
+        return self.added((self.id, uid, place) for uid, place in zip(uids, places))
+
+    @staticmethod
+    def added(messages):
+        """The statements that add messages, of each the mailbox, the UID and the place of its last shared event."""
+        messages = list(messages)
+        return [(ADD, (message_row(*each) for each in messages)), (ADD_OCTETS, (octets_row(at, uid) for at, uid, _ in messages))]
 
     def flag(self, many, turn):
         flags = 8 if turn % 2 == 0 else 0
@@ -134,9 +139,10 @@ class FirstBox(Box):
 
     table = "message"
 
-    def rows(self, uids, places):
+    @staticmethod
+    def added(messages):
         octets = b"x" * OCTETS
-        return [(FIRST_ADD, [(self.id, uid, DATE, octets, 0, "", place) for uid, place in zip(uids, places)])]
+        return [(FIRST_ADD, ((at, uid, DATE, octets, 0, "", place) for at, uid, place in messages))]
 
     def flags(self, uids, flags, places):
         return FIRST_FLAG, [(self.id, uid, flags, "", place) for uid, place in zip(uids, places)]
@@ -174,9 +180,9 @@ def to_first_version(path):
     database.close()
 
 
-def fill(path, sizes):
+def fill(path, sizes, version=Box):
     """Adds mailboxes to a store, each with so many messages, in the tree that all share. The first is `Box`, and the others have
-    numbers. The user has all rights, and has seen each message once."""
+    numbers. The user has all rights, and has seen each message once. `version` says how messages are kept."""
     drop_sums(path)
     database = sqlite3.connect(path, isolation_level=None)
     database.execute("PRAGMA synchronous = OFF")
@@ -189,8 +195,7 @@ def fill(path, sizes):
         (line, ((at, path, size + 1, size) for at, path, size in boxes)),
         ("INSERT INTO epoch VALUES ('s', ?1, 1)", ((path,) for _, path, _ in boxes)),
         ("INSERT INTO acl VALUES (?1, ?2, ?3)", ((at, USER, ALL_RIGHTS) for at, _, _ in boxes)),
-        (ADD, (message_row(at, uid, uid) for at, uid, _ in every)),
-        (ADD_OCTETS, (octets_row(at, uid) for at, uid, _ in every)),
+        *version.added((at, uid, uid) for at, uid, _ in every),
         (MARK, ((at, USER, uid, size, uid, 1) for at, uid, size in every)),
     ):
         database.executemany(text, rows)

@@ -1,12 +1,13 @@
 #!/usr/bin/env python3
 """Times the store in a file, beside python's sqlite3.
 
-    python3 bench/store.py [FOLDER [PART]]     run at the top of the repository
+    python3 bench/store.py [FOLDER [PART [FIRST]]]     run at the top of the repository
 
 It builds the program in `bench/store.txt` as a crate of its own in FOLDER, or in a new folder that it removes, beside copies of
 the crates that it stands on; what these have in `out/` is used again. Each store is made by the program, filled by python's
 sqlite3 (`bench/database.py`) and loaded by the program, and python's sqlite3 then makes the same changes in a copy of it, and
-in one of the first version, whose table of messages had their octets too.
+in one of the first version, whose table of messages had their octets too. FIRST is such a program as it was built over the crates
+of the first version (`git checkout 0b59b1b4`); it makes the same changes in a store of its own.
 Messages have 2 KB, and the user has seen each once. All sizes are divided by PART, for a quick run.
 
 Times are of the process's own processor time, as the kernel counts it, and of the clock on the wall, which has the waits for
@@ -25,10 +26,12 @@ from messages import run
 
 USES = "imap_batch imap_keeper imap_lex imap_mailbox imap_names imap_sql_keeper imap_syntax imap_world sqlite"
 PART = int(sys.argv[2]) if len(sys.argv) > 2 else 1
+FIRST = os.path.abspath(sys.argv[3]) if len(sys.argv) > 3 else None
 SIZES = (200, 20_000, 100_000)
 MANY = 2_000
 MICROSECONDS, MILLISECONDS = 1e6, 1e3
-COLUMNS = ("the store", "python", "ratio", "python, first version", "on the wall", "python's", "python's, first version")
+COLUMNS = ("the store", "python", "ratio", "first version: the store", "python", "on the wall: the store", "python",
+           "first version: the store", "python")
 KINDS = (("add", "a message added"), ("flag", "a flag set"), ("seen", "an own `\\Seen` set"))
 
 
@@ -66,6 +69,12 @@ class Store:
         self.process.stdout.close()
 
 
+def close(*stores):
+    for store in stores:
+        if store:
+            store.close()
+
+
 def row(*cells):
     print("| " + " | ".join(cells) + " |", flush=True)
 
@@ -77,8 +86,9 @@ def head(*cells):
 
 
 def made(program, folder, sizes):
-    """The paths of a new store whose mailboxes have so many messages, of its copy, and of one of the first version."""
-    path, copy, first = (f"{folder}/{name}.db" for name in ("mail", "copy", "first"))
+    """The paths of a new store whose mailboxes have so many messages, of its copy, of one of the first version for python, and
+    of one that the program of the first version made."""
+    path, copy, first, older = (f"{folder}/{name}.db" for name in ("mail", "copy", "first", "older"))
     for name in os.listdir(folder):
         os.remove(f"{folder}/{name}")
     Store(program, path).close()
@@ -86,7 +96,10 @@ def made(program, folder, sizes):
     shutil.copy(path, copy)
     shutil.copy(path, first)
     database.to_first_version(first)
-    return path, copy, first
+    if FIRST:
+        Store(FIRST, older).close()
+        database.fill(older, sizes, database.FirstBox)
+    return path, copy, first, older
 
 
 def beside(path, box_of, kind, many, times):
@@ -103,14 +116,16 @@ def beside(path, box_of, kind, many, times):
     return processor, wall
 
 
-def changes(store, copy, first, what, kind, many, times, unit):
-    """A row of one kind of change: of the store, of python's sqlite3, their ratio, and of python's in the first version."""
+def changes(store, older, copy, first, what, kind, many, times, unit):
+    """A row of one kind of change: of the store, of python's sqlite3, their ratio, and of both in the first version. `older` is
+    None without a program of the first version."""
     own = store.ask(f"{kind} {many} {times}")
+    before = older.ask(f"{kind} {many} {times}") if older else None
     other = beside(copy, database.Box, kind, many, times)
-    older = beside(first, database.FirstBox, kind, many, times)
+    others = beside(first, database.FirstBox, kind, many, times)
     digits = 0 if unit == MICROSECONDS else 1
-    cells = [f"{time / times * unit:,.{digits}f}" for time in (own[0], other[0], older[0], own[1], other[1], older[1])]
-    row(*what, cells[0], cells[1], f"{own[0] / other[0]:.2f}", *cells[2:])
+    cells = [[f"{took[at] / times * unit:,.{digits}f}" if took else "" for took in (own, other, before, others)] for at in (0, 1)]
+    row(*what, *cells[0][:2], f"{own[0] / other[0]:.2f}", *cells[0][2:], *cells[1])
 
 
 def check_alike(path, copy):
@@ -123,19 +138,19 @@ def check_alike(path, copy):
 def time_single(program, folder):
     head("Messages", "microseconds of", *COLUMNS)
     for size in SIZES:
-        path, copy, first = made(program, folder, [size // PART])
-        store = Store(program, path)
+        path, copy, first, older = made(program, folder, [size // PART])
+        store, before = Store(program, path), Store(FIRST, older) if FIRST else None
         for kind, what in KINDS:
-            changes(store, copy, first, (f"{size // PART:,}", what), kind, 1, 1_000 // PART, MICROSECONDS)
-        store.close()
+            changes(store, before, copy, first, (f"{size // PART:,}", what), kind, 1, 1_000 // PART, MICROSECONDS)
+        close(store, before)
         check_alike(path, copy)
 
 
 def time_batches(program, folder):
     many = MANY // PART
     head("Messages", "milliseconds of", *COLUMNS)
-    path, copy, first = made(program, folder, [12 * many])
-    store = Store(program, path)
+    path, copy, first, older = made(program, folder, [12 * many])
+    store, before = Store(program, path), Store(FIRST, older) if FIRST else None
     for kind, what, count, times in (
         ("add", f"{many:,} messages added", many, 5),
         ("flag", f"flags of {many:,} messages set", many, 10),
@@ -143,8 +158,8 @@ def time_batches(program, folder):
         ("expunge", f"{many:,} messages expunged", many, 5),
         ("delete", "DELETE of the mailbox", 1, 1),
     ):
-        changes(store, copy, first, (f"{12 * many:,}", what), kind, count, times, MILLISECONDS)
-    store.close()
+        changes(store, before, copy, first, (f"{12 * many:,}", what), kind, count, times, MILLISECONDS)
+    close(store, before)
     check_alike(path, copy)
 
 
