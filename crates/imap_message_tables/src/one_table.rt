@@ -55,7 +55,10 @@ fn push_message(
 }
 
 /// The messages, each in one row.
-fn in_one_row(alloc: Global, mut joined: Vec<JoinedMessage>) -> Result<Vec<StoredMessage>, AllocError>
+fn in_one_row(
+    alloc: Global,
+    mut joined: Vec<JoinedMessage>,
+) -> Result<Vec<StoredMessage>, AllocError>
     ensures { IfOk result (λ messages. AllZip IsInOneRow joined.items messages.items) }
 {
     let mut messages = Vec::with_capacity(alloc, joined.len())?;

@@ -32,7 +32,7 @@ module _ {A B : Type 0} (R : A → B → Type 0) where
   zip_reverse (x ∷ xs) (u ∷ us) h =
       subst (λ l. AllZip R l (reverse (u ∷ us))) (sym (reverse_first x xs))
       (subst (λ l. AllZip R (reverse xs ++ x ∷ []) l) (sym (reverse_first u us))
-          (zip_append (reverse xs) (reverse us) (x ∷ []) (u ∷ []) (zip_reverse xs us h.1) (h.0, tt)))
+      (zip_append (reverse xs) (reverse us) (x ∷ []) (u ∷ []) (zip_reverse xs us h.1) (h.0, tt)))
 
   pub zip_back : (xs : List A) (us : List B) → AllZip R (reverse xs) us → AllZip R xs (reverse us)
   zip_back xs us h = subst (λ l. AllZip R l (reverse us)) (reverse-reverse xs) (zip_reverse (reverse xs) us h)

@@ -2,7 +2,7 @@
 use Rattle.std.proofs.Common.{◌≡◌, ◌≢◌, ◌++◌, ◌+◌, ◌≤◌, ◌<◌, ℕ, ℤ, List, [], ◌∷◌, Bool, true, false, cond, filter, get_or, is_lt, length, map, append-nil, arith, ap, inl, inr, refl, subst, sym, ◌∙◌}
 use Rattle.std.specs.List.{AllByRecursion, AllZip, IsDistinct}
 use Rattle.std.specs.List.Sorted.{IsSortedByKey}
-use Rattle.std.specs.Ordering.{int_cmp, int_eq}
+use Rattle.std.specs.Ordering.{eq_by_cmp, int_cmp, int_eq}
 use Rattle.std.proofs.lemmas.Bool.Decides.{Decides-int_eq}
 use Rattle.std.proofs.lemmas.List.{get_or_append_left, length-append}
 use Rattle.std.proofs.lemmas.List.Elements.{filter-append}
@@ -51,14 +51,14 @@ module _ {X : Type 0} (m : X → ℤ) where
 
 -- ---- mailbox by mailbox
 
+all_front : {B : Type 0} (id : B → ℤ) (n : ℤ) (xs : List B) (x : B) → AllByRecursion (λ k. eq_by_cmp int_cmp n k ≡ false) (map id (xs ++ x ∷ [])) → AllByRecursion (λ k. eq_by_cmp int_cmp n k ≡ false) (map id xs)
+all_front id n [] x h = tt
+all_front id n (y ∷ ys) x h = (h.0, all_front id n ys x h.1)
+
 front_apart : {B : Type 0} (id : B → ℤ) (xs : List B) (x : B) → AreNumbersApart (map id (xs ++ x ∷ [])) → AreNumbersApart (map id xs)
 unfolding IsDistinct
 front_apart id [] x h = tt
-front_apart id (y ∷ ys) x h = (front y ys x h.0, front_apart id ys x h.1)
-  where
-    front : (y : B) (ys : List B) (x : B) → AllByRecursion (λ n. eq_by_cmp int_cmp (id y) n ≡ false) (map id (ys ++ x ∷ [])) → AllByRecursion (λ n. eq_by_cmp int_cmp (id y) n ≡ false) (map id ys)
-    front y [] x h = tt
-    front y (z ∷ zs) x h = (h.0, front y zs x h.1)
+front_apart id (y ∷ ys) x h = (all_front id (id y) ys x h.0, front_apart id ys x h.1)
 
 last_apart : {B : Type 0} (id : B → ℤ) (xs : List B) (x : B) → AreNumbersApart (map id (xs ++ x ∷ [])) → (y : B) → Has xs y → id y ≢ id x
 unfolding IsDistinct
@@ -97,10 +97,6 @@ groups_left id rows left groups h = record {
   messages = h.messages.grouped groups.messages;
   gone = subst (λ v. AreGrouped (λ r. r.mailbox) v.items) (sym h.gone) groups.gone;
 }
-
-pub are_left : (id : ℤ) (rows left : RowsBelow) → left.entries ≡ rows.entries → left.gone ≡ rows.gone
-    → LeavesOthers (λ r. r.mailbox) id rows.messages.items left.messages.items → AreLeft id rows left
-are_left id rows left entries gone messages = record { entries = entries; messages = messages; gone = gone }
 
 module _ (rows left : RowsBelow) (it : MailboxWithOwn) (entries : left.entries ≡ rows.entries) (gone : left.gone ≡ rows.gone)
     (messages : below (λ r. r.mailbox) it.stored.id left.messages.items ≡ below (λ r. r.mailbox) it.stored.id rows.messages.items) where

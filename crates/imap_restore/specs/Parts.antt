@@ -1,5 +1,5 @@
 -- What a store keeps of a world, by its tables.
-use Rattle.std.specs.Prelude.{◌≡◌, ◌≢◌, ℕ, ℤ, pos, Bool, true, false, List, [], ◌∷◌, filter, map, string_bytes}
+use Rattle.std.specs.Prelude.{◌≡◌, ◌≢◌, ℕ, ℤ, pos, Bool, true, false, List, [], ◌∷◌, ◌++◌, filter, map, reverse, string_bytes}
 use Rattle.std.specs.List.{AllByRecursion, AllZip, list_all}
 use Rattle.std.specs.List.Sorted.{IsSortedByKey}
 use Rattle.std.specs.Ordering.{int_cmp, int_eq, is_lt}
@@ -189,6 +189,14 @@ HasMailboxOf rows it =
 abbrev pub is_first_below : {R : Type 0} → (mailbox : R → ℤ) → (id : ℤ) → List R → Bool
 is_first_below mailbox id [] = false
 is_first_below mailbox id (row ∷ rows) = int_eq (mailbox row) id
+
+-- of the rows at the end these were read, the last first: what is read of the rows that are left comes before them
+pub record ReadsEnd {R T : Type 0} (is_for : R → T → Type 0) (mailbox : R → ℤ) (id : ℤ) (rows left : List R)
+    (items : List T) : Type 0 where
+  pub more : (first : List T) → AllZip is_for (below mailbox id left) first
+      → AllZip is_for (below mailbox id rows) (first ++ reverse items)
+  pub back : (all : List T) → AllZip is_for (below mailbox id rows) all
+      → (first : List T) × AllZip is_for (below mailbox id left) first
 
 -- the rows below other mailboxes are left, in their order
 pub record LeavesOthers {R : Type 0} (mailbox : R → ℤ) (id : ℤ) (rows left : List R) : Type 0 where

@@ -129,7 +129,6 @@ fn with_own(
 
 /// Reads the messages of a mailbox, and takes the rows of those that are there. Fails with `Bad` if a row below it
 /// keeps nothing, or its number of events is none.
-#[tactic(auto, using(crate::proofs::Taken::are_left))]
 fn read_messages(
     alloc: Global,
     rows: &mut RowsBelow,

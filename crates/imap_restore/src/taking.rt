@@ -6,8 +6,7 @@
 ghost use Rattle.std.specs.Prelude.{◌≡◌, ◌++◌, ◌∷◌, ◌<◌, [], ℤ, List, Err, IfNone, IfOk, IfSome, OnOk, length, reverse, true};
 ghost use Rattle.std.specs.List.{AllZip};
 ghost use Rattle.std.specs.Ordering.{int_eq};
-ghost use Rattle.imap_restore.proofs.Zipped.{HasRead};
-ghost use Rattle.imap_restore.specs.Parts.{AreGrouped, LeavesOthers, below, is_first_below};
+ghost use Rattle.imap_restore.specs.Parts.{AreGrouped, LeavesOthers, ReadsEnd, below, is_first_below};
 
 use crate::below::{Restore, read_below};
 use crate::grouping::{compare, rows_of};
@@ -49,9 +48,8 @@ fn take_end<R: Drop, T: Restore<R>>(
     id: i64,
     room: usize,
 ) -> Result<Vec<T>, PartsError>
-    ensures read { IfOk result (λ items. HasRead T.Restore.is_for
-        (below T.Restore.mailbox id (reverse rows.old.items))
-        (below T.Restore.mailbox id (reverse rows.new.items)) items.items) }
+    ensures read { IfOk result (λ items. ReadsEnd T.Restore.is_for T.Restore.mailbox id
+        rows.old.items rows.new.items items.items) }
     ensures left { OnOk result (LeavesOthers T.Restore.mailbox id rows.old.items rows.new.items) }
     ensures bad { result ≡ Err PartsError.Bad → (items : List T)
         → AllZip T.Restore.is_for (below T.Restore.mailbox id rows.old.items) items → ⊥ }

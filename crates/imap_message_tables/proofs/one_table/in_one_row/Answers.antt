@@ -8,7 +8,9 @@ use Rattle.imap_message_tables.proofs.one_table.in_one_row.Goals as goal
 pub joined-init : goal.joined-init
 joined-init c =
     let xs = c.args.joined.items in
-    subst (λ l. HasRead IsInOneRow xs l []) (sym (ap reverse c.reverse.ensures.items ∙ reverse-reverse xs)) (read_start IsInOneRow xs)
+    let turned_back = ap reverse c.reverse.ensures.items ∙ reverse-reverse xs in
+    subst (HasRead IsInOneRow xs (reverse c.reverse.new.self.items)) (sym c.in_ok-messages.ensures.items)
+    (subst (λ l. HasRead IsInOneRow xs l []) (sym turned_back) (read_start IsInOneRow xs))
 
 pub joined-preserved : goal.joined-preserved
 joined-preserved c =

@@ -52,6 +52,6 @@ returns-clause-ok c =
     let at = c.mailboxes in
     let R = IsMailboxOf c.args.rows.now in
     let xs = c.args.mailboxes.items in
-    let low : length at.mailboxes.items ≤ 0 = omega (arith, c.in-None.ensures.cases.0) in
+    let low : length at.mailboxes.items ≤ 0 = omega (arith, c.in_default.ensures.cases.0) in
     subst (AllZip R xs) (sym c.reverse.ensures.items)
     (zip_back R xs at.read.items (read_end R (reverse xs) (reverse at.mailboxes.items) at.read.items (none_left at.mailboxes.items low) at.invariant.read))
