@@ -10,10 +10,14 @@ use crate::progress::Progress;
 use imap_mailbox::{Mailbox, Near, Row};
 use imap_names::Name;
 use imap_world::{MailboxEntry, World};
+use std::alloc::Global;
 use std::rt::Files;
 
 /// After how many messages progress is told.
 const STRIDE: u64 = 1_000;
+
+/// The folders in a Maildir.
+const PARTS: &[&str] = &["cur", "new", "tmp"];
 
 /// How much was written.
 #[derive(Clone, Copy, Debug, PartialEq, Eq)]
@@ -37,15 +41,36 @@ pub fn dump<R: Files + AllocGlobal, P: Progress>(
     let mut messages = 0;
     for (name, entry) in world.mailboxes().entries() {
         dump_mailbox(rt, folder, name, entry, &mut messages, progress)?;
-        let path = mailbox_folder(rt.alloc(), ".", name)?;
-        push_list(&mut lists, path.as_str(), &entry.acl)?;
+        push_mailbox(&mut lists, rt.alloc(), name, entry)?;
     }
-    let path = format!(in rt.alloc(); "{folder}/acl")?;
-    make_file(rt, path.as_str(), lists.as_slice(), None)?;
+    make_file_in(rt, folder, "acl", lists.as_slice())?;
     Ok(Dumped {
         mailboxes: world.mailboxes().len(),
         messages,
     })
+}
+
+/// Appends the access control list of a mailbox to the lines of the file `acl`.
+fn push_mailbox(
+    lists: &mut Vec<u8>,
+    alloc: Global,
+    name: &Name,
+    entry: &MailboxEntry,
+) -> Result<(), MaildirError> {
+    let path = mailbox_folder(alloc, ".", name)?;
+    push_list(lists, path.as_str(), &entry.acl)?;
+    Ok(())
+}
+
+/// Makes a file with these octets in a folder.
+fn make_file_in<R: Files + AllocGlobal>(
+    rt: &R,
+    folder: &str,
+    file: &str,
+    octets: &[u8],
+) -> Result<(), MaildirError> {
+    let path = format!(in rt.alloc(); "{folder}/{file}")?;
+    make_file(rt, path.as_str(), octets, None)
 }
 
 /// Writes a mailbox. `messages` is how many messages were written so far.
@@ -58,22 +83,41 @@ fn dump_mailbox<R: Files + AllocGlobal, P: Progress>(
     progress: &mut P,
 ) -> Result<(), MaildirError> {
     let folder = mailbox_folder(rt.alloc(), below, name)?;
-    for part in ["cur", "new", "tmp"] {
+    make_maildir(rt, folder.as_str())?;
+    let mailbox = entry.messages.as_ref();
+    let owner = owner_of(name);
+    let keywords = dump_messages(rt, folder.as_str(), mailbox, owner, messages, progress)?;
+    dump_keywords(rt, folder.as_str(), &keywords)
+}
+
+/// Makes the folders of a mailbox.
+fn make_maildir<R: Files + AllocGlobal>(rt: &R, folder: &str) -> Result<(), MaildirError> {
+    for part in PARTS {
         let path = format!(in rt.alloc(); "{folder}/{part}")?;
         make_folders(rt, path.as_str())?;
     }
-    let owner = match name.owner() {
+    Ok(())
+}
+
+/// Returns the name of the mailbox's owner, and no text in the Shared tree.
+fn owner_of(name: &Name) -> &str {
+    match name.owner() {
         Some(owner) => owner.as_str(),
         None => "",
-    };
-    let mailbox = entry.messages.as_ref();
-    let keywords = dump_messages(rt, folder.as_str(), mailbox, owner, messages, progress)?;
+    }
+}
+
+/// Writes the file `dovecot-keywords` of a mailbox, if it has keywords.
+fn dump_keywords<R: Files + AllocGlobal>(
+    rt: &R,
+    folder: &str,
+    keywords: &KeywordLetters,
+) -> Result<(), MaildirError> {
     let lines = keywords.lines()?;
     if lines.is_empty() {
         return Ok(());
     }
-    let path = format!(in rt.alloc(); "{folder}/dovecot-keywords")?;
-    make_file(rt, path.as_str(), lines.as_slice(), None)
+    make_file_in(rt, folder, "dovecot-keywords", lines.as_slice())
 }
 
 /// Writes the messages of a mailbox. Returns the letters of its keywords.

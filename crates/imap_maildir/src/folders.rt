@@ -1,7 +1,8 @@
 //! Folders that are read.
 
 use crate::maildir_error::MaildirError;
-use std::fs;
+use std::alloc::Global;
+use std::fs::{self, DirEntry};
 use std::io::{self, ErrorKind};
 use std::rt::Files;
 
@@ -25,12 +26,21 @@ fn read_names<R: Files + AllocGlobal + Clone + Drop>(
 ) -> io::Result<Vec<String>> {
     let mut names = Vec::new(rt.alloc());
     for entry in fs::read_dir(rt, path)? {
-        let entry = entry?;
-        let name = String::from_str(rt.alloc(), entry.file_name())?;
-        names.push(name)?;
+        push_name(&mut names, rt.alloc(), entry)?;
     }
     names.sort_unstable();
     Ok(names)
+}
+
+/// Appends the name of what was found in a folder.
+fn push_name<R: Files>(
+    names: &mut Vec<String>,
+    alloc: Global,
+    entry: io::Result<DirEntry<R>>,
+) -> io::Result<()> {
+    let name = String::from_str(alloc, entry?.file_name())?;
+    names.push(name)?;
+    Ok(())
 }
 
 /// Returns whether a folder is at the path, or what a link there leads to is one.

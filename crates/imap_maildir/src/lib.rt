@@ -17,6 +17,7 @@ mod message_files;
 mod message_reading;
 mod pending;
 mod progress;
+mod reading;
 
 pub use dumping::{Dumped, dump};
 pub use file_flags::{MessageFlags, message_flags};

@@ -124,17 +124,25 @@ pub(crate) fn load_lists<R: Files + AllocGlobal, K: Keeper>(
 ) -> Result<(), MaildirError> {
     let path = format!(in rt.alloc(); "{folder}/acl")?;
     match fs::read_to_string(rt, path.as_str()) {
-        Ok(text) => {
-            for list in &read_lists(rt.alloc(), text.as_str())? {
-                set_list(rt.alloc(), kept, list)?;
-            }
-            Ok(())
-        }
+        Ok(text) => set_lists(rt.alloc(), kept, text.as_str()),
         Err(error) => match error.kind() {
             ErrorKind::NotFound => Ok(()),
             kind => Err(MaildirError::of_file(rt.alloc(), path.as_str(), kind)),
         },
     }
+}
+
+/// Gives each mailbox of the lines the list that it has there.
+fn set_lists<K: Keeper>(
+    alloc: Global,
+    kept: &mut KeptMailboxes<K>,
+    text: &str,
+) -> Result<(), MaildirError> {
+    let lists = read_lists(alloc, text)?;
+    for list in &lists {
+        set_list(alloc, kept, list)?;
+    }
+    Ok(())
 }
 
 /// Gives a mailbox a list: removes the entries that it hasn't, then sets its own.

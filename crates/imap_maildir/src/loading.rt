@@ -2,23 +2,19 @@
 
 use crate::folder_names::mailbox_name;
 use crate::folders::find_maildirs;
-use crate::held_messages::HeldMessages;
 use crate::kept_mailboxes::KeptMailboxes;
-use crate::keyword_letters::{LetteredKeyword, read_keywords};
 use crate::lists::load_lists;
 use crate::maildir_error::MaildirError;
-use crate::message_files::message_files;
-use crate::message_reading::read_message;
+use crate::message_files::{MessageFile, message_files};
 use crate::pending::Pending;
 use crate::progress::Progress;
+use crate::reading::Reading;
 use imap_batch::{Batch, NewMessage};
 use imap_keeper::Keeper;
 use imap_names::{Name, UserName};
 use imap_values::beside;
 use imap_world::{Effect, NamedBatch};
 use std::alloc::{AllocError, Global};
-use std::fs;
-use std::io::ErrorKind;
 use std::rt::Files;
 
 /// How much was read.
@@ -130,23 +126,32 @@ fn load_messages<R: Files + AllocGlobal + Clone + Drop, K: Keeper, P: Progress>(
     loaded: &mut Loaded,
     progress: &mut P,
 ) -> Result<(), MaildirError> {
-    let keywords = keywords_of(rt, maildir.path.as_str())?;
-    let mut held = held_in(rt.alloc(), kept, &maildir.name)?;
-    let mut pending = Pending::new(rt.alloc());
-    for file in &message_files(rt, maildir.path.as_str())? {
-        let message = read_message(rt, file.path(), keywords.as_slice())?;
-        if held.meet(&message) {
+    let files = message_files(rt, maildir.path.as_str())?;
+    load_files(rt, kept, administrator, maildir, &files, loaded, progress)
+}
+
+/// Adds the messages in files of a Maildir that its mailbox hasn't.
+fn load_files<R: Files + AllocGlobal + Clone + Drop, K: Keeper, P: Progress>(
+    rt: &R,
+    kept: &mut KeptMailboxes<K>,
+    administrator: &UserName,
+    maildir: &Maildir,
+    files: &[MessageFile],
+    loaded: &mut Loaded,
+    progress: &mut P,
+) -> Result<(), MaildirError> {
+    let mut reading = Reading::begin(rt, kept, maildir.path.as_str(), &maildir.name)?;
+    for file in files {
+        if reading.read(rt, file)? {
             loaded.met = loaded.met.saturating_add(1);
-        } else {
-            pending.push(message)?;
         }
-        if pending.is_full() {
+        if reading.pending.is_full() {
             save(
                 rt.alloc(),
                 kept,
                 administrator,
                 maildir,
-                &mut pending,
+                &mut reading.pending,
                 loaded,
             )?;
             progress.done(loaded.added.saturating_add(loaded.met));
@@ -157,36 +162,9 @@ fn load_messages<R: Files + AllocGlobal + Clone + Drop, K: Keeper, P: Progress>(
         kept,
         administrator,
         maildir,
-        &mut pending,
+        &mut reading.pending,
         loaded,
     )
-}
-
-/// Returns the keywords of the Maildir's file `dovecot-keywords`. There are none if there is no such file.
-fn keywords_of<R: Files + AllocGlobal>(
-    rt: &R,
-    maildir: &str,
-) -> Result<Vec<LetteredKeyword>, MaildirError> {
-    let path = format!(in rt.alloc(); "{maildir}/dovecot-keywords")?;
-    match fs::read_to_string(rt, path.as_str()) {
-        Ok(text) => Ok(read_keywords(rt.alloc(), text.as_str())?),
-        Err(error) => match error.kind() {
-            ErrorKind::NotFound => Ok(Vec::new(rt.alloc())),
-            kind => Err(MaildirError::of_file(rt.alloc(), path.as_str(), kind)),
-        },
-    }
-}
-
-/// Returns the messages that a mailbox has.
-fn held_in<K: Keeper>(
-    alloc: Global,
-    kept: &KeptMailboxes<K>,
-    name: &Name,
-) -> Result<HeldMessages, AllocError> {
-    match kept.world().mailbox(&name.as_ref()) {
-        Some(entry) => HeldMessages::of(alloc, entry.messages.as_ref()),
-        None => Ok(HeldMessages::none(alloc)),
-    }
 }
 
 /// Adds the messages to the mailbox of the Maildir, in one change.

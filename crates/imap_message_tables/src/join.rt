@@ -10,6 +10,7 @@ ghost use Rattle.imap_tables.specs.declared.message_rows.StoredHead.{StoredHead 
 use crate::joined::JoinedMessage;
 use crate::order::{compare, lay_bodies, lay_heads, lay_words};
 use crate::plain::in_order;
+use crate::taking::take_last;
 use imap_tables::{StoredBody, StoredHead, StoredKeyword};
 use std::alloc::{AllocError, Global};
 use std::cmp::Ordering;
@@ -82,7 +83,7 @@ fn take_message(
         (λ m. IsTaken head (reverse bodies.old.items) (reverse bodies.new.items) (reverse words.old.items)
         (reverse words.new.items) m)) }
 {
-    let Some(body) = bodies.pop() else {
+    let Some(body) = take_last(bodies) else {
         return Ok(None);
     };
     if !is_body_of(&body, &head) {
@@ -114,7 +115,7 @@ fn zip_all(
         (λ ms. Zips (reverse heads.items) (reverse bodies.items) (reverse words.items) ms.items)) }
 {
     let mut messages = Vec::with_capacity(alloc, heads.len())?;
-    'heads: while let Some(head) = heads.pop() {
+    'heads: while let Some(head) = take_last(&mut heads) {
         if is_doubled(heads.as_slice(), &head) {
             return Ok(None);
         }

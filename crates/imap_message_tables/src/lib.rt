@@ -15,6 +15,7 @@ mod one_table;
 mod order;
 mod plain;
 mod saving;
+mod taking;
 mod writing;
 
 pub use adopting::adopt_rows;
@@ -22,3 +23,4 @@ pub use join::join_rows;
 pub use joined::JoinedMessage;
 pub use one_table::join_tables;
 pub use saving::save_rows;
+pub use taking::take_last;

@@ -9,6 +9,7 @@ ghost use Rattle.imap_tables.specs.declared.stored.StoredMessage.{StoredMessage 
 
 use crate::join::join_rows;
 use crate::joined::JoinedMessage;
+use crate::taking::take_last;
 use imap_tables::{AddedTables, MessageRow, StoredMessage, StoredTables};
 use std::alloc::{AllocError, Global};
 
@@ -54,11 +55,15 @@ fn push_message(
 }
 
 /// The messages, each in one row.
-fn in_one_row(alloc: Global, joined: Vec<JoinedMessage>) -> Result<Vec<StoredMessage>, AllocError>
+fn in_one_row(
+    alloc: Global,
+    mut joined: Vec<JoinedMessage>,
+) -> Result<Vec<StoredMessage>, AllocError>
     ensures { IfOk result (λ messages. AllZip IsInOneRow joined.items messages.items) }
 {
     let mut messages = Vec::with_capacity(alloc, joined.len())?;
-    'joined: for message in joined {
+    joined.reverse();
+    'joined: while let Some(message) = take_last(&mut joined) {
         push_message(&mut messages, alloc, message)?;
     }
     Ok(messages)

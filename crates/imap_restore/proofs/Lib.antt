@@ -33,3 +33,5 @@ pub mod First
 pub mod TakenOver
 mod Grouped
 mod InOrder
+mod Backwards
+mod Taken

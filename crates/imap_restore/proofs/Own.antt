@@ -1,10 +1,12 @@
 -- Mailboxes of which users' own changes are read first.
-use Rattle.std.proofs.Common.{List, [], ◌∷◌, refl, subst, sym}
+use Rattle.std.proofs.Common.{◌≡◌, List, [], ◌∷◌, ap, map, refl, subst, sym}
 use Rattle.std.specs.List.{AllByRecursion, AllZip}
+use Rattle.imap_tables.specs.Contents.{AreNumbersApart}
 use Rattle.imap_tables.specs.declared.stored.StoredMailbox.{StoredMailbox}
+use Rattle.imap_tables.specs.declared.stored.StoredSeenFlag.{StoredSeenFlag}
 use Rattle.imap_tables.specs.declared.tables.StoredTables.{StoredTables}
 use Rattle.imap_world.specs.declared.world_parts.MailboxRow.{MailboxRow}
-use Rattle.imap_restore.specs.Parts.{HasMailbox, HasMailboxOf, HasOwn, HasRows, IsMailboxFor, IsMailboxOf, IsOwn, IsWithOwn}
+use Rattle.imap_restore.specs.Parts.{AreIdsApart, AreOwnersApart, HasMailbox, HasMailboxOf, HasOwn, HasRows, IsMailboxFor, IsMailboxOf, IsOwn, IsWithOwn}
 use Rattle.imap_restore.specs.declared.parts.MailboxWithOwn.{MailboxWithOwn}
 use Rattle.imap_restore.specs.declared.parts.RowsBelow.{RowsBelow}
 use Rattle.imap_restore.proofs.InOrder.{all_weaker}
@@ -51,3 +53,12 @@ module _ (t : StoredTables) where
   all_of xs ys h k =
       all_across (IsWithOwn t.marks.items) (HasMailbox t) (HasMailboxOf (rows_of t))
       (λ s it is has. (t, has_rows s it is, subst (HasMailbox t) (sym is.0) has)) xs ys h k
+
+pub owners_apart : (marks : List StoredSeenFlag) (xs : List StoredMailbox) (ys : List MailboxWithOwn) → AllZip (IsWithOwn marks) xs ys → AreIdsApart xs → AreOwnersApart ys
+owners_apart marks xs ys h apart = subst AreNumbersApart (ids xs ys h) apart
+  where
+    ids : (us : List StoredMailbox) (vs : List MailboxWithOwn) → AllZip (IsWithOwn marks) us vs → map (λ (s : StoredMailbox). s.id) us ≡ map (λ (it : MailboxWithOwn). it.stored.id) vs
+    ids [] [] k = refl
+    ids [] (v ∷ vs) k = absurd k
+    ids (u ∷ us) [] k = absurd k
+    ids (u ∷ us) (v ∷ vs) k = λ i. sym (ap (λ (s : StoredMailbox). s.id) k.0.0) i ∷ ids us vs k.1 i

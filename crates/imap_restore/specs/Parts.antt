@@ -1,5 +1,5 @@
 -- What a store keeps of a world, by its tables.
-use Rattle.std.specs.Prelude.{◌≡◌, ℕ, ℤ, pos, Bool, true, false, List, filter, string_bytes}
+use Rattle.std.specs.Prelude.{◌≡◌, ◌≢◌, ℕ, ℤ, pos, Bool, true, false, List, [], ◌∷◌, ◌++◌, filter, map, reverse, string_bytes}
 use Rattle.std.specs.List.{AllByRecursion, AllZip, list_all}
 use Rattle.std.specs.List.Sorted.{IsSortedByKey}
 use Rattle.std.specs.Ordering.{int_cmp, int_eq, is_lt}
@@ -16,6 +16,7 @@ use Rattle.imap_restore.specs.Restored.{IsMarkFor, IsRowFor, IsSubscriptionFor}
 use Rattle.imap_restore.specs.declared.parts.MailboxWithOwn.{MailboxWithOwn}
 use Rattle.imap_restore.specs.declared.parts.RowsBelow.{RowsBelow}
 use Rattle.imap_rights.specs.declared.acl.Entry.{Entry}
+use Rattle.imap_tables.specs.Contents.{AreNumbersApart}
 use Rattle.imap_tables.specs.declared.stored.StoredEntry.{StoredEntry}
 use Rattle.imap_tables.specs.declared.stored.StoredGone.{StoredGone}
 use Rattle.imap_tables.specs.declared.stored.StoredMailbox.{StoredMailbox}
@@ -164,10 +165,11 @@ abbrev pub IsWithOwn : List StoredSeenFlag → StoredMailbox → MailboxWithOwn 
 IsWithOwn marks s it = (it.stored ≡ s) × IsOwn marks s it.own.items
 
 module _ (t : StoredTables) (s : StoredMailbox) where
-  -- the tables have these rows, and those of their marks that are below the mailbox keep these changes
+  -- the tables have these rows below the mailbox, and those of their marks that are below it keep these changes
   pub record HasRows (rows : RowsBelow) (own : List UserChange) : Type 0 where
     pub entries : t.entries ≡ rows.entries
-    pub messages : t.messages ≡ rows.messages
+    pub messages : below (λ r. r.mailbox) s.id t.messages.items
+        ≡ below (λ r. r.mailbox) s.id rows.messages.items
     pub gone : t.gone ≡ rows.gone
     pub changes : IsOwn t.marks.items s own
 
@@ -180,3 +182,36 @@ IsMailboxOf rows it row =
 abbrev pub HasMailboxOf : RowsBelow → MailboxWithOwn → Type 0
 HasMailboxOf rows it =
     (t : StoredTables) × HasRows t it.stored rows it.own.items × HasMailbox t it.stored
+
+-- ---- rows that are taken from the end of a table
+
+-- the last row is below the mailbox, in a table that is turned round
+abbrev pub is_first_below : {R : Type 0} → (mailbox : R → ℤ) → (id : ℤ) → List R → Bool
+is_first_below mailbox id [] = false
+is_first_below mailbox id (row ∷ rows) = int_eq (mailbox row) id
+
+-- of the rows at the end these were read, the last first: what is read of the rows that are left comes before them
+pub record ReadsEnd {R T : Type 0} (is_for : R → T → Type 0) (mailbox : R → ℤ) (id : ℤ) (rows left : List R)
+    (items : List T) : Type 0 where
+  pub more : (first : List T) → AllZip is_for (below mailbox id left) first
+      → AllZip is_for (below mailbox id rows) (first ++ reverse items)
+  pub back : (all : List T) → AllZip is_for (below mailbox id rows) all
+      → (first : List T) × AllZip is_for (below mailbox id left) first
+
+-- the rows below other mailboxes are left, in their order
+pub record LeavesOthers {R : Type 0} (mailbox : R → ℤ) (id : ℤ) (rows left : List R) : Type 0 where
+  pub grouped : AreGrouped mailbox rows → AreGrouped mailbox left
+  pub others : (other : ℤ) → other ≢ id → below mailbox other left ≡ below mailbox other rows
+
+-- all rows are left but for messages below the mailbox
+pub record AreLeft (id : ℤ) (rows left : RowsBelow) : Type 0 where
+  pub entries : left.entries ≡ rows.entries
+  pub messages : LeavesOthers (λ r. r.mailbox) id rows.messages.items left.messages.items
+  pub gone : left.gone ≡ rows.gone
+
+-- no two mailboxes have one id
+abbrev pub AreIdsApart : List StoredMailbox → Type 0
+AreIdsApart mailboxes = AreNumbersApart (map (λ s. s.id) mailboxes)
+
+abbrev pub AreOwnersApart : List MailboxWithOwn → Type 0
+AreOwnersApart mailboxes = AreNumbersApart (map (λ it. it.stored.id) mailboxes)

@@ -14,7 +14,7 @@ use imap_tables::StoredTables;
 use std::alloc::AllocError;
 use std::cmp::Ordering;
 
-fn compare(one: i64, other: i64) -> Ordering
+pub(crate) fn compare(one: i64, other: i64) -> Ordering
     ensures { result ≡ int_cmp one other }
 {
     one.cmp(&other)

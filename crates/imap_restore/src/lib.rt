@@ -13,12 +13,12 @@ mod names;
 mod parts;
 mod restoring;
 mod rows;
+mod taking;
 mod values;
 
 pub use below::{Restore, read_below};
 pub use diagnosing::find_damage;
 pub use lists::{read_epochs, read_subscriptions};
 pub use names::read_key;
-pub use parts::read_parts;
 pub use restoring::{restore, restore_split};
 pub use rows::{read_change, read_entry, read_gone, read_message};

@@ -1,13 +1,14 @@
 //! What a store keeps of a world, read again from its tables.
 //!
-//! Users' own changes are read again before the messages, so that the rows of the one are let go before the
-//! other are made.
+//! Users' own changes are read again before the messages. The rows of both are taken from the ends of their tables,
+//! and what is read of a row takes its room.
 
-ghost use Rattle.std.specs.Prelude.{◌≡◌, ◌↔◌, ℤ, Contains, List, Err, IfOk, IsTrue, map};
+ghost use Rattle.std.specs.Prelude.{◌≡◌, ◌↔◌, ℤ, Contains, List, Err, IfOk, IsTrue, OnOk, map};
 ghost use Rattle.std.specs.BTreeSet as sorted;
 ghost use Rattle.std.specs.List.{AllByRecursion, AllZip};
 ghost use Rattle.std.specs.Ordering.{int_cmp};
-ghost use Rattle.imap_restore.specs.Parts.{AreGrouped, AreInGroups, AreKnown, AreOf, ArePartsFor, HasRows};
+ghost use Rattle.imap_restore.specs.Parts.{AreGrouped, AreIdsApart, AreInGroups, AreKnown, AreLeft, AreOf};
+ghost use Rattle.imap_restore.specs.Parts.{AreOwnersApart, ArePartsFor, HasRows};
 ghost use Rattle.imap_restore.specs.Parts.{HasMailboxOf, HasOwn, HasParts, HaveGroups, HaveMailboxes};
 ghost use Rattle.imap_restore.specs.Parts.{HaveMessages, IsMailboxOf, IsWithOwn};
 
@@ -15,6 +16,7 @@ use crate::below::{Restore, read_below};
 use crate::grouping::grouped;
 use crate::lists::{read_epochs, read_subscriptions};
 use crate::names::read_key;
+use crate::taking::take_below;
 use crate::values::read_count;
 use imap_mailbox::{GoneMessage, MailboxParts, Message, PartsError, UserChange};
 use imap_rights::Entry;
@@ -97,19 +99,20 @@ struct RowsBelow {
 
 /// Reads users' own changes of each mailbox, and lets their rows go. Fails with `Bad` if one of these keeps
 /// nothing.
-#[tactic(auto, using(crate::proofs::Zipped::read_start))]
+#[tactic(auto, using(crate::proofs::Zipped::read_start, crate::proofs::Taken::still_start))]
 fn with_own(
     alloc: Global,
-    mailboxes: Vec<StoredMailbox>,
-    marks: Vec<StoredSeenFlag>,
+    mut mailboxes: Vec<StoredMailbox>,
+    mut marks: Vec<StoredSeenFlag>,
 ) -> Result<Vec<MailboxWithOwn>, PartsError>
-    requires { AreGrouped (λ (mark : StoredSeenFlag). mark.mailbox) marks.items }
+    requires grouped { AreGrouped (λ (mark : StoredSeenFlag). mark.mailbox) marks.items }
+    requires apart { AreIdsApart mailboxes.items }
     ensures ok { IfOk result (λ all. AllZip (IsWithOwn marks.items) mailboxes.items all.items) }
     ensures bad { result ≡ Err PartsError.Bad → AllByRecursion (HasOwn marks.items) mailboxes.items → ⊥ }
 {
     let mut all = Vec::with_capacity(alloc, mailboxes.len())?;
-    'mailboxes: for mailbox in mailboxes {
-        let own = match read_below(alloc, marks.as_slice(), mailbox.id) {
+    'mailboxes: while let Some(mailbox) = mailboxes.pop() {
+        let own = match take_below(alloc, &mut marks, mailbox.id) {
             Ok(own) => own,
             Err(error) => return Err(error),
         };
@@ -120,27 +123,29 @@ fn with_own(
             return Err(PartsError::Memory);
         };
     }
+    all.reverse();
     Ok(all)
 }
 
-/// Reads the messages of a mailbox. Fails with `Bad` if a row below it keeps nothing, or its number of events
-/// is none.
+/// Reads the messages of a mailbox, and takes the rows of those that are there. Fails with `Bad` if a row below it
+/// keeps nothing, or its number of events is none.
 fn read_messages(
     alloc: Global,
-    rows: &RowsBelow,
+    rows: &mut RowsBelow,
     mailbox: &StoredMailbox,
     own: Vec<UserChange>,
 ) -> Result<MailboxParts, PartsError>
-    requires { AreInGroups rows.now }
+    requires { AreInGroups rows.old }
     ensures ok { IfOk result (λ parts. (t : StoredTables)
-        → HasRows t mailbox.now rows.now own.items → AreOf t mailbox.now parts) }
+        → HasRows t mailbox.now rows.old own.items → AreOf t mailbox.now parts) }
+    ensures left { OnOk result (AreLeft mailbox.now.id rows.old rows.new) }
     ensures bad { result ≡ Err PartsError.Bad → (t : StoredTables)
-        → HasRows t mailbox.now rows.now own.items → HaveMessages t mailbox.now → ⊥ }
+        → HasRows t mailbox.now rows.old own.items → HaveMessages t mailbox.now → ⊥ }
 {
     let Some(shared) = read_count(mailbox.shared) else {
         return Err(PartsError::Bad);
     };
-    let messages = read_below(alloc, rows.messages.as_slice(), mailbox.id)?;
+    let messages = take_below(alloc, &mut rows.messages, mailbox.id)?;
     let gone = read_below(alloc, rows.gone.as_slice(), mailbox.id)?;
     Ok(MailboxParts {
         next: mailbox.uidnext,
@@ -151,15 +156,17 @@ fn read_messages(
     })
 }
 
-/// Reads a mailbox with what is below it. Fails with `Bad` if it has no name, or a row of it keeps nothing.
+/// Reads a mailbox with what is below it, and takes the rows of its messages. Fails with `Bad` if it has no name,
+/// or a row of it keeps nothing.
 fn read_mailbox(
     alloc: Global,
-    rows: &RowsBelow,
+    rows: &mut RowsBelow,
     mailbox: MailboxWithOwn,
 ) -> Result<MailboxRow, PartsError>
-    requires { AreInGroups rows.now }
-    ensures ok { IfOk result (IsMailboxOf rows.now mailbox) }
-    ensures bad { result ≡ Err PartsError.Bad → HasMailboxOf rows.now mailbox → ⊥ }
+    requires { AreInGroups rows.old }
+    ensures ok { IfOk result (IsMailboxOf rows.old mailbox) }
+    ensures left { OnOk result (AreLeft mailbox.stored.id rows.old rows.new) }
+    ensures bad { result ≡ Err PartsError.Bad → HasMailboxOf rows.old mailbox → ⊥ }
 {
     let MailboxWithOwn { stored, own } = mailbox;
     let name = read_key(alloc, &stored.key)?;
@@ -173,20 +180,22 @@ fn read_mailbox(
     })
 }
 
-/// Reads mailboxes. Fails with `Bad` if a row is that of no mailbox.
-#[tactic(auto, using(crate::proofs::Zipped::read_start))]
+/// Reads mailboxes, the last first, and takes the rows of their messages. Fails with `Bad` if a row is that of no
+/// mailbox.
+#[tactic(auto, using(crate::proofs::Zipped::read_start, crate::proofs::Taken::still_start))]
 fn read_mailboxes(
     alloc: Global,
-    rows: &RowsBelow,
-    mailboxes: Vec<MailboxWithOwn>,
+    rows: &mut RowsBelow,
+    mut mailboxes: Vec<MailboxWithOwn>,
 ) -> Result<Vec<MailboxRow>, PartsError>
-    requires { AreInGroups rows.now }
-    ensures ok { IfOk result (λ read. AllZip (IsMailboxOf rows.now) mailboxes.items read.items) }
+    requires groups { AreInGroups rows.old }
+    requires apart { AreOwnersApart mailboxes.items }
+    ensures ok { IfOk result (λ read. AllZip (IsMailboxOf rows.old) mailboxes.items read.items) }
     ensures bad { result ≡ Err PartsError.Bad
-        → AllByRecursion (HasMailboxOf rows.now) mailboxes.items → ⊥ }
+        → AllByRecursion (HasMailboxOf rows.old) mailboxes.items → ⊥ }
 {
     let mut read = Vec::with_capacity(alloc, mailboxes.len())?;
-    'mailboxes: for mailbox in mailboxes {
+    'mailboxes: while let Some(mailbox) = mailboxes.pop() {
         let row = match read_mailbox(alloc, rows, mailbox) {
             Ok(row) => row,
             Err(error) => return Err(error),
@@ -195,6 +204,7 @@ fn read_mailboxes(
             return Err(PartsError::Memory);
         };
     }
+    read.reverse();
     Ok(read)
 }
 
@@ -202,9 +212,10 @@ fn read_mailboxes(
 /// if a row keeps nothing, or is below a mailbox that is not there.
 ///
 /// Users' own changes are read first, so that their rows are let go before messages are read.
-#[tactic(auto, using(crate::proofs::Own::all_own, crate::proofs::Own::all_of, crate::proofs::Own::all_read))]
+#[tactic(auto, using(crate::proofs::Own::all_own, crate::proofs::Own::all_of, crate::proofs::Own::all_read, crate::proofs::Own::owners_apart))]
 fn read_grouped(alloc: Global, tables: StoredTables) -> Result<WorldParts, PartsError>
-    requires { HaveGroups tables }
+    requires groups { HaveGroups tables }
+    requires apart { AreIdsApart tables.mailboxes.items }
     ensures ok { IfOk result (ArePartsFor tables) }
     ensures bad { result ≡ Err PartsError.Bad → HasParts tables → ⊥ }
 {
@@ -222,12 +233,12 @@ fn read_grouped(alloc: Global, tables: StoredTables) -> Result<WorldParts, Parts
         meta: _,
     } = tables;
     let mailboxes = with_own(alloc, mailboxes, marks)?;
-    let rows = RowsBelow {
+    let mut rows = RowsBelow {
         entries,
         messages,
         gone,
     };
-    let mailboxes = read_mailboxes(alloc, &rows, mailboxes)?;
+    let mailboxes = read_mailboxes(alloc, &mut rows, mailboxes)?;
     let epochs = read_epochs(alloc, epochs)?;
     let subscriptions = read_subscriptions(alloc, subscriptions)?;
     Ok(WorldParts {
@@ -239,7 +250,8 @@ fn read_grouped(alloc: Global, tables: StoredTables) -> Result<WorldParts, Parts
 
 /// Reads what a store keeps of a world. Fails with `Bad` if a row keeps nothing, or is below a mailbox that
 /// is not there.
-pub fn read_parts(alloc: Global, tables: StoredTables) -> Result<WorldParts, PartsError>
+pub(crate) fn read_parts(alloc: Global, tables: StoredTables) -> Result<WorldParts, PartsError>
+    requires { AreIdsApart tables.mailboxes.items }
     ensures ok { IfOk result (ArePartsFor tables) }
     ensures bad { result ≡ Err PartsError.Bad → HasParts tables → ⊥ }
 {

@@ -33,6 +33,7 @@ fn checked(alloc: Global, stored: StoredTables) -> Result<StoredTables, PartsErr
 
 /// Makes a world of rows that were read. Fails with `Bad` if they stand for none.
 fn restore_read(alloc: Global, stored: StoredTables) -> Result<World, PartsError>
+    requires { AreAllApart stored }
     ensures ok { IfOk result (λ world.
         (kept : Parts) × ArePartsFor stored kept × IsMadeOf kept (world_of world)) }
     ensures bad { result ≡ Err parts.Bad → IsUnmade stored }

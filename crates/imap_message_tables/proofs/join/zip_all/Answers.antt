@@ -8,12 +8,12 @@ use Rattle.imap_message_tables.proofs.join.zip_all.Goals as goal
 pub heads-preserved : goal.heads-preserved
 heads-preserved c =
     let h = c.in-Some.head in
-    let hs = reverse c.pop.new.self.items in
+    let hs = reverse c.take_last.new.rows.items in
     let bs = reverse c.heads.bodies.items in
     let ws = reverse c.heads.words.items in
     let bodies = reverse c.take_message.new.bodies.items in
     let words = reverse c.take_message.new.words.items in
-    let t : reverse c.heads.heads.items ≡ h ∷ hs = turned c.heads.heads.items c.pop.new.self.items h c.in-Some.ensures.items in
+    let t : reverse c.heads.heads.items ≡ h ∷ hs = turned c.heads.heads.items c.take_last.new.rows.items h c.in-Some.ensures.items in
     let heads_up : AreUp head_key (h ∷ hs) = subst (AreUp head_key) t c.heads.invariant.heads_up in
     let off : is_first_head (head_key h) hs ≡ false = sym (ap (λ l. is_first_head (head_key h) (reverse l)) c.as_slice.ensures.value) ∙ sym c.is_doubled.ensures ∙ c.if-is_doubled.false in
     let taken = rw c.in-Some-2.is at c.in_ok-message.ensures in

@@ -1,33 +1,57 @@
-use Rattle.std.proofs.Common.{◌≡◌, ◌∙◌, length, rules, subst, sym}
-use Rattle.std.specs.Vec.Iter.{into_iter_items}
-use Rattle.std.proofs.lemmas.List.{nil_from_length}
+use Rattle.std.proofs.Common.{◌≡◌, ◌≤◌, ◌∷◌, ◌∙◌, arith, length, refl, reverse, subst, sym}
+use Rattle.std.specs.List.{AllZip}
+use Rattle.imap_message_tables.proofs.Ends.{none_left, turned}
 use Rattle.imap_tables.proofs.Zipped.{first_holds, rest_holds}
+use Rattle.imap_tables.specs.declared.stored.StoredMessage.{StoredMessage}
 use Rattle.imap_restore.specs.Parts.{HasMailboxOf, IsMailboxOf}
+use Rattle.imap_restore.specs.declared.parts.MailboxWithOwn.{MailboxWithOwn}
+use Rattle.imap_restore.proofs.Backwards.{all_reverse, zip_back}
+use Rattle.imap_restore.proofs.Taken.{groups_left, has_mailbox_left, mailbox_of_all, still_next, still_of}
 use Rattle.imap_restore.proofs.Words.{same_fault}
 use Rattle.imap_restore.proofs.Zipped.{HasRead, read_end, read_next}
 use Rattle.imap_restore.proofs.parts.read_mailboxes.Goals as goal
 
 pub returns-in-Err-clause-bad : goal.returns-in-Err-clause-bad
 returns-in-Err-clause-bad c is all =
-    let left = into_iter_items c.mailboxes.mailbox-iterator in
-    let rest = into_iter_items c.next.new.self in
-    c.read_mailbox.ensures.bad (c.in-Err.is ∙ same_fault c.in-Err.error is)
-    (first_holds (HasMailboxOf c.args.rows.now) left rest c.in-Some.mailbox c.in-Some.ensures.steps.0 (c.mailboxes.invariant.has all))
+    let rows = c.args.rows.now in
+    let left = c.mailboxes.rows in
+    let boxes = c.mailboxes.mailboxes.items in
+    let rest = c.pop.new.self.items in
+    let x = c.in-Some.mailbox in
+    let e = c.in-Some.ensures.items in
+    let same = still_of (λ (m : StoredMessage). m.mailbox) (λ (it : MailboxWithOwn). it.stored.id) rows.messages.items boxes rest x left.messages.items e c.mailboxes.invariant.messages in
+    let has = first_holds (HasMailboxOf rows) (reverse boxes) (reverse rest) x (turned boxes rest x e) (c.mailboxes.invariant.has (all_reverse (HasMailboxOf rows) c.args.mailboxes.items all)) in
+    c.read_mailbox.ensures.bad (c.in-Err.is ∙ same_fault c.in-Err.error is) (has_mailbox_left rows left x c.mailboxes.invariant.entries c.mailboxes.invariant.gone same has)
 
 pub mailboxes-preserved : goal.mailboxes-preserved
 mailboxes-preserved c =
     let rows = c.args.rows.now in
-    let left = into_iter_items c.mailboxes.mailbox-iterator in
-    let rest = into_iter_items c.next.new.self in
+    let left = c.mailboxes.rows in
+    let next = c.read_mailbox.new.rows in
+    let boxes = c.mailboxes.mailboxes.items in
+    let rest = c.pop.new.self.items in
+    let x = c.in-Some.mailbox in
+    let e = c.in-Some.ensures.items in
+    let t : reverse boxes ≡ x ∷ reverse rest = turned boxes rest x e in
+    let now = c.mailboxes.invariant in
+    let same = still_of (λ (m : StoredMessage). m.mailbox) (λ (it : MailboxWithOwn). it.stored.id) rows.messages.items boxes rest x left.messages.items e now.messages in
+    let leaves = c.in-Ok.ensures.left in
+    let of : IsMailboxOf rows x c.in-Ok.row = mailbox_of_all rows left x now.entries now.gone same c.in-Ok.row c.in-Ok.ensures.ok in
     record {
-      read = subst (HasRead (IsMailboxOf rows) c.args.mailboxes.items rest) (sym c.in-Ok-push.ensures.items)
-          (read_next (IsMailboxOf rows) c.args.mailboxes.items left rest c.in-Some.mailbox c.in-Ok.row c.mailboxes.read.items c.in-Some.ensures.steps.0 c.in-Ok.ensures.ok c.mailboxes.invariant.read);
-      has = λ all. rest_holds (HasMailboxOf rows) left rest c.in-Some.mailbox c.in-Some.ensures.steps.0 (c.mailboxes.invariant.has all);
-      count = search rules;
+      read = subst (HasRead (IsMailboxOf rows) (reverse c.args.mailboxes.items) (reverse rest)) (sym c.in-Ok-push.ensures.items)
+          (read_next (IsMailboxOf rows) (reverse c.args.mailboxes.items) (reverse boxes) (reverse rest) x c.in-Ok.row c.mailboxes.read.items t of now.read);
+      has = λ all. rest_holds (HasMailboxOf rows) (reverse boxes) (reverse rest) x t (now.has all);
+      groups = groups_left x.stored.id left next now.groups leaves;
+      entries = leaves.entries ∙ now.entries;
+      gone = leaves.gone ∙ now.gone;
+      messages = still_next (λ (m : StoredMessage). m.mailbox) (λ (it : MailboxWithOwn). it.stored.id) rows.messages.items boxes rest x left.messages.items next.messages.items e leaves.messages now.messages;
     }
 
 pub returns-clause-ok : goal.returns-clause-ok
 returns-clause-ok c =
-    let left = into_iter_items c.mailboxes.mailbox-iterator in
-    let none : length left ≡ 0 = sym c.mailboxes.invariant.count ∙ c.in-None.ensures.steps.0 in
-    read_end (IsMailboxOf c.args.rows.now) c.args.mailboxes.items left c.mailboxes.read.items (nil_from_length left none) c.mailboxes.invariant.read
+    let at = c.mailboxes in
+    let R = IsMailboxOf c.args.rows.now in
+    let xs = c.args.mailboxes.items in
+    let low : length at.mailboxes.items ≤ 0 = omega (arith, c.in_default.ensures.cases.0) in
+    subst (AllZip R xs) (sym c.reverse.ensures.items)
+    (zip_back R xs at.read.items (read_end R (reverse xs) (reverse at.mailboxes.items) at.read.items (none_left at.mailboxes.items low) at.invariant.read))

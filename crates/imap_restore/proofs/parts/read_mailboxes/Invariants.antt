@@ -1,14 +1,22 @@
-use Rattle.std.proofs.Common.{◌≡◌, length}
+use Rattle.std.proofs.Common.{◌≡◌, length, reverse}
 use Rattle.std.specs.List.{AllByRecursion}
-use Rattle.std.specs.Vec.Iter.{into_iter_items, into_iter_len}
-use Rattle.imap_restore.specs.Parts.{HasMailboxOf, IsMailboxOf}
+use Rattle.imap_tables.specs.declared.stored.StoredMessage.{StoredMessage}
+use Rattle.imap_restore.specs.Parts.{AreInGroups, HasMailboxOf, IsMailboxOf}
+use Rattle.imap_restore.specs.declared.parts.MailboxWithOwn.{MailboxWithOwn}
+use Rattle.imap_restore.proofs.Taken.{AreStillThere}
 use Rattle.imap_restore.proofs.Zipped.{HasRead}
 use Rattle.imap_restore.proofs.parts.read_mailboxes.Given as goal
 
 abbrev pub invariant-mailboxes : goal.invariant-mailboxes
 invariant-mailboxes l =
     record {
-      read : HasRead (IsMailboxOf l.fn.rows) l.fn.mailboxes.items (into_iter_items l.mailbox-iterator) l.read.items;
-      has : AllByRecursion (HasMailboxOf l.fn.rows) l.fn.mailboxes.items → AllByRecursion (HasMailboxOf l.fn.rows) (into_iter_items l.mailbox-iterator);
-      count : into_iter_len l.mailbox-iterator ≡ length (into_iter_items l.mailbox-iterator);
+      read : HasRead (IsMailboxOf l.fn.rows) (reverse l.fn.mailboxes.items) (reverse l.mailboxes.items) l.read.items;
+      has : AllByRecursion (HasMailboxOf l.fn.rows) (reverse l.fn.mailboxes.items) → AllByRecursion (HasMailboxOf l.fn.rows) (reverse l.mailboxes.items);
+      groups : AreInGroups l.rows;
+      entries : l.rows.entries ≡ l.fn.rows.entries;
+      gone : l.rows.gone ≡ l.fn.rows.gone;
+      messages : AreStillThere (λ (m : StoredMessage). m.mailbox) (λ (it : MailboxWithOwn). it.stored.id) l.fn.rows.messages.items l.mailboxes.items l.rows.messages.items;
     }
+
+abbrev pub decreases-mailboxes : goal.decreases-mailboxes
+decreases-mailboxes l = length l.mailboxes.items

@@ -1,10 +1,14 @@
-use Rattle.std.proofs.Common.{subst}
+use Rattle.std.proofs.Common.{subst, sym}
 use Rattle.imap_restore.specs.Holding.{IsUnmade}
 use Rattle.imap_restore.specs.Parts.{ArePartsFor}
 use Rattle.imap_restore.proofs.Refused.{are_apart, never_unmade}
 use Rattle.imap_restore.proofs.Restored.{holds, if_ok}
 use Rattle.imap_restore.proofs.Words.{same_fault}
+use Rattle.imap_tables.specs.Contents.{AreAllApart}
 use Rattle.imap_restore.proofs.restoring.restore.Goals as goal
+
+pub restore_read-requires : goal.restore_read-requires
+restore_read-requires c = subst AreAllApart (sym c.in-Ok.ensures.ok.0) c.in-Ok.ensures.ok.1
 
 pub returns-in-Ok-clause-ok : goal.returns-in-Ok-clause-ok
 returns-in-Ok-clause-ok c =
