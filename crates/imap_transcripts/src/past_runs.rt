@@ -19,7 +19,13 @@ impl PastRuns {
         PastRuns(Vec::new(alloc))
     }
 
-    pub(crate) fn push(&mut self, name: Vec<u8>, report: Vec<u8>) -> Result<(), ScriptError> {
+    pub(crate) fn push(
+        &mut self,
+        alloc: Global,
+        name: &[u8],
+        report: Vec<u8>,
+    ) -> Result<(), ScriptError> {
+        let name = Vec::from_slice(alloc, name)?;
         self.0.push(PastRun { name, report })?;
         Ok(())
     }

@@ -17,11 +17,20 @@ pub(crate) type Fault = (ServiceError, Option<Finding>);
 /// Prints how much the store in the file holds. If it can't be used, tells standard error why, as where it is to be served,
 /// and of what the row is that stands for nothing. Returns the exit status: 0, 3 if standard output failed, and else that of
 /// the fault.
-pub(crate) fn check(rt: &HostRuntime, path: &str) -> ExitCode {
-    match load(rt, path) {
-        Ok(kept) => report_store(rt, path, kept.world()),
+pub(crate) fn check(rt: &HostRuntime, path: String) -> ExitCode {
+    let loaded = load(rt, path.as_str());
+    let status = match loaded {
+        Ok(kept) => report_kept(rt, path.as_str(), kept),
         Err(fault) => report_fault(rt, fault),
-    }
+    };
+    drop(path);
+    status
+}
+
+fn report_kept(rt: &HostRuntime, path: &str, kept: KeptMailboxes<FileKeeper>) -> ExitCode {
+    let status = report_store(rt, path, kept.world());
+    drop(kept);
+    status
 }
 
 fn report_store(rt: &HostRuntime, path: &str, world: &World) -> ExitCode {
@@ -37,9 +46,10 @@ fn report_store(rt: &HostRuntime, path: &str, world: &World) -> ExitCode {
 pub(crate) fn report_fault(rt: &HostRuntime, fault: Fault) -> ExitCode {
     let (error, found) = fault;
     let status = report_service_error(rt, error);
-    if let Some(finding) = found {
-        report_finding(rt, &finding);
+    if let Some(finding) = &found {
+        report_finding(rt, finding);
     }
+    drop(found);
     status
 }
 

@@ -30,7 +30,17 @@ pub(crate) fn open(
         put_log_back(rt, path)?;
     }
     let conn = connect(rt, path)?;
-    make_private(rt, path)?;
+    match make_private(rt, path) {
+        Ok(()) => adopt(conn),
+        Err(error) => {
+            drop(conn);
+            Err(error)
+        }
+    }
+}
+
+/// Takes the database over.
+fn adopt(conn: Connection<FileStore<File>>) -> Result<FileKeeper, ServiceError> {
     match SqlKeeper::adopt(conn) {
         Ok(keeper) => Ok(keeper),
         Err((conn, error)) => {
