@@ -81,7 +81,8 @@ fn step(alloc: Global, doing: Doing) -> Result<Step, AllocError> {
 /// A copy of the step, which is the same step.
 fn copied(alloc: Global, step: &Step) -> Result<Step, AllocError> {
     let copy = step.try_copy(alloc)?;
-    kept_if(copy.is_same(step), copy)
+    let is_same = copy.is_same(step);
+    kept_if(is_same, copy)
 }
 
 fn copied_step(alloc: Global, doing: Doing) -> Result<Step, AllocError> {
@@ -93,10 +94,16 @@ fn copied_step(alloc: Global, doing: Doing) -> Result<Step, AllocError> {
 
 fn steps(alloc: Global, doings: &[Doing]) -> Result<Vec<Step>, AllocError> {
     let mut steps = Vec::new(alloc);
-    for doing in doings {
-        push(&mut steps, copied_step(alloc, *doing))?;
-    }
+    let pushed = push_steps(alloc, &mut steps, doings);
+    let (_, steps) = both(pushed, Ok(steps))?;
     Ok(steps)
+}
+
+fn push_steps(alloc: Global, steps: &mut Vec<Step>, doings: &[Doing]) -> Result<(), AllocError> {
+    for doing in doings {
+        push(steps, copied_step(alloc, *doing))?;
+    }
+    Ok(())
 }
 
 /// Makes Shared/News, which all may look up, and subscribes root to this many names.
@@ -114,7 +121,10 @@ fn world(alloc: Global, count: u32) -> Result<World, AllocError> {
     let mut world = World::new(alloc);
     match fill(alloc, &mut world, count) {
         Ok(()) => Ok(world),
-        Err(_) => Err(AllocError),
+        Err(_) => {
+            drop(world);
+            Err(AllocError)
+        }
     }
 }
 
@@ -140,8 +150,14 @@ fn push_printed(alloc: Global, out: &mut Vec<u8>, replies: &[Response]) -> Resul
 /// What the machine answers to these steps, with `|` after each.
 pub(crate) fn said(alloc: Global, core: &mut Core, steps: &[Step]) -> Result<Vec<u8>, AllocError> {
     let said = core.run(alloc, steps)?;
+    let printed = printed_all(alloc, &said);
+    drop(said);
+    printed
+}
+
+fn printed_all(alloc: Global, said: &[Vec<Response>]) -> Result<Vec<u8>, AllocError> {
     let mut out = Vec::new(alloc);
-    for replies in &said {
+    for replies in said {
         push_printed(alloc, &mut out, replies)?;
     }
     Ok(out)
@@ -161,10 +177,21 @@ fn said_after(
 /// What a copy of the machine answers to copies of the steps after its session has opened, with `|` after
 /// each step.
 fn answered(alloc: Global, count: u32, doings: &[Doing]) -> Result<Vec<u8>, AllocError> {
-    let opening = steps(alloc, &[Doing::Opens])?;
-    let steps = steps(alloc, doings)?;
+    let (opening, later) = both(steps(alloc, &[Doing::Opens]), steps(alloc, doings))?;
+    let said = said_by_new(alloc, count, &opening, &later);
+    drop(opening);
+    drop(later);
+    said
+}
+
+fn said_by_new(
+    alloc: Global,
+    count: u32,
+    opening: &[Step],
+    later: &[Step],
+) -> Result<Vec<u8>, AllocError> {
     let mut core = machine_copy(alloc, count)?;
-    let said = said_after(alloc, &mut core, &opening, &steps);
+    let said = said_after(alloc, &mut core, opening, later);
     drop(core);
     said
 }
@@ -228,7 +255,9 @@ fn written_at_start(alloc: Global, users: &[&str]) -> Result<usize, AllocError> 
     let groups = Groups::new(alloc);
     let opened = Core::open(alloc, World::new(alloc), root, &others, groups, LIMITS);
     let change = second(opened)?;
-    Ok(change.writes().len())
+    let count = change.writes().len();
+    drop(change);
+    Ok(count)
 }
 
 #[test]

@@ -5,7 +5,7 @@ use crate::wanted::expect_text;
 use crate::world::{name, user};
 use bitflags::Flags;
 use imap_mailbox::{MailboxParts, PartsError};
-use imap_names::{UserName, show_name};
+use imap_names::{Name, UserName, show_name};
 use imap_rights::{Entry, Identifier, Rights, read_rights};
 use imap_world::{MailboxRow, Subscription, World, WorldParts};
 use std::alloc::{AllocError, Global};
@@ -90,16 +90,28 @@ fn subscription(alloc: Global, who: &str, text: &str) -> Result<Subscription, Al
     Ok(Subscription::new(who, name))
 }
 
-fn parts_of(alloc: Global, rows: &Rows) -> Result<WorldParts, AllocError> {
-    let mailboxes = mailboxes_of(alloc, rows.mailboxes)?;
+fn epochs_of(alloc: Global, rows: &[(&str, u32)]) -> Result<Vec<(Name, u32)>, AllocError> {
     let mut epochs = Vec::new(alloc);
-    for &(text, validity) in rows.epochs {
+    for &(text, validity) in rows {
         push(&mut epochs, both(name(alloc, text), Ok(validity)))?;
     }
+    Ok(epochs)
+}
+
+fn subscriptions_of(alloc: Global, rows: &[(&str, &str)]) -> Result<Vec<Subscription>, AllocError> {
     let mut subscriptions = Vec::new(alloc);
-    for &(who, text) in rows.subscriptions {
+    for &(who, text) in rows {
         push(&mut subscriptions, subscription(alloc, who, text))?;
     }
+    Ok(subscriptions)
+}
+
+fn parts_of(alloc: Global, rows: &Rows) -> Result<WorldParts, AllocError> {
+    let used = both(
+        epochs_of(alloc, rows.epochs),
+        subscriptions_of(alloc, rows.subscriptions),
+    );
+    let (mailboxes, (epochs, subscriptions)) = both(mailboxes_of(alloc, rows.mailboxes), used)?;
     Ok(WorldParts {
         mailboxes,
         epochs,
@@ -139,7 +151,9 @@ fn push_shown(
 fn shown(alloc: Global, world: &World) -> Result<String, AllocError> {
     let root = user(alloc, "root")?;
     let mut text = String::new(alloc);
-    push_shown(alloc, &mut text, &root, world)?;
+    let pushed = push_shown(alloc, &mut text, &root, world);
+    drop(root);
+    pushed?;
     Ok(text)
 }
 

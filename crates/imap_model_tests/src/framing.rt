@@ -41,7 +41,11 @@ fn feed(
     out: &mut Vec<u8>,
 ) -> Result<(), AllocError> {
     match framer.feed(alloc, piece) {
-        Ok(frames) => show(&frames, out),
+        Ok(frames) => {
+            let shown = show(&frames, out);
+            drop(frames);
+            shown
+        }
         Err(error) => show_error(alloc, error, out),
     }
 }
@@ -76,7 +80,7 @@ fn check(rt: &impl Abort, alloc: Global, max_octets: u64, cases: &[(&[u8], &[u8]
 
 #[test]
 fn lines_in_any_pieces(rt: HostRuntime) {
-    const CASES: [(&[u8], &[u8]); 8] = [
+    const CASES: &[(&[u8], &[u8])] = &[
         (b"", b""),
         (b"a1 NOOP\r\na2 LOGOUT\r\n", b"[a1 NOOP\r\n][a2 LOGOUT\r\n]"),
         (b"a1 NOOP\r\na2 NO", b"[a1 NOOP\r\n]"),
@@ -86,12 +90,12 @@ fn lines_in_any_pieces(rt: HostRuntime) {
         (b"a\r\r\nb\n\r\n", b"[a\r\r\n][b\n\r\n]"),
         (b"\n\r\n\0\x80\xff\r\n\r", b"[\n\r\n][\0\x80\xff\r\n]"),
     ];
-    check(&rt, rt.alloc(), 100, &CASES);
+    check(&rt, rt.alloc(), 100, CASES);
 }
 
 #[test]
 fn literals_in_any_pieces(rt: HostRuntime) {
-    const CASES: [(&[u8], &[u8]); 9] = [
+    const CASES: &[(&[u8], &[u8])] = &[
         (
             b"a1 MYRIGHTS {5}\r\nINBOX\r\n",
             b"+[a1 MYRIGHTS {5}\r\nINBOX\r\n]",
@@ -117,12 +121,12 @@ fn literals_in_any_pieces(rt: HostRuntime) {
         ),
         (b"\"{2}\r\n{1\r\n", b"+[\"{2}\r\n{1\r\n]"),
     ];
-    check(&rt, rt.alloc(), 100, &CASES);
+    check(&rt, rt.alloc(), 100, CASES);
 }
 
 #[test]
 fn literals_over_the_limit(rt: HostRuntime) {
-    const CASES: [(&[u8], &[u8]); 9] = [
+    const CASES: &[(&[u8], &[u8])] = &[
         (b"a1 X {8}\r\n12345678\r\n", b"+[a1 X {8}\r\n12345678\r\n]"),
         (b"a1 X {9}\r\na2 NOOP\r\n", b"(a1)[a2 NOOP\r\n]"),
         (b"{9}\r\na2 NOOP\r\n", b"()[a2 NOOP\r\n]"),
@@ -145,14 +149,14 @@ fn literals_over_the_limit(rt: HostRuntime) {
             b"+[a1 X {5}\r\n12345\r\n]+[a2 Y {8}\r\n12345678\r\n]",
         ),
     ];
-    check(&rt, rt.alloc(), 8, &CASES);
+    check(&rt, rt.alloc(), 8, CASES);
 }
 
 /// A stream, the size of its pieces, and its frames. No piece after a hangup is taken, and the room of a
 /// literal is reserved when it is announced.
 #[test]
 fn hangups_and_want_of_memory(rt: HostRuntime) {
-    const CASES: [(u64, &[u8], usize, &[u8]); 5] = [
+    const CASES: &[(u64, &[u8], usize, &[u8])] = &[
         (8, b"a1 X {9+}\r\na2 NOOP\r\n", 1000, b"!"),
         (
             8,
@@ -174,7 +178,7 @@ fn hangups_and_want_of_memory(rt: HostRuntime) {
             b"<out of memory>",
         ),
     ];
-    for &(max_octets, stream, size, wanted) in &CASES {
+    for &(max_octets, stream, size, wanted) in CASES {
         expect(&rt, told(rt.alloc(), max_octets, stream, size), wanted);
     }
 }
@@ -205,7 +209,7 @@ fn told_of(alloc: Global, long: &Long<'_>, size: usize) -> Result<usize, AllocEr
 
 #[test]
 fn long_streams(rt: HostRuntime) {
-    const LONG: [Long; 8] = [
+    const LONG: &[Long] = &[
         // The longest line, an unended one that is as long, one that is longer, and one
         // that is longer and has a mark.
         Long {
@@ -267,7 +271,7 @@ fn long_streams(rt: HostRuntime) {
             told: 1_000_018,
         },
     ];
-    for long in &LONG {
+    for long in LONG {
         for size in [1, 4096, 10_000] {
             assert!(rt;
                 told_of(rt.alloc(), long, size) == Ok(long.told),

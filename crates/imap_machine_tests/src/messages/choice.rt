@@ -18,7 +18,7 @@ use std::alloc::{AllocError, Global};
 pub(crate) const MAX_MESSAGES: usize = 30;
 
 /// What is given to users. At first each gets the one of its own place.
-const LETTERS: [&[u8]; 10] = [
+const LETTERS: &[&[u8]] = &[
     b"lrswipkxtea",
     b"lrwikxte",
     b"i",
