@@ -71,9 +71,12 @@ impl PastRuns {
     /// The run of which `in NAME` has the name.
     fn named(&self, text: &str) -> Option<&PastRun> {
         let name = text.strip_prefix("in ")?;
-        self.0
-            .iter()
-            .find(|past| past.name.as_slice() == name.as_bytes())
+        for past in &self.0 {
+            if past.name.as_slice() == name.as_bytes() {
+                return Some(past);
+            }
+        }
+        None
     }
 }
 

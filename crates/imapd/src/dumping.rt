@@ -1,7 +1,7 @@
 //! The mailboxes of a store, written as folders of messages.
 
 use crate::checking::{load, report_fault};
-use crate::store::FileKeeper;
+use crate::store::StoreKeeper;
 use crate::told_progress::ToldProgress;
 use imap_maildir::{Dumped, KeptMailboxes, MaildirError, dump};
 use imap_service::{ServiceError, StoreFault, report_file_fault, report_service_error};
@@ -10,8 +10,12 @@ use std::process::ExitCode;
 /// Writes the mailboxes of the store in the file as folders of messages below a folder, which is made, and prints how many
 /// there are. Returns the exit status: 0, 3 if a file or a folder can't be made or standard output failed, 4 for want of
 /// memory, and 5 if the store can't be used.
-pub(crate) fn dump_store(rt: &HostRuntime, path: String, folder: String) -> ExitCode {
-    let loaded = load(rt, path.as_str());
+pub(crate) fn dump_store<K: StoreKeeper>(
+    rt: &HostRuntime,
+    path: String,
+    folder: String,
+) -> ExitCode {
+    let loaded = load::<K>(rt, path.as_str());
     drop(path);
     let status = match loaded {
         Ok(kept) => dump_kept(rt, kept, folder.as_str()),
@@ -21,7 +25,7 @@ pub(crate) fn dump_store(rt: &HostRuntime, path: String, folder: String) -> Exit
     status
 }
 
-fn dump_kept(rt: &HostRuntime, kept: KeptMailboxes<FileKeeper>, folder: &str) -> ExitCode {
+fn dump_kept<K: StoreKeeper>(rt: &HostRuntime, kept: KeptMailboxes<K>, folder: &str) -> ExitCode {
     let mut progress = ToldProgress::new(rt);
     let ended = dump(rt, kept.world(), folder, &mut progress);
     progress.end();

@@ -2,7 +2,7 @@
 
 use crate::checking::{load_or_make, report_fault};
 use crate::dumping::report_maildir_error;
-use crate::store::{FileKeeper, close};
+use crate::store::StoreKeeper;
 use crate::told_progress::ToldProgress;
 use imap_maildir::{KeptMailboxes, Loaded, load};
 use imap_names::UserName;
@@ -12,13 +12,13 @@ use std::process::ExitCode;
 /// Adds the messages in a folder to the mailboxes of the store in the file, which is made if it is missing, and prints how
 /// many there are. Returns the exit status: 0, 3 if a file or a folder can't be read or standard output failed, 4 for want
 /// of memory, and 5 if the store can't be used. What was added stays if it isn't 0.
-pub(crate) fn load_folder(
+pub(crate) fn load_folder<K: StoreKeeper>(
     rt: &HostRuntime,
     path: String,
     folder: String,
     administrator: UserName,
 ) -> ExitCode {
-    let made = load_or_make(rt, path.as_str());
+    let made = load_or_make::<K>(rt, path.as_str());
     drop(path);
     let status = match made {
         Ok(kept) => load_into(rt, kept, folder.as_str(), &administrator),
@@ -29,16 +29,16 @@ pub(crate) fn load_folder(
     status
 }
 
-fn load_into(
+fn load_into<K: StoreKeeper>(
     rt: &HostRuntime,
-    mut kept: KeptMailboxes<FileKeeper>,
+    mut kept: KeptMailboxes<K>,
     folder: &str,
     administrator: &UserName,
 ) -> ExitCode {
     let mut progress = ToldProgress::new(rt);
     let ended = load(rt, &mut kept, administrator, folder, &mut progress);
     progress.end();
-    let closed = close(kept.into_keeper());
+    let closed = kept.into_keeper().close();
     match ended {
         Ok(loaded) => report_load(rt, folder, loaded, closed),
         Err(error) => report_maildir_error(rt, error),

@@ -14,7 +14,7 @@ mod told_progress;
 use crate::checking::check;
 use crate::dumping::dump_store;
 use crate::loading::load_folder;
-use crate::store::FileKeeper;
+use crate::store::{FileKeeper, StoreKeeper};
 use imap_host::PARTS;
 use imap_options::{Service, Task, read_command_line};
 use imap_script::script;
@@ -27,7 +27,7 @@ use std::time::Instant;
 fn main(rt: HostRuntime) -> ExitCode {
     let since = Instant::now(&rt).ok();
     match read_command_line(&rt) {
-        Ok(task) => carry_out(&rt, task, since),
+        Ok(task) => carry_out::<FileKeeper>(&rt, task, since),
         Err(error) => {
             let status = report_misuse(&rt, &error);
             drop(error);
@@ -36,19 +36,24 @@ fn main(rt: HostRuntime) -> ExitCode {
     }
 }
 
-/// Carries the task out. Returns the exit status.
-fn carry_out(rt: &HostRuntime, task: Task, since: Option<Instant>) -> ExitCode {
+/// Carries the task out over a store of this kind. Returns the exit status. The kind is named once: a proof that names
+/// it is long.
+fn carry_out<K: StoreKeeper + Send>(
+    rt: &HostRuntime,
+    task: Task,
+    since: Option<Instant>,
+) -> ExitCode {
     match task {
-        Task::Check(database) => check(rt, database),
-        Task::Dump { database, folder } => dump_store(rt, database, folder),
+        Task::Check(database) => check::<K>(rt, database),
+        Task::Dump { database, folder } => dump_store::<K>(rt, database, folder),
         Task::Load {
             database,
             folder,
             administrator,
-        } => load_folder(rt, database, folder, administrator),
+        } => load_folder::<K>(rt, database, folder, administrator),
         Task::Script => run_script(rt),
         Task::Version => report_version(rt),
-        Task::Serve { database, service } => serve(rt, database, service, since),
+        Task::Serve { database, service } => serve::<K>(rt, database, service, since),
     }
 }
 
@@ -60,15 +65,18 @@ fn run_script(rt: &HostRuntime) -> ExitCode {
 }
 
 /// Serves users from the store in the file until that ends. Returns the exit status.
-fn serve(rt: &HostRuntime, database: String, service: Service, since: Option<Instant>) -> ExitCode {
-    let opened = store::open(rt, database.as_str(), service.log);
+fn serve<K: StoreKeeper + Send>(
+    rt: &HostRuntime,
+    database: String,
+    service: Service,
+    since: Option<Instant>,
+) -> ExitCode {
+    let opened = K::open(rt, database.as_str(), service.log);
     drop(database);
     match opened {
         Ok(keeper) => {
             let blank = Blank::new(PARTS);
-            let (keeper, error) = run::<FileKeeper, Brand, HostRuntime>(
-                rt, keeper, service, since, blank,
-            );
+            let (keeper, error) = run::<K, Brand, HostRuntime>(rt, keeper, service, since, blank);
             report_service_error(rt, store::end(rt, keeper, error))
         }
         Err(error) => {

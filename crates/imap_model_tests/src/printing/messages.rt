@@ -187,8 +187,8 @@ fn section(alloc: Global, section: SectionOf<'_>) -> Result<Section, AllocError>
         SectionOf::Whole => Ok(Section::Whole),
         SectionOf::Header => Ok(Section::Header),
         SectionOf::Text => Ok(Section::Text),
-        SectionOf::Fields(names) => field_names(alloc, names).map(Section::Fields),
-        SectionOf::FieldsNot(names) => field_names(alloc, names).map(Section::FieldsNot),
+        SectionOf::Fields(names) => Ok(Section::Fields(field_names(alloc, names)?)),
+        SectionOf::FieldsNot(names) => Ok(Section::FieldsNot(field_names(alloc, names)?)),
     }
 }
 
@@ -264,7 +264,7 @@ const NOTHING: Message = Message {
 
 fn some_flags(alloc: Global, flags: &Option<SystemFlags>) -> Result<Option<FlagSet>, AllocError> {
     match flags {
-        Some(flags) => flag_set(alloc, flags, &[]).map(Some),
+        Some(flags) => Ok(Some(flag_set(alloc, flags, &[])?)),
         None => Ok(None),
     }
 }
