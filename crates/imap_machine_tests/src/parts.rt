@@ -90,7 +90,7 @@ fn subscription(alloc: Global, who: &str, text: &str) -> Result<Subscription, Al
     Ok(Subscription::new(who, name))
 }
 
-fn epochs_of(alloc: Global, rows: &[(&str, u32)]) -> Result<Vec<(Name, u32)>, AllocError> {
+fn epochs_of(alloc: Global, rows: &[(&'static str, u32)]) -> Result<Vec<(Name, u32)>, AllocError> {
     let mut epochs = Vec::new(alloc);
     for &(text, validity) in rows {
         push(&mut epochs, both(name(alloc, text), Ok(validity)))?;
@@ -98,7 +98,10 @@ fn epochs_of(alloc: Global, rows: &[(&str, u32)]) -> Result<Vec<(Name, u32)>, Al
     Ok(epochs)
 }
 
-fn subscriptions_of(alloc: Global, rows: &[(&str, &str)]) -> Result<Vec<Subscription>, AllocError> {
+fn subscriptions_of(
+    alloc: Global,
+    rows: &[(&'static str, &'static str)],
+) -> Result<Vec<Subscription>, AllocError> {
     let mut subscriptions = Vec::new(alloc);
     for &(who, text) in rows {
         push(&mut subscriptions, subscription(alloc, who, text))?;

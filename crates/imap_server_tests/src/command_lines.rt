@@ -332,12 +332,12 @@ fn refuses_options(rt: HostRuntime) {
 
 #[test]
 fn ends_with_a_status(rt: HostRuntime) {
-    const ROWS: &[(ScriptError, u8)] = &[
+    const ROWS: [(ScriptError, u8); 3] = [
         (ScriptError::Bad { line: 3 }, 2),
         (ScriptError::Io, 3),
         (ScriptError::Memory, 4),
     ];
-    for (error, status) in ROWS {
+    for (error, status) in &ROWS {
         assert!(rt; report_script_error(&rt, error) == ExitCode::from(*status));
     }
     assert!(rt; report_misuse(&rt, &CommandLineError::Memory) == ExitCode::from(4));
