@@ -42,7 +42,8 @@ fn names_folders(rt: HostRuntime) {
         expect_text(&rt, folder(rt.alloc(), text), wanted);
         expect_text(&rt, read_back(rt.alloc(), wanted), text);
     }
-    for other in ["to", "to/Shared", "to/Other Users/ann", "to/mail/INBOX"] {
+    const OTHERS: &[&str] = &["to", "to/Shared", "to/Other Users/ann", "to/mail/INBOX"];
+    for other in OTHERS {
         expect_text(&rt, read_back(rt.alloc(), other), "none");
     }
     expect_text(

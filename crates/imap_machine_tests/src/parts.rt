@@ -2,11 +2,11 @@
 
 use crate::machine::{both, push};
 use crate::wanted::expect_text;
-use crate::world::{name, user};
+use crate::world::{identifier, name, user};
 use bitflags::Flags;
 use imap_mailbox::{MailboxParts, PartsError};
 use imap_names::{Name, UserName, show_name};
-use imap_rights::{Entry, Identifier, Rights, read_rights};
+use imap_rights::{Entry, Rights, read_rights};
 use imap_world::{MailboxRow, Subscription, World, WorldParts};
 use std::alloc::{AllocError, Global};
 
@@ -25,10 +25,8 @@ struct Rows {
     subscriptions: &'static [(&'static str, &'static str)],
 }
 
-fn entry_of(alloc: Global, identifier: &str, letters: &str) -> Result<Entry, AllocError> {
-    let Ok(identifier) = Identifier::read(alloc, identifier.as_bytes()) else {
-        return Err(AllocError);
-    };
+fn entry_of(alloc: Global, who: &str, letters: &str) -> Result<Entry, AllocError> {
+    let identifier = identifier(alloc, who)?;
     match read_rights(letters.as_bytes()) {
         Some(change) => Ok(Entry {
             identifier,

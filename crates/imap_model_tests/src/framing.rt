@@ -71,9 +71,10 @@ fn told(alloc: Global, max_octets: u64, stream: &[u8], size: usize) -> Result<Ve
 
 /// Asserts that these streams have these frames, in pieces of several sizes.
 fn check(rt: &impl Abort, alloc: Global, max_octets: u64, cases: &[(&[u8], &[u8])]) {
+    const SIZES: &[usize] = &[1, 2, 3, 5, 7, 1000];
     for (stream, wanted) in cases {
-        for size in [1, 2, 3, 5, 7, 1000] {
-            expect(rt, told(alloc, max_octets, stream, size), wanted);
+        for size in SIZES {
+            expect(rt, told(alloc, max_octets, stream, *size), wanted);
         }
     }
 }
@@ -271,10 +272,11 @@ fn long_streams(rt: HostRuntime) {
             told: 1_000_018,
         },
     ];
+    const SIZES: &[usize] = &[1, 4096, 10_000];
     for long in LONG {
-        for size in [1, 4096, 10_000] {
+        for size in SIZES {
             assert!(rt;
-                told_of(rt.alloc(), long, size) == Ok(long.told),
+                told_of(rt.alloc(), long, *size) == Ok(long.told),
                 "{} octets",
                 long.count
             );

@@ -143,10 +143,13 @@ fn spoil_seat<L: Ledger>(seat: &mut Seat<L>, fault: Fault) {
     }
 }
 
+/// The mailbox `Mine` of root and that of bob.
+const MINE: &[&str] = &["Other Users/root/Mine", "Other Users/bob/Mine"];
+
 /// How many of root and bob have the mailbox `Mine` in the world.
 fn mine_in(alloc: Global, world: &World) -> u32 {
     let mut count: u32 = 0;
-    for text in ["Other Users/root/Mine", "Other Users/bob/Mine"] {
+    for text in MINE {
         if let Ok(name) = read_full(alloc, text.as_bytes()) {
             if world.mailbox(&name.as_ref()).is_some() {
                 count = count.saturating_add(1);
