@@ -29,7 +29,9 @@ pub(crate) fn session(alloc: Global, number: u32) -> Result<SessionId, AllocErro
 
 pub(crate) fn command(alloc: Global, octets: &[u8]) -> Result<Act, AllocError> {
     let octets = Octets::from_slice(alloc, octets)?;
-    parse(alloc, &octets).map(Act::Do)
+    let request = parse(alloc, &octets);
+    drop(octets);
+    Ok(Act::Do(request?))
 }
 
 fn act(alloc: Global, doing: Doing) -> Result<Act, AllocError> {

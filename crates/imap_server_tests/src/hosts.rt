@@ -135,7 +135,9 @@ pub(crate) fn seat<K: Keeper, L: Ledger>(
 
 fn act(alloc: Global, text: &[u8]) -> Result<Act, AllocError> {
     let octets = Octets::from_slice(alloc, text)?;
-    parse(alloc, &octets).map(Act::Do)
+    let request = parse(alloc, &octets);
+    drop(octets);
+    Ok(Act::Do(request?))
 }
 
 /// A step of the seat's session.

@@ -101,5 +101,8 @@ fn write_report<O: Write>(
 }
 
 fn write_octets<O: Write>(output: &mut O, octets: &[u8]) -> Result<(), ScriptError> {
-    output.write_all(octets).map_err(|_| ScriptError::Io)
+    match output.write_all(octets) {
+        Ok(()) => Ok(()),
+        Err(_) => Err(ScriptError::Io),
+    }
 }
