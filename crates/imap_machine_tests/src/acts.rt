@@ -172,7 +172,10 @@ fn make_copy(
             drop(change);
             match copy {
                 Ok(copy) => {
-                    let moved = copy.writes().first().and_then(moved);
+                    let moved = match copy.writes() {
+                        [first, ..] => moved(first),
+                        [] => None,
+                    };
                     world.commit(copy);
                     Ok(moved)
                 }

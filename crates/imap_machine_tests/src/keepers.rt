@@ -21,7 +21,7 @@ enum Asked {
     Subscribe(&'static str, &'static str),
 }
 
-const ASKED: [Asked; 5] = [
+const ASKED: &[Asked] = &[
     Asked::Create("ann", "Other Users/ann/A/B"),
     Asked::Subscribe("bob", "Shared/News"),
     Asked::Rename("ann", "Other Users/ann/A", "Other Users/ann/C"),
@@ -59,7 +59,9 @@ fn prepare(alloc: Global, world: &mut World, asked: Asked) -> Result<Change, Wor
     ensures ready { IfOk result (λ change. IsReady change world.new) }
 {
     let effects = vec![in alloc; effect(alloc, asked)?]?;
-    world.prepare(alloc, &effects)
+    let change = world.prepare(alloc, &effects);
+    drop(effects);
+    change
 }
 
 /// Saves the change, and then commits it.
@@ -78,7 +80,10 @@ fn save<K: Keeper>(
             world.commit(change);
             Ok(())
         }
-        Err(error) => Err(error),
+        Err(error) => {
+            drop(change);
+            Err(error)
+        }
     }
 }
 
@@ -87,7 +92,11 @@ fn loads_same<K: Keeper>(alloc: Global, keeper: &mut K, world: &World) -> bool
     ensures { K.Keeper.content keeper.new (world_of world.now) }
 {
     match keeper.load(alloc) {
-        Ok(loaded) => loaded.same(world),
+        Ok(loaded) => {
+            let is_same = loaded.same(world);
+            drop(loaded);
+            is_same
+        }
         Err(_) => false,
     }
 }
@@ -119,21 +128,27 @@ fn keep_all<K: Keeper>(
     requires { K.Keeper.content keeper.old (world_of world.old) }
 {
     let mut text = String::new(alloc);
-    for asked in &ASKED {
+    for asked in ASKED {
         text.push_str(keep(alloc, keeper, world, *asked)?.as_str())?;
     }
     Ok(text)
 }
 
 fn kept_in_memory(alloc: Global) -> Result<String, AllocError> {
+    let mut world = World::new(alloc);
     let mut keeper = ListKeeper::new(World::new(alloc));
-    keep_all(alloc, &mut keeper, &mut World::new(alloc))
+    let text = keep_all(alloc, &mut keeper, &mut world);
+    drop(keeper);
+    drop(world);
+    text
 }
 
 fn kept_by_refuser(alloc: Global) -> Result<String, AllocError> {
     let mut keeper = Refuser::new(ListKeeper::new(World::new(alloc)), 2);
-    let text = keep_all(alloc, &mut keeper, &mut World::new(alloc));
+    let mut world = World::new(alloc);
+    let text = keep_all(alloc, &mut keeper, &mut world);
     drop(keeper.release());
+    drop(world);
     text
 }
 

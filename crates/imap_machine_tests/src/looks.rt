@@ -1,5 +1,6 @@
 //! What bob sees of a world whose administrator is root.
 
+use crate::machine::both;
 use crate::world::{name, site, user};
 use imap_names::Name;
 use imap_rights::Rights;
@@ -68,15 +69,19 @@ fn look_at(alloc: Global, view: &View<'_>, name: &Name) -> Result<String, WorldE
 }
 
 fn look_in(alloc: Global, world: &World, site: &Site, text: &str) -> Result<String, WorldError> {
-    let bob = user(alloc, "bob")?;
-    let name = name(alloc, text)?;
-    look_at(alloc, &View::new(world, site, &bob), &name)
+    let (bob, name) = both(user(alloc, "bob"), name(alloc, text))?;
+    let look = look_at(alloc, &View::new(world, site, &bob), &name);
+    drop(bob);
+    drop(name);
+    look
 }
 
 /// What bob sees of a name, and what he may do there.
 pub(crate) fn look(alloc: Global, world: &World, text: &str) -> Result<String, WorldError> {
     let site = site(alloc)?;
-    look_in(alloc, world, &site, text)
+    let look = look_in(alloc, world, &site, text);
+    drop(site);
+    look
 }
 
 fn push_path(text: &mut String, name: &Name) -> Result<(), AllocError> {
@@ -103,16 +108,20 @@ fn names(alloc: Global, view: &View<'_>, top: &Name) -> Result<String, WorldErro
 }
 
 fn list_in(alloc: Global, world: &World, site: &Site, text: &str) -> Result<String, WorldError> {
-    let bob = user(alloc, "bob")?;
-    let top = name(alloc, text)?;
-    names(alloc, &View::new(world, site, &bob), &top)
+    let (bob, top) = both(user(alloc, "bob"), name(alloc, text))?;
+    let names = names(alloc, &View::new(world, site, &bob), &top);
+    drop(bob);
+    drop(top);
+    names
 }
 
 /// The names that bob sees, and those in use below a name, as far as he may know. Whether there are such, and
 /// how many names he subscribed to, that one among them or not.
 pub(crate) fn list(alloc: Global, world: &World, text: &str) -> Result<String, WorldError> {
     let site = site(alloc)?;
-    list_in(alloc, world, &site, text)
+    let list = list_in(alloc, world, &site, text);
+    drop(site);
+    list
 }
 
 /// The room that bob is shown if the mailbox may have this many messages.
@@ -124,7 +133,9 @@ pub(crate) fn room(
 ) -> Result<Option<u64>, AllocError> {
     let mut site = site(alloc)?;
     site.limits.max_messages = most;
-    room_in(alloc, world, &site, text)
+    let room = room_in(alloc, world, &site, text);
+    drop(site);
+    room
 }
 
 fn room_in(
@@ -133,10 +144,16 @@ fn room_in(
     site: &Site,
     text: &str,
 ) -> Result<Option<u64>, AllocError> {
-    let bob = user(alloc, "bob")?;
-    let name = name(alloc, text)?;
-    match View::new(world, site, &bob).seen(&name.as_ref()) {
-        Some(seen) => Ok(seen.room()),
-        None => Ok(None),
+    let (bob, name) = both(user(alloc, "bob"), name(alloc, text))?;
+    let room = room_of(&View::new(world, site, &bob), &name);
+    drop(bob);
+    drop(name);
+    Ok(room)
+}
+
+fn room_of(view: &View<'_>, name: &Name) -> Option<u64> {
+    match view.seen(&name.as_ref()) {
+        Some(seen) => seen.room(),
+        None => None,
     }
 }

@@ -8,7 +8,6 @@ use imap_grammar::parse;
 use imap_lex::Octets;
 use imap_print::{Response, print};
 use imap_rights::Groups;
-use imap_syntax::{Date, DateTime};
 use imap_world::{World, WorldError};
 use std::alloc::{AllocError, Global};
 
@@ -30,7 +29,9 @@ pub(crate) fn session(alloc: Global, number: u32) -> Result<SessionId, AllocErro
 
 pub(crate) fn command(alloc: Global, octets: &[u8]) -> Result<Act, AllocError> {
     let octets = Octets::from_slice(alloc, octets)?;
-    parse(alloc, &octets).map(Act::Do)
+    let request = parse(alloc, &octets);
+    drop(octets);
+    Ok(Act::Do(request?))
 }
 
 fn act(alloc: Global, doing: Doing) -> Result<Act, AllocError> {
@@ -81,7 +82,8 @@ fn step(alloc: Global, doing: Doing) -> Result<Step, AllocError> {
 /// A copy of the step, which is the same step.
 fn copied(alloc: Global, step: &Step) -> Result<Step, AllocError> {
     let copy = step.try_copy(alloc)?;
-    kept_if(copy.is_same(step), copy)
+    let is_same = copy.is_same(step);
+    kept_if(is_same, copy)
 }
 
 fn copied_step(alloc: Global, doing: Doing) -> Result<Step, AllocError> {
@@ -93,10 +95,16 @@ fn copied_step(alloc: Global, doing: Doing) -> Result<Step, AllocError> {
 
 fn steps(alloc: Global, doings: &[Doing]) -> Result<Vec<Step>, AllocError> {
     let mut steps = Vec::new(alloc);
-    for doing in doings {
-        push(&mut steps, copied_step(alloc, *doing))?;
-    }
+    let pushed = push_steps(alloc, &mut steps, doings);
+    let (_, steps) = both(pushed, Ok(steps))?;
     Ok(steps)
+}
+
+fn push_steps(alloc: Global, steps: &mut Vec<Step>, doings: &[Doing]) -> Result<(), AllocError> {
+    for doing in doings {
+        push(steps, copied_step(alloc, *doing))?;
+    }
+    Ok(())
 }
 
 /// Makes Shared/News, which all may look up, and subscribes root to this many names.
@@ -114,7 +122,10 @@ fn world(alloc: Global, count: u32) -> Result<World, AllocError> {
     let mut world = World::new(alloc);
     match fill(alloc, &mut world, count) {
         Ok(()) => Ok(world),
-        Err(_) => Err(AllocError),
+        Err(_) => {
+            drop(world);
+            Err(AllocError)
+        }
     }
 }
 
@@ -140,8 +151,14 @@ fn push_printed(alloc: Global, out: &mut Vec<u8>, replies: &[Response]) -> Resul
 /// What the machine answers to these steps, with `|` after each.
 pub(crate) fn said(alloc: Global, core: &mut Core, steps: &[Step]) -> Result<Vec<u8>, AllocError> {
     let said = core.run(alloc, steps)?;
+    let printed = printed_all(alloc, &said);
+    drop(said);
+    printed
+}
+
+fn printed_all(alloc: Global, said: &[Vec<Response>]) -> Result<Vec<u8>, AllocError> {
     let mut out = Vec::new(alloc);
-    for replies in &said {
+    for replies in said {
         push_printed(alloc, &mut out, replies)?;
     }
     Ok(out)
@@ -161,10 +178,21 @@ fn said_after(
 /// What a copy of the machine answers to copies of the steps after its session has opened, with `|` after
 /// each step.
 fn answered(alloc: Global, count: u32, doings: &[Doing]) -> Result<Vec<u8>, AllocError> {
-    let opening = steps(alloc, &[Doing::Opens])?;
-    let steps = steps(alloc, doings)?;
+    let (opening, later) = both(steps(alloc, &[Doing::Opens]), steps(alloc, doings))?;
+    let said = said_by_new(alloc, count, &opening, &later);
+    drop(opening);
+    drop(later);
+    said
+}
+
+fn said_by_new(
+    alloc: Global,
+    count: u32,
+    opening: &[Step],
+    later: &[Step],
+) -> Result<Vec<u8>, AllocError> {
     let mut core = machine_copy(alloc, count)?;
-    let said = said_after(alloc, &mut core, &opening, &steps);
+    let said = said_after(alloc, &mut core, opening, later);
     drop(core);
     said
 }
@@ -228,7 +256,9 @@ fn written_at_start(alloc: Global, users: &[&str]) -> Result<usize, AllocError> 
     let groups = Groups::new(alloc);
     let opened = Core::open(alloc, World::new(alloc), root, &others, groups, LIMITS);
     let change = second(opened)?;
-    Ok(change.writes().len())
+    let count = change.writes().len();
+    drop(change);
+    Ok(count)
 }
 
 #[test]
@@ -239,15 +269,24 @@ fn a_host_starts_with_an_inbox_for_each_user(rt: HostRuntime) {
 
 #[test]
 fn moments_and_session_numbers_have_ranges(rt: HostRuntime) {
-    let last = Moment::from_seconds(253_402_300_799);
-    assert_eq!(rt;
-        last.map(Moment::date_time)
-            .map(DateTime::date)
-            .map(Date::day_number),
-        Some(2_932_896)
-    );
-    assert_eq!(rt; Moment::from_seconds(253_402_300_800), None);
-    assert_eq!(rt; SessionNumber::new(0), None);
-    let greatest = SessionNumber::new(u32::MAX);
-    assert_eq!(rt; greatest.map(SessionNumber::get), Some(4_294_967_295));
+    assert!(rt; day_of(253_402_300_799) == Some(2_932_896));
+    assert!(rt; day_of(253_402_300_800).is_none());
+    assert!(rt; number_of(0).is_none());
+    assert!(rt; number_of(u32::MAX) == Some(4_294_967_295));
+}
+
+/// The number of the day of a moment, if there is such a moment.
+fn day_of(seconds: u64) -> Option<i64> {
+    match Moment::from_seconds(seconds) {
+        Some(moment) => Some(moment.date_time().date().day_number()),
+        None => None,
+    }
+}
+
+/// The number of a session that may have it.
+fn number_of(number: u32) -> Option<u32> {
+    match SessionNumber::new(number) {
+        Some(number) => Some(number.get()),
+        None => None,
+    }
 }

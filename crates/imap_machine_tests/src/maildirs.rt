@@ -10,13 +10,13 @@ use imap_maildir::{
     KeptMailboxes, KeywordLetters, Loaded, MessageFlags, Progress, dump, load, mailbox_folder,
     mailbox_name, message_file, message_flags, read_keywords, read_lists, with_line_ends,
 };
-use imap_names::show_name;
+use imap_names::{UserName, show_name};
 use imap_syntax::{Atom, DateTime, Keywords};
-use imap_world::World;
+use imap_world::{World, WorldError};
 use std::alloc::{AllocError, Global};
 use std::fs;
 use std::rt::{Clock, Files};
-use std::time::SystemTime;
+use std::time::{Duration, SystemTime};
 
 const FOLDERS: &[(&str, &str)] = &[
     ("Shared/News", "to/Shared/News"),
@@ -31,7 +31,9 @@ const FOLDERS: &[(&str, &str)] = &[
 
 fn folder(alloc: Global, text: &str) -> Result<String, AllocError> {
     let name = name(alloc, text)?;
-    mailbox_folder(alloc, "to", &name)
+    let folder = mailbox_folder(alloc, "to", &name);
+    drop(name);
+    folder
 }
 
 #[test]
@@ -40,7 +42,8 @@ fn names_folders(rt: HostRuntime) {
         expect_text(&rt, folder(rt.alloc(), text), wanted);
         expect_text(&rt, read_back(rt.alloc(), wanted), text);
     }
-    for other in ["to", "to/Shared", "to/Other Users/ann", "to/mail/INBOX"] {
+    const OTHERS: &[&str] = &["to", "to/Shared", "to/Other Users/ann", "to/mail/INBOX"];
+    for other in OTHERS {
         expect_text(&rt, read_back(rt.alloc(), other), "none");
     }
     expect_text(
@@ -56,10 +59,13 @@ fn read_back(alloc: Global, folder: &str) -> Result<String, AllocError> {
         user(alloc, "root"),
         mailbox_name(alloc, folder.trim_start_matches("to/")),
     )?;
-    match name {
-        Some(name) => show_name(alloc, &root, &name),
+    let text = match &name {
+        Some(name) => show_name(alloc, &root, name),
         None => String::from_str(alloc, "none"),
-    }
+    };
+    drop(root);
+    drop(name);
+    text
 }
 
 fn atom(alloc: Global, text: &str) -> Result<Atom, AllocError> {
@@ -82,8 +88,6 @@ fn moment() -> DateTime {
 /// The file of a message with all flags and these keywords, and the lines of the keywords.
 fn file(alloc: Global, texts: &[&str]) -> Result<String, AllocError> {
     let (octets, words) = both(Octets::from_slice(alloc, b"mail"), keywords(alloc, texts))?;
-    let mut letters = KeywordLetters::new(alloc);
-    letters.learn(words.as_slice())?;
     let flags = SharedFlags {
         answered: true,
         deleted: true,
@@ -91,15 +95,26 @@ fn file(alloc: Global, texts: &[&str]) -> Result<String, AllocError> {
         flagged: true,
         keywords: words,
     };
+    let file = file_of(alloc, &octets, &flags);
+    drop(flags);
+    drop(octets);
+    file
+}
+
+fn file_of(alloc: Global, octets: &Octets, flags: &SharedFlags) -> Result<String, AllocError> {
+    let mut letters = KeywordLetters::new(alloc);
+    letters.learn(flags.keywords.as_slice())?;
     let row = Row {
         uid: 7,
         date: moment(),
         seen: true,
-        octets: &octets,
-        flags: &flags,
+        octets,
+        flags,
         number: 2,
     };
-    message_file(alloc, "to", &row, &letters)
+    let file = message_file(alloc, "to", &row, &letters);
+    drop(letters);
+    file
 }
 
 #[test]
@@ -114,9 +129,18 @@ fn names_files(rt: HostRuntime) {
 
 fn lines(alloc: Global) -> Result<Vec<u8>, AllocError> {
     let mut letters = KeywordLetters::new(alloc);
-    letters.learn(keywords(alloc, &["x"])?.as_slice())?;
-    letters.learn(keywords(alloc, &["w", "x"])?.as_slice())?;
+    let learnt = learn_both(alloc, &mut letters);
+    let (_, letters) = both(learnt, Ok(letters))?;
     letters.lines()
+}
+
+fn learn_both(alloc: Global, letters: &mut KeywordLetters) -> Result<(), AllocError> {
+    let (one, two) = both(keywords(alloc, &["x"]), keywords(alloc, &["w", "x"]))?;
+    let learnt = both(letters.learn(one.as_slice()), letters.learn(two.as_slice()));
+    drop(one);
+    drop(two);
+    learnt?;
+    Ok(())
 }
 
 #[test]
@@ -127,7 +151,16 @@ fn numbers_keywords(rt: HostRuntime) {
 /// The flags that the name of a file has.
 fn flags(alloc: Global, name: &str) -> Result<String, AllocError> {
     let keywords = read_keywords(alloc, "0 x\n1 w\n26 z\nno line\n")?;
-    let MessageFlags { shared, seen } = message_flags(alloc, name, keywords.as_slice())?;
+    let flags = message_flags(alloc, name, keywords.as_slice());
+    drop(keywords);
+    let flags = flags?;
+    let text = flags_text(alloc, &flags);
+    drop(flags);
+    text
+}
+
+fn flags_text(alloc: Global, flags: &MessageFlags) -> Result<String, AllocError> {
+    let MessageFlags { shared, seen } = flags;
     let mut text = format!(in alloc;
         "{seen} {} {} {} {}",
         shared.answered, shared.deleted, shared.draft, shared.flagged
@@ -155,6 +188,10 @@ fn reads_flags(rt: HostRuntime) {
     }
 }
 
+fn ended(alloc: Global, octets: &[u8]) -> Result<Vec<u8>, AllocError> {
+    with_line_ends(alloc, Vec::from_slice(alloc, octets)?)
+}
+
 #[test]
 fn ends_lines(rt: HostRuntime) {
     const ROWS: &[(&[u8], &[u8])] = &[
@@ -162,33 +199,44 @@ fn ends_lines(rt: HostRuntime) {
         (b"\na\n\r\n\rb\n", b"\r\na\r\n\r\n\rb\r\n"),
     ];
     for &(octets, wanted) in ROWS {
-        let octets = Vec::from_slice(rt.alloc(), octets);
-        expect(
-            &rt,
-            octets.and_then(|octets| with_line_ends(rt.alloc(), octets)),
-            wanted,
-        );
+        expect(&rt, ended(rt.alloc(), octets), wanted);
     }
 }
 
 /// The lists in a text: line, name and number of entries.
 fn lists(alloc: Global, text: &str) -> Result<String, AllocError> {
-    let root = user(alloc, "root")?;
-    let mut shown = String::new(alloc);
     match read_lists(alloc, text) {
         Ok(lists) => {
-            for list in &lists {
-                let name = show_name(alloc, &root, &list.name)?;
-                let line = format!(in alloc; "{} {name} {};", list.line, list.entries.len())?;
-                shown.push_str(line.as_str())?;
-            }
+            let shown = lists_text(alloc, &lists);
+            drop(lists);
+            shown
         }
         Err(error) => {
-            let line = format!(in alloc; "{error}")?;
-            shown.push_str(line.as_str())?;
+            let shown = format!(in alloc; "{error}");
+            drop(error);
+            shown
         }
     }
+}
+
+fn lists_text(alloc: Global, lists: &[MailboxList]) -> Result<String, AllocError> {
+    let root = user(alloc, "root")?;
+    let mut shown = String::new(alloc);
+    for list in lists {
+        push_list(alloc, &mut shown, &root, list)?;
+    }
     Ok(shown)
+}
+
+fn push_list(
+    alloc: Global,
+    shown: &mut String,
+    root: &UserName,
+    list: &MailboxList,
+) -> Result<(), AllocError> {
+    let name = show_name(alloc, root, &list.name)?;
+    let line = format!(in alloc; "{} {name} {};", list.line, list.entries.len())?;
+    shown.push_str(line.as_str())
 }
 
 #[test]
@@ -225,13 +273,19 @@ impl Progress for Quiet {
 
 fn two_mailboxes(alloc: Global) -> Result<World, AllocError> {
     let mut world = World::new(alloc);
-    let placed = place(alloc, &mut world, "Shared/A")
-        .and_then(|()| place(alloc, &mut world, "Shared/A/B"))
-        .and_then(|()| give(alloc, &mut world, "Shared/A/B", "bob", "lr"));
-    match placed {
+    match place_two(alloc, &mut world) {
         Ok(()) => Ok(world),
-        Err(_) => Err(AllocError),
+        Err(_) => {
+            drop(world);
+            Err(AllocError)
+        }
     }
+}
+
+fn place_two(alloc: Global, world: &mut World) -> Result<(), WorldError> {
+    place(alloc, world, "Shared/A")?;
+    place(alloc, world, "Shared/A/B")?;
+    give(alloc, world, "Shared/A/B", "bob", "lr")
 }
 
 /// A path at which there is nothing, in the folder for what may go.
@@ -239,7 +293,8 @@ fn new_path<R: Clock + AllocGlobal>(rt: &R) -> Result<String, AllocError> {
     let nanos = match SystemTime::now(rt) {
         Ok(now) => now
             .duration_since(SystemTime::UNIX_EPOCH)
-            .map_or(0, |since| since.as_nanos()),
+            .unwrap_or(Duration::ZERO)
+            .as_nanos(),
         Err(_) => 0,
     };
     format!(in rt.alloc(); "/tmp/imapd-dump-{nanos}")
@@ -248,8 +303,18 @@ fn new_path<R: Clock + AllocGlobal>(rt: &R) -> Result<String, AllocError> {
 /// What came of a dump, the list that it wrote, and what came of a second one.
 fn dumped<R: Files + AllocGlobal>(rt: &R, path: &str) -> Result<String, AllocError> {
     let world = two_mailboxes(rt.alloc())?;
-    let first = dump(rt, &world, path, &mut Quiet).is_ok();
-    let second = dump(rt, &world, path, &mut Quiet).is_err();
+    let text = dumped_of(rt, &world, path);
+    drop(world);
+    text
+}
+
+fn dumped_of<R: Files + AllocGlobal>(
+    rt: &R,
+    world: &World,
+    path: &str,
+) -> Result<String, AllocError> {
+    let first = dump(rt, world, path, &mut Quiet).is_ok();
+    let second = dump(rt, world, path, &mut Quiet).is_err();
     let list = format!(in rt.alloc(); "{path}/acl")?;
     let lists = match fs::read_to_string(rt, list.as_str()) {
         Ok(text) => text,
@@ -275,7 +340,9 @@ fn loaded<R: Files + AllocGlobal + Clone + Drop>(
     path: &str,
 ) -> Result<String, AllocError> {
     let root = user(rt.alloc(), "root")?;
-    match load(rt, kept, &root, path, &mut Quiet) {
+    let loaded = load(rt, kept, &root, path, &mut Quiet);
+    drop(root);
+    match loaded {
         Ok(
             Loaded {
                 mailboxes,
@@ -283,7 +350,11 @@ fn loaded<R: Files + AllocGlobal + Clone + Drop>(
                 met,
             },
         ) => format!(in rt.alloc(); "{mailboxes} {added} {met} "),
-        Err(error) => format!(in rt.alloc(); "{error}"),
+        Err(error) => {
+            let text = format!(in rt.alloc(); "{error}");
+            drop(error);
+            text
+        }
     }
 }
 
@@ -320,8 +391,15 @@ fn loaded_anew<R: Files + AllocGlobal + Clone + Drop>(
 ) -> Result<String, AllocError> {
     let keeper = ListKeeper::new(World::new(rt.alloc()));
     match KeptMailboxes::load(rt.alloc(), keeper) {
-        Ok(mut kept) => loaded_twice(rt, &mut kept, path),
-        Err(_) => Err(AllocError),
+        Ok(mut kept) => {
+            let text = loaded_twice(rt, &mut kept, path);
+            drop(kept);
+            text
+        }
+        Err(refused) => {
+            drop(refused);
+            Err(AllocError)
+        }
     }
 }
 

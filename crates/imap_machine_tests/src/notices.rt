@@ -10,7 +10,7 @@ use imap_world::World;
 use std::alloc::{AllocError, Global};
 
 /// What the sessions begin with.
-const OPENING: [(u32, &[u8]); 4] = [
+const OPENING: &[(u32, &[u8])] = &[
     (1, b"a SELECT INBOX\r\n"),
     (2, b"a SELECT INBOX\r\n"),
     (2, b"a ENABLE CONDSTORE\r\n"),
@@ -18,7 +18,7 @@ const OPENING: [(u32, &[u8]); 4] = [
 ];
 
 /// What they do then.
-const COMMANDS: [&[u8]; 12] = [
+const COMMANDS: &[&[u8]] = &[
     b"a APPEND INBOX {5+}\r\nhello\r\n",
     b"a APPEND INBOX (\\Seen \\Flagged) {5+}\r\nhello\r\n",
     b"a STORE 1 +FLAGS (\\Flagged)\r\n",
@@ -54,13 +54,17 @@ fn begin(alloc: Global, core: &mut Core) -> Result<(), AllocError> {
     for number in 1..4 {
         drop(reply(alloc, core, number, Ok(Act::Open))?);
     }
-    for (number, octets) in OPENING {
+    for &(number, octets) in OPENING {
         drop(send(alloc, core, number, octets)?);
     }
     Ok(())
 }
 
 // ---- by comparing whole lists
+
+fn found<T: Drop>(value: Result<Option<T>, AllocError>) -> Result<T, AllocError> {
+    value?.ok_or(AllocError)
+}
 
 fn plain_lines(
     alloc: Global,
@@ -72,7 +76,7 @@ fn plain_lines(
     match world.mailbox(&selected.name.as_ref()) {
         Some(entry) => {
             let rows = entry.messages.as_ref().rows(user);
-            notices_plain(alloc, &selected.known, &rows, options, selected.up_to)?.ok_or(AllocError)
+            found(notices_plain(alloc, &selected.known, &rows, options, selected.up_to))
         }
         None => Err(AllocError),
     }

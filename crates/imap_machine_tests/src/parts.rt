@@ -2,11 +2,11 @@
 
 use crate::machine::{both, push};
 use crate::wanted::expect_text;
-use crate::world::{name, user};
+use crate::world::{identifier, name, user};
 use bitflags::Flags;
 use imap_mailbox::{MailboxParts, PartsError};
-use imap_names::{UserName, show_name};
-use imap_rights::{Entry, Identifier, Rights, read_rights};
+use imap_names::{Name, UserName, show_name};
+use imap_rights::{Entry, Rights, read_rights};
 use imap_world::{MailboxRow, Subscription, World, WorldParts};
 use std::alloc::{AllocError, Global};
 
@@ -25,10 +25,8 @@ struct Rows {
     subscriptions: &'static [(&'static str, &'static str)],
 }
 
-fn entry_of(alloc: Global, identifier: &str, letters: &str) -> Result<Entry, AllocError> {
-    let Ok(identifier) = Identifier::read(alloc, identifier.as_bytes()) else {
-        return Err(AllocError);
-    };
+fn entry_of(alloc: Global, who: &str, letters: &str) -> Result<Entry, AllocError> {
+    let identifier = identifier(alloc, who)?;
     match read_rights(letters.as_bytes()) {
         Some(change) => Ok(Entry {
             identifier,
@@ -90,16 +88,31 @@ fn subscription(alloc: Global, who: &str, text: &str) -> Result<Subscription, Al
     Ok(Subscription::new(who, name))
 }
 
-fn parts_of(alloc: Global, rows: &Rows) -> Result<WorldParts, AllocError> {
-    let mailboxes = mailboxes_of(alloc, rows.mailboxes)?;
+fn epochs_of(alloc: Global, rows: &[(&'static str, u32)]) -> Result<Vec<(Name, u32)>, AllocError> {
     let mut epochs = Vec::new(alloc);
-    for &(text, validity) in rows.epochs {
+    for &(text, validity) in rows {
         push(&mut epochs, both(name(alloc, text), Ok(validity)))?;
     }
+    Ok(epochs)
+}
+
+fn subscriptions_of(
+    alloc: Global,
+    rows: &[(&'static str, &'static str)],
+) -> Result<Vec<Subscription>, AllocError> {
     let mut subscriptions = Vec::new(alloc);
-    for &(who, text) in rows.subscriptions {
+    for &(who, text) in rows {
         push(&mut subscriptions, subscription(alloc, who, text))?;
     }
+    Ok(subscriptions)
+}
+
+fn parts_of(alloc: Global, rows: &Rows) -> Result<WorldParts, AllocError> {
+    let used = both(
+        epochs_of(alloc, rows.epochs),
+        subscriptions_of(alloc, rows.subscriptions),
+    );
+    let (mailboxes, (epochs, subscriptions)) = both(mailboxes_of(alloc, rows.mailboxes), used)?;
     Ok(WorldParts {
         mailboxes,
         epochs,
@@ -139,7 +152,9 @@ fn push_shown(
 fn shown(alloc: Global, world: &World) -> Result<String, AllocError> {
     let root = user(alloc, "root")?;
     let mut text = String::new(alloc);
-    push_shown(alloc, &mut text, &root, world)?;
+    let pushed = push_shown(alloc, &mut text, &root, world);
+    drop(root);
+    pushed?;
     Ok(text)
 }
 

@@ -8,7 +8,7 @@ use imap_print::{FetchedItems, FlagSet, Response};
 use std::alloc::{AllocError, Global};
 
 /// What session 2 does while the client is away.
-const MEANWHILE: [&[u8]; 12] = [
+const MEANWHILE: &[&[u8]] = &[
     b"b APPEND INBOX {5+}\r\nhello\r\n",
     b"b APPEND INBOX (\\Seen \\Flagged) {5+}\r\nhello\r\n",
     b"b STORE 1 +FLAGS (\\Flagged)\r\n",
@@ -115,7 +115,9 @@ impl Client {
     /// Sends a command as session 1, and follows the lines of its reply.
     fn send(&mut self, alloc: Global, core: &mut Core, octets: &[u8]) -> Result<(), AllocError> {
         let lines = replies(alloc, core, 1, command(alloc, octets))?;
-        self.follow_all(&lines)
+        let followed = self.follow_all(&lines);
+        drop(lines);
+        followed
     }
 
     /// Selects the mailbox by what the client knows.
@@ -125,11 +127,11 @@ impl Client {
     }
 }
 
-/// What a new client holds that fetches all.
-fn fetched(alloc: Global, core: &mut Core) -> Result<Vec<Held>, AllocError> {
+/// A new client that has fetched all.
+fn fetched(alloc: Global, core: &mut Core) -> Result<Client, AllocError> {
     let mut client = Client::new(alloc);
     client.send(alloc, core, b"a UID FETCH 1:* FLAGS\r\n")?;
-    Ok(client.held)
+    Ok(client)
 }
 
 /// Session 2 sends up to seven commands.
@@ -151,8 +153,8 @@ fn turn(
 ) -> Result<bool, AllocError> {
     send_some(alloc, core, turn)?;
     client.come_back(alloc, core)?;
-    let held = fetched(alloc, core)?;
-    Ok(held.as_slice() == client.held.as_slice())
+    let new = fetched(alloc, core)?;
+    Ok(new.held.as_slice() == client.held.as_slice())
 }
 
 /// How many turns are as they should be.

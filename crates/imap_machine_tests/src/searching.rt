@@ -6,7 +6,7 @@ use crate::wanted::expect;
 use imap_core::Core;
 use std::alloc::{AllocError, Global};
 
-const MESSAGES: [&[u8]; 4] = [
+const MESSAGES: &[&[u8]] = &[
     b"e APPEND INBOX (\\Answered \\Seen) \"31-Dec-1999 23:59:59 -0500\" {63+}\r\n\
         From: Ann <ann@example.com>\r\nTo: bob\r\nSubject: First\r\n\r\nalpha\r\n\r\n",
     b"e APPEND INBOX (\\Deleted) \"01-Jan-2000 00:00:00 +0000\" {61+}\r\n\
@@ -20,7 +20,7 @@ const MESSAGES: [&[u8]; 4] = [
 /// A key, and which of the messages it finds: the first by the lowest bit.
 type Row = (&'static [u8], u8);
 
-const KEYS: [Row; 33] = [
+const KEYS: &[Row] = &[
     (b"ALL", 15),
     (b"ANSWERED", 1),
     (b"BCC dan", 4),
@@ -57,7 +57,7 @@ const KEYS: [Row; 33] = [
 ];
 
 /// The sets of numbers that are told of messages, by their bits.
-const SETS: [&[u8]; 16] = [
+const SETS: &[&[u8]] = &[
     b"", b"1", b"2", b"1:2", b"3", b"1,3", b"2:3", b"1:3", b"4", b"1,4", b"2,4", b"1:2,4", b"3:4",
     b"1,3:4", b"2:4", b"1:4",
 ];
@@ -107,7 +107,7 @@ fn push_wrong_pairs(
     core: &mut Core,
     key: Row,
 ) -> Result<(), AllocError> {
-    for other in &KEYS {
+    for other in KEYS {
         push_wrong_search(out, alloc, core, &[b"OR", key.0, other.0], key.1 | other.1)?;
         push_wrong_search(out, alloc, core, &[key.0, other.0], key.1 & other.1)?;
     }
@@ -116,8 +116,8 @@ fn push_wrong_pairs(
 
 /// Each key, alone, negated, and with each other one.
 fn push_all_wrong(out: &mut Vec<u8>, alloc: Global, core: &mut Core) -> Result<(), AllocError> {
-    begin(alloc, core, &MESSAGES)?;
-    for key in &KEYS {
+    begin(alloc, core, MESSAGES)?;
+    for key in KEYS {
         push_wrong_search(out, alloc, core, &[key.0], key.1)?;
         push_wrong_search(out, alloc, core, &[b"NOT", key.0], !key.1 & 15)?;
         push_wrong_pairs(out, alloc, core, *key)?;

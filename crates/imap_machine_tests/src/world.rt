@@ -24,6 +24,14 @@ pub(crate) fn name(alloc: Global, text: &str) -> Result<Name, AllocError> {
     }
 }
 
+/// An identifier that is valid.
+pub(crate) fn identifier(alloc: Global, text: &str) -> Result<Identifier, AllocError> {
+    match Identifier::read(alloc, text.as_bytes()) {
+        Ok(identifier) => Ok(identifier),
+        Err(_) => Err(AllocError),
+    }
+}
+
 /// A site whose administrator is root.
 pub(crate) fn site(alloc: Global) -> Result<Site, AllocError> {
     let groups = SharedGroups::new(alloc, Groups::new(alloc));
@@ -45,17 +53,19 @@ pub(crate) fn give(
     alloc: Global,
     world: &mut World,
     text: &str,
-    identifier: &str,
+    who: &str,
     letters: &str,
 ) -> Result<(), WorldError> {
-    let name = name(alloc, text)?;
-    let Ok(identifier) = Identifier::read(alloc, identifier.as_bytes()) else {
-        return Err(WorldError::Memory);
-    };
-    match read_rights(letters.as_bytes()) {
+    let (name, identifier) = both(name(alloc, text), identifier(alloc, who))?;
+    let given = match read_rights(letters.as_bytes()) {
         Some(rights) => world.set_acl(alloc, &name.as_ref(), identifier, rights),
-        None => Err(WorldError::Cannot),
-    }
+        None => {
+            drop(identifier);
+            Err(WorldError::Cannot)
+        }
+    };
+    drop(name);
+    given
 }
 
 /// Prepares and commits one effect, and returns how many values were written.

@@ -15,6 +15,7 @@ use imap_mailbox::{Mailbox, MailboxError, SharedFlags};
 use imap_names::UserName;
 use imap_syntax::Items;
 use std::alloc::Global;
+use std::process::Abort;
 
 fn bob(alloc: Global) -> Result<UserName, MailboxError> {
     UserName::read(alloc, "bob")?.ok_or(MailboxError::NoSuchUid)
@@ -283,7 +284,7 @@ fn mark_words(
 
 /// What is asked of a mailbox with one message: a message with so many keywords, or so many for the message with a
 /// UID; what comes of it; and how many shared events the mailbox has then.
-const KEYWORDS: [(Option<u32>, u8, Result<(), MailboxError>, u64); 6] = [
+const KEYWORDS: &[(Option<u32>, u8, Result<(), MailboxError>, u64)] = &[
     (None, 33, Err(MailboxError::Limit), 1),
     (Some(1), 33, Err(MailboxError::Limit), 1),
     (Some(2), 33, Err(MailboxError::Limit), 1),
@@ -308,9 +309,14 @@ fn ask_words(
 #[test]
 fn a_batch_of_too_many_keywords_is_refused(rt: HostRuntime) {
     let mut mailbox = Mailbox::new(rt.alloc());
-    assert!(rt; add_more(rt.alloc(), &mut mailbox, 1) == Ok(()));
-    for &(uid, words, wanted, events) in &KEYWORDS {
-        let made = ask_words(rt.alloc(), &mut mailbox, uid, words);
+    check_words(&rt, &mut mailbox);
+    drop(mailbox);
+}
+
+fn check_words(rt: &(impl Abort + AllocGlobal), mailbox: &mut Mailbox) {
+    assert!(rt; add_more(rt.alloc(), mailbox, 1) == Ok(()));
+    for &(uid, words, wanted, events) in KEYWORDS {
+        let made = ask_words(rt.alloc(), mailbox, uid, words);
         assert!(rt;
             made == wanted && mailbox.shared_len() == events,
             "{uid:?} {words}"

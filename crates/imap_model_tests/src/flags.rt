@@ -5,6 +5,7 @@ use imap_mailbox::{MailboxError, SharedFlags};
 use imap_syntax::{Atom, Flag};
 use imap_values::{Same, TryCopy};
 use std::alloc::Global;
+use std::process::Abort;
 
 /// The atom of these octets.
 pub(crate) fn atom(alloc: Global, octets: &[u8]) -> Result<Atom, MailboxError> {
@@ -131,21 +132,25 @@ fn sets(alloc: Global, flag: &Flag) -> Result<(bool, bool), MailboxError> {
 
 fn sets_keyword(alloc: Global) -> Result<(bool, bool), MailboxError> {
     let flag = Flag::Keyword(atom(alloc, b"Work")?);
-    sets(alloc, &flag)
+    let made = sets(alloc, &flag);
+    drop(flag);
+    made
+}
+
+/// Asserts that the flag is set if it is shared, and is taken away.
+fn check_sets(rt: &(impl Abort + AllocGlobal), flag: Flag, is_shared: bool) {
+    let made = sets(rt.alloc(), &flag);
+    drop(flag);
+    assert!(rt; made == Ok((is_shared, true)));
 }
 
 /// Each flag is set and taken away, but `\Seen`.
 #[test]
 fn flags_are_set_and_taken_away(rt: HostRuntime) {
-    const ROWS: [(Flag, bool); 5] = [
-        (Flag::Answered, true),
-        (Flag::Deleted, true),
-        (Flag::Draft, true),
-        (Flag::Flagged, true),
-        (Flag::Seen, false),
-    ];
-    for (flag, is_shared) in &ROWS {
-        assert!(rt; sets(rt.alloc(), flag) == Ok((*is_shared, true)));
-    }
+    check_sets(&rt, Flag::Answered, true);
+    check_sets(&rt, Flag::Deleted, true);
+    check_sets(&rt, Flag::Draft, true);
+    check_sets(&rt, Flag::Flagged, true);
+    check_sets(&rt, Flag::Seen, false);
     assert!(rt; sets_keyword(rt.alloc()) == Ok((true, true)));
 }

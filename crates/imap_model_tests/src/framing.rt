@@ -41,7 +41,11 @@ fn feed(
     out: &mut Vec<u8>,
 ) -> Result<(), AllocError> {
     match framer.feed(alloc, piece) {
-        Ok(frames) => show(&frames, out),
+        Ok(frames) => {
+            let shown = show(&frames, out);
+            drop(frames);
+            shown
+        }
         Err(error) => show_error(alloc, error, out),
     }
 }
@@ -67,16 +71,17 @@ fn told(alloc: Global, max_octets: u64, stream: &[u8], size: usize) -> Result<Ve
 
 /// Asserts that these streams have these frames, in pieces of several sizes.
 fn check(rt: &impl Abort, alloc: Global, max_octets: u64, cases: &[(&[u8], &[u8])]) {
+    const SIZES: &[usize] = &[1, 2, 3, 5, 7, 1000];
     for (stream, wanted) in cases {
-        for size in [1, 2, 3, 5, 7, 1000] {
-            expect(rt, told(alloc, max_octets, stream, size), wanted);
+        for size in SIZES {
+            expect(rt, told(alloc, max_octets, stream, *size), wanted);
         }
     }
 }
 
 #[test]
 fn lines_in_any_pieces(rt: HostRuntime) {
-    const CASES: [(&[u8], &[u8]); 8] = [
+    const CASES: &[(&[u8], &[u8])] = &[
         (b"", b""),
         (b"a1 NOOP\r\na2 LOGOUT\r\n", b"[a1 NOOP\r\n][a2 LOGOUT\r\n]"),
         (b"a1 NOOP\r\na2 NO", b"[a1 NOOP\r\n]"),
@@ -86,12 +91,12 @@ fn lines_in_any_pieces(rt: HostRuntime) {
         (b"a\r\r\nb\n\r\n", b"[a\r\r\n][b\n\r\n]"),
         (b"\n\r\n\0\x80\xff\r\n\r", b"[\n\r\n][\0\x80\xff\r\n]"),
     ];
-    check(&rt, rt.alloc(), 100, &CASES);
+    check(&rt, rt.alloc(), 100, CASES);
 }
 
 #[test]
 fn literals_in_any_pieces(rt: HostRuntime) {
-    const CASES: [(&[u8], &[u8]); 9] = [
+    const CASES: &[(&[u8], &[u8])] = &[
         (
             b"a1 MYRIGHTS {5}\r\nINBOX\r\n",
             b"+[a1 MYRIGHTS {5}\r\nINBOX\r\n]",
@@ -117,12 +122,12 @@ fn literals_in_any_pieces(rt: HostRuntime) {
         ),
         (b"\"{2}\r\n{1\r\n", b"+[\"{2}\r\n{1\r\n]"),
     ];
-    check(&rt, rt.alloc(), 100, &CASES);
+    check(&rt, rt.alloc(), 100, CASES);
 }
 
 #[test]
 fn literals_over_the_limit(rt: HostRuntime) {
-    const CASES: [(&[u8], &[u8]); 9] = [
+    const CASES: &[(&[u8], &[u8])] = &[
         (b"a1 X {8}\r\n12345678\r\n", b"+[a1 X {8}\r\n12345678\r\n]"),
         (b"a1 X {9}\r\na2 NOOP\r\n", b"(a1)[a2 NOOP\r\n]"),
         (b"{9}\r\na2 NOOP\r\n", b"()[a2 NOOP\r\n]"),
@@ -145,14 +150,14 @@ fn literals_over_the_limit(rt: HostRuntime) {
             b"+[a1 X {5}\r\n12345\r\n]+[a2 Y {8}\r\n12345678\r\n]",
         ),
     ];
-    check(&rt, rt.alloc(), 8, &CASES);
+    check(&rt, rt.alloc(), 8, CASES);
 }
 
 /// A stream, the size of its pieces, and its frames. No piece after a hangup is taken, and the room of a
 /// literal is reserved when it is announced.
 #[test]
 fn hangups_and_want_of_memory(rt: HostRuntime) {
-    const CASES: [(u64, &[u8], usize, &[u8]); 5] = [
+    const CASES: &[(u64, &[u8], usize, &[u8])] = &[
         (8, b"a1 X {9+}\r\na2 NOOP\r\n", 1000, b"!"),
         (
             8,
@@ -174,7 +179,7 @@ fn hangups_and_want_of_memory(rt: HostRuntime) {
             b"<out of memory>",
         ),
     ];
-    for &(max_octets, stream, size, wanted) in &CASES {
+    for &(max_octets, stream, size, wanted) in CASES {
         expect(&rt, told(rt.alloc(), max_octets, stream, size), wanted);
     }
 }
@@ -205,7 +210,7 @@ fn told_of(alloc: Global, long: &Long<'_>, size: usize) -> Result<usize, AllocEr
 
 #[test]
 fn long_streams(rt: HostRuntime) {
-    const LONG: [Long; 8] = [
+    const LONG: &[Long] = &[
         // The longest line, an unended one that is as long, one that is longer, and one
         // that is longer and has a mark.
         Long {
@@ -267,10 +272,11 @@ fn long_streams(rt: HostRuntime) {
             told: 1_000_018,
         },
     ];
-    for long in &LONG {
-        for size in [1, 4096, 10_000] {
+    const SIZES: &[usize] = &[1, 4096, 10_000];
+    for long in LONG {
+        for size in SIZES {
             assert!(rt;
-                told_of(rt.alloc(), long, size) == Ok(long.told),
+                told_of(rt.alloc(), long, *size) == Ok(long.told),
                 "{} octets",
                 long.count
             );

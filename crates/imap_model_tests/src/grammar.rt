@@ -63,7 +63,7 @@ fn check(rt: &impl Abort, alloc: Global, rows: &[(&[u8], &[u8])]) {
 // What a framer gives is a whole command. These are none. Of a request that is malformed its tag is written.
 #[test]
 fn frames_that_no_framer_gives(rt: HostRuntime) {
-    const ROWS: [(&[u8], &[u8]); 14] = [
+    const ROWS: &[(&[u8], &[u8])] = &[
         (b"", b"\r\n"),
         (b"a1", b"\r\n"),
         (b"a1\n", b"\r\n"),
@@ -79,7 +79,7 @@ fn frames_that_no_framer_gives(rt: HostRuntime) {
         (b"a DELETE {}\r\nfoo\r\n", b"a\r\n"),
         (b"a APPEND x {6}\r\nhello\r\n", b"a\r\n"),
     ];
-    check(&rt, rt.alloc(), &ROWS);
+    check(&rt, rt.alloc(), ROWS);
 }
 
 fn too_big(alloc: Global) -> Result<Request, AllocError> {
@@ -128,7 +128,7 @@ fn is_written_as(alloc: Global, frame: &Repeated, wanted: &Repeated) -> Result<b
 
 #[test]
 fn long_frames(rt: HostRuntime) {
-    const ROWS: [(Repeated, Repeated); 5] = [
+    const ROWS: &[(Repeated, Repeated)] = &[
         // The longest command that a framer takes.
         (
             (b"a1 MYRIGHTS ", b"x", 8178, b"\r\n"),
@@ -152,7 +152,7 @@ fn long_frames(rt: HostRuntime) {
             (b"a LOGIN\r\n", b"", 0, b""),
         ),
     ];
-    for (frame, wanted) in &ROWS {
+    for (frame, wanted) in ROWS {
         let found = is_written_as(rt.alloc(), frame, wanted);
         assert!(rt; found == Ok(true), "{} of {:?}", frame.2, frame.1);
     }

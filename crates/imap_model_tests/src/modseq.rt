@@ -52,19 +52,27 @@ fn numbers(alloc: Global, clocks: &Clocks, user: &str) -> Result<String, AllocEr
 /// The numbers of a copy.
 fn numbers_for(alloc: Global, user: &str) -> Result<String, ClocksError> {
     let mut clocks = Clocks::new(alloc);
-    make_events(alloc, &mut clocks)?;
+    let numbers = numbers_after(alloc, &mut clocks, user);
+    drop(clocks);
+    numbers
+}
+
+fn numbers_after(alloc: Global, clocks: &mut Clocks, user: &str) -> Result<String, ClocksError> {
+    make_events(alloc, clocks)?;
     let copy = clocks.try_copy(alloc)?;
-    Ok(numbers(alloc, &copy, user)?)
+    let numbers = numbers(alloc, &copy, user);
+    drop(copy);
+    Ok(numbers?)
 }
 
 #[test]
 fn own_changes_stand_among_shared_events(rt: HostRuntime) {
-    const ROWS: [(&str, &str); 3] = [
+    const ROWS: &[(&str, &str)] = &[
         ("bob", "2 3 5 6 | 4 7 | 7"),
         ("ann", "2 3 4 5 | 6 | 6"),
         ("cy", "2 3 4 5 | | 5"),
     ];
-    for &(user, wanted) in &ROWS {
+    for &(user, wanted) in ROWS {
         expect_text(&rt, numbers_for(rt.alloc(), user), wanted);
     }
     expect_text(
@@ -89,14 +97,14 @@ fn mod_sequence_laws() {
 
 #[test]
 fn errors_are_printed(rt: HostRuntime) {
-    const ROWS: [(ClocksError, &str); 2] = [
+    const ROWS: &[(ClocksError, &str)] = &[
         (
             ClocksError::Exhausted,
             "the mailbox has no further mod-sequence",
         ),
         (ClocksError::Memory, "out of memory"),
     ];
-    for (error, wanted) in &ROWS {
+    for (error, wanted) in ROWS {
         expect_text(&rt, error.to_string(rt.alloc()), wanted);
     }
 }

@@ -1,5 +1,6 @@
 //! Tests of maps from names.
 
+use crate::owned::both;
 use crate::wanted::expect_text;
 use imap_name_map::NameMap;
 use imap_names::{Name, NameError, read_full};
@@ -10,7 +11,7 @@ fn full(alloc: Global, text: &str) -> Result<Name, NameError> {
 }
 
 /// In the order of the map: by tree, and then component by component.
-const NAMES: [&str; 11] = [
+const NAMES: &[&str] = &[
     "Shared/a",
     "Shared/a/b",
     "Shared/a/b/c",
@@ -62,21 +63,24 @@ fn shown(alloc: Global, entries: &[(Name, u32)]) -> Result<String, AllocError> {
 /// The paths of a copy of the map.
 fn copied_by(alloc: Global, order: &[u32]) -> Result<String, NameError> {
     let map = map_by(alloc, order)?;
-    let copy = map.try_copy(alloc);
+    let copied = map.try_copy(alloc);
     drop(map);
-    Ok(shown(alloc, copy?.entries())?)
+    let copy = copied?;
+    let text = shown(alloc, copy.entries());
+    drop(copy);
+    Ok(text?)
 }
 
 #[test]
 fn entries_are_in_order(rt: HostRuntime) {
-    const ORDERS: [[u32; 11]; 4] = [
+    const ORDERS: &[[u32; 11]] = &[
         [0, 1, 2, 3, 4, 5, 6, 7, 8, 9, 10],
         [10, 9, 8, 7, 6, 5, 4, 3, 2, 1, 0],
         [3, 0, 6, 9, 2, 5, 1, 10, 4, 8, 7],
         [4, 5, 8, 3, 10, 6, 1, 2, 7, 0, 9],
     ];
     const ALL: &str = "a=0 a/b=1 a/b/c=2 a!=3 a!/b=4 ab=5 b=6 a=7 a/b=8 INBOX=9 a=10 ";
-    for order in &ORDERS {
+    for order in ORDERS {
         expect_text(&rt, copied_by(rt.alloc(), order), ALL);
     }
 }
@@ -89,14 +93,17 @@ fn run_text(alloc: Global, map: &NameMap<u32>, top: &Name) -> Result<String, All
 }
 
 fn run_of(alloc: Global, top: &str) -> Result<String, NameError> {
-    let top = full(alloc, top)?;
-    let map = map_by(alloc, &[0, 1, 2, 3, 4, 5, 6, 7, 8, 9, 10])?;
-    Ok(run_text(alloc, &map, &top)?)
+    let map = map_by(alloc, &[0, 1, 2, 3, 4, 5, 6, 7, 8, 9, 10]);
+    let (top, map) = both(full(alloc, top), map)?;
+    let text = run_text(alloc, &map, &top);
+    drop(map);
+    drop(top);
+    Ok(text?)
 }
 
 #[test]
 fn names_stand_with_those_below(rt: HostRuntime) {
-    const TABLE: [(&str, &str); 8] = [
+    const TABLE: &[(&str, &str)] = &[
         ("Shared/a", "a=0 a/b=1 a/b/c=2 0 3"),
         ("Shared/a/b", "a/b=1 a/b/c=2 1 3"),
         ("Shared/a!", "a!=3 a!/b=4 3 5"),
@@ -106,7 +113,7 @@ fn names_stand_with_those_below(rt: HostRuntime) {
         ("Other Users/bob/A", "10 10"),
         ("Other Users/eve/a", "11 11"),
     ];
-    for &(top, wanted) in &TABLE {
+    for &(top, wanted) in TABLE {
         expect_text(&rt, run_of(rt.alloc(), top), wanted);
     }
 }

@@ -10,7 +10,7 @@ fn is_user_name(alloc: Global, text: &str) -> Result<bool, AllocError> {
 
 #[test]
 fn user_names_are_read(rt: HostRuntime) {
-    const TABLE: [(&str, bool); 14] = [
+    const TABLE: &[(&str, bool)] = &[
         ("ann", true),
         ("\u{e9}", true),
         ("a-b", true),
@@ -26,7 +26,7 @@ fn user_names_are_read(rt: HostRuntime) {
         ("a\u{85}b", false),
         ("e\u{301}", false),
     ];
-    for &(text, is_user) in &TABLE {
+    for &(text, is_user) in TABLE {
         assert!(rt; is_user_name(rt.alloc(), text) == Ok(is_user), "{text:?}");
     }
 }
@@ -60,7 +60,7 @@ fn read_and_shown(alloc: Global, text: &str) -> Result<String, AllocError> {
 
 #[test]
 fn names_are_borrowed(rt: HostRuntime) {
-    const TABLE: [(&str, &str); 6] = [
+    const TABLE: &[(&str, &str)] = &[
         ("Shared/a/b/c", "None  a/b/c 3 false a/b"),
         ("Other Users/ann/a/b", "Some(\"ann\") ann a/b 2 false a"),
         (
@@ -77,7 +77,7 @@ fn names_are_borrowed(rt: HostRuntime) {
         ),
         ("Shared", "the name is reserved"),
     ];
-    for &(text, wanted) in &TABLE {
+    for &(text, wanted) in TABLE {
         expect_text(&rt, read_and_shown(rt.alloc(), text), wanted);
     }
 }

@@ -2,7 +2,7 @@
 //! shows.
 
 use crate::mailbox::{Act, date, make_all, many_words, message};
-use crate::owned::push;
+use crate::owned::{both, push};
 use crate::shown::shown;
 use crate::wanted::expect_text;
 use imap_mailbox::{
@@ -25,9 +25,8 @@ struct Parts {
 }
 
 fn message_of(alloc: Global, uid: u32, place: u64, words: u8) -> Result<Message, MailboxError> {
-    let octets = message(alloc)?;
     let date = date()?;
-    let flags = many_words(alloc, words)?;
+    let (octets, flags) = both(message(alloc), many_words(alloc, words))?;
     Ok(Message {
         uid,
         date,
@@ -39,11 +38,21 @@ fn message_of(alloc: Global, uid: u32, place: u64, words: u8) -> Result<Message,
 
 fn messages_of(alloc: Global, rows: &[(u32, u64, u8)]) -> Result<Vec<Message>, MailboxError> {
     let mut messages = Vec::new(alloc);
+    let pushed = push_messages(alloc, &mut messages, rows);
+    let (_, messages) = both(pushed, Ok(messages))?;
+    Ok(messages)
+}
+
+fn push_messages(
+    alloc: Global,
+    messages: &mut Vec<Message>,
+    rows: &[(u32, u64, u8)],
+) -> Result<(), MailboxError> {
     for &(uid, place, words) in rows {
         let message = message_of(alloc, uid, place, words)?;
-        push(&mut messages, message)?;
+        push(messages, message)?;
     }
-    Ok(messages)
+    Ok(())
 }
 
 fn gone_of(alloc: Global, rows: &[(u32, u64)]) -> Result<Vec<GoneMessage>, MailboxError> {
@@ -72,9 +81,10 @@ fn own_of(
 }
 
 fn parts_of(alloc: Global, row: &Parts) -> Result<MailboxParts, MailboxError> {
-    let gone = gone_of(alloc, row.gone)?;
-    let own = own_of(alloc, row.own)?;
-    let messages = messages_of(alloc, row.messages)?;
+    let (gone, (own, messages)) = both(
+        gone_of(alloc, row.gone),
+        both(own_of(alloc, row.own), messages_of(alloc, row.messages)),
+    )?;
     Ok(MailboxParts {
         next: row.next,
         shared: row.shared,

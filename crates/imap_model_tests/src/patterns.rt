@@ -28,7 +28,11 @@ fn matches(
     let pattern = pattern?;
     let shown = shown?;
     match Pattern::read(alloc, b"", pattern.as_bytes())? {
-        Some(pattern) => Ok(Some(pattern.matches(shown.as_str()))),
+        Some(pattern) => {
+            let is_match = pattern.matches(shown.as_str());
+            drop(pattern);
+            Ok(Some(is_match))
+        }
         None => Ok(None),
     }
 }
@@ -36,17 +40,17 @@ fn matches(
 // Patterns that a search by trial of every cut takes far too long for.
 #[test]
 fn hostile_patterns_end(rt: HostRuntime) {
-    const ROWS: [(&str, &str, usize, &str); 4] = [
+    const ROWS: &[(&str, &str, usize, &str)] = &[
         ("*a%", "a", 150, "b"),
         ("*", "%", 8000, "b"),
         ("*a", "%a", 100, "b"),
         ("", "*%a", 100, "b"),
     ];
     // Names that don't match, and names that do.
-    const NAMES: [(usize, &str, bool); 2] = [(255, "", false), (254, "b", true)];
+    const NAMES: &[(usize, &str, bool)] = &[(255, "", false), (254, "b", true)];
     let alloc = rt.alloc();
-    for &(front, middle, count, back) in &ROWS {
-        for &(length, end, wanted) in &NAMES {
+    for &(front, middle, count, back) in ROWS {
+        for &(length, end, wanted) in NAMES {
             let found = matches(
                 alloc,
                 repeated(alloc, front, middle, count, back),

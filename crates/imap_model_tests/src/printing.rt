@@ -59,75 +59,104 @@ fn check(rt: &impl Abort, alloc: Global, made: Result<Response, AllocError>, lin
     expect(rt, printed_of(alloc, made), line);
 }
 
+/// Asserts that a response that has nothing to be made is printed as this line.
+fn check_plain(rt: &(impl Abort + AllocGlobal), response: Response, line: &[u8]) {
+    check(rt, rt.alloc(), Ok(response), line);
+}
+
 #[test]
 fn plain_lines(rt: HostRuntime) {
-    const ROWS: [(Response, &[u8]); 17] = [
-        (
-            Response::Greeting,
-            b"* PREAUTH [CAPABILITY IMAP4rev2 ACL RIGHTS=texk CONDSTORE ENABLE IDLE QRESYNC] \
+    check_plain(
+        &rt,
+        Response::Greeting,
+        b"* PREAUTH [CAPABILITY IMAP4rev2 ACL RIGHTS=texk CONDSTORE ENABLE IDLE QRESYNC] \
                 shared mailbox profile ready\r\n",
-        ),
-        (
-            Response::Capability,
-            b"* CAPABILITY IMAP4rev2 ACL RIGHTS=texk CONDSTORE ENABLE IDLE QRESYNC\r\n",
-        ),
-        (
-            Response::Bye(Farewell::LoggingOut),
-            b"* BYE logging out\r\n",
-        ),
-        (
-            Response::Bye(Farewell::LimitReached),
-            b"* BYE limit reached\r\n",
-        ),
-        (
-            Response::Bye(Farewell::IdleTooLong),
-            b"* BYE idle too long\r\n",
-        ),
-        (
-            Response::Bye(Farewell::MailboxUnavailable),
-            b"* BYE selected mailbox is no longer available\r\n",
-        ),
-        (Response::Ready, b"+ ready\r\n"),
-        (Response::Idling, b"+ idling\r\n"),
-        (
-            Response::Namespace,
-            b"* NAMESPACE ((\"\" \"/\")) ((\"Other Users/\" \"/\")) ((\"Shared/\" \"/\"))\r\n",
-        ),
-        (Response::ListRoot, b"* LIST (\\Noselect) \"/\" \"\"\r\n"),
-        (Response::Closed, b"* OK [CLOSED] closed\r\n"),
-        (
-            Response::Refused {
-                tag: None,
-                refusal: Refusal::Malformed,
-            },
-            b"* BAD malformed command\r\n",
-        ),
-        (Response::Exists(0), b"* 0 EXISTS\r\n"),
-        (
-            Response::Expunge(4_294_967_295),
-            b"* 4294967295 EXPUNGE\r\n",
-        ),
-        (
-            Response::UidValidity(3_857_529_045),
-            b"* OK [UIDVALIDITY 3857529045] validity\r\n",
-        ),
-        (Response::UidNext(4392), b"* OK [UIDNEXT 4392] next\r\n"),
-        (
-            Response::HighestModSeq(715_194_045_007),
-            b"* OK [HIGHESTMODSEQ 715194045007] highest\r\n",
-        ),
-    ];
-    for (response, line) in &ROWS {
-        expect(&rt, printed(rt.alloc(), response), line);
-    }
+    );
+    check_plain(
+        &rt,
+        Response::Capability,
+        b"* CAPABILITY IMAP4rev2 ACL RIGHTS=texk CONDSTORE ENABLE IDLE QRESYNC\r\n",
+    );
+    check_plain(
+        &rt,
+        Response::Bye(Farewell::LoggingOut),
+        b"* BYE logging out\r\n",
+    );
+    check_plain(
+        &rt,
+        Response::Bye(Farewell::LimitReached),
+        b"* BYE limit reached\r\n",
+    );
+    check_plain(
+        &rt,
+        Response::Bye(Farewell::IdleTooLong),
+        b"* BYE idle too long\r\n",
+    );
+    check_plain(
+        &rt,
+        Response::Bye(Farewell::MailboxUnavailable),
+        b"* BYE selected mailbox is no longer available\r\n",
+    );
+    check_plain(&rt, Response::Ready, b"+ ready\r\n");
+    check_plain(&rt, Response::Idling, b"+ idling\r\n");
+    check_plain(
+        &rt,
+        Response::Namespace,
+        b"* NAMESPACE ((\"\" \"/\")) ((\"Other Users/\" \"/\")) ((\"Shared/\" \"/\"))\r\n",
+    );
+    check_plain(
+        &rt,
+        Response::ListRoot,
+        b"* LIST (\\Noselect) \"/\" \"\"\r\n",
+    );
+    check_plain(&rt, Response::Closed, b"* OK [CLOSED] closed\r\n");
+}
+
+#[test]
+fn lines_with_numbers(rt: HostRuntime) {
+    check_plain(
+        &rt,
+        Response::Refused {
+            tag: None,
+            refusal: Refusal::Malformed,
+        },
+        b"* BAD malformed command\r\n",
+    );
+    check_plain(&rt, Response::Exists(0), b"* 0 EXISTS\r\n");
+    check_plain(
+        &rt,
+        Response::Expunge(4_294_967_295),
+        b"* 4294967295 EXPUNGE\r\n",
+    );
+    check_plain(
+        &rt,
+        Response::UidValidity(3_857_529_045),
+        b"* OK [UIDVALIDITY 3857529045] validity\r\n",
+    );
+    check_plain(
+        &rt,
+        Response::UidNext(4392),
+        b"* OK [UIDNEXT 4392] next\r\n",
+    );
+    check_plain(
+        &rt,
+        Response::HighestModSeq(715_194_045_007),
+        b"* OK [HIGHESTMODSEQ 715194045007] highest\r\n",
+    );
+}
+
+fn many(alloc: Global) -> Result<Vec<u8>, AllocError> {
+    let responses = [Response::Ready, Response::Exists(3), Response::Closed];
+    let text = print(alloc, &responses);
+    drop(responses);
+    text
 }
 
 #[test]
 fn no_response_and_many(rt: HostRuntime) {
-    const MANY: [Response; 3] = [Response::Ready, Response::Exists(3), Response::Closed];
     const LINES: &[u8] = b"+ ready\r\n* 3 EXISTS\r\n* OK [CLOSED] closed\r\n";
     expect(&rt, print(rt.alloc(), &[]), b"");
-    expect(&rt, print(rt.alloc(), &MANY), LINES);
+    expect(&rt, many(rt.alloc()), LINES);
 }
 
 fn refused(alloc: Global, refusal: Refusal) -> Result<Response, AllocError> {
@@ -137,7 +166,7 @@ fn refused(alloc: Global, refusal: Refusal) -> Result<Response, AllocError> {
 
 #[test]
 fn commands_refused(rt: HostRuntime) {
-    const ROWS: [(Refusal, &[u8]); 14] = [
+    const ROWS: &[(Refusal, &[u8])] = &[
         (
             Refusal::NonExistent,
             b"b1 NO [NONEXISTENT] no such mailbox\r\n",
@@ -168,7 +197,7 @@ fn commands_refused(rt: HostRuntime) {
         (Refusal::Malformed, b"b1 BAD malformed command\r\n"),
         (Refusal::WrongState, b"b1 BAD not in this state\r\n"),
     ];
-    for &(refusal, line) in &ROWS {
+    for &(refusal, line) in ROWS {
         check(&rt, rt.alloc(), refused(rt.alloc(), refusal), line);
     }
 }
@@ -196,26 +225,20 @@ fn modified(alloc: Global) -> Result<Option<Code>, AllocError> {
 
 #[test]
 fn commands_carried_out(rt: HostRuntime) {
-    const ROWS: [(Option<Code>, &[u8]); 5] = [
-        (None, b"a7 OK done\r\n"),
-        (
-            Some(Code::AppendUid {
-                validity: 38505,
-                uid: 3955,
-            }),
-            b"a7 OK [APPENDUID 38505 3955] done\r\n",
-        ),
-        (Some(Code::ReadWrite), b"a7 OK [READ-WRITE] done\r\n"),
-        (Some(Code::ReadOnly), b"a7 OK [READ-ONLY] done\r\n"),
-        (
-            Some(Code::HighestModSeq(8)),
-            b"a7 OK [HIGHESTMODSEQ 8] done\r\n",
-        ),
-    ];
     let alloc = rt.alloc();
-    for (code, line) in &ROWS {
-        check(&rt, alloc, done(alloc, code.try_copy(alloc)), line);
-    }
+    let appended = Code::AppendUid {
+        validity: 38505,
+        uid: 3955,
+    };
+    check(&rt, alloc, done(alloc, Ok(None)), b"a7 OK done\r\n");
+    check_code(&rt, appended, b"a7 OK [APPENDUID 38505 3955] done\r\n");
+    check_code(&rt, Code::ReadWrite, b"a7 OK [READ-WRITE] done\r\n");
+    check_code(&rt, Code::ReadOnly, b"a7 OK [READ-ONLY] done\r\n");
+    check_code(
+        &rt,
+        Code::HighestModSeq(8),
+        b"a7 OK [HIGHESTMODSEQ 8] done\r\n",
+    );
     check(
         &rt,
         alloc,
@@ -230,9 +253,14 @@ fn commands_carried_out(rt: HostRuntime) {
     );
 }
 
+/// Asserts that a command with this response code is printed as this line.
+fn check_code(rt: &(impl Abort + AllocGlobal), code: Code, line: &[u8]) {
+    check(rt, rt.alloc(), done(rt.alloc(), Ok(Some(code))), line);
+}
+
 #[test]
 fn capabilities_enabled(rt: HostRuntime) {
-    const ROWS: [(bool, bool, bool, &[u8]); 4] = [
+    const ROWS: &[(bool, bool, bool, &[u8])] = &[
         (false, false, false, b"* ENABLED\r\n"),
         (false, false, true, b"* ENABLED QRESYNC\r\n"),
         (true, false, false, b"* ENABLED CONDSTORE\r\n"),
@@ -243,7 +271,7 @@ fn capabilities_enabled(rt: HostRuntime) {
             b"* ENABLED CONDSTORE IMAP4rev2 QRESYNC\r\n",
         ),
     ];
-    for &(condstore, imap4rev2, qresync, line) in &ROWS {
+    for &(condstore, imap4rev2, qresync, line) in ROWS {
         let response = Response::Enabled(EnabledCapabilities {
             condstore,
             imap4rev2,

@@ -1,5 +1,6 @@
 //! Tests of rights.
 
+use crate::owned::both;
 use crate::wanted::expect_text;
 use bitflags::Flags;
 use imap_names::UserName;
@@ -24,16 +25,17 @@ fn shown(alloc: Global, rights: Rights) -> Result<String, AllocError> {
 
 #[test]
 fn rights_are_shown(rt: HostRuntime) {
-    const ROWS: [(&str, &str); 4] = [
-        ("lrswipkxtea", "lrswipkxtea lrswipkxtea"),
+    const ALL: &str = "lrswipkxtea lrswipkxtea";
+    const ROWS: &[(&str, &str)] = &[
+        ("lrswipkxtea", ALL),
         ("axtel", "lxtea lxtea"),
         ("erl", "lre lre"),
         ("", " "),
     ];
-    for &(letters, wanted) in &ROWS {
+    for &(letters, wanted) in ROWS {
         expect_text(&rt, shown(rt.alloc(), rights(letters)), wanted);
     }
-    expect_text(&rt, shown(rt.alloc(), Rights::ALL), ROWS[0].1);
+    expect_text(&rt, shown(rt.alloc(), Rights::ALL), ALL);
 }
 
 #[test]
@@ -41,7 +43,7 @@ fn sets_are_compared(rt: HostRuntime) {
     assert!(rt; rights("lr").less(rights("ra")) == rights("l"));
     assert!(rt; rights("lr").has_any(rights("ra")));
     assert!(rt; !rights("lr").has_any(rights("sa")));
-    const ROWS: [(&str, bool); 8] = [
+    const ROWS: &[(&str, bool)] = &[
         ("l", true),
         ("r", true),
         ("i", true),
@@ -51,7 +53,7 @@ fn sets_are_compared(rt: HostRuntime) {
         ("swpte", false),
         ("", false),
     ];
-    for &(letters, want) in &ROWS {
+    for &(letters, want) in ROWS {
         assert!(rt; rights(letters).show_mailbox() == want, "at {letters:?}");
     }
     laws::letters_are_read();
@@ -121,9 +123,11 @@ fn held(
     entries: Entries,
     owner: &str,
 ) -> Result<String, AllocError> {
-    let groups = groups_of(alloc, members)?;
-    let acl = acl_of(alloc, entries)?;
-    format!(in alloc; "{}", acl.effective("bob", owner, &groups))
+    let (groups, acl) = both(groups_of(alloc, members), acl_of(alloc, entries))?;
+    let rights = acl.effective("bob", owner, &groups);
+    drop(groups);
+    drop(acl);
+    format!(in alloc; "{rights}")
 }
 
 /// Members of groups, entries of a list, the owner, and the rights that bob holds.
@@ -240,7 +244,7 @@ fn groups_give_and_take_rights(rt: HostRuntime) {
 }
 
 /// Names of groups, and whether they are some.
-const NAMES: [(&str, bool); 14] = [
+const NAMES: &[(&str, bool)] = &[
     ("team", true),
     ("a=b", true),
     ("a-b", true),
@@ -259,12 +263,14 @@ const NAMES: [(&str, bool); 14] = [
 
 fn added_alone(alloc: Global, group: &str) -> Result<bool, AllocError> {
     let mut groups = Groups::new(alloc);
-    add(alloc, &mut groups, group, "bob")
+    let added = add(alloc, &mut groups, group, "bob");
+    drop(groups);
+    added
 }
 
 #[test]
 fn groups_have_names(rt: HostRuntime) {
-    for &(group, wanted) in &NAMES {
+    for &(group, wanted) in NAMES {
         assert!(rt; added_alone(rt.alloc(), group) == Ok(wanted), "{group:?}");
     }
 }

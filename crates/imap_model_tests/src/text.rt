@@ -48,7 +48,7 @@ fn part(alloc: Global, part: Result<Octets, AllocError>) -> Result<Vec<u8>, Allo
 /// Each row has a header and the text after it.
 #[test]
 fn headers_and_texts(rt: HostRuntime) {
-    const ROWS: [(&[u8], &[u8]); 17] = [
+    const ROWS: &[(&[u8], &[u8])] = &[
         (SUMMARY, b"Hello\r\n\r\nJoe"),
         (b"Subject: x\r\n\r\n", b"hi"),
         (b"\r\n", b""),
@@ -68,7 +68,7 @@ fn headers_and_texts(rt: HostRuntime) {
         (b"a: b\r\n\r", b""),
     ];
     let alloc = rt.alloc();
-    for &(front, back) in &ROWS {
+    for &(front, back) in ROWS {
         expect(&rt, header_of(alloc, front, back), front);
         expect(&rt, text_of(alloc, front, back), back);
     }
@@ -218,7 +218,7 @@ fn part_of_hello(alloc: Global, origin: u64, count: u64) -> Result<Vec<u8>, Allo
 
 #[test]
 fn parts_of_octets(rt: HostRuntime) {
-    const ROWS: [(u64, u64, &[u8]); 9] = [
+    const ROWS: &[(u64, u64, &[u8])] = &[
         (0, 5, b"hello"),
         (0, 6, b"hello"),
         (1, 3, b"ell"),
@@ -229,7 +229,7 @@ fn parts_of_octets(rt: HostRuntime) {
         (u64::MAX, u64::MAX, b""),
         (2, 0, b""),
     ];
-    for &(origin, count, wanted) in &ROWS {
+    for &(origin, count, wanted) in ROWS {
         expect(&rt, part_of_hello(rt.alloc(), origin, count), wanted);
     }
 }
@@ -246,7 +246,7 @@ fn texts_of(alloc: Global, message: &[u8], name: &str) -> Result<Vec<u8>, AllocE
 
 #[test]
 fn texts_of_fields(rt: HostRuntime) {
-    const ROWS: [(&[u8], &str, &[u8]); 7] = [
+    const ROWS: &[(&[u8], &str, &[u8])] = &[
         (SUMMARY, "to", b" imap@cac.washington.edu\r\n|"),
         (ODD, "SUBJECT", b" one\r\n two: x\r\n\tthree\r\n|four\r\n|"),
         (ODD, "subject ", b" x\r\n|"),
@@ -255,14 +255,14 @@ fn texts_of_fields(rt: HostRuntime) {
         (ODD, "but", b""),
         (b"Subject:", "subject", b"|"),
     ];
-    for &(message, name, wanted) in &ROWS {
+    for &(message, name, wanted) in ROWS {
         expect(&rt, texts_of(rt.alloc(), message, name), wanted);
     }
 }
 
 #[test]
 fn folded_text_is_found(rt: HostRuntime) {
-    const ROWS: [(&str, &str, bool); 23] = [
+    const ROWS: &[(&str, &str, bool)] = &[
         ("Hello", "ELL", true),
         ("Hello", "elo", false),
         ("Hello", "", true),
@@ -291,7 +291,7 @@ fn folded_text_is_found(rt: HostRuntime) {
         ("\u{3c3}\u{3c2}", "\u{3a3}\u{3a3}", true),
         ("\u{e9}", "e", false),
     ];
-    for &(whole, wanted, is_found) in &ROWS {
+    for &(whole, wanted, is_found) in ROWS {
         let found = contains_fold(rt.alloc(), whole.as_bytes(), wanted.as_bytes());
         assert!(rt; found == Ok(is_found), "{wanted:?} in {whole:?}");
     }
@@ -300,7 +300,7 @@ fn folded_text_is_found(rt: HostRuntime) {
 /// Each maximal part that is no UTF-8 counts as one U+FFFD, `EF BF BD` in UTF-8.
 #[test]
 fn text_that_is_no_utf8(rt: HostRuntime) {
-    const ROWS: [(&[u8], &[u8], bool); 8] = [
+    const ROWS: &[(&[u8], &[u8], bool)] = &[
         (b"a\xffb", b"A\xef\xbf\xbdB", true),
         (b"\xe2\x82b", b"\xef\xbf\xbdb", true),
         (b"\xe2\x82b", b"\xef\xbf\xbd\xef\xbf\xbd", false),
@@ -314,7 +314,7 @@ fn text_that_is_no_utf8(rt: HostRuntime) {
         (b"\xc3\xa9", b"\xa9", false),
         (b"\xc3\xa9", b"\xc3", false),
     ];
-    for &(whole, wanted, is_found) in &ROWS {
+    for &(whole, wanted, is_found) in ROWS {
         let found = contains_fold(rt.alloc(), whole, wanted);
         assert!(rt; found == Ok(is_found), "{wanted:?} in {whole:?}");
     }
@@ -338,7 +338,7 @@ fn date_and_day(alloc: Global, date: InternalDate) -> Result<Vec<u8>, AllocError
 }
 
 /// Texts of `date-time` without quotes, and the dates that they spell, if they do.
-const DATES: [(&[u8], &[u8]); 33] = [
+const DATES: &[(&[u8], &[u8])] = &[
     (
         b"17-Jul-1996 02:44:25 -0700",
         b"17-Jul-1996 02:44:25 -0700, 9694",
@@ -420,7 +420,7 @@ const DATES: [(&[u8], &[u8]); 33] = [
 ];
 
 /// Seconds from the start of 1-Jan-1970, and the dates at which they are, if they are before the year 10000.
-const MOMENTS: [(u64, &[u8]); 10] = [
+const MOMENTS: &[(u64, &[u8])] = &[
     (0, b" 1-Jan-1970 00:00:00 +0000, 0"),
     (1, b" 1-Jan-1970 00:00:01 +0000, 0"),
     (86_399, b" 1-Jan-1970 23:59:59 +0000, 0"),
@@ -435,10 +435,10 @@ const MOMENTS: [(u64, &[u8]); 10] = [
 
 #[test]
 fn dates(rt: HostRuntime) {
-    for &(text, wanted) in &DATES {
+    for &(text, wanted) in DATES {
         expect(&rt, shown(rt.alloc(), InternalDate::read(text)), wanted);
     }
-    for &(seconds, wanted) in &MOMENTS {
+    for &(seconds, wanted) in MOMENTS {
         expect(
             &rt,
             shown(rt.alloc(), InternalDate::of_moment(seconds)),

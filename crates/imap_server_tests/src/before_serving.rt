@@ -18,7 +18,7 @@ fn is_request(text: &[u8]) -> (bool, bool) {
 
 #[test]
 fn tells_requests_from_commands(rt: HostRuntime) {
-    const ROWS: [(&[u8], bool); 13] = [
+    const ROWS: &[(&[u8], bool)] = &[
         (b"GET / HTTP/1.1\r\n", true),
         (b"POST /x?y=z HTTP/1.0\r\nHost: x\r\n", true),
         (b"OPTIONS * HTTP/1.1\r\n", true),
@@ -33,7 +33,7 @@ fn tells_requests_from_commands(rt: HostRuntime) {
         (b" / HTTP/1.1\r\n", false),
         (b"a1 NOOP\r\nGET / HTTP/1.1\r\n", false),
     ];
-    for &(text, wanted) in &ROWS {
+    for &(text, wanted) in ROWS {
         assert!(rt; is_request(text) == (wanted, wanted), "{text:?}");
     }
 }
@@ -69,31 +69,31 @@ fn given_up(code: i32) -> u32 {
 #[test]
 fn waits_after_failing_accepts(rt: HostRuntime) {
     assert!(rt; given_up(22) == 15 && given_up(24) == 40 && given_up(103) == 40);
-    const MILLIS: [u64; 9] = [10, 20, 40, 80, 160, 320, 640, 1000, 1000];
+    const MILLIS: &[u64] = &[10, 20, 40, 80, 160, 320, 640, 1000, 1000];
     let mut faults = AcceptFaults::new();
-    for &millis in &MILLIS {
+    for &millis in MILLIS {
         let _goes_on = faults.may_go_on(&io::Error::from(ErrorKind::ConnectionAborted));
         assert!(rt; faults.pause() == Duration::from_millis(millis));
     }
 }
 
 /// A log as SQLite writes it, with pages of 512 octets: one commit of one page, and one of two.
-const HEADER: [u8; 32] = *b"\x37\x7f\x06\x82\x00\x2d\xe2\x18\x00\x00\x02\x00\x00\x00\x00\x01\
+const HEADER: &[u8] = b"\x37\x7f\x06\x82\x00\x2d\xe2\x18\x00\x00\x02\x00\x00\x00\x00\x01\
     \x01\x02\x03\x04\x0a\x0b\x0c\x0d\xd9\xce\x05\x14\x9f\xb3\xe7\xc3";
 
-const FRAMES: [[u8; 24]; 3] = [
-    *b"\x00\x00\x00\x01\x00\x00\x00\x01\x01\x02\x03\x04\x0a\x0b\x0c\x0d\x3c\x52\xb2\xfa\xbd\x23\xe6\x2c",
-    *b"\x00\x00\x00\x01\x00\x00\x00\x00\x01\x02\x03\x04\x0a\x0b\x0c\x0d\x6e\x71\x27\x85\xdb\xfe\x5b\x67",
-    *b"\x00\x00\x00\x02\x00\x00\x00\x02\x01\x02\x03\x04\x0a\x0b\x0c\x0d\x8b\x71\x48\xd5\x94\x79\x90\x6c",
+const FRAMES: &[&[u8]] = &[
+    b"\x00\x00\x00\x01\x00\x00\x00\x01\x01\x02\x03\x04\x0a\x0b\x0c\x0d\x3c\x52\xb2\xfa\xbd\x23\xe6\x2c",
+    b"\x00\x00\x00\x01\x00\x00\x00\x00\x01\x02\x03\x04\x0a\x0b\x0c\x0d\x6e\x71\x27\x85\xdb\xfe\x5b\x67",
+    b"\x00\x00\x00\x02\x00\x00\x00\x02\x01\x02\x03\x04\x0a\x0b\x0c\x0d\x8b\x71\x48\xd5\x94\x79\x90\x6c",
 ];
 
-const PAGES: [u8; 3] = [1, 1, 2];
+const PAGES: &[u8] = &[1, 1, 2];
 
 /// The log, of which the octet at `at` has one bit changed, up to `length`.
 fn log(alloc: Global, length: usize, at: Option<usize>) -> Result<Vec<u8>, AllocError> {
     let mut log = Vec::new(alloc);
-    log.extend_from_slice(&HEADER)?;
-    for (frame, page) in FRAMES.iter().zip(&PAGES) {
+    log.extend_from_slice(HEADER)?;
+    for (frame, page) in FRAMES.iter().zip(PAGES) {
         log.extend_from_slice(frame)?;
         log.push(*page)?;
         log.resize(log.len().saturating_add(511), 0)?;
@@ -114,7 +114,7 @@ fn looked_at(alloc: Global, length: usize, at: Option<usize>) -> Option<LogLook>
 
 #[test]
 fn looks_at_a_log(rt: HostRuntime) {
-    const ROWS: [(usize, Option<usize>, u64); 9] = [
+    const ROWS: &[(usize, Option<usize>, u64)] = &[
         (1640, None, 0),
         (568, None, 0),
         (1104, None, 536),
@@ -125,7 +125,7 @@ fn looks_at_a_log(rt: HostRuntime) {
         (1640, Some(1639), 1072),
         (41, Some(3), 0),
     ];
-    for &(length, at, unread) in &ROWS {
+    for &(length, at, unread) in ROWS {
         let wanted = LogLook {
             length: length as u64,
             unread,

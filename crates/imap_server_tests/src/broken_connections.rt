@@ -121,8 +121,8 @@ fn a_writer_takes_nothing(rt: HostRuntime) {
 /// A session ends after three reads that bring nothing. A read fails after these, or after two.
 #[test]
 fn a_session_ends_before_a_read_fails(rt: HostRuntime) {
-    const ROWS: [(u32, &[u8]); 2] = [(3, b"* BYE idle too long\r\nOk(Idle)"), (2, b"Err(Read)")];
-    for &(reads, wanted) in &ROWS {
+    const ROWS: &[(u32, &[u8])] = &[(3, b"* BYE idle too long\r\nOk(Idle)"), (2, b"Err(Read)")];
+    for &(reads, wanted) in ROWS {
         let behaviour = Behaviour {
             reads,
             is_silent: true,

@@ -80,30 +80,31 @@ pub(crate) fn shown_task(
     alloc: Global,
     task: Result<Task, CommandLineError>,
 ) -> Result<Vec<u8>, AllocError> {
-    match task {
-        Ok(Task::Check(database)) => {
-            let text = format!(in alloc; "check {database}")?;
-            Ok(text.into_bytes())
-        }
-        Ok(Task::Dump { database, folder }) => {
-            let text = format!(in alloc; "dump {database} {folder}")?;
-            Ok(text.into_bytes())
-        }
-        Ok(
-            Task::Load {
-                database,
-                folder,
-                administrator,
-            },
-        ) => {
-            let text = format!(in alloc; "load {database} {folder} {}", administrator.as_str())?;
-            Ok(text.into_bytes())
-        }
-        Ok(Task::Script) => Vec::from_slice(alloc, b"script"),
-        Ok(Task::Version) => Vec::from_slice(alloc, b"version"),
-        Ok(Task::Serve { database, service }) => shown_service(alloc, database.as_str(), &service),
+    let text = match &task {
+        Ok(task) => text_of(alloc, task),
         Err(_) => Vec::from_slice(alloc, b"none"),
+    };
+    drop(task);
+    text
+}
+
+fn text_of(alloc: Global, task: &Task) -> Result<Vec<u8>, AllocError> {
+    match task {
+        Task::Check(database) => octets_of(format!(in alloc; "check {database}")),
+        Task::Dump { database, folder } => octets_of(format!(in alloc; "dump {database} {folder}")),
+        Task::Load {
+            database,
+            folder,
+            administrator,
+        } => octets_of(format!(in alloc; "load {database} {folder} {}", administrator.as_str())),
+        Task::Script => Vec::from_slice(alloc, b"script"),
+        Task::Version => Vec::from_slice(alloc, b"version"),
+        Task::Serve { database, service } => shown_service(alloc, database.as_str(), service),
     }
+}
+
+fn octets_of(text: Result<String, AllocError>) -> Result<Vec<u8>, AllocError> {
+    Ok(text?.into_bytes())
 }
 
 #[test]
@@ -212,11 +213,12 @@ fn reads_command_lines(rt: HostRuntime) {
 
 /// Asserts that these words are refused with the status 2, by the parser if `by_parser`.
 fn check_refused(rt: &(impl Abort + Eprint), alloc: Global, texts: &[&str], by_parser: bool) {
-    match task(alloc, texts) {
-        Ok(_) => panic!(rt; "{texts:?}"),
-        Err(error) => {
+    match task(alloc, texts).err() {
+        None => panic!(rt; "{texts:?}"),
+        Some(error) => {
             let is_usage = matches!(&error, CommandLineError::Usage(_));
             let status = report_misuse(rt, &error);
+            drop(error);
             assert!(rt;
                 is_usage == by_parser && status == ExitCode::from(2),
                 "{texts:?}"
@@ -281,7 +283,7 @@ fn refuses_command_lines(rt: HostRuntime) {
 /// Options, of which each is refused beside `--admin root --listen ann=1143`.
 #[test]
 fn refuses_options(rt: HostRuntime) {
-    const ROWS: [&str; 32] = [
+    const ROWS: &[&str] = &[
         "--log=all",
         "--log=",
         "--listen=bob",
@@ -315,7 +317,7 @@ fn refuses_options(rt: HostRuntime) {
         "--secret=ann=blank",
         "--secret=ann=nul",
     ];
-    for &option in &ROWS {
+    for &option in ROWS {
         let texts = [
             "imapd",
             "serve",
@@ -339,7 +341,7 @@ fn ends_with_a_status(rt: HostRuntime) {
         assert!(rt; report_script_error(&rt, error) == ExitCode::from(*status));
     }
     assert!(rt; report_misuse(&rt, &CommandLineError::Memory) == ExitCode::from(4));
-    const ENDS: [(ServiceError, u8); 9] = [
+    const ENDS: &[(ServiceError, u8)] = &[
         (ServiceError::Output, 3),
         (ServiceError::NoConnection, 3),
         (
@@ -369,24 +371,33 @@ fn ends_with_a_status(rt: HostRuntime) {
             5,
         ),
     ];
-    for &(error, status) in &ENDS {
+    for &(error, status) in ENDS {
         assert!(rt; report_service_error(&rt, error) == ExitCode::from(status));
     }
 }
 
 /// What is said of a command line that is refused.
 fn said(alloc: Global, texts: &[&str]) -> Result<String, AllocError> {
-    match task(alloc, texts) {
+    said_of(alloc, task(alloc, texts))
+}
+
+/// What is said of a refusal.
+pub(crate) fn said_of(
+    alloc: Global,
+    task: Result<Task, CommandLineError>,
+) -> Result<String, AllocError> {
+    let said = match &task {
         Ok(_) => String::from_str(alloc, "nothing"),
         Err(error) => format!(in alloc; "{error}"),
-    }
+    };
+    drop(task);
+    said
 }
 
 /// The second line says which word is wrong, and why.
 #[test]
 fn says_what_is_wrong(rt: HostRuntime) {
-    const SERVE: [&str; 4] = ["imapd", "serve", "--db=x", "--admin=root"];
-    const ROWS: [(&str, &str); 9] = [
+    const ROWS: &[(&str, &str)] = &[
         (
             "--listen=ann=0",
             "imapd: bad command line\nimapd: --listen ann=0: NAME=PORT is wanted, PORT from 1 to 65535\n",
@@ -425,13 +436,12 @@ fn says_what_is_wrong(rt: HostRuntime) {
             "imapd: bad command line\nimapd: --secret ann=s3cret: this is no user who is served\n",
         ),
     ];
-    for &(option, wanted) in &ROWS {
-        let [program, serve, database, administrator] = SERVE;
+    for &(option, wanted) in ROWS {
         let texts = [
-            program,
-            serve,
-            database,
-            administrator,
+            "imapd",
+            "serve",
+            "--db=x",
+            "--admin=root",
             "--listen=bob=1",
             option,
         ];

@@ -1,6 +1,6 @@
 //! Configuration files.
 
-use crate::command_lines::{Kept, shown_task, words};
+use crate::command_lines::{Kept, said_of, shown_task, words};
 use crate::wanted::{expect, expect_text};
 use imap_options::{CommandLineError, Task, read_words_after};
 use std::alloc::{AllocError, Global};
@@ -64,11 +64,8 @@ fn reads_configuration_files(rt: HostRuntime) {
 
 /// What is said of a file that is refused.
 fn said(alloc: Global, text: &str) -> Result<String, AllocError> {
-    const WORDS: [&str; 5] = ["imapd", "serve", "--db=x", "--admin=root", "--listen=bob=1"];
-    match task(alloc, text, &WORDS) {
-        Ok(_) => String::from_str(alloc, "nothing"),
-        Err(error) => format!(in alloc; "{error}"),
-    }
+    const WORDS: &[&str] = &["imapd", "serve", "--db=x", "--admin=root", "--listen=bob=1"];
+    said_of(alloc, task(alloc, text, WORDS))
 }
 
 /// The second line names the file, the line and its words.

@@ -16,8 +16,8 @@ fn told<W: Wait + AllocGlobal>(
     behaviour: Behaviour,
 ) -> Result<Vec<u8>, AllocError> {
     let alloc = rt.alloc();
-    let mut hall = new_hall(alloc)?;
     let who = session(alloc, 1)?;
+    let mut hall = new_hall(alloc)?;
     let mut input = Watched::new(Source::new(text, behaviour));
     let mut output = Watched::new(Sink::new(alloc, behaviour));
     let ended = serve_in(
@@ -34,6 +34,7 @@ fn told<W: Wait + AllocGlobal>(
         &mut output,
     );
     drop(hall);
+    drop(who);
     let Sink { taken, .. } = output.into_inner();
     if ended.is_ok() {
         Ok(taken)

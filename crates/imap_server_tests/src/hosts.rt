@@ -62,7 +62,10 @@ fn world(alloc: Global) -> Result<World, AllocError> {
     let mut world = World::new(alloc);
     match place(alloc, &mut world, acl) {
         Ok(()) => Ok(world),
-        Err(_) => Err(AllocError),
+        Err(_) => {
+            drop(world);
+            Err(AllocError)
+        }
     }
 }
 
@@ -72,7 +75,9 @@ pub(crate) fn hall(alloc: Global) -> Result<Hall<ListKeeper>, AllocError>
 {
     let users = users(alloc, &["ann", "bob", "cat"]);
     let (users, (root, world)) = both(users, both(user(alloc, "root"), world(alloc)))?;
-    opened(alloc, world, root, users.as_slice())
+    let hall = opened(alloc, world, root, users.as_slice());
+    drop(users);
+    hall
 }
 
 fn users(alloc: Global, texts: &[&str]) -> Result<Vec<UserName>, AllocError> {
@@ -100,7 +105,10 @@ fn opened(
         DEFAULT_LIMITS,
     ) {
         Ok(hall) => Ok(hall),
-        Err(_) => Err(AllocError),
+        Err(refused) => {
+            drop(refused);
+            Err(AllocError)
+        }
     }
 }
 
@@ -127,7 +135,9 @@ pub(crate) fn seat<K: Keeper, L: Ledger>(
 
 fn act(alloc: Global, text: &[u8]) -> Result<Act, AllocError> {
     let octets = Octets::from_slice(alloc, text)?;
-    parse(alloc, &octets).map(Act::Do)
+    let request = parse(alloc, &octets);
+    drop(octets);
+    Ok(Act::Do(request?))
 }
 
 /// A step of the seat's session.
@@ -173,7 +183,11 @@ pub(crate) fn ask<K: Keeper, L: Ledger, R: Wait + AllocGlobal>(
 ) -> Option<Vec<u8>> {
     match act(rt.alloc(), text) {
         Ok(act) => match make(rt, host, seat, act) {
-            Some(receipt) => print(rt.alloc(), receipt.replies.as_slice()).ok(),
+            Some(receipt) => {
+                let text = print(rt.alloc(), receipt.replies.as_slice());
+                drop(receipt);
+                text.ok()
+            }
             None => None,
         },
         Err(_) => None,

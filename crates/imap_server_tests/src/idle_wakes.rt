@@ -35,8 +35,8 @@ fn seconds_until_end(wakes_per_second: u64) -> u64 {
 /// A session ends after 30 minutes of silence, however often its worker is woken.
 #[test]
 fn wakes_end_no_session_sooner(rt: HostRuntime) {
-    const ROWS: [u64; 6] = [0, 1, 5, 31, 32, 1000];
-    for &wakes in &ROWS {
+    const ROWS: &[u64] = &[0, 1, 5, 31, 32, 1000];
+    for &wakes in ROWS {
         let seconds = seconds_until_end(wakes);
         assert!(rt; seconds == 1800, "{wakes}: {seconds}");
     }

@@ -38,8 +38,8 @@ impl<'a, K: Keeper, L: Ledger, R: Wait + AllocGlobal> Read for Taking<'a, K, L, 
     fn read(&mut self, buf: &mut [u8]) -> io::Result<usize> {
         if self.text.is_empty() {
             if self.quiet == 0 {
-                let _opened = make(self.rt, self.host, &mut self.root, Act::Open);
-                let _taken = ask(self.rt, self.host, &mut self.root, TAKEN);
+                drop(make(self.rt, self.host, &mut self.root, Act::Open));
+                drop(ask(self.rt, self.host, &mut self.root, TAKEN));
             }
             self.quiet = self.quiet.saturating_sub(1);
             return Err(io::Error::from(ErrorKind::WouldBlock));

@@ -19,9 +19,10 @@ fn most_kept<K: Keeper, L: Ledger, R: Wait + AllocGlobal>(rt: &R, host: &mut Hos
     };
     let mut most = 0;
     for _ in 0..CALLS {
-        let _made = make(rt, host, &mut seat, Act::Poll);
+        drop(make(rt, host, &mut seat, Act::Poll));
         most = most.max(seat.receipts.len());
     }
+    drop(seat);
     most
 }
 

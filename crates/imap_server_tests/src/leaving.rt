@@ -2,6 +2,7 @@
 
 use crate::connection::{Behaviour, WHOLE};
 use crate::faulty_room::FaultyRoom;
+use crate::owned::both;
 use crate::serving::{
     ends_with_leave, expect_after_greeting, new_hall, open_first, serve_as, serve_in, shown,
     with_entries,
@@ -40,7 +41,7 @@ const SILENT: Behaviour = Behaviour {
 
 /// The behaviour of the connection, what is sent, the number of the step that is refused, the
 /// error, and what is returned after the greeting.
-const ROWS: [(Behaviour, &[u8], u32, HallError, &[u8]); 5] = [
+const ROWS: &[(Behaviour, &[u8], u32, HallError, &[u8])] = &[
     (WHOLE, SENT, 2, HallError::Memory, b"Err(Memory) 2 true"),
     (
         WHOLE,
@@ -76,7 +77,7 @@ const ROWS: [(Behaviour, &[u8], u32, HallError, &[u8]); 5] = [
 
 #[test]
 fn a_room_refuses_a_step(rt: HostRuntime) {
-    for &(behaviour, text, refused, error, wanted) in &ROWS {
+    for &(behaviour, text, refused, error, wanted) in ROWS {
         let made = told(&rt, behaviour, text, refused, error);
         expect_after_greeting(&rt, made, wanted);
     }
@@ -100,8 +101,8 @@ fn told_beside<W: Wait + AllocGlobal>(rt: &W, open: u32) -> Result<Vec<u8>, Allo
     let count = hall.count();
     let has_left = ends_with_leave(&hall, number);
     drop(hall);
-    opened?;
-    with_entries(rt.alloc(), shown(rt.alloc(), served), count, has_left)
+    let ((), served) = both(opened, served)?;
+    with_entries(rt.alloc(), shown(rt.alloc(), Ok(served)), count, has_left)
 }
 
 /// A user may have 16 sessions open. The journal has an entry of each Open, refused or not.

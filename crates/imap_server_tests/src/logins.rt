@@ -15,10 +15,25 @@ fn answered(alloc: Global, sent: &[u8], size: usize) -> Result<Vec<u8>, AllocErr
 {
     let credentials = Credentials::new(alloc, b"ann", b"s3cret")?;
     let mut login = Login::new(alloc, Capabilities::standard());
+    let text = answered_by(alloc, &mut login, &credentials, sent, size);
+    drop(login);
+    drop(credentials);
+    text
+}
+
+fn answered_by(
+    alloc: Global,
+    login: &mut Login,
+    credentials: &Credentials,
+    sent: &[u8],
+    size: usize,
+) -> Result<Vec<u8>, AllocError>
+    requires { 0 < size }
+{
     let mut text = Vec::new(alloc);
     let mut left = Vec::new(alloc);
     for piece in sent.chunks(size) {
-        let unread = login.take(alloc, &credentials, piece, &mut text)?;
+        let unread = login.take(alloc, credentials, piece, &mut text)?;
         left.extend_from_slice(unread)?;
     }
     text.extend_from_slice(shown(login.stage()))?;

@@ -264,6 +264,25 @@ fn done_at<
 ) -> io::Result<bool> {
     client.write_all(deed.first())?;
     let wakers = IdleWakers::new(rt.alloc(), 1)?;
+    let done = done_by(rt, deed, reception, user, credentials, client, &wakers);
+    drop(wakers);
+    done
+}
+
+/// The same by the worker of the first of these wakers.
+fn done_by<
+    D: Deed,
+    C: Read + Write,
+    R: Net<Listener = TcpListener, Stream = TcpStream> + Wait + Clock + Eprint + Sync + AllocGlobal,
+>(
+    rt: &R,
+    deed: &D,
+    reception: &Reception,
+    user: &UserName,
+    credentials: &Option<Credentials>,
+    client: &mut C,
+    wakers: &IdleWakers,
+) -> io::Result<bool> {
     let report = Report::new(rt, LogLevel::Off);
     let [waker, ..] = wakers.as_slice() else {
         return Ok(false);
@@ -272,7 +291,7 @@ fn done_at<
         rt,
         alloc: rt.alloc(),
         reception,
-        wakers: &wakers,
+        wakers,
         waker,
         report: &report,
         user,
@@ -284,7 +303,10 @@ fn done_at<
     };
     match door.next() {
         Some((mut input, mut output)) => {
-            deed.is_done(rt.alloc(), client, &mut input, &mut output)
+            let done = deed.is_done(rt.alloc(), client, &mut input, &mut output);
+            drop(input);
+            drop(output);
+            done
         }
         None => Ok(false),
     }

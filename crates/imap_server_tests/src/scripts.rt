@@ -29,11 +29,11 @@ fn with_error(
 /// Scripts with a line that is no UTF-8.
 #[test]
 fn finds_the_first_bad_line(rt: HostRuntime) {
-    const ROWS: [(&[u8], &[u8]); 2] = [
+    const ROWS: &[(&[u8], &[u8])] = &[
         (b"# \xff\nadmin root\n", b"line 1: bad script"),
         (b"admin root\n#\xc3\n", b"line 2: bad script"),
     ];
-    for &(text, wanted) in &ROWS {
+    for &(text, wanted) in ROWS {
         expect(&rt, outcome(&rt, text), wanted);
     }
 }
@@ -100,7 +100,7 @@ fn text_read(alloc: Global, source: Source<'_>, max_reads: u32) -> Result<Vec<u8
 
 #[test]
 fn reads_are_counted(rt: HostRuntime) {
-    const ROWS: [(u32, bool, u32, bool); 5] = [
+    const ROWS: &[(u32, bool, u32, bool)] = &[
         // No read fails.
         (u32::MAX, false, 5, false),
         (u32::MAX, false, 6, true),
@@ -109,7 +109,7 @@ fn reads_are_counted(rt: HostRuntime) {
         (2, false, 7, true),
         (2, true, 1000, false),
     ];
-    for &(reads, is_lasting, max_reads, is_read) in &ROWS {
+    for &(reads, is_lasting, max_reads, is_read) in ROWS {
         let source = stored(reads, ErrorKind::Interrupted, is_lasting);
         let wanted = if is_read {
             SCRIPT
@@ -139,9 +139,9 @@ fn is_written<R: AllocGlobal>(rt: &R, behaviour: Behaviour) -> bool {
 /// or the flush fails too.
 #[test]
 fn a_write_fails(rt: HostRuntime) {
-    const TROUBLES: [(bool, bool); 3] = [(false, false), (true, false), (false, true)];
+    const TROUBLES: &[(bool, bool)] = &[(false, false), (true, false), (false, true)];
     for writes in 0..15 {
-        for &(takes_nothing, fails_to_flush) in &TROUBLES {
+        for &(takes_nothing, fails_to_flush) in TROUBLES {
             let behaviour = Behaviour {
                 writes,
                 takes_nothing,

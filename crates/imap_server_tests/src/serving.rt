@@ -72,6 +72,7 @@ pub(crate) fn serve_as<W: Wait + AllocGlobal, R: Room, G: Gate>(
         &mut input,
         &mut output,
     );
+    drop(who);
     let Sink { taken, .. } = output.into_inner();
     Ok(Served {
         written: taken,
@@ -97,7 +98,10 @@ pub(crate) fn new_hall(alloc: Global) -> Result<Hall<ListKeeper>, AllocError> {
     let groups = Groups::new(alloc);
     match Hall::open(alloc, keeper, administrator, &[], groups, DEFAULT_LIMITS) {
         Ok(hall) => Ok(hall),
-        Err(_) => Err(AllocError),
+        Err(refused) => {
+            drop(refused);
+            Err(AllocError)
+        }
     }
 }
 
@@ -111,7 +115,11 @@ pub(crate) fn serve_anew<W: Wait + AllocGlobal>(
     let served = serve_in(rt, &mut hall, &OpenGate, text, behaviour);
     let has_left = ends_with_leave(&hall, 1);
     drop(hall);
-    if has_left { served } else { Err(AllocError) }
+    kept_if(has_left, served)
+}
+
+fn kept_if<T: Drop>(is_kept: bool, value: Result<T, AllocError>) -> Result<T, AllocError> {
+    if is_kept { value } else { Err(AllocError) }
 }
 
 /// Opens ann's first `count` sessions.
@@ -132,10 +140,9 @@ fn open_session<R: Room>(alloc: Global, room: &mut R, number: u32) -> Result<(),
         at: Moment::epoch(),
         act: Act::Open,
     };
-    match room.step(alloc, &step) {
-        Ok(_) => Ok(()),
-        Err(_) => Err(AllocError),
-    }
+    let made = room.step(alloc, &step).is_ok();
+    drop(step);
+    if made { Ok(()) } else { Err(AllocError) }
 }
 
 /// Whether the last entry is the Leave of ann's session of this number.
@@ -192,7 +199,7 @@ pub(crate) fn expect_after_greeting(
 }
 
 /// The behaviour of the connection, what is sent, and what is written and answered after the greeting.
-const ROWS: [(Behaviour, &[u8], &[u8]); 8] = [
+const ROWS: &[(Behaviour, &[u8], &[u8])] = &[
     (
         WHOLE,
         b"a1 NOOP\r\na2 LOGOUT\r\n",
@@ -241,7 +248,7 @@ const ROWS: [(Behaviour, &[u8], &[u8]); 8] = [
 
 #[test]
 fn sessions_are_served(rt: HostRuntime) {
-    for &(behaviour, text, wanted) in &ROWS {
+    for &(behaviour, text, wanted) in ROWS {
         let served = serve_anew(&rt, text, behaviour);
         expect_after_greeting(&rt, shown(rt.alloc(), served), wanted);
     }

@@ -58,7 +58,7 @@ struct Ending {
 }
 
 /// Four seats, through whose doors five clients come.
-const POSTS: [Posts; 4] = [
+const POSTS: &[Posts] = &[
     ("root", 1, 5, SENT),
     ("bob", 1, 5, SENT),
     ("root", 1, 5, SENT),
@@ -70,7 +70,7 @@ fn served<K: Keeper + Send, L: Ledger + Send + Sync, R: Threads + Wait + AllocGl
     rt: &R,
     host: &mut Host<K, L>,
 ) -> Result<Vec<Seat<L>>, AllocError> {
-    let mut posts = posts(rt.alloc(), host, &POSTS)?;
+    let mut posts = posts(rt.alloc(), host, POSTS)?;
     let slice = posts.as_mut_slice();
     let _ran = crew(
         rt,
@@ -110,7 +110,7 @@ fn lists<K: Keeper, L: Ledger, R: Wait + AllocGlobal>(
     host: &Host<K, L>,
     seat: &mut Seat<L>,
 ) -> bool {
-    let _opened = make(rt, host, seat, Act::Open);
+    drop(make(rt, host, seat, Act::Open));
     match ask(rt, host, seat, b"l LIST \"\" *\r\n") {
         Some(text) => text.as_slice() == LISTED,
         None => false,
@@ -143,10 +143,13 @@ fn spoil_seat<L: Ledger>(seat: &mut Seat<L>, fault: Fault) {
     }
 }
 
+/// The mailbox `Mine` of root and that of bob.
+const MINE: &[&str] = &["Other Users/root/Mine", "Other Users/bob/Mine"];
+
 /// How many of root and bob have the mailbox `Mine` in the world.
 fn mine_in(alloc: Global, world: &World) -> u32 {
     let mut count: u32 = 0;
-    for text in ["Other Users/root/Mine", "Other Users/bob/Mine"] {
+    for text in MINE {
         if let Ok(name) = read_full(alloc, text.as_bytes()) {
             if world.mailbox(&name.as_ref()).is_some() {
                 count = count.saturating_add(1);
@@ -171,7 +174,11 @@ fn end<K: Keeper + Drop, L: Ledger>(
     requires { L.parts ≡ 1048576 }
 {
     match settled(host, seats) {
-        Ok(hall) => Ok(ended_hall(alloc, &hall, opening)),
+        Ok(hall) => {
+            let ending = ended_hall(alloc, &hall, opening);
+            drop(hall);
+            Ok(ending)
+        }
         Err(error) => Err(error),
     }
 }
@@ -258,7 +265,7 @@ fn a_host_ends_with_its_seats(rt: HostRuntime) {
         is_opening: false,
         mine: 2,
     };
-    const ROWS: [(bool, Fault, u32, Result<Ending, SettleError>); 7] = [
+    const ROWS: &[(bool, Fault, u32, Result<Ending, SettleError>)] = &[
         (false, Fault::None, 0, Ok(FIRST)),
         (true, Fault::None, 4, Ok(LATER)),
         (false, Fault::Seat, 0, Err(SettleError::Missing)),
@@ -267,7 +274,7 @@ fn a_host_ends_with_its_seats(rt: HostRuntime) {
         (true, Fault::Number, 4, Err(SettleError::Mismatch)),
         (true, Fault::Base, 4, Err(SettleError::Mismatch)),
     ];
-    for &(turns, fault, listed, wanted) in &ROWS {
+    for &(turns, fault, listed, wanted) in ROWS {
         let ended = ended::<Brand, HostRuntime>(&rt, Blank::new(PARTS), turns, fault);
         assert!(rt;
             ended == Some((listed, wanted)),

@@ -65,7 +65,7 @@ impl<'a, R: Clock> Gate for Waiting<'a, R> {
 }
 
 /// One client for root, who sends one request, and one for bob, who sends two.
-const TWO_POSTS: [Posts; 2] = [
+const TWO_POSTS: &[Posts] = &[
     ("root", 1, 1, b"a1 NOOP\r\n"),
     ("bob", 1, 1, b"b1 NOOP\r\nb2 NOOP\r\n"),
 ];
@@ -81,7 +81,7 @@ fn waits<K: Keeper + Send, L: Ledger + Send + Sync, R: Threads + Wait + Clock + 
         is_held: AtomicBool::new(false),
         is_open: AtomicBool::new(false),
     };
-    let Ok(mut posts) = posts(rt.alloc(), host, &TWO_POSTS) else {
+    let Ok(mut posts) = posts(rt.alloc(), host, TWO_POSTS) else {
         return false;
     };
     let posts = posts.as_mut_slice();
@@ -127,7 +127,9 @@ fn waited<L: Ledger + Send + Sync, R: Threads + Wait + Clock + AllocGlobal + Syn
             let mut host = host::<ListKeeper, L>(rt.alloc(), hall, blank);
             let waits = waits(rt, &mut host);
             let hall = host.into_hall();
-            (waits, is_in_order(hall.entries()), hall.count())
+            let (is_in_order, count) = (is_in_order(hall.entries()), hall.count());
+            drop(hall);
+            (waits, is_in_order, count)
         }
         Err(_) => (false, false, 0),
     }
@@ -147,7 +149,7 @@ n NOOP\r\nn NOOP\r\nn NOOP\r\nn NOOP\r\nn NOOP\r\nn NOOP\r\n";
 
 /// Four users with 16 seats each, as many as may be open at once, through whose doors one client
 /// each comes.
-const MANY_POSTS: [Posts; 4] = [
+const MANY_POSTS: &[Posts] = &[
     ("ann", 16, 1, TWENTY),
     ("bob", 16, 1, TWENTY),
     ("cat", 16, 1, TWENTY),
@@ -159,7 +161,7 @@ fn serves<K: Keeper + Send, L: Ledger + Send + Sync, R: Threads + Wait + AllocGl
     rt: &R,
     host: &mut Host<K, L>,
 ) -> Option<Vec<Seat<L>>> {
-    let Ok(mut posts) = posts(rt.alloc(), host, &MANY_POSTS) else {
+    let Ok(mut posts) = posts(rt.alloc(), host, MANY_POSTS) else {
         return None;
     };
     let slice = posts.as_mut_slice();
@@ -187,7 +189,11 @@ fn count_of<K: Keeper + Drop, L: Ledger>(
     requires { L.parts ≡ 1048576 }
 {
     match settled(host, seats) {
-        Ok(hall) => Ok(hall.count()),
+        Ok(hall) => {
+            let count = hall.count();
+            drop(hall);
+            Ok(count)
+        }
         Err(error) => Err(error),
     }
 }

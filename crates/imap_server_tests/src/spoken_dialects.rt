@@ -109,6 +109,31 @@ fn serve<
     dialect: DialectName,
 ) -> io::Result<()> {
     let wakers = IdleWakers::new(rt.alloc(), 1)?;
+    let served = serve_by(rt, host, reception, user, credentials, dialect, &wakers);
+    drop(wakers);
+    Ok(served?)
+}
+
+/// The same by the worker of the first of these wakers.
+fn serve_by<
+    K: Keeper + Send,
+    L: Ledger + Send + Sync,
+    R: Net<Listener = TcpListener, Stream = TcpStream>
+        + Threads
+        + Wait
+        + Clock
+        + Eprint
+        + Sync
+        + AllocGlobal,
+>(
+    rt: &R,
+    host: &mut Host<K, L>,
+    reception: &Reception,
+    user: &UserName,
+    credentials: &Option<Credentials>,
+    dialect: DialectName,
+    wakers: &IdleWakers,
+) -> Result<(), AllocError> {
     let report = Report::new(rt, LogLevel::Off);
     let [waker, ..] = wakers.as_slice() else {
         return Ok(());
@@ -117,7 +142,7 @@ fn serve<
         rt,
         alloc: rt.alloc(),
         reception,
-        wakers: &wakers,
+        wakers,
         waker,
         report: &report,
         user,
@@ -129,14 +154,7 @@ fn serve<
     });
     let mut posts = posts(rt.alloc(), host, door)?;
     let each = posts.as_mut_slice();
-    serve_in(
-        rt,
-        &*host,
-        &wakers,
-        each,
-        dialect,
-        DEFAULT_LIMITS.max_octets,
-    );
+    serve_in(rt, &*host, wakers, each, dialect, DEFAULT_LIMITS.max_octets);
     drop(posts);
     Ok(())
 }

@@ -7,6 +7,7 @@ ghost use Rattle.imap_world.specs.Ready.{IsCurrent};
 ghost use Rattle.imap_world.specs.Stored.{world_of};
 ghost use Rattle.imap_world.specs.World.{World as Mailboxes};
 
+use crate::owned::{put, put_first};
 use imap_keeper::{KeepError, Keeper, count_after};
 use imap_world::{Change, World};
 use std::alloc::{AllocError, Global};
@@ -52,19 +53,31 @@ enum Loaded {
     Nothing,
 }
 
+/// Whether mailboxes that were loaded are those that are wanted.
+fn compare(loaded: Result<World, KeepError>, wanted: &World) -> Result<bool, KeepError> {
+    match loaded {
+        Ok(world) => {
+            let is_same = world.same(wanted);
+            drop(world);
+            Ok(is_same)
+        }
+        Err(error) => Err(error),
+    }
+}
+
 /// Loads mailboxes, once more if memory was refused, and compares them with those that are wanted.
 fn load_compared<K: Keeper>(alloc: Global, keeper: &mut K, wanted: &World) -> Loaded
     ensures unchanged { (world : Mailboxes) → K.content keeper.old world → K.content keeper.new world }
     ensures honest { K.is_honest keeper.new → K.is_honest keeper.old }
     ensures crash { K.is_honest keeper.new → LeavesOnly (K.leaves keeper.new) (K.leaves keeper.old) }
 {
-    let loaded = match keeper.load(alloc) {
-        Err(KeepError::Memory) => keeper.load(alloc),
-        loaded => loaded,
+    let compared = match compare(keeper.load(alloc), wanted) {
+        Err(KeepError::Memory) => compare(keeper.load(alloc), wanted),
+        compared => compared,
     };
-    match loaded {
-        Ok(world) if world.same(wanted) => Loaded::Same,
-        Ok(_) | Err(KeepError::Damaged) => Loaded::Others,
+    match compared {
+        Ok(true) => Loaded::Same,
+        Ok(false) | Err(KeepError::Damaged) => Loaded::Others,
         Err(KeepError::Refused | KeepError::Memory) => Loaded::Nothing,
     }
 }
@@ -75,8 +88,13 @@ fn after_change(alloc: Global, world: &World, change: &Change) -> Result<World, 
     ensures { IfOk result (λ after. world_of after ≡ after_writes change.now (world_of world.now)) }
 {
     let mut after = world.try_copy(alloc)?;
-    after.apply(alloc, change)?;
-    Ok(after)
+    match after.apply(alloc, change) {
+        Ok(()) => Ok(after),
+        Err(error) => {
+            drop(after);
+            Err(error)
+        }
+    }
 }
 
 impl<K: Keeper> ComparingKeeper<K> {
@@ -146,15 +164,13 @@ impl<K: Keeper> Keeper for ComparingKeeper<K> {
         let after = after_change(alloc, &self.world, change)?;
         match self.keeper.save(alloc, change) {
             Ok(()) => {
-                self.world = after;
+                put(&mut self.world, after);
                 let loaded = load_compared(alloc, &mut self.keeper, &self.world);
                 self.count(loaded);
                 Ok(())
             }
             Err(error) => {
-                if self.refused.is_none() {
-                    self.refused = Some(after);
-                }
+                put_first(&mut self.refused, after);
                 self.failures = count_after(self.failures, error);
                 let loaded = load_compared(alloc, &mut self.keeper, &self.world);
                 self.count(loaded);
@@ -166,10 +182,14 @@ impl<K: Keeper> Keeper for ComparingKeeper<K> {
     /// Other mailboxes than the wanted ones are damaged.
     fn load(&mut self, alloc: Global) -> Result<World, KeepError> {
         match self.keeper.load(alloc) {
-            Ok(world) if world.same(&self.world) => Ok(world),
-            Ok(_) => {
-                self.count(Loaded::Others);
-                Err(KeepError::Damaged)
+            Ok(world) => {
+                if world.same(&self.world) {
+                    Ok(world)
+                } else {
+                    drop(world);
+                    self.count(Loaded::Others);
+                    Err(KeepError::Damaged)
+                }
             }
             Err(error) => {
                 self.failures = count_after(self.failures, error);

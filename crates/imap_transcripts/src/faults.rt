@@ -37,7 +37,11 @@ fn found_after<K: TestKeeper>(
     line: &str,
 ) -> Result<&'static str, KeepError> {
     match K::execute(alloc, image, line) {
-        Ok(image) => found::<K>(alloc, &image),
+        Ok(image) => {
+            let found = found::<K>(alloc, &image);
+            drop(image);
+            found
+        }
         Err(KeepError::Memory) => Err(KeepError::Memory),
         Err(KeepError::Refused | KeepError::Damaged) => Ok("refused"),
     }
@@ -48,10 +52,10 @@ fn found<K: TestKeeper>(alloc: Global, image: &Image) -> Result<&'static str, Ke
     let (loaded, left) = load::<K>(alloc, image)?;
     let is_same = left.written.has_same_database(image);
     drop(left);
-    match loaded {
-        Ok(_world) => Ok("loaded"),
-        Err(KeepError::Damaged) if is_same => Ok("damaged"),
-        Err(KeepError::Damaged) => Ok("damaged, and changed"),
-        Err(error) => Err(error),
+    match loaded.err() {
+        None => Ok("loaded"),
+        Some(KeepError::Damaged) if is_same => Ok("damaged"),
+        Some(KeepError::Damaged) => Ok("damaged, and changed"),
+        Some(error) => Err(error),
     }
 }

@@ -1,5 +1,6 @@
 //! Files in memory.
 
+use crate::owned::both;
 use imap_keeper::KeepError;
 use sqlite_disk::{Crash, Disk, Files, Fuse, Memory};
 use std::alloc::{AllocError, Global};
@@ -118,10 +119,12 @@ impl Left {
         let written = Image::read(alloc, &files);
         files.log.crash();
         files.db.crash();
-        let crashed = Image::of(alloc, files)?;
+        let crashed = Image::read(alloc, &files);
+        drop(files);
+        let (written, crashed) = both(written, crashed)?;
         Ok(Left {
             is_stopped,
-            written: written?,
+            written,
             crashed,
         })
     }

@@ -4,6 +4,7 @@ ghost use Rattle.std.specs.Prelude.{◌≡◌, IfOk};
 ghost use Rattle.imap_world.specs.Ready.{IsReady};
 ghost use Rattle.imap_world.specs.Stored.{world_of};
 
+use crate::owned::both;
 use bitflags::Flags;
 use imap_keeper::{KeepError, Keeper};
 use imap_names::{Name, UserName};
@@ -128,12 +129,16 @@ fn prepare(alloc: Global, world: &mut World, effect: Effect) -> Result<Change, W
 }
 
 /// A mailbox is made in its owner's tree, or by anybody.
-fn creation(alloc: Global, name: &Name) -> Result<Effect, KeepError> {
-    let owner = match name.owner() {
-        Some(owner) => owner.try_copy()?,
-        None => UserName::read(alloc, "anybody")?.ok_or(KeepError::Refused)?,
-    };
-    Ok(Effect::Create(owner, name.try_copy()?))
+fn creation(alloc: Global, name: &Name) -> Result<Effect, AllocError> {
+    let (owner, name) = both(owner_of(alloc, name), name.try_copy())?;
+    Ok(Effect::Create(owner, name))
+}
+
+fn owner_of(alloc: Global, name: &Name) -> Result<UserName, AllocError> {
+    match name.owner() {
+        Some(owner) => owner.try_copy(),
+        None => UserName::read(alloc, "anybody")?.ok_or(AllocError),
+    }
 }
 
 /// What gives the mailbox this list in place of the one that it has.
@@ -144,21 +149,27 @@ fn list_changes(
     acl: &Acl,
 ) -> Result<Vec<Effect>, AllocError> {
     let mut changes = Vec::new(alloc);
+    let pushed = push_list(alloc, &mut changes, world, name, acl);
+    let (_, changes) = both(pushed, Ok(changes))?;
+    Ok(changes)
+}
+
+fn push_list(
+    alloc: Global,
+    changes: &mut Vec<Effect>,
+    world: &World,
+    name: &Name,
+    acl: &Acl,
+) -> Result<(), AllocError> {
     if let Some(made) = world.mailbox(&name.as_ref()) {
         for entry in made.acl.entries() {
-            push_rights(
-                &mut changes,
-                name,
-                &entry.identifier,
-                Rights::empty(),
-                alloc,
-            )?;
+            push_rights(changes, name, &entry.identifier, Rights::empty(), alloc)?;
         }
     }
     for entry in acl.entries() {
-        push_rights(&mut changes, name, &entry.identifier, entry.rights, alloc)?;
+        push_rights(changes, name, &entry.identifier, entry.rights, alloc)?;
     }
-    Ok(changes)
+    Ok(())
 }
 
 fn push_rights(
@@ -169,6 +180,7 @@ fn push_rights(
     alloc: Global,
 ) -> Result<(), AllocError> {
     let change = RightsChange::Replace(rights);
-    changes.push(Effect::SetRights(name.try_copy()?, identifier.try_copy(alloc)?, change))?;
+    let (name, identifier) = both(name.try_copy(), identifier.try_copy(alloc))?;
+    changes.push(Effect::SetRights(name, identifier, change))?;
     Ok(())
 }

@@ -21,6 +21,7 @@ mod database;
 mod faults;
 mod file;
 mod filling;
+mod owned;
 mod past_runs;
 mod running;
 mod script_row;

@@ -19,7 +19,13 @@ impl PastRuns {
         PastRuns(Vec::new(alloc))
     }
 
-    pub(crate) fn push(&mut self, name: Vec<u8>, report: Vec<u8>) -> Result<(), ScriptError> {
+    pub(crate) fn push(
+        &mut self,
+        alloc: Global,
+        name: &[u8],
+        report: Vec<u8>,
+    ) -> Result<(), ScriptError> {
+        let name = Vec::from_slice(alloc, name)?;
         self.0.push(PastRun { name, report })?;
         Ok(())
     }
@@ -65,9 +71,12 @@ impl PastRuns {
     /// The run of which `in NAME` has the name.
     fn named(&self, text: &str) -> Option<&PastRun> {
         let name = text.strip_prefix("in ")?;
-        self.0
-            .iter()
-            .find(|past| past.name.as_slice() == name.as_bytes())
+        for past in &self.0 {
+            if past.name.as_slice() == name.as_bytes() {
+                return Some(past);
+            }
+        }
+        None
     }
 }
 

@@ -48,7 +48,10 @@ fn run_filled<K: Keeper + Drop>(
             drop(keeper);
             Ok(found)
         }
-        Err(error) => Err(error),
+        Err(error) => {
+            drop(world);
+            Err(error)
+        }
     }
 }
 
@@ -61,7 +64,10 @@ pub(crate) fn run_in_database(
     let world = world.try_copy(alloc)?;
     match open_in_memory(alloc) {
         Ok(keeper) => run_filled(alloc, scenario, keeper, world),
-        Err(error) => Err(error),
+        Err(error) => {
+            drop(world);
+            Err(error)
+        }
     }
 }
 
@@ -82,7 +88,8 @@ pub(crate) fn image_of(left: Result<Left, KeepError>) -> Result<Image, KeepError
     let Left {
         is_stopped: _,
         written,
-        crashed: _,
+        crashed,
     } = left?;
+    drop(crashed);
     Ok(written)
 }

@@ -113,16 +113,37 @@ impl ScriptRow {
         scenario: &Scenario,
     ) -> Result<(), ScriptError> {
         let image = Image::of_database(alloc, self.stored.as_slice())?;
-        let world = load_world::<K>(alloc, &image).map_err(script_error)?;
-        let transcript = run_in_memory(alloc, scenario, &world)?;
+        let pushed = match load_world::<K>(alloc, &image) {
+            Ok(world) => {
+                let pushed = self.push_stored_runs::<K>(alloc, report, scenario, &image, &world);
+                drop(world);
+                pushed
+            }
+            Err(error) => Err(script_error(error)),
+        };
+        drop(image);
+        pushed
+    }
+
+    /// Appends the same. The database keeps `world`.
+    fn push_stored_runs<K: TestKeeper>(
+        &self,
+        alloc: Global,
+        report: &mut Vec<u8>,
+        scenario: &Scenario,
+        image: &Image,
+        world: &World,
+    ) -> Result<(), ScriptError> {
+        let transcript = run_in_memory(alloc, scenario, world)?;
         report.extend_from_slice(transcript.as_slice())?;
-        let found = run_stored::<K>(alloc, &image, scenario, &world);
+        let found = run_stored::<K>(alloc, image, scenario, world);
         push_difference(alloc, report, found, transcript.as_slice())?;
-        let lines = fault_report::<K>(alloc, &image, self.faults.as_str());
-        report.extend_from_slice(lines.map_err(script_error)?.as_bytes())?;
+        push_lines(
+            report,
+            fault_report::<K>(alloc, image, self.faults.as_str()),
+        )?;
         if self.stops {
-            let line = stop_both::<K>(alloc, &image, scenario, &world);
-            report.extend_from_slice(line.map_err(script_error)?.as_bytes())?;
+            push_line(report, stop_both::<K>(alloc, image, scenario, world))?;
         }
         Ok(())
     }
@@ -147,15 +168,13 @@ impl ScriptRow {
     ) -> Result<(), ScriptError> {
         if !self.faults.is_empty() {
             let lines = fault_lines::<K>(alloc, scenario, world, self.faults.as_str());
-            report.extend_from_slice(lines.map_err(script_error)?.as_bytes())?;
+            push_lines(report, lines)?;
         }
         if self.stops {
-            let line = stop_report::<K>(alloc, scenario, world);
-            report.extend_from_slice(line.map_err(script_error)?.as_bytes())?;
+            push_line(report, stop_report::<K>(alloc, scenario, world))?;
         }
         if self.first_stops {
-            let line = first_stop_report::<K>(alloc, scenario, world);
-            report.extend_from_slice(line.map_err(script_error)?.as_bytes())?;
+            push_line(report, first_stop_report::<K>(alloc, scenario, world))?;
         }
         Ok(())
     }
@@ -194,18 +213,47 @@ fn push_difference(
     found: Result<Found, KeepError>,
     wanted: &[u8],
 ) -> Result<(), ScriptError> {
-    let Found {
-        mut transcript,
-        ended,
-        comparison,
-    } = found.map_err(script_error)?;
-    let (others, unread) = (comparison.others, comparison.unread);
-    drop(comparison);
+    match found {
+        Ok(
+            Found {
+                transcript,
+                ended,
+                comparison,
+            },
+        ) => {
+            let (others, unread) = (comparison.others, comparison.unread);
+            drop(comparison);
+            push_other(alloc, report, transcript, ended, wanted)?;
+            push_counts(alloc, report, others, unread)
+        }
+        Err(error) => Err(script_error(error)),
+    }
+}
+
+/// Appends the transcript unless it is `wanted`.
+fn push_other(
+    alloc: Global,
+    report: &mut Vec<u8>,
+    transcript: Vec<u8>,
+    ended: Result<(), ScriptError>,
+    wanted: &[u8],
+) -> Result<(), ScriptError> {
+    let mut transcript = transcript;
     push_end(alloc, &mut transcript, ended)?;
     if transcript.as_slice() != wanted {
         report.extend_from_slice(b"over a database:\n")?;
         report.extend_from_slice(transcript.as_slice())?;
     }
+    Ok(())
+}
+
+/// Appends how often other mailboxes were loaded, and none, if it happened.
+fn push_counts(
+    alloc: Global,
+    report: &mut Vec<u8>,
+    others: u64,
+    unread: u64,
+) -> Result<(), ScriptError> {
     if others > 0 || unread > 0 {
         let text = format!(in alloc; "{others} times other mailboxes, {unread} times none\n")?;
         report.extend_from_slice(text.as_bytes())?;
@@ -221,7 +269,28 @@ fn fault_lines<K: TestKeeper>(
     lines: &str,
 ) -> Result<String, KeepError> {
     let image = image_after::<K>(alloc, scenario, world)?;
-    fault_report::<K>(alloc, &image, lines)
+    let lines = fault_report::<K>(alloc, &image, lines);
+    drop(image);
+    lines
+}
+
+/// Appends lines that were made.
+fn push_lines(report: &mut Vec<u8>, lines: Result<String, KeepError>) -> Result<(), ScriptError> {
+    match lines {
+        Ok(lines) => Ok(report.extend_from_slice(lines.as_bytes())?),
+        Err(error) => Err(script_error(error)),
+    }
+}
+
+/// Appends a line that was found.
+fn push_line(
+    report: &mut Vec<u8>,
+    line: Result<&'static str, KeepError>,
+) -> Result<(), ScriptError> {
+    match line {
+        Ok(line) => Ok(report.extend_from_slice(line.as_bytes())?),
+        Err(error) => Err(script_error(error)),
+    }
 }
 
 /// Appends why a script wasn't run to its end, if it wasn't.

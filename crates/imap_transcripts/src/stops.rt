@@ -2,6 +2,7 @@
 
 use crate::database::{Opened, TestKeeper, load, load_world, new_keeper};
 use crate::file::{Calls, Image, Left};
+use crate::owned::both;
 use crate::running::{Found, image_after, image_of, run_compared};
 use imap_keeper::KeepError;
 use imap_script::Scenario;
@@ -58,7 +59,9 @@ pub(crate) fn stop_report<K: TestKeeper>(
     world: &World,
 ) -> Result<&'static str, KeepError> {
     let image = start_image::<K>(alloc, world)?;
-    stop_both::<K>(alloc, &image, scenario, world)
+    let report = stop_both::<K>(alloc, &image, scenario, world);
+    drop(image);
+    report
 }
 
 /// Does the same over the database that the script leaves, with the tables of the first version.
@@ -68,9 +71,25 @@ pub(crate) fn first_stop_report<K: TestKeeper>(
     world: &World,
 ) -> Result<&'static str, KeepError> {
     let image = image_after::<K>(alloc, scenario, world)?;
-    let world = load_world::<K>(alloc, &image)?;
-    let first = K::execute(alloc, &image, TO_FIRST)?;
-    stop_both::<K>(alloc, &first, scenario, &world)
+    let report = stop_both_of_first::<K>(alloc, &image, scenario);
+    drop(image);
+    report
+}
+
+/// Does the same over the database that has these octets.
+fn stop_both_of_first<K: TestKeeper>(
+    alloc: Global,
+    image: &Image,
+    scenario: &Scenario,
+) -> Result<&'static str, KeepError> {
+    let (world, first) = both(
+        load_world::<K>(alloc, image),
+        K::execute(alloc, image, TO_FIRST),
+    )?;
+    let report = stop_both::<K>(alloc, &first, scenario, &world);
+    drop(world);
+    drop(first);
+    report
 }
 
 /// Runs the script over the database that has these octets, and that keeps `world`. Has each call of each of its files
@@ -128,7 +147,11 @@ fn run_once<K: TestKeeper>(
 ) -> Result<Outcome, KeepError> {
     match K::open(alloc, image, calls)? {
         Opened::Keeper(keeper) => run_stopped(alloc, scenario, keeper, world.try_copy(alloc)),
-        Opened::Refused(_, left) => outcome_of_files::<K>(alloc, &left, world, &None),
+        Opened::Refused(_, left) => {
+            let outcome = outcome_of_files::<K>(alloc, &left, world, None);
+            drop(left);
+            outcome
+        }
     }
 }
 
@@ -144,18 +167,27 @@ fn run_stopped<K: TestKeeper>(
         return Err(KeepError::Memory);
     };
     let (keeper, found) = run_compared(alloc, scenario, keeper, world);
-    outcome_of_run::<K>(alloc, keeper.close(alloc), &found)
+    let outcome = match keeper.close(alloc) {
+        Ok(left) => {
+            let outcome = outcome_of_run::<K>(alloc, &left, &found);
+            drop(left);
+            outcome
+        }
+        Err(error) => Err(error),
+    };
+    drop(found);
+    outcome
 }
 
 /// Returns how a run ended, by what was loaded while it went on and by its files.
 fn outcome_of_run<K: TestKeeper>(
     alloc: Global,
-    left: Result<Left, KeepError>,
+    left: &Left,
     found: &Found,
 ) -> Result<Outcome, KeepError> {
-    let left = left?;
     let comparison = &found.comparison;
-    let outcome = outcome_of_files::<K>(alloc, &left, &comparison.world, &comparison.refused)?;
+    let refused = comparison.refused.as_ref();
+    let outcome = outcome_of_files::<K>(alloc, left, &comparison.world, refused)?;
     if left.is_stopped && comparison.others == 0 {
         Ok(outcome)
     } else if found.ended.is_ok() && comparison.is_whole() && outcome == Outcome::Kept {
@@ -171,7 +203,7 @@ fn outcome_of_files<K: TestKeeper>(
     alloc: Global,
     left: &Left,
     before: &World,
-    after: &Option<World>,
+    after: Option<&World>,
 ) -> Result<Outcome, KeepError> {
     if loads_either::<K>(alloc, &left.written, before, after)?
         && loads_either::<K>(alloc, &left.crashed, before, after)?
@@ -187,17 +219,19 @@ fn loads_either<K: TestKeeper>(
     alloc: Global,
     image: &Image,
     before: &World,
-    after: &Option<World>,
+    after: Option<&World>,
 ) -> Result<bool, KeepError> {
     let (loaded, left) = load::<K>(alloc, image)?;
     drop(left);
-    match loaded {
-        Ok(world) => Ok(is_either(&world, before, after)),
-        Err(_) => Ok(false),
-    }
+    let is_either = match &loaded {
+        Ok(world) => is_either(world, before, after),
+        Err(_) => false,
+    };
+    drop(loaded);
+    Ok(is_either)
 }
 
-fn is_either(world: &World, before: &World, after: &Option<World>) -> bool {
+fn is_either(world: &World, before: &World, after: Option<&World>) -> bool {
     if world.same(before) {
         return true;
     }

@@ -1,5 +1,6 @@
 //! Transcripts of many scripts.
 
+use crate::owned::put;
 use crate::past_runs::PastRuns;
 use crate::script_row::ScriptRow;
 use imap_script::{ScriptError, read_input};
@@ -20,16 +21,45 @@ pub(crate) fn write_transcripts<R: AllocGlobal, I: Read + Drop, O: Write + Drop>
     let text = read_input(alloc, input, MAX_READS)?;
     let mut past = PastRuns::new(alloc);
     let mut row = None;
+    let written = write_rows(alloc, text.as_slice(), &mut row, &mut past, &mut output);
+    drop(row);
+    drop(past);
+    written
+}
+
+/// Runs the scripts of the text. The script that is being read is the one of `row`.
+fn write_rows<O: Write>(
+    alloc: Global,
+    text: &[u8],
+    row: &mut Option<ScriptRow>,
+    past: &mut PastRuns,
+    output: &mut O,
+) -> Result<(), ScriptError> {
     for line in text.split_inclusive(|octet| *octet == b'\n') {
-        if line.starts_with(b"== ") {
-            write_report(alloc, row.take(), &mut past, &mut output)?;
-            write_octets(&mut output, line)?;
-            row = Some(ScriptRow::new(alloc, name_in(alloc, line)?));
-        } else if let Some(begun) = &mut row {
-            begun.take_line(alloc, line)?;
+        take_line(alloc, line, row, past, output)?;
+    }
+    end_row(alloc, row, past, output)
+}
+
+/// Takes a line, which ends a script and begins another one, or is of the script that is being read if there is one.
+fn take_line<O: Write>(
+    alloc: Global,
+    line: &[u8],
+    row: &mut Option<ScriptRow>,
+    past: &mut PastRuns,
+    output: &mut O,
+) -> Result<(), ScriptError> {
+    if line.starts_with(b"== ") {
+        end_row(alloc, row, past, output)?;
+        write_octets(output, line)?;
+        put(row, Some(ScriptRow::new(alloc, name_in(alloc, line)?)));
+        Ok(())
+    } else {
+        match row {
+            Some(begun) => begun.take_line(alloc, line),
+            None => Ok(()),
         }
     }
-    write_report(alloc, row, &mut past, &mut output)
 }
 
 /// Returns what stands after `== `.
@@ -39,24 +69,40 @@ fn name_in(alloc: Global, line: &[u8]) -> Result<Vec<u8>, ScriptError> {
     Ok(name)
 }
 
-/// Runs the script of `row`, if there is one, and writes its report and how it compares with `past` runs, of which
-/// it becomes one.
-fn write_report<O: Write>(
+/// Runs the script that was read, if there is one, and writes its report.
+fn end_row<O: Write>(
     alloc: Global,
-    row: Option<ScriptRow>,
+    row: &mut Option<ScriptRow>,
     past: &mut PastRuns,
     output: &mut O,
 ) -> Result<(), ScriptError> {
-    let Some(row) = row else {
-        return Ok(());
-    };
+    match row.take() {
+        Some(row) => {
+            let written = write_report(alloc, &row, past, output);
+            drop(row);
+            written
+        }
+        None => Ok(()),
+    }
+}
+
+/// Runs the script of the row, and writes its report and how it compares with `past` runs, of which it becomes one.
+fn write_report<O: Write>(
+    alloc: Global,
+    row: &ScriptRow,
+    past: &mut PastRuns,
+    output: &mut O,
+) -> Result<(), ScriptError> {
     let report = row.report(alloc)?;
     write_octets(output, report.as_slice())?;
     let compared = past.compare(alloc, row.comparisons.as_str(), report.as_slice())?;
     write_octets(output, compared.as_bytes())?;
-    past.push(row.name, report)
+    past.push(alloc, row.name.as_slice(), report)
 }
 
 fn write_octets<O: Write>(output: &mut O, octets: &[u8]) -> Result<(), ScriptError> {
-    output.write_all(octets).map_err(|_| ScriptError::Io)
+    match output.write_all(octets) {
+        Ok(()) => Ok(()),
+        Err(_) => Err(ScriptError::Io),
+    }
 }

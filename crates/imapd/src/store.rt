@@ -3,11 +3,13 @@
 //! Pages of a new store end in a sum (SQLite's `cksumvfs`), so that a changed bit is found when the store is opened. A
 //! store without sums is taken as it is.
 
+use imap_keeper::{Damage, Keeper};
 use imap_options::LogLevel;
 use imap_service::{ServiceError, StoreFault, make_missing, make_private, report_unread};
-use imap_sql_keeper::SqlKeeper;
+use imap_sql_keeper::{Finding, SqlKeeper};
 use sqlite::{Connection, Error, ErrorCode, File, FileStore, Options, Unknown};
 use sqlite_std_file::OpenError;
+use std::alloc::Global;
 use std::hash::{BuildHasher, RandomState};
 use std::io::ErrorKind;
 
@@ -18,19 +20,56 @@ const PAGES: usize = 500;
 /// A keeper in a file.
 pub(crate) type FileKeeper = SqlKeeper<FileStore<File>>;
 
-/// Takes the database in the file over, which is made if it is missing. It and the files beside it can then be read
-/// and written by their owner alone. A log that an earlier run left is put back into the database.
-pub(crate) fn open(
-    rt: &HostRuntime,
-    path: &str,
-    level: LogLevel,
-) -> Result<FileKeeper, ServiceError> {
-    make_missing(rt, path)?;
-    if report_unread(rt, level, path)? {
-        put_log_back(rt, path)?;
+/// A keeper over the database in a file.
+pub(crate) trait StoreKeeper: Keeper + Drop {
+    /// Takes the database in the file over, which is made if it is missing. It and the files beside it can then be read
+    /// and written by their owner alone. A log that an earlier run left is put back into the database.
+    fn open(rt: &HostRuntime, path: &str, level: LogLevel) -> Result<Self, ServiceError>;
+
+    /// Ends the keeper, and puts its log back into the database.
+    fn close(self) -> Result<(), ServiceError>;
+
+    /// Ends a keeper that could not load, and names a row that stands for nothing, and of what it is.
+    fn find(self, alloc: Global) -> Option<Finding>;
+
+    /// Ends a keeper that could not load, and names a row that stands for nothing.
+    fn find_damage(self, alloc: Global) -> Option<Damage>;
+}
+
+impl StoreKeeper for FileKeeper {
+    fn open(rt: &HostRuntime, path: &str, level: LogLevel) -> Result<FileKeeper, ServiceError> {
+        make_missing(rt, path)?;
+        if report_unread(rt, level, path)? {
+            put_log_back(rt, path)?;
+        }
+        let conn = connect(rt, path)?;
+        match make_private(rt, path) {
+            Ok(()) => adopt(conn),
+            Err(error) => {
+                drop(conn);
+                Err(error)
+            }
+        }
     }
-    let conn = connect(rt, path)?;
-    make_private(rt, path)?;
+
+    fn close(self) -> Result<(), ServiceError> {
+        match self.release().close() {
+            Ok(()) => Ok(()),
+            Err(error) => Err(fault(error)),
+        }
+    }
+
+    fn find(self, alloc: Global) -> Option<Finding> {
+        self.into_finding(alloc)
+    }
+
+    fn find_damage(self, alloc: Global) -> Option<Damage> {
+        self.into_damage(alloc)
+    }
+}
+
+/// Takes the database over.
+fn adopt(conn: Connection<FileStore<File>>) -> Result<FileKeeper, ServiceError> {
     match SqlKeeper::adopt(conn) {
         Ok(keeper) => Ok(keeper),
         Err((conn, error)) => {
@@ -41,20 +80,16 @@ pub(crate) fn open(
 }
 
 /// Ends the keeper with which serving ended so. If its rows stand for no mailboxes, one of them is named.
-pub(crate) fn end(rt: &HostRuntime, keeper: FileKeeper, error: ServiceError) -> ServiceError {
+pub(crate) fn end<K: StoreKeeper>(
+    rt: &HostRuntime,
+    keeper: K,
+    error: ServiceError,
+) -> ServiceError {
     if !error.is_damage() {
         drop(keeper);
         return error;
     }
-    error.with_row(keeper.into_damage(rt.alloc()))
-}
-
-/// Ends a keeper, and puts its log back into the database.
-pub(crate) fn close(keeper: FileKeeper) -> Result<(), ServiceError> {
-    match keeper.release().close() {
-        Ok(()) => Ok(()),
-        Err(error) => Err(fault(error)),
-    }
+    error.with_row(keeper.find_damage(rt.alloc()))
 }
 
 /// Puts the log back into the database.

@@ -3,7 +3,7 @@
 use crate::machine::{both, push};
 use crate::messages::mailboxes::{PATHS, PlainWorld, USERS};
 use crate::messages::plain::{Folded, PlainRow, fold};
-use crate::world::{name, user};
+use crate::world::{identifier, name, user};
 use bitflags::Flags;
 use imap_batch::{Batch, FlagUpdate, NewMessage};
 use imap_lex::Octets;
@@ -18,7 +18,7 @@ use std::alloc::{AllocError, Global};
 pub(crate) const MAX_MESSAGES: usize = 30;
 
 /// What is given to users. At first each gets the one of its own place.
-const LETTERS: [&[u8]; 10] = [
+const LETTERS: &[&[u8]] = &[
     b"lrswipkxtea",
     b"lrwikxte",
     b"i",
@@ -51,13 +51,6 @@ pub(crate) struct Setting {
     pub users: Vec<UserName>,
     pub identifiers: Vec<Identifier>,
     pub names: Vec<Name>,
-}
-
-fn identifier(alloc: Global, text: &str) -> Result<Identifier, AllocError> {
-    match Identifier::read(alloc, text.as_bytes()) {
-        Ok(identifier) => Ok(identifier),
-        Err(_) => Err(AllocError),
-    }
 }
 
 fn identifiers(alloc: Global) -> Result<Vec<Identifier>, AllocError> {

@@ -8,11 +8,11 @@ use imap_rights::{Identifier, Rights, RightsChange};
 use imap_world::{Effect, NamedBatch, WorldError};
 use std::alloc::{AllocError, Global};
 
-pub(crate) const USERS: [&str; 4] = ["ann", "bob", "cy", "dan"];
+pub(crate) const USERS: &[&str] = &["ann", "bob", "cy", "dan"];
 
 /// The names of mailboxes in the tree that all share, whose owner is ann. An odd place is below the one
 /// before it.
-pub(crate) const PATHS: [&str; 6] = ["A", "A/B", "C", "C/B", "D", "D/B"];
+pub(crate) const PATHS: &[&str] = &["A", "A/B", "C", "C/B", "D", "D/B"];
 
 /// A mailbox that is there.
 #[derive(Drop)]
@@ -54,11 +54,11 @@ fn place_in(texts: &[&str], wanted: &[u8]) -> usize {
 
 /// The place of a name.
 fn place_of(name: &Name) -> usize {
-    place_in(&PATHS, name.path().as_bytes())
+    place_in(PATHS, name.path().as_bytes())
 }
 
 fn place_of_user(user: &[u8]) -> usize {
-    place_in(&USERS, user)
+    place_in(USERS, user)
 }
 
 /// All names with their mailboxes, in the order of `PATHS`.
@@ -130,9 +130,12 @@ impl PlainWorld {
 
     /// The mailbox gets a UIDVALIDITY that was never used under the name.
     fn put(&mut self, place: usize, mailbox: PlainMailbox) {
-        if let Some(name) = self.names.get_mut(place) {
-            name.validity = name.validity.saturating_add(1);
-            name.mailbox = Some(mailbox);
+        match self.names.get_mut(place) {
+            Some(name) => {
+                name.validity = name.validity.saturating_add(1);
+                drop(name.mailbox.replace(mailbox));
+            }
+            None => drop(mailbox),
         }
     }
 
@@ -274,6 +277,13 @@ fn has_marked(folded: &Folded, marks: &[FlagUpdate]) -> bool {
     true
 }
 
+fn next_of(folded: Result<Folded, AllocError>) -> Result<u32, AllocError> {
+    let folded = folded?;
+    let next = folded.next;
+    drop(folded);
+    Ok(next)
+}
+
 fn has_all(folded: &Folded, uids: &[u32]) -> bool {
     for uid in uids {
         if !folded.has(*uid) {
@@ -303,7 +313,7 @@ impl PlainWorld {
     /// What happens by a batch whose messages are there.
     fn record(&mut self, part: &NamedBatch) -> Result<(), WorldError> {
         let place = place_of(&part.name);
-        let first = self.folded(place, 0)?.next;
+        let first = next_of(self.folded(place, 0))?;
         let Some(name) = self.names.get_mut(place) else {
             return Err(WorldError::NoSuch);
         };

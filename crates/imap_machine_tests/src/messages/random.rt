@@ -90,15 +90,17 @@ fn is_right_at(
     place: usize,
     user: usize,
 ) -> Result<bool, AllocError> {
-    let wanted = model.folded(place, user)?;
     let Some(name) = setting.names.get(place) else {
         return Ok(false);
     };
+    let wanted = model.folded(place, user)?;
     let rights = model.rights(place, user);
-    Ok(match view.seen(&name.as_ref()) {
+    let is_right = match view.seen(&name.as_ref()) {
         Some(seen) => is_shown(&seen, rights, model.validity(place), &wanted),
         None => !rights.has_any(Rights::VISIBLE),
-    })
+    };
+    drop(wanted);
+    Ok(is_right)
 }
 
 fn is_right_to(
@@ -149,7 +151,11 @@ fn are_left(mailbox: &Mailbox, write: &BatchWrite, wanted: &[PlainRow]) -> bool
 
 fn leaves(alloc: Global, mailbox: &Mailbox, batch: &Batch, wanted: &[PlainRow]) -> bool {
     match resolve(alloc, mailbox, batch) {
-        Ok(write) => are_left(mailbox, &write, wanted),
+        Ok(write) => {
+            let are_left = are_left(mailbox, &write, wanted);
+            drop(write);
+            are_left
+        }
         Err(_) => false,
     }
 }
@@ -157,13 +163,15 @@ fn leaves(alloc: Global, mailbox: &Mailbox, batch: &Batch, wanted: &[PlainRow]) 
 /// Whether the batch is said in `world` to leave the rows that its user has in `model`.
 fn is_planned(world: &World, model: &PlainWorld, part: &NamedBatch) -> Result<bool, AllocError> {
     let wanted = model.folded_for(part)?;
-    Ok(match world.mailbox(&part.name.as_ref()) {
+    let is_planned = match world.mailbox(&part.name.as_ref()) {
         Some(mailbox) => {
             let messages = mailbox.messages.as_ref();
             leaves(model.alloc, messages, &part.batch, wanted.rows.as_slice())
         }
         None => false,
-    })
+    };
+    drop(wanted);
+    Ok(is_planned)
 }
 
 fn are_planned(world: &World, model: &PlainWorld, effect: &Effect) -> Result<bool, AllocError> {
@@ -232,7 +240,10 @@ fn count_steps(
 
 fn random_effects(alloc: Global, world: &mut World) -> Result<(u32, u32), WorldError> {
     let (setting, mut model) = both(make_setting(alloc), PlainWorld::new(alloc))?;
-    count_steps(&setting, world, &mut model)
+    let counts = count_steps(&setting, world, &mut model);
+    drop(setting);
+    drop(model);
+    counts
 }
 
 /// Rows, numbers, UIDs that are gone, room and UIDNEXT of each user are those that the events give.

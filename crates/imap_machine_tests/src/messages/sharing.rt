@@ -36,6 +36,7 @@ fn make_chosen(
 fn make_in_model(step: u32, setting: &Setting, model: &mut PlainWorld) {
     if let Ok(effect) = chosen_effect(step, setting, model) {
         let _ = model.make(&effect);
+        drop(effect);
     }
 }
 
@@ -60,8 +61,19 @@ fn take_step(
 /// How many effects are made, up to the first that a copy isn't apart from.
 fn count_steps(alloc: Global, worlds: &mut Worlds) -> Result<u32, AllocError> {
     let (setting, mut model) = both(make_setting(alloc), PlainWorld::new(alloc))?;
+    let count = count_steps_in(&setting, worlds, &mut model);
+    drop(setting);
+    drop(model);
+    count
+}
+
+fn count_steps_in(
+    setting: &Setting,
+    worlds: &mut Worlds,
+    model: &mut PlainWorld,
+) -> Result<u32, AllocError> {
     for step in 0..200 {
-        if !take_step(step, &setting, worlds, &mut model)? {
+        if !take_step(step, setting, worlds, model)? {
             return Ok(step);
         }
     }

@@ -5,7 +5,7 @@ use super::check;
 
 #[test]
 fn words_alone(rt: HostRuntime) {
-    const ROWS: [(&[u8], &[u8]); 12] = [
+    const ROWS: &[(&[u8], &[u8])] = &[
         (b"abcd CAPABILITY\r\n", b"abcd CAPABILITY\r\n"),
         (b"a002 noop\r\n", b"a002 NOOP\r\n"),
         (b"A023 LOGOUT\r\n", b"A023 LOGOUT\r\n"),
@@ -19,12 +19,12 @@ fn words_alone(rt: HostRuntime) {
         (b"tag\r\n", b"tag\r\n"),
         (b"\r\n", b"\r\n"),
     ];
-    check(&rt, rt.alloc(), &ROWS);
+    check(&rt, rt.alloc(), ROWS);
 }
 
 #[test]
 fn names(rt: HostRuntime) {
-    const ROWS: [(&[u8], &[u8]); 13] = [
+    const ROWS: &[(&[u8], &[u8])] = &[
         (
             b"A003 CREATE owatagusiam/\r\n",
             b"A003 CREATE owatagusiam/\r\n",
@@ -72,12 +72,12 @@ fn names(rt: HostRuntime) {
             b"t2 ENABLE CONDSTORE X-GOOD-IDEA\r\n",
         ),
     ];
-    check(&rt, rt.alloc(), &ROWS);
+    check(&rt, rt.alloc(), ROWS);
 }
 
 #[test]
 fn selecting(rt: HostRuntime) {
-    const ROWS: [(&[u8], &[u8]); 6] = [
+    const ROWS: &[(&[u8], &[u8])] = &[
         (b"A142 SELECT INBOX\r\n", b"A142 SELECT INBOX\r\n"),
         (
             b"A932 EXAMINE blurdybloop\r\n",
@@ -100,12 +100,12 @@ fn selecting(rt: HostRuntime) {
             b"A04 SELECT x (QRESYNC (1 2 3:4))\r\n",
         ),
     ];
-    check(&rt, rt.alloc(), &ROWS);
+    check(&rt, rt.alloc(), ROWS);
 }
 
 #[test]
 fn listing(rt: HostRuntime) {
-    const ROWS: [(&[u8], &[u8]); 6] = [
+    const ROWS: &[(&[u8], &[u8])] = &[
         (b"A101 LIST \"\" \"\"\r\n", b"A101 LIST \"\" \"\"\r\n"),
         (b"A202 LIST ~/Mail/ %\r\n", b"A202 LIST ~/Mail/ %\r\n"),
         (
@@ -127,12 +127,12 @@ fn listing(rt: HostRuntime) {
                 RETURN (SUBSCRIBED STATUS (MESSAGES UNSEEN))\r\n",
         ),
     ];
-    check(&rt, rt.alloc(), &ROWS);
+    check(&rt, rt.alloc(), ROWS);
 }
 
 #[test]
 fn appending(rt: HostRuntime) {
-    const ROWS: [(&[u8], &[u8]); 4] = [
+    const ROWS: &[(&[u8], &[u8])] = &[
         (
             b"A003 APPEND saved-messages (\\Seen) {5+}\r\nhello\r\n",
             b"A003 APPEND saved-messages (\\SEEN) {5}\r\nhello\r\n",
@@ -147,12 +147,12 @@ fn appending(rt: HostRuntime) {
             b"A003 APPEND x (\\DRAFT \\x y) \" 7-Feb-0994 21:52:25 +0000\" {2}\r\n\r\n\r\n",
         ),
     ];
-    check(&rt, rt.alloc(), &ROWS);
+    check(&rt, rt.alloc(), ROWS);
 }
 
 #[test]
 fn searching(rt: HostRuntime) {
-    const ROWS: [(&[u8], &[u8]); 9] = [
+    const ROWS: &[(&[u8], &[u8])] = &[
         (
             b"A282 SEARCH RETURN (MIN COUNT) FLAGGED SINCE 1-Feb-1994 NOT FROM \"Smith\"\r\n",
             b"A282 SEARCH RETURN (MIN COUNT) FLAGGED SINCE 1-Feb-1994 NOT FROM Smith\r\n",
@@ -187,12 +187,12 @@ fn searching(rt: HostRuntime) {
             b"a SEARCH SENTON 1-Jan-2000 $ BEFORE 31-Dec-9999\r\n",
         ),
     ];
-    check(&rt, rt.alloc(), &ROWS);
+    check(&rt, rt.alloc(), ROWS);
 }
 
 #[test]
 fn fetching(rt: HostRuntime) {
-    const ROWS: [(&[u8], &[u8]); 9] = [
+    const ROWS: &[(&[u8], &[u8])] = &[
         (
             b"A654 FETCH 2:4 (FLAGS BODY[HEADER.FIELDS (DATE FROM)])\r\n",
             b"A654 FETCH 2:4 (FLAGS BODY[HEADER.FIELDS (DATE FROM)])\r\n",
@@ -224,12 +224,12 @@ fn fetching(rt: HostRuntime) {
             b"a FETCH $ (RFC822.SIZE INTERNALDATE)\r\n",
         ),
     ];
-    check(&rt, rt.alloc(), &ROWS);
+    check(&rt, rt.alloc(), ROWS);
 }
 
 #[test]
 fn storing(rt: HostRuntime) {
-    const ROWS: [(&[u8], &[u8]); 8] = [
+    const ROWS: &[(&[u8], &[u8])] = &[
         (
             b"A003 STORE 2:4 +FLAGS (\\Deleted)\r\n",
             b"A003 STORE 2:4 +FLAGS \\DELETED\r\n",
@@ -251,5 +251,5 @@ fn storing(rt: HostRuntime) {
             b"A003 UID EXPUNGE 3000:3002\r\n",
         ),
     ];
-    check(&rt, rt.alloc(), &ROWS);
+    check(&rt, rt.alloc(), ROWS);
 }

@@ -1,7 +1,7 @@
 //! Responses about the messages of the selected mailbox.
 
 use super::{check, numbers, octets};
-use crate::owned::both;
+use crate::owned::{both, push};
 use crate::wanted::expect;
 use imap_lex::Octets;
 use imap_print::*;
@@ -187,8 +187,8 @@ fn section(alloc: Global, section: SectionOf<'_>) -> Result<Section, AllocError>
         SectionOf::Whole => Ok(Section::Whole),
         SectionOf::Header => Ok(Section::Header),
         SectionOf::Text => Ok(Section::Text),
-        SectionOf::Fields(names) => field_names(alloc, names).map(Section::Fields),
-        SectionOf::FieldsNot(names) => field_names(alloc, names).map(Section::FieldsNot),
+        SectionOf::Fields(names) => Ok(Section::Fields(field_names(alloc, names)?)),
+        SectionOf::FieldsNot(names) => Ok(Section::FieldsNot(field_names(alloc, names)?)),
     }
 }
 
@@ -216,10 +216,21 @@ fn fetched_section(alloc: Global, part: &Part<'_>) -> Result<FetchedSection, All
 
 fn sections(alloc: Global, parts: &[Part<'_>]) -> Result<Items<FetchedSection>, AllocError> {
     let mut sections = Vec::new(alloc);
-    for part in parts {
-        sections.push(fetched_section(alloc, part)?)?;
-    }
+    let pushed = push_sections(alloc, &mut sections, parts);
+    let (_, sections) = both(pushed, Ok(sections))?;
     Ok(Items::from_vec(sections))
+}
+
+fn push_sections(
+    alloc: Global,
+    sections: &mut Vec<FetchedSection>,
+    parts: &[Part<'_>],
+) -> Result<(), AllocError> {
+    for part in parts {
+        let section = fetched_section(alloc, part)?;
+        push(sections, section)?;
+    }
+    Ok(())
 }
 
 /// A day, a time of it, and a zone: whether it is west of Greenwich, hours and minutes.
@@ -253,7 +264,7 @@ const NOTHING: Message = Message {
 
 fn some_flags(alloc: Global, flags: &Option<SystemFlags>) -> Result<Option<FlagSet>, AllocError> {
     match flags {
-        Some(flags) => flag_set(alloc, flags, &[]).map(Some),
+        Some(flags) => Ok(Some(flag_set(alloc, flags, &[])?)),
         None => Ok(None),
     }
 }
@@ -390,7 +401,7 @@ fn fetch_date(alloc: Global, moment: &Moment) -> Result<Response, AllocError> {
 fn dates(rt: HostRuntime) {
     const NOON: (u8, u8, u8) = (12, 0, 0);
     const UTC: (bool, u8, u8) = (false, 0, 0);
-    const ROWS: [(Moment, &[u8]); 12] = [
+    const ROWS: &[(Moment, &[u8])] = &[
         (
             ((1996, Month::Jul, 17), (2, 44, 25), (true, 7, 0)),
             b"* 1 FETCH (INTERNALDATE \"17-Jul-1996 02:44:25 -0700\")\r\n",
@@ -440,7 +451,7 @@ fn dates(rt: HostRuntime) {
             b"* 1 FETCH (INTERNALDATE \" 1-Nov-2000 12:00:00 +0000\")\r\n",
         ),
     ];
-    for (moment, line) in &ROWS {
+    for (moment, line) in ROWS {
         check(&rt, rt.alloc(), fetch_date(rt.alloc(), moment), line);
     }
 }

@@ -1,5 +1,6 @@
 //! Messages that are told as they were asked for (RFC 3501, sections 6.4.5 and 7.4.2).
 
+use crate::owned::{both, push};
 use crate::rev1::rows::expect_told;
 use imap_lex::Octets;
 use imap_print::{FetchedItems, FetchedSection, LiteralParts, Response};
@@ -43,10 +44,21 @@ fn fetched(alloc: Global, body: Body) -> Result<FetchedSection, AllocError> {
 
 fn sections(alloc: Global, bodies: &[Body]) -> Result<Items<FetchedSection>, AllocError> {
     let mut sections = Vec::new(alloc);
-    for body in bodies {
-        sections.push(fetched(alloc, *body)?)?;
-    }
+    let pushed = push_sections(alloc, &mut sections, bodies);
+    let (_, sections) = both(pushed, Ok(sections))?;
     Ok(Items::from_vec(sections))
+}
+
+fn push_sections(
+    alloc: Global,
+    sections: &mut Vec<FetchedSection>,
+    bodies: &[Body],
+) -> Result<(), AllocError> {
+    for body in bodies {
+        let section = fetched(alloc, *body)?;
+        push(sections, section)?;
+    }
+    Ok(())
 }
 
 /// Message 12 with its UID, its size and these sections.

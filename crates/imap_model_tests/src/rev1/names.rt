@@ -135,7 +135,11 @@ const ENABLES: &[(&[u8], EnabledCapabilities, &[u8], &[u8])] = &[
 fn seen(alloc: Global, session: &Utf7Rev1, command: &[u8]) -> Result<Vec<u8>, AllocError> {
     let own = frame(alloc, command)?;
     match session.rewrite(alloc, &own)? {
-        Some(other) => octets_of(alloc, &other),
+        Some(other) => {
+            let octets = octets_of(alloc, &other);
+            drop(other);
+            octets
+        }
         None => Vec::from_slice(alloc, command),
     }
 }
@@ -155,7 +159,9 @@ fn pieces(
 ) -> Result<Items<Octets>, AllocError> {
     let rules = session.rule(alloc, Some(own))?;
     let mut out = Pieces::new(alloc);
-    Utf7Rev1::tell(&rules, reply, &mut out)?;
+    let told = Utf7Rev1::tell(&rules, reply, &mut out);
+    drop(rules);
+    told?;
     out.into_pieces()
 }
 
@@ -172,10 +178,15 @@ fn told(
 }
 
 /// A session after a command and the reply to it.
-fn session_after(alloc: Global, command: &[u8], reply: Response) -> Result<Utf7Rev1, AllocError> {
+fn session_after(
+    alloc: Global,
+    command: &[u8],
+    replies: &[Response],
+) -> Result<Utf7Rev1, AllocError> {
     let own = frame(alloc, command)?;
     let mut session = Utf7Rev1::new();
-    session.advance(&own, &[reply]);
+    session.advance(&own, replies);
+    drop(own);
     Ok(session)
 }
 
@@ -187,8 +198,12 @@ fn expect_told(
     reply: Result<Response, AllocError>,
     wanted: &[u8],
 ) {
-    match &reply {
-        Ok(reply) => expect(rt, told(rt.alloc(), session, command, reply), wanted),
+    match reply {
+        Ok(reply) => {
+            let told = told(rt.alloc(), session, command, &reply);
+            drop(reply);
+            expect(rt, told, wanted);
+        }
         Err(error) => panic!(rt; "{error:?}"),
     }
 }
@@ -320,10 +335,13 @@ fn expect_after(
     enabled: EnabledCapabilities,
     wanted: &[u8],
 ) {
-    match &session_after(rt.alloc(), command, Response::Enabled(enabled)) {
+    let replies = [Response::Enabled(enabled)];
+    let session = session_after(rt.alloc(), command, &replies);
+    drop(replies);
+    match session {
         Ok(session) => {
             let reply = reply(rt.alloc(), Named::MyRights, b"\xc3\xa9");
-            expect_told(rt, session, b"T MYRIGHTS x\r\n", reply, wanted);
+            expect_told(rt, &session, b"T MYRIGHTS x\r\n", reply, wanted);
         }
         Err(error) => panic!(rt; "{error:?}"),
     }

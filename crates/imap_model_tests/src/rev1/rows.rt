@@ -21,7 +21,9 @@ pub(crate) fn session(rev2: bool) -> Rev1 {
         imap4rev2: rev2,
         qresync: false,
     };
-    state.advance(&Frame::Continue, &[Response::Enabled(enabled)]);
+    let replies = [Response::Enabled(enabled)];
+    state.advance(&Frame::Continue, &replies);
+    drop(replies);
     state
 }
 
@@ -67,7 +69,9 @@ fn told(
     reply: &Response,
 ) -> Result<Vec<u8>, AllocError> {
     let rules = rules(alloc, rev2, command)?;
-    told_by(alloc, &rules, reply)
+    let told = told_by(alloc, &rules, reply);
+    drop(rules);
+    told
 }
 
 /// Asserts that a reply, once it was made, is told in these octets.
@@ -78,8 +82,12 @@ pub(crate) fn expect_told(
     reply: Result<Response, AllocError>,
     wanted: &[u8],
 ) {
-    match &reply {
-        Ok(reply) => expect(rt, told(rt.alloc(), rev2, command, reply), wanted),
+    match reply {
+        Ok(reply) => {
+            let told = told(rt.alloc(), rev2, command, &reply);
+            drop(reply);
+            expect(rt, told, wanted);
+        }
         Err(error) => panic!(rt; "{error:?}"),
     }
 }
