@@ -33,7 +33,7 @@ fn read_names<R: Files + AllocGlobal + Clone + Drop>(
 }
 
 /// Appends the name of what was found in a folder.
-fn push_name<R: Files>(
+fn push_name<R: Files + Drop>(
     names: &mut Vec<String>,
     alloc: Global,
     entry: io::Result<DirEntry<R>>,
