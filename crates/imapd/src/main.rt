@@ -16,9 +16,11 @@ use crate::dumping::dump_store;
 use crate::loading::load_folder;
 use crate::store::{FileKeeper, StoreKeeper};
 use imap_host::PARTS;
-use imap_options::{Service, Task, read_command_line};
+use imap_options::{LogLevel, Service, Task, read_command_line};
 use imap_script::script;
-use imap_service::{report_misuse, report_script_error, report_service_error, report_version, run};
+use imap_service::{
+    ServiceError, report_misuse, report_script_error, report_service_error, report_version, run,
+};
 use std::marker::Brand;
 use std::process::ExitCode;
 use std::sync::ledger::Blank;
@@ -36,13 +38,9 @@ fn main(rt: HostRuntime) -> ExitCode {
     }
 }
 
-/// Carries the task out over a store of this kind. Returns the exit status. The kind is named once: a proof that names
-/// it is long.
-fn carry_out<K: StoreKeeper + Send>(
-    rt: &HostRuntime,
-    task: Task,
-    since: Option<Instant>,
-) -> ExitCode {
+/// Carries the task out, over a store of this kind where it serves nobody. Returns the exit status. A proof that names the
+/// kind is long.
+fn carry_out<K: StoreKeeper>(rt: &HostRuntime, task: Task, since: Option<Instant>) -> ExitCode {
     match task {
         Task::Check(database) => check::<K>(rt, database),
         Task::Dump { database, folder } => dump_store::<K>(rt, database, folder),
@@ -53,7 +51,7 @@ fn carry_out<K: StoreKeeper + Send>(
         } => load_folder::<K>(rt, database, folder, administrator),
         Task::Script => run_script(rt),
         Task::Version => report_version(rt),
-        Task::Serve { database, service } => serve::<K>(rt, database, service, since),
+        Task::Serve { database, service } => serve(rt, database, service, since),
     }
 }
 
@@ -65,18 +63,13 @@ fn run_script(rt: &HostRuntime) -> ExitCode {
 }
 
 /// Serves users from the store in the file until that ends. Returns the exit status.
-fn serve<K: StoreKeeper + Send>(
-    rt: &HostRuntime,
-    database: String,
-    service: Service,
-    since: Option<Instant>,
-) -> ExitCode {
-    let opened = K::open(rt, database.as_str(), service.log);
-    drop(database);
-    match opened {
+fn serve(rt: &HostRuntime, database: String, service: Service, since: Option<Instant>) -> ExitCode {
+    match opened::<FileKeeper>(rt, database, service.log) {
         Ok(keeper) => {
             let blank = Blank::new(PARTS);
-            let (keeper, error) = run::<K, Brand, HostRuntime>(rt, keeper, service, since, blank);
+            let (keeper, error) = run::<FileKeeper, Brand, HostRuntime>(
+                rt, keeper, service, since, blank,
+            );
             report_service_error(rt, store::end(rt, keeper, error))
         }
         Err(error) => {
@@ -84,4 +77,14 @@ fn serve<K: StoreKeeper + Send>(
             report_service_error(rt, error)
         }
     }
+}
+
+fn opened<K: StoreKeeper>(
+    rt: &HostRuntime,
+    database: String,
+    level: LogLevel,
+) -> Result<K, ServiceError> {
+    let opened = K::open(rt, database.as_str(), level);
+    drop(database);
+    opened
 }
