@@ -7,8 +7,9 @@ use imap_keeper::ListKeeper;
 use imap_lex::Octets;
 use imap_mailbox::{Row, SharedFlags};
 use imap_maildir::{
-    KeptMailboxes, KeywordLetters, Loaded, MessageFlags, Progress, dump, load, mailbox_folder,
-    mailbox_name, message_file, message_flags, read_keywords, read_lists, with_line_ends,
+    KeptMailboxes, KeywordLetters, Loaded, MailboxList, MessageFlags, Progress, dump, load,
+    mailbox_folder, mailbox_name, message_file, message_flags, read_keywords, read_lists,
+    with_line_ends,
 };
 use imap_names::{UserName, show_name};
 use imap_syntax::{Atom, DateTime, Keywords};

@@ -55,7 +55,7 @@ pub(crate) struct Setting {
 
 fn identifiers(alloc: Global) -> Result<Vec<Identifier>, AllocError> {
     let mut all = Vec::new(alloc);
-    for text in &USERS {
+    for text in USERS {
         push(&mut all, identifier(alloc, text))?;
     }
     Ok(all)
@@ -63,7 +63,7 @@ fn identifiers(alloc: Global) -> Result<Vec<Identifier>, AllocError> {
 
 fn users(alloc: Global) -> Result<Vec<UserName>, AllocError> {
     let mut all = Vec::new(alloc);
-    for text in &USERS {
+    for text in USERS {
         push(&mut all, user(alloc, text))?;
     }
     Ok(all)
@@ -76,7 +76,7 @@ fn shared_name(alloc: Global, path: &str) -> Result<Name, AllocError> {
 
 fn names(alloc: Global) -> Result<Vec<Name>, AllocError> {
     let mut all = Vec::new(alloc);
-    for path in &PATHS {
+    for path in PATHS {
         push(&mut all, shared_name(alloc, path))?;
     }
     Ok(all)
