@@ -1,6 +1,6 @@
 //! A look at a store that nobody is served from.
 
-use crate::store::StoreKeeper;
+use crate::store::{FileKeeper, open};
 use imap_keeper::KeepError;
 use imap_maildir::KeptMailboxes;
 use imap_options::LogLevel;
@@ -17,20 +17,11 @@ pub(crate) type Fault = (ServiceError, Option<Finding>);
 /// Prints how much the store in the file holds. If it can't be used, tells standard error why, as where it is to be served,
 /// and of what the row is that stands for nothing. Returns the exit status: 0, 3 if standard output failed, and else that of
 /// the fault.
-pub(crate) fn check<K: StoreKeeper>(rt: &HostRuntime, path: String) -> ExitCode {
-    let loaded = load::<K>(rt, path.as_str());
-    let status = match loaded {
-        Ok(kept) => report_kept(rt, path.as_str(), kept),
+pub(crate) fn check(rt: &HostRuntime, path: &str) -> ExitCode {
+    match load(rt, path) {
+        Ok(kept) => report_store(rt, path, kept.world()),
         Err(fault) => report_fault(rt, fault),
-    };
-    drop(path);
-    status
-}
-
-fn report_kept<K: StoreKeeper>(rt: &HostRuntime, path: &str, kept: KeptMailboxes<K>) -> ExitCode {
-    let status = report_store(rt, path, kept.world());
-    drop(kept);
-    status
+    }
 }
 
 fn report_store(rt: &HostRuntime, path: &str, world: &World) -> ExitCode {
@@ -46,18 +37,14 @@ fn report_store(rt: &HostRuntime, path: &str, world: &World) -> ExitCode {
 pub(crate) fn report_fault(rt: &HostRuntime, fault: Fault) -> ExitCode {
     let (error, found) = fault;
     let status = report_service_error(rt, error);
-    if let Some(finding) = &found {
-        report_finding(rt, finding);
+    if let Some(finding) = found {
+        report_finding(rt, &finding);
     }
-    drop(found);
     status
 }
 
 /// Loads the mailboxes of the store in the file, which isn't made if it is missing.
-pub(crate) fn load<K: StoreKeeper>(
-    rt: &HostRuntime,
-    path: &str,
-) -> Result<KeptMailboxes<K>, Fault> {
+pub(crate) fn load(rt: &HostRuntime, path: &str) -> Result<KeptMailboxes<FileKeeper>, Fault> {
     match missing(rt, path) {
         Some(error) => Err((error, None)),
         None => load_or_make(rt, path),
@@ -65,11 +52,11 @@ pub(crate) fn load<K: StoreKeeper>(
 }
 
 /// Loads the mailboxes of the store in the file, which is made if it is missing.
-pub(crate) fn load_or_make<K: StoreKeeper>(
+pub(crate) fn load_or_make(
     rt: &HostRuntime,
     path: &str,
-) -> Result<KeptMailboxes<K>, Fault> {
-    match K::open(rt, path, LogLevel::Errors) {
+) -> Result<KeptMailboxes<FileKeeper>, Fault> {
+    match open(rt, path, LogLevel::Errors) {
         Ok(keeper) => load_from(rt, keeper),
         Err(error) => Err((error, None)),
     }
@@ -87,10 +74,10 @@ fn missing(rt: &HostRuntime, path: &str) -> Option<ServiceError> {
     }
 }
 
-fn load_from<K: StoreKeeper>(rt: &HostRuntime, keeper: K) -> Result<KeptMailboxes<K>, Fault> {
+fn load_from(rt: &HostRuntime, keeper: FileKeeper) -> Result<KeptMailboxes<FileKeeper>, Fault> {
     match KeptMailboxes::load(rt.alloc(), keeper) {
         Ok(kept) => Ok(kept),
-        Err((keeper, KeepError::Damaged)) => Err(with_row(keeper.find(rt.alloc()))),
+        Err((keeper, KeepError::Damaged)) => Err(with_row(keeper.into_finding(rt.alloc()))),
         Err((keeper, error)) => {
             drop(keeper);
             Err((ServiceError::from(error), None))

@@ -3,13 +3,11 @@
 //! Pages of a new store end in a sum (SQLite's `cksumvfs`), so that a changed bit is found when the store is opened. A
 //! store without sums is taken as it is.
 
-use imap_keeper::{Damage, Keeper};
 use imap_options::LogLevel;
 use imap_service::{ServiceError, StoreFault, make_missing, make_private, report_unread};
-use imap_sql_keeper::{Finding, SqlKeeper};
+use imap_sql_keeper::SqlKeeper;
 use sqlite::{Connection, Error, ErrorCode, File, FileStore, Options, Unknown};
 use sqlite_std_file::OpenError;
-use std::alloc::Global;
 use std::hash::{BuildHasher, RandomState};
 use std::io::ErrorKind;
 
@@ -20,56 +18,19 @@ const PAGES: usize = 500;
 /// A keeper in a file.
 pub(crate) type FileKeeper = SqlKeeper<FileStore<File>>;
 
-/// A keeper over the database in a file.
-pub(crate) trait StoreKeeper: Keeper + Drop {
-    /// Takes the database in the file over, which is made if it is missing. It and the files beside it can then be read
-    /// and written by their owner alone. A log that an earlier run left is put back into the database.
-    fn open(rt: &HostRuntime, path: &str, level: LogLevel) -> Result<Self, ServiceError>;
-
-    /// Ends the keeper, and puts its log back into the database.
-    fn close(self) -> Result<(), ServiceError>;
-
-    /// Ends a keeper that could not load, and names a row that stands for nothing, and of what it is.
-    fn find(self, alloc: Global) -> Option<Finding>;
-
-    /// Ends a keeper that could not load, and names a row that stands for nothing.
-    fn find_damage(self, alloc: Global) -> Option<Damage>;
-}
-
-impl StoreKeeper for FileKeeper {
-    fn open(rt: &HostRuntime, path: &str, level: LogLevel) -> Result<FileKeeper, ServiceError> {
-        make_missing(rt, path)?;
-        if report_unread(rt, level, path)? {
-            put_log_back(rt, path)?;
-        }
-        let conn = connect(rt, path)?;
-        match make_private(rt, path) {
-            Ok(()) => adopt(conn),
-            Err(error) => {
-                drop(conn);
-                Err(error)
-            }
-        }
+/// Takes the database in the file over, which is made if it is missing. It and the files beside it can then be read
+/// and written by their owner alone. A log that an earlier run left is put back into the database.
+pub(crate) fn open(
+    rt: &HostRuntime,
+    path: &str,
+    level: LogLevel,
+) -> Result<FileKeeper, ServiceError> {
+    make_missing(rt, path)?;
+    if report_unread(rt, level, path)? {
+        put_log_back(rt, path)?;
     }
-
-    fn close(self) -> Result<(), ServiceError> {
-        match self.release().close() {
-            Ok(()) => Ok(()),
-            Err(error) => Err(fault(error)),
-        }
-    }
-
-    fn find(self, alloc: Global) -> Option<Finding> {
-        self.into_finding(alloc)
-    }
-
-    fn find_damage(self, alloc: Global) -> Option<Damage> {
-        self.into_damage(alloc)
-    }
-}
-
-/// Takes the database over.
-fn adopt(conn: Connection<FileStore<File>>) -> Result<FileKeeper, ServiceError> {
+    let conn = connect(rt, path)?;
+    make_private(rt, path)?;
     match SqlKeeper::adopt(conn) {
         Ok(keeper) => Ok(keeper),
         Err((conn, error)) => {
@@ -80,16 +41,20 @@ fn adopt(conn: Connection<FileStore<File>>) -> Result<FileKeeper, ServiceError> 
 }
 
 /// Ends the keeper with which serving ended so. If its rows stand for no mailboxes, one of them is named.
-pub(crate) fn end<K: StoreKeeper>(
-    rt: &HostRuntime,
-    keeper: K,
-    error: ServiceError,
-) -> ServiceError {
+pub(crate) fn end(rt: &HostRuntime, keeper: FileKeeper, error: ServiceError) -> ServiceError {
     if !error.is_damage() {
         drop(keeper);
         return error;
     }
-    error.with_row(keeper.find_damage(rt.alloc()))
+    error.with_row(keeper.into_damage(rt.alloc()))
+}
+
+/// Ends a keeper, and puts its log back into the database.
+pub(crate) fn close(keeper: FileKeeper) -> Result<(), ServiceError> {
+    match keeper.release().close() {
+        Ok(()) => Ok(()),
+        Err(error) => Err(fault(error)),
+    }
 }
 
 /// Puts the log back into the database.
