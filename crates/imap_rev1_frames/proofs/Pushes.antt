@@ -1,5 +1,5 @@
 -- Octets that are written one after another.
-use Rattle.std.proofs.Common.{◌≡◌, ◌∙◌, ap, sym, refl, subst, ℕ, ◌+◌, ◌-◌, ◌<◌, zero, suc, Bool, true, false, cond, List, [], ◌∷◌, ◌++◌, append_assoc, length, drop, arith}
+use Rattle.std.proofs.Common.{◌≡◌, ◌∙◌, ap, sym, refl, subst, ℕ, ◌-◌, ◌<◌, ◌≤◌, suc, Bool, true, cond, List, [], ◌∷◌, ◌++◌, append_assoc, drop, arith}
 use Rattle.imap_rev1_frames.specs.declared.asked.Asked.{Asked}
 use Rattle.imap_rev1_frames.specs.declared.scan.Scan.{Scan}
 use Rattle.imap_rev1_frames.specs.declared.writing.Writing.{Writing}
@@ -65,9 +65,8 @@ goes_on_between octet later old new counted held scan word out marks =
 at_front : (octet : ℕ) (octets : List ℕ) (old new : Writing) → octets ≡ octet ∷ drop 1 octets → GoesOn (octet ∷ drop 1 octets) (drop 1 octets) old new → GoesOn octets (drop 1 octets) old new
 at_front octet octets old new is h = subst (λ (l : List ℕ). GoesOn l (drop 1 octets) old new) (sym is) h
 
-none_of : (n : ℕ) → (0 < n → ⊥) → n ≡ 0
-none_of zero h = refl
-none_of (suc n) h = absurd (h (omega arith))
+none_of : (n : ℕ) → n ≤ 0 → n ≡ 0
+none_of n h = omega (arith, h)
 
 module _ (octet count : ℕ) (octets : List ℕ) (old new : Writing) (is : octets ≡ octet ∷ drop 1 octets) (counted : count ≡ count_held old.held old.scan old.word.items octet octets) where
   counted_here : count_held old.held old.scan old.word.items octet (octet ∷ drop 1 octets) ≡ count
@@ -77,7 +76,7 @@ module _ (octet count : ℕ) (octets : List ℕ) (old new : Writing) (is : octet
   pushed_word some held scan word out marks =
       at_front octet octets old new is (goes_on_word octet (count - 1) (drop 1 octets) old new (counted_here ∙ omega (arith, some)) held scan word out marks)
 
-  pub pushed_between : (0 < count → ⊥) → new.held ≡ 0 → new.scan ≡ after_octet (after_word old.scan old.word.items) octet → new.word.items ≡ [] → new.out.items ≡ (old.out.items ++ written_word old.scan old.word.items) ++ octet ∷ [] → new.asked.items ≡ old.asked.items ++ option_list (word_asked old.scan old.word.items) → GoesOn octets (drop 1 octets) old new
+  pub pushed_between : count ≤ 0 → new.held ≡ 0 → new.scan ≡ after_octet (after_word old.scan old.word.items) octet → new.word.items ≡ [] → new.out.items ≡ (old.out.items ++ written_word old.scan old.word.items) ++ octet ∷ [] → new.asked.items ≡ old.asked.items ++ option_list (word_asked old.scan old.word.items) → GoesOn octets (drop 1 octets) old new
   pushed_between none held scan word out marks =
       at_front octet octets old new is (goes_on_between octet (drop 1 octets) old new (counted_here ∙ none_of count none) held scan word out marks)
 
