@@ -25,7 +25,7 @@ use Rattle.imap_rev1_frames.specs.declared.scan.Depth.TheVariants as depth
 use Rattle.imap_rev1_frames.specs.declared.part.PartSection.{PartSection}
 use Rattle.imap_rev1_frames.specs.Asked.{fetch_for, is_labelled, is_section, label_for, label_in, labelled_by, other_asked, part_or_section, section_asked, section_by, unlabelled_by, without_repeats}
 use Rattle.imap_rev1_frames.specs.Part.{PartWords, after_bracket, is_ended, message_for, part_for, part_in, part_words, section_of, words_in}
-use Rattle.imap_rev1.specs.FetchLaws.{fetch_octets, IsFetch, alone, AsksSections, AsksSection, AsksMacro, AsksMessage, message_told, TellsAsAsked, labelled_line, TellsLabel, TellsListedLabel, part_line, TellsPart, TellsListedPart, PrintsUnlabelled, PrintsNotices}
+use Rattle.imap_rev1.specs.FetchLaws.{fetch_octets, IsFetch, alone, AsksSections, AsksSection, AsksForFields, AsksMacro, AsksMessage, EndsWithList, message_told, TellsAsAsked, labelled_line, TellsLabel, TellsListedLabel, part_line, TellsPart, TellsListedPart, PrintsUnlabelled, PrintsNotices, TellsFields}
 use Rattle.imap_rev1.specs.Labels.{stands_for, labelled_text, all_asked_words, fetch_text}
 use Rattle.imap_rev1.specs.Laws.{IsPlainWord, listed}
 use Rattle.imap_rev1.specs.Parts.{section_text}
@@ -34,6 +34,8 @@ use Rattle.imap_rev1.specs.Rev1.{rev1, rules_for}
 use Rattle.imap_rev1_frames.specs.Rewritten.{command_asked, command_for, asked_after}
 use Rattle.imap_rev1_frames.specs.declared.scan.Scan.{Scan}
 use Rattle.imap_rev1_frames.specs.Scan.{start, after_octet, after_word, option_list, word_asked, written, asked}
+use Rattle.imap_rev1_frames.specs.Scan.{has_list}
+use Rattle.imap_rev1_frames.proofs.Steps.{no_section_list, end_written, end_asks, list_written as list_word_written, list_asks as list_word_asks}
 use Rattle.imap_rev1.proofs.Listed.{within, word_read, asked_read, item_asked, listed_written, listed_asked, all_asked}
 use Rattle.imap_rev1.proofs.Spelt.{one_line, rewritten_as}
 
@@ -45,6 +47,22 @@ same_scan false = refl
 
 after_item : (word : List ℕ) → after_word (within named.Fetch depth.One) word ≡ within named.Fetch depth.One
 after_item word = same_scan (length word == 0)
+
+-- a word that asks for no section is none
+no_section_by : (b : Bool) (a : Asked) → cond b (Some a) None ≡ None → b ≡ false
+no_section_by true a e = absurd cc
+no_section_by false a e = refl
+
+no_unlabelled : (o : Option Label) (word : List ℕ) → unlabelled_by o word ≡ None → is_section word ≡ false
+no_unlabelled None word e = no_section_by (is_section word) (part_or_section (part_in word)) e
+no_unlabelled (Some l) word e = absurd cc
+
+no_labelled : (o : Option Label) (word : List ℕ) → labelled_by o word ≡ None → is_section word ≡ false
+no_labelled None word e = no_unlabelled (label_for word) word e
+no_labelled (Some l) word e = absurd cc
+
+no_list_after : (set octets : List ℕ) → section_asked set ≡ None → has_list (within named.Fetch depth.None) set octets ≡ false
+no_list_after set octets none = no_section_list (within named.Fetch depth.None) set octets (no_labelled (label_in set) set none)
 
 -- a word that asks for no section
 module _ (set : List ℕ) (none : section_asked set ≡ None) (some : (length set == 0) ≡ false) where
@@ -66,15 +84,11 @@ same_none : (b : Bool) (found : Option PartWords) → found ≡ None → cond b 
 same_none true found e = e
 same_none false found e = refl
 
-no_section : (b : Bool) (a : Asked) → cond b (Some a) None ≡ None → b ≡ false
-no_section true a e = absurd cc
-no_section false a e = refl
-
 no_part : (word : List ℕ) → other_asked word ≡ None → part_for (part_words word) word ≡ word
 no_part word e =
     ap (λ (found : Option PartWords). part_for found word)
     (same_none (is_ended word) (option_and_then words_in (after_bracket word))
-    (no_bracket word (begins (codes "BODY[") word) (begins (codes "BODY.PEEK[") word) (no_section (is_section word) (part_or_section (part_in word)) e)))
+    (no_bracket word (begins (codes "BODY[") word) (begins (codes "BODY.PEEK[") word) (no_section_by (is_section word) (part_or_section (part_in word)) e)))
 
 no_other : (o : Option Label) (word : List ℕ) → unlabelled_by o word ≡ None → part_for (part_words word) word ≡ word
 no_other None word e = no_part word e
@@ -151,10 +165,10 @@ module _ (state : Rev1) (uid : Bool) (tag set : List ℕ) (items : List (List �
   kept = after_set set is.no_section is.set_is.some
 
   list_written : written (within named.Fetch depth.None) [] (listed set items) ≡ listed set (map fetch_for items)
-  list_written = listed_written named.Fetch after_item set items is.set_is kept each (no_label (label_in set) set is.no_section)
+  list_written = listed_written named.Fetch after_item set items is.set_is kept (λ octets. no_list_after set octets is.no_section) each (no_label (label_in set) set is.no_section)
 
   list_asked : asked (within named.Fetch depth.None) [] (listed set items) ≡ flat_map (λ word. option_list (section_asked word)) items
-  list_asked = listed_asked named.Fetch after_item set items is.set_is kept each (set_asked set is.no_section is.set_is.some) ∙ each_asked items each
+  list_asked = listed_asked named.Fetch after_item set items is.set_is kept (λ octets. no_list_after set octets is.no_section) each (set_asked set is.no_section is.set_is.some) ∙ each_asked items each
 
 pub asks_sections : AsksSections
 asks_sections state uid tag set items is each = frame_written state uid tag set (listed set items) is _ (list_written state uid tag set items is each)
@@ -173,6 +187,7 @@ module _ (state : Rev1) (uid : Bool) (tag set item : List ℕ) (is : IsFetch sta
   alone_written : written (within named.Fetch depth.None) [] (alone set item) ≡ alone set (fetch_for item)
   alone_written =
       word_read named.Fetch depth.None [] set (32 ∷ item) is.set_is.octets
+      ∙ end_written (within named.Fetch depth.None) set 32 item refl (no_list_after set (32 ∷ item) is.no_section)
       ∙ ap (λ (w : List ℕ). w ++ 32 ∷ written (after_octet (after_word (within named.Fetch depth.None) set) 32) [] item) (no_label (label_in set) set is.no_section)
       ∙ ap (λ (s : Scan). set ++ 32 ∷ written (after_octet s 32) [] item) (after_set set is.no_section is.set_is.some)
       ∙ ap (λ (l : List ℕ). set ++ 32 ∷ written (within named.Fetch depth.None) [] l) (sym (append-nil item))
@@ -181,6 +196,7 @@ module _ (state : Rev1) (uid : Bool) (tag set item : List ℕ) (is : IsFetch sta
   alone_asked : asked (within named.Fetch depth.None) [] (alone set item) ≡ option_list (section_asked item)
   alone_asked =
       asked_read named.Fetch depth.None [] set (32 ∷ item) is.set_is.octets
+      ∙ end_asks (within named.Fetch depth.None) set 32 item refl (no_list_after set (32 ∷ item) is.no_section)
       ∙ ap (λ (o : Option Asked). option_list o ++ asked (after_octet (after_word (within named.Fetch depth.None) set) 32) [] item) (set_asked set is.no_section is.set_is.some)
       ∙ ap (λ (s : Scan). asked (after_octet s 32) [] item) (after_set set is.no_section is.set_is.some)
       ∙ ap (asked (within named.Fetch depth.None) []) (sym (append-nil item))
@@ -262,6 +278,49 @@ pub tells_listed_part : TellsListedPart
 tells_listed_part state uid tag set word p number fetched body is word_is asks one stands =
     told_as state uid tag set (listed set (word ∷ [])) is (asked.Part p ∷ []) true number fetched
     (list_asked state uid tag set (word ∷ []) is (word_is, tt) ∙ append-nil (option_list (section_asked word)) ∙ ap option_list asks) refl
+    ∙ part_told p number fetched body one stands
+
+-- ---- header fields of a part
+
+module _ (state : Rev1) (uid : Bool) (tag set word : List ℕ) (p : PartSection) (is : IsFetch state uid tag set (alone set word)) (ends : EndsWithList word) (asks : section_asked word ≡ Some (asked.Part p)) where
+  lists : has_list (within named.Fetch depth.None) ends.front (codes " (" ++ ends.list) ≡ true
+  lists = ap (λ (b : Bool). b && true && true && true) ends.begins
+
+  word_some : (word : List ℕ) (a : Asked) (b : Bool) → section_asked word ≡ Some a → (length word == 0) ≡ b → cond (not b && true) (section_asked word) None ≡ Some a
+  word_some word a false e f = e
+  word_some [] a true e f = absurd cc
+  word_some (octet ∷ word) a true e f = absurd cc
+
+  fields_written : written (within named.Fetch depth.None) [] (alone set word) ≡ alone set (message_for word)
+  fields_written =
+      word_read named.Fetch depth.None [] set (32 ∷ word) is.set_is.octets
+      ∙ end_written (within named.Fetch depth.None) set 32 word refl (no_list_after set (32 ∷ word) is.no_section)
+      ∙ ap (λ (w : List ℕ). w ++ 32 ∷ written (after_octet (after_word (within named.Fetch depth.None) set) 32) [] word) (no_label (label_in set) set is.no_section)
+      ∙ ap (λ (s : Scan). set ++ 32 ∷ written (after_octet s 32) [] word) (after_set set is.no_section is.set_is.some)
+      ∙ ap (λ (l : List ℕ). set ++ 32 ∷ written (within named.Fetch depth.None) [] l) ends.spelt
+      ∙ ap (λ (l : List ℕ). set ++ 32 ∷ l) (word_read named.Fetch depth.None [] ends.front (codes " (" ++ ends.list) ends.plain.octets)
+      ∙ ap (λ (l : List ℕ). set ++ 32 ∷ l) (list_word_written (within named.Fetch depth.None) ends.front ends.list refl lists ends.ends)
+      ∙ ap (λ (l : List ℕ). set ++ 32 ∷ fetch_for l) (sym ends.spelt)
+      ∙ ap (λ (l : List ℕ). set ++ 32 ∷ l) (asks_message word p asks)
+
+  fields_asked : asked (within named.Fetch depth.None) [] (alone set word) ≡ asked.Part p ∷ []
+  fields_asked =
+      asked_read named.Fetch depth.None [] set (32 ∷ word) is.set_is.octets
+      ∙ end_asks (within named.Fetch depth.None) set 32 word refl (no_list_after set (32 ∷ word) is.no_section)
+      ∙ ap (λ (o : Option Asked). option_list o ++ asked (after_octet (after_word (within named.Fetch depth.None) set) 32) [] word) (set_asked set is.no_section is.set_is.some)
+      ∙ ap (λ (s : Scan). asked (after_octet s 32) [] word) (after_set set is.no_section is.set_is.some)
+      ∙ ap (asked (within named.Fetch depth.None) []) ends.spelt
+      ∙ asked_read named.Fetch depth.None [] ends.front (codes " (" ++ ends.list) ends.plain.octets
+      ∙ list_word_asks (within named.Fetch depth.None) ends.front ends.list refl lists ends.ends
+      ∙ ap (λ (l : List ℕ). option_list (word_asked (within named.Fetch depth.None) l)) (sym ends.spelt)
+      ∙ ap option_list (word_some word (asked.Part p) (length word == 0) asks refl)
+
+pub asks_for_fields : AsksForFields
+asks_for_fields state uid tag set word p is ends asks = frame_written state uid tag set (alone set word) is _ (fields_written state uid tag set word p is ends asks)
+
+pub tells_fields : TellsFields
+tells_fields state uid tag set word p number fetched body is ends asks one stands =
+    told_as state uid tag set (alone set word) is (asked.Part p ∷ []) true number fetched (fields_asked state uid tag set word p is ends asks) refl
     ∙ part_told p number fetched body one stands
 
 -- ---- notices

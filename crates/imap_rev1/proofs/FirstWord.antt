@@ -1,5 +1,5 @@
 -- The first word of a command, which is its tag, stays.
-use Rattle.std.proofs.Common.{◌≡◌, ◌∙◌, ap, sym, refl, ℕ, Bool, true, false, cond, ◌&&◌, eqb, nat_lt, inl, inr, List, [], ◌∷◌, ◌++◌, append_assoc, append-nil, length, take, drop, arith, Option, Some, None}
+use Rattle.std.proofs.Common.{◌≡◌, ◌∙◌, ap, sym, refl, ℕ, zero, suc, Bool, true, false, cond, ◌&&◌, eqb, nat_lt, inl, inr, List, [], ◌∷◌, ◌++◌, append_assoc, append-nil, length, take, drop, arith, Option, Some, None}
 use Rattle.std.specs.Prelude.{◌⊎◌, if◌then◌else◌}
 use Rattle.std.specs.List.{list_all}
 use Rattle.std.proofs.lemmas.Bool.Decides.{nat_tests}
@@ -13,10 +13,11 @@ use Rattle.imap_print.specs.Lines.{is_plain}
 use Rattle.imap_syntax.proofs.Writing.{both_true}
 use Rattle.imap_rev1_frames.specs.declared.named.Named.{Named}
 use Rattle.imap_rev1_frames.specs.declared.scan.Scan.{Scan}
-use Rattle.imap_rev1_frames.specs.Scan.{start, is_outside, is_word_octet, is_in_word, written_word, after_word, after_octet, written}
+use Rattle.imap_rev1_frames.specs.Scan.{start, is_outside, is_word_octet, is_in_word, by_held, count_held, written_word, after_word, after_octet, written_from, written}
 use Rattle.imap_rev1_frames.specs.Rewritten.{line_text, are_plain, written_line, after_line, literal_length, section_length, written_after}
 use Rattle.imap_rev1.proofs.Commands.{take_front, drop_front, text_of}
 use Rattle.imap_rev1_frames.proofs.Sections.{written_end, written_next}
+use Rattle.imap_rev1_frames.proofs.Steps.{word_written}
 
 -- ---- tags
 
@@ -86,30 +87,30 @@ tag_stays scan word [] octets is h = ap (λ (w : List ℕ). written scan w octet
 tag_stays scan word (b ∷ tag) octets is h =
     let parts = both_true (is_tag_char b) (list_all is_tag_char tag) h in
     let inside : is_in_word scan b ≡ true = in_word scan b true is (tag_in_word b parts.0) in
-    rw inside (tag_stays scan (word ++ b ∷ []) tag octets is parts.1 ∙ ap (λ (w : List ℕ). written scan w octets) (append_assoc word (b ∷ []) tag))
+    word_written scan word b (tag ++ octets) inside ∙ tag_stays scan (word ++ b ∷ []) tag octets is parts.1 ∙ ap (λ (w : List ℕ). written scan w octets) (append_assoc word (b ∷ []) tag)
 
 -- the first word is written as it is
 record Begins (word new : List ℕ) : Type 0 where
   rest : List ℕ
   spelt : new ≡ word ++ rest
 
-begins_by : (scan : Scan) (word : List ℕ) (b : ℕ) (later : List ℕ) (t : Bool) → IsFirst scan → Begins (word ++ b ∷ []) (written scan (word ++ b ∷ []) later)
-    → Begins (word ++ b ∷ []) (cond t (written scan (word ++ b ∷ []) later) (written_word scan word ++ b ∷ written (after_octet (after_word scan word) b) [] later))
-begins_by scan word b later true is more = more
-begins_by scan word b later false is more = record {
-  rest = written (after_octet (after_word scan word) b) [] later;
-  spelt = ap (λ (w : List ℕ). w ++ b ∷ written (after_octet (after_word scan word) b) [] later) (word_stays scan word is) ∙ sym (append_assoc word (b ∷ []) (written (after_octet (after_word scan word) b) [] later));
+begins_by : (count : ℕ) (scan : Scan) (word : List ℕ) (b : ℕ) (later : List ℕ) → IsFirst scan → ((n : ℕ) → Begins (word ++ b ∷ []) (written_from n scan (word ++ b ∷ []) later))
+    → Begins (word ++ b ∷ []) (by_held count (λ n. written_from n scan (word ++ b ∷ []) later) (written_word scan word ++ b ∷ written_from 0 (after_octet (after_word scan word) b) [] later))
+begins_by (suc n) scan word b later is more = more n
+begins_by zero scan word b later is more = record {
+  rest = written_from 0 (after_octet (after_word scan word) b) [] later;
+  spelt = ap (λ (w : List ℕ). w ++ b ∷ written_from 0 (after_octet (after_word scan word) b) [] later) (word_stays scan word is) ∙ sym (append_assoc word (b ∷ []) (written_from 0 (after_octet (after_word scan word) b) [] later));
 }
 
-begins_word : (scan : Scan) (word octets : List ℕ) → IsFirst scan → Begins word (written scan word octets)
-begins_word scan word [] is = record { rest = []; spelt = word_stays scan word is ∙ sym (append-nil word) }
-begins_word scan word (b ∷ octets) is =
-    let more = begins_by scan word b octets (is_in_word scan b) is (begins_word scan (word ++ b ∷ []) octets is) in
+begins_word : (held : ℕ) (scan : Scan) (word octets : List ℕ) → IsFirst scan → Begins word (written_from held scan word octets)
+begins_word held scan word [] is = record { rest = []; spelt = word_stays scan word is ∙ sym (append-nil word) }
+begins_word held scan word (b ∷ octets) is =
+    let more = begins_by (count_held held scan word b (b ∷ octets)) scan word b octets is (λ n. begins_word n scan (word ++ b ∷ []) octets is) in
     record { rest = b ∷ more.rest; spelt = more.spelt ∙ append_assoc word (b ∷ []) more.rest }
 
 -- and the octet after it
 after_first : (scan : Scan) (word : List ℕ) (b : ℕ) (octets : List ℕ) → IsFirst scan → Begins (word ++ b ∷ []) (written scan word (b ∷ octets))
-after_first scan word b octets is = begins_by scan word b octets (is_in_word scan b) is (begins_word scan (word ++ b ∷ []) octets is)
+after_first scan word b octets is = begins_by (count_held 0 scan word b (b ∷ octets)) scan word b octets is (λ n. begins_word n scan (word ++ b ∷ []) octets is)
 
 -- ---- a line
 

@@ -10,11 +10,13 @@ use Rattle.imap_print.specs.Lines.{IsPlain, IsHeld, IsPrintable, flags_keywords,
 use Rattle.imap_print.specs.Fetched.{origin_text}
 use Rattle.imap_print.specs.Words.{before_each, given_by, joined}
 use Rattle.imap_print.proofs.Reader.{Settles, settled, settles-append, literal_settles, AllSettle, all_settle-append, words_settle}
-use Rattle.imap_print.proofs.OneLine.{number_settles, body_settles, items_settle}
+use Rattle.imap_print.proofs.OneLine.{number_settles, section_settles as named_section_settles, body_settles, items_settle}
+use Rattle.imap_query.specs.declared.fetch.Section.TheVariants as section
 use Rattle.imap_mime.specs.Envelope.{envelope_of}
 use Rattle.imap_mime.proofs.Texts.{envelope_settles}
 use Rattle.imap_query.specs.declared.fetch.Partial.{Partial}
 use Rattle.imap_text.specs.Sections.{header, text}
+use Rattle.imap_text.specs.Fields.{fields}
 use Rattle.imap_text.proofs.Cuts.{header-text, header_within}
 use Rattle.imap_structure.specs.Laws.{IsPiece}
 use Rattle.imap_structure.specs.Numbered.{message_at, part_at}
@@ -29,7 +31,9 @@ use Rattle.imap_rev1_frames.specs.declared.part.PartSection.{PartSection}
 use Rattle.imap_rev1_frames.specs.declared.part.PartText.{PartText}
 use Rattle.imap_rev1_frames.specs.declared.part.PartText.TheVariants as part_text
 use Rattle.imap_rev1_frames.specs.Asked.{label_name}
-use Rattle.imap_rev1.specs.Parts.{found_text, octets_within, origin_of, part_name, part_octets, section_text, text_name}
+use Rattle.imap_rev1.specs.Parts.{cut_of, found_text, octets_at, octets_within, origin_of, part_name, part_octets, section_text, text_name}
+use Rattle.imap_rev1.proofs.FieldsHeld.{fields_within}
+use Rattle.imap_rev1.proofs.PlainNames.{HasPlainNames, IsPlainAsked}
 use Rattle.imap_rev1.specs.Labels.{stands_for, has_label, from_other, first_of, section_for, rest_after, labelled_contents, labelled_text, asked_text, asked_words, all_asked_words, fetch_words, fetch_text}
 
 -- ---- sections of parts
@@ -57,11 +61,27 @@ part_held_by : (found : Option (List ℕ)) (message : List ℕ) → ((piece : Li
 part_held_by None message pieces held = tt
 part_held_by (Some piece) message pieces held = piece_held piece message (pieces piece refl) held
 
+fields_held : (names : List (List ℕ)) (others : Bool) (octets : List ℕ) → IsHeld octets → IsHeld (fields names others octets)
+fields_held names others octets held = omega (arith, fields_within names others octets, held)
+
+cut_held : (t : PartText) (octets : List ℕ) → IsHeld octets → IsHeld (cut_of t octets)
+cut_held part_text.Body octets held = text_held octets held
+cut_held part_text.Mime octets held = header_held octets held
+cut_held part_text.Header octets held = header_held octets held
+cut_held part_text.Text octets held = text_held octets held
+cut_held (part_text.Fields names) octets held = fields_held names false octets held
+cut_held (part_text.FieldsNot names) octets held = fields_held names true octets held
+
+at_held : (t : PartText) (numbers message : List ℕ) → IsHeld message → AreHeldIfThere (octets_at t numbers message)
+at_held part_text.Body numbers message held = part_held_by (part_at numbers message) message (parts_are_pieces numbers message) held
+at_held part_text.Mime numbers message held = part_held_by (part_at numbers message) message (parts_are_pieces numbers message) held
+at_held part_text.Header numbers message held = part_held_by (message_at numbers message) message (messages_are_pieces numbers message) held
+at_held part_text.Text numbers message held = part_held_by (message_at numbers message) message (messages_are_pieces numbers message) held
+at_held (part_text.Fields names) numbers message held = part_held_by (message_at numbers message) message (messages_are_pieces numbers message) held
+at_held (part_text.FieldsNot names) numbers message held = part_held_by (message_at numbers message) message (messages_are_pieces numbers message) held
+
 part_held : (t : PartText) (numbers message : List ℕ) → IsHeld message → AreHeldIfThere (part_octets t numbers message)
-part_held part_text.Body numbers message held = mapped_held text (part_at numbers message) text_held (part_held_by (part_at numbers message) message (parts_are_pieces numbers message) held)
-part_held part_text.Mime numbers message held = mapped_held header (part_at numbers message) header_held (part_held_by (part_at numbers message) message (parts_are_pieces numbers message) held)
-part_held part_text.Header numbers message held = mapped_held header (message_at numbers message) header_held (part_held_by (message_at numbers message) message (messages_are_pieces numbers message) held)
-part_held part_text.Text numbers message held = mapped_held text (message_at numbers message) text_held (part_held_by (message_at numbers message) message (messages_are_pieces numbers message) held)
+part_held t numbers message held = mapped_held (cut_of t) (octets_at t numbers message) (cut_held t) (at_held t numbers message held)
 
 range_held : (range : Option Partial) (octets : List ℕ) → IsHeld octets → IsHeld (octets_within range octets)
 range_held None octets held = held
@@ -83,25 +103,27 @@ joined_settles : (words : List (List ℕ)) → AllSettle words → Settles (join
 joined_settles [] h = settled [] refl
 joined_settles (word ∷ words) h = settles-append h.0 (each_further words h.1)
 
-text_settles : (t : PartText) → Settles (text_name t)
-text_settles part_text.Body = settled _ refl
-text_settles part_text.Mime = settled _ refl
-text_settles part_text.Header = settled _ refl
-text_settles part_text.Text = settled _ refl
+text_settles : (t : PartText) → HasPlainNames t → Settles (text_name t)
+text_settles part_text.Body h = settled _ refl
+text_settles part_text.Mime h = settled _ refl
+text_settles part_text.Header h = settled _ refl
+text_settles part_text.Text h = settled _ refl
+text_settles (part_text.Fields names) h = settles-append (settled (codes ".") refl) (named_section_settles (section.Fields names) h)
+text_settles (part_text.FieldsNot names) h = settles-append (settled (codes ".") refl) (named_section_settles (section.FieldsNot names) h)
 
 origin_settles : (range : Option Partial) → Settles (origin_text (origin_of range))
 origin_settles None = settled [] refl
 origin_settles (Some range) = settles-append (settles-append (settled (60 ∷ []) refl) (number_settles range.offset)) (settled (62 ∷ []) refl)
 
-name_settles : (p : PartSection) → Settles (part_name p)
-name_settles p =
+name_settles : (p : PartSection) → HasPlainNames p.text → Settles (part_name p)
+name_settles p plain =
     settles-append
-    (settles-append (settles-append (settles-append (settled (codes "BODY[") refl) (joined_settles (map decimal p.numbers) (each_number p.numbers))) (text_settles p.text)) (settled (codes "]") refl))
+    (settles-append (settles-append (settles-append (settled (codes "BODY[") refl) (joined_settles (map decimal p.numbers) (each_number p.numbers))) (text_settles p.text plain)) (settled (codes "]") refl))
     (origin_settles p.partial)
 
-section_settles : (p : PartSection) (message : List ℕ) → IsHeld message → Settles (section_text p message)
-section_settles p message held =
-    settles-append (settles-append (name_settles p) (settled (codes " ") refl)) (found_settles p.partial (part_octets p.text p.numbers message) (part_held p.text p.numbers message held))
+section_settles : (p : PartSection) (message : List ℕ) → HasPlainNames p.text → IsHeld message → Settles (section_text p message)
+section_settles p message plain held =
+    settles-append (settles-append (name_settles p plain) (settled (codes " ") refl)) (found_settles p.partial (part_octets p.text p.numbers message) (part_held p.text p.numbers message held))
 
 -- ---- a section
 
@@ -132,13 +154,13 @@ contents_settle label.Full octets held =
 labelled_settles : (l : Label) (body : FetchedSection) → IsFine body → Settles (labelled_text l body)
 labelled_settles l body h = settles-append (settles-append (label_settles l) (settled (codes " ") refl)) (contents_settle l (concat body.octets) h.held)
 
-asked_settles : (a : Asked) (body : FetchedSection) → IsFine body → Settles (asked_text a body)
-asked_settles (asked.Labelled l) body h = labelled_settles l body h
-asked_settles (asked.Unlabelled l) body h = body_settles body h.plain h.held
-asked_settles (asked.Part p) body h = section_settles p (concat body.octets) h.held
-asked_settles asked.Section body h = body_settles body h.plain h.held
-asked_settles asked.Recent body h = body_settles body h.plain h.held
-asked_settles asked.Value body h = body_settles body h.plain h.held
+asked_settles : (a : Asked) (body : FetchedSection) → IsPlainAsked a → IsFine body → Settles (asked_text a body)
+asked_settles (asked.Labelled l) body plain h = labelled_settles l body h
+asked_settles (asked.Unlabelled l) body plain h = body_settles body h.plain h.held
+asked_settles (asked.Part p) body plain h = section_settles p (concat body.octets) plain h.held
+asked_settles asked.Section body plain h = body_settles body h.plain h.held
+asked_settles asked.Recent body plain h = body_settles body h.plain h.held
+asked_settles asked.Value body plain h = body_settles body h.plain h.held
 
 -- ---- sections
 
@@ -199,20 +221,20 @@ rest_fine rest asked.Value h = h
 
 -- ---- words
 
-words_by : (a : Asked) (found : Option FetchedSection) → IsFineOption found → AllSettle (given_by (asked_text a) found)
-words_by a None h = tt
-words_by a (Some body) h = (asked_settles a body h, tt)
+words_by : (a : Asked) (found : Option FetchedSection) → IsPlainAsked a → IsFineOption found → AllSettle (given_by (asked_text a) found)
+words_by a None plain h = tt
+words_by a (Some body) plain h = (asked_settles a body plain h, tt)
 
-words_fine : (bodies rest : List FetchedSection) (all : List Asked) → AllByRecursion IsFine bodies → AllByRecursion IsFine rest → AllSettle (all_asked_words bodies rest all)
-words_fine bodies rest [] fine h = tt
-words_fine bodies rest (a ∷ more) fine h =
-    all_settle-append (asked_words bodies rest a) (all_asked_words bodies (rest_after a rest) more) (words_by a (section_for bodies rest a) (section_fine bodies fine rest a h))
-    (words_fine bodies (rest_after a rest) more fine (rest_fine rest a h))
+words_fine : (bodies rest : List FetchedSection) (all : List Asked) → AllByRecursion IsPlainAsked all → AllByRecursion IsFine bodies → AllByRecursion IsFine rest → AllSettle (all_asked_words bodies rest all)
+words_fine bodies rest [] plain fine h = tt
+words_fine bodies rest (a ∷ more) plain fine h =
+    all_settle-append (asked_words bodies rest a) (all_asked_words bodies (rest_after a rest) more) (words_by a (section_for bodies rest a) plain.0 (section_fine bodies fine rest a h))
+    (words_fine bodies (rest_after a rest) more plain.1 fine (rest_fine rest a h))
 
-pub fetch_settles : (all : List Asked) (number : ℕ) (items : FetchedItems) → IsPrintable (response.Fetch number items) → Settles (fetch_text all number items)
-fetch_settles all number items h =
+pub fetch_settles : (all : List Asked) (number : ℕ) (items : FetchedItems) → AllByRecursion IsPlainAsked all → IsPrintable (response.Fetch number items) → Settles (fetch_text all number items)
+fetch_settles all number items plain h =
     let parts = parted IsPlain (flags_keywords items.flags) (flat_map (λ body. section_names body.section) items.sections) h.plain in
     let fine = all_fine items.sections parts.1 h.held in
     settles-append
     (settles-append (settles-append (settled (codes "* ") refl) (number_settles number)) (settled (codes " FETCH ") refl))
-    (words_settle (fetch_words all items) (all_settle-append (item_words items) (all_asked_words items.sections items.sections all) (items_settle items parts.0) (words_fine items.sections items.sections all fine fine)))
+    (words_settle (fetch_words all items) (all_settle-append (item_words items) (all_asked_words items.sections items.sections all) (items_settle items parts.0) (words_fine items.sections items.sections all plain fine fine)))

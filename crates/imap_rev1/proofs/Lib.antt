@@ -2,11 +2,13 @@ pub mod Appended
 pub mod Asking
 pub mod Commands
 pub mod Fetches
+pub mod FieldsHeld
 pub mod FirstWord
 pub mod Labelled
 pub mod Lines
 pub mod Listed
 pub mod OneFrame
+pub mod PlainNames
 pub mod Rev1Rules
 pub mod Spelled
 pub mod Spelt

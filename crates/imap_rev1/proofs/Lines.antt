@@ -22,7 +22,9 @@ use Rattle.imap_rev1.specs.declared.rev1.Rules.{Rules}
 use Rattle.imap_rev1.specs.Rev1.{rev1, rules_for, lines_by, told_by, recent_text, greeting_text, capability_text, search_text, numbers_text, set_numbers, mod_seq_text, lsub_text, item_text, items_words, first_recent, status_text, is_search, is_select, is_lsub}
 use Rattle.imap_rev1_frames.specs.Asked.{is_labelled}
 use Rattle.imap_rev1.specs.Labels.{fetch_text}
+use Rattle.imap_rev1_frames.specs.Named.{named_by}
 use Rattle.imap_rev1.proofs.Labelled.{fetch_settles}
+use Rattle.imap_rev1.proofs.PlainNames.{IsPlainAsked, all_plain}
 use Rattle.imap_rev1.specs.Laws.{EachIsOneLine, AllAreRead, IsOneLine}
 use Rattle.imap_dialect.specs.Telling.{retold}
 
@@ -84,42 +86,42 @@ status_one asked mailbox values h =
     settled_one (status_text asked mailbox values)
     (settles-append (settles-append (settles-append (settled (codes "* STATUS ") refl) (name_settles mailbox h.plain.0)) (settled (codes " ") refl)) (words_settle (items_words asked values) (items_settle asked values)))
 
-fetch_one : (b : Bool) (all : List Asked) (number : ℕ) (items : FetchedItems) → IsPrintable (response.Fetch number items)
+fetch_one : (b : Bool) (all : List Asked) (number : ℕ) (items : FetchedItems) → AllByRecursion IsPlainAsked all → IsPrintable (response.Fetch number items)
     → AllByRecursion IsOneLine (cond b ((fetch_text all number items ++ crlf) ∷ []) (line (response.Fetch number items) ∷ []))
-fetch_one true all number items h = settled_one (fetch_text all number items) (fetch_settles all number items h)
-fetch_one false all number items h = printed_one (response.Fetch number items) h
+fetch_one true all number items plain h = settled_one (fetch_text all number items) (fetch_settles all number items plain h)
+fetch_one false all number items plain h = printed_one (response.Fetch number items) h
 
-pub told_one : (rules : Rules) (reply : Response) → IsPrintable reply → AllByRecursion IsOneLine (lines_by rules reply)
-told_one rules response.Greeting h = settled_one greeting_text (settled _ refl)
-told_one rules response.Capability h = settled_one capability_text (settled _ refl)
-told_one rules (response.Search tag uid results) h = search_one (is_search rules.named) tag uid results h
-told_one rules (response.Exists n) h = exists_one (is_select rules.named) n h
-told_one rules (response.List attributes mailbox) h = list_one (is_lsub rules.named) attributes mailbox h
-told_one rules (response.Status mailbox values) h = status_one rules.asked mailbox values h
-told_one rules (response.Bye a) h = printed_one (response.Bye a) h
-told_one rules (response.Done a b) h = printed_one (response.Done a b) h
-told_one rules (response.Refused a b) h = printed_one (response.Refused a b) h
-told_one rules response.Ready h = printed_one response.Ready h
-told_one rules response.Idling h = printed_one response.Idling h
-told_one rules response.Namespace h = printed_one response.Namespace h
-told_one rules (response.Enabled a) h = printed_one (response.Enabled a) h
-told_one rules response.ListRoot h = printed_one response.ListRoot h
-told_one rules (response.Acl a b) h = printed_one (response.Acl a b) h
-told_one rules (response.MyRights a b) h = printed_one (response.MyRights a b) h
-told_one rules (response.ListRights a b c) h = printed_one (response.ListRights a b c) h
-told_one rules (response.Flags a) h = printed_one (response.Flags a) h
-told_one rules (response.PermanentFlags a b) h = printed_one (response.PermanentFlags a b) h
-told_one rules (response.Expunge a) h = printed_one (response.Expunge a) h
-told_one rules (response.Vanished a b) h = printed_one (response.Vanished a b) h
-told_one rules response.Closed h = printed_one response.Closed h
-told_one rules (response.UidValidity a) h = printed_one (response.UidValidity a) h
-told_one rules (response.UidNext a) h = printed_one (response.UidNext a) h
-told_one rules (response.HighestModSeq a) h = printed_one (response.HighestModSeq a) h
-told_one rules (response.Moved a) h = printed_one (response.Moved a) h
-told_one rules (response.Fetch number items) h = fetch_one (list_any is_labelled rules.asked) rules.asked number items h
+pub told_one : (rules : Rules) (reply : Response) → AllByRecursion IsPlainAsked rules.asked → IsPrintable reply → AllByRecursion IsOneLine (lines_by rules reply)
+told_one rules response.Greeting plain h = settled_one greeting_text (settled _ refl)
+told_one rules response.Capability plain h = settled_one capability_text (settled _ refl)
+told_one rules (response.Search tag uid results) plain h = search_one (is_search rules.named) tag uid results h
+told_one rules (response.Exists n) plain h = exists_one (is_select rules.named) n h
+told_one rules (response.List attributes mailbox) plain h = list_one (is_lsub rules.named) attributes mailbox h
+told_one rules (response.Status mailbox values) plain h = status_one rules.asked mailbox values h
+told_one rules (response.Bye a) plain h = printed_one (response.Bye a) h
+told_one rules (response.Done a b) plain h = printed_one (response.Done a b) h
+told_one rules (response.Refused a b) plain h = printed_one (response.Refused a b) h
+told_one rules response.Ready plain h = printed_one response.Ready h
+told_one rules response.Idling plain h = printed_one response.Idling h
+told_one rules response.Namespace plain h = printed_one response.Namespace h
+told_one rules (response.Enabled a) plain h = printed_one (response.Enabled a) h
+told_one rules response.ListRoot plain h = printed_one response.ListRoot h
+told_one rules (response.Acl a b) plain h = printed_one (response.Acl a b) h
+told_one rules (response.MyRights a b) plain h = printed_one (response.MyRights a b) h
+told_one rules (response.ListRights a b c) plain h = printed_one (response.ListRights a b c) h
+told_one rules (response.Flags a) plain h = printed_one (response.Flags a) h
+told_one rules (response.PermanentFlags a b) plain h = printed_one (response.PermanentFlags a b) h
+told_one rules (response.Expunge a) plain h = printed_one (response.Expunge a) h
+told_one rules (response.Vanished a b) plain h = printed_one (response.Vanished a b) h
+told_one rules response.Closed plain h = printed_one response.Closed h
+told_one rules (response.UidValidity a) plain h = printed_one (response.UidValidity a) h
+told_one rules (response.UidNext a) plain h = printed_one (response.UidNext a) h
+told_one rules (response.HighestModSeq a) plain h = printed_one (response.HighestModSeq a) h
+told_one rules (response.Moved a) plain h = printed_one (response.Moved a) h
+told_one rules (response.Fetch number items) plain h = fetch_one (list_any is_labelled rules.asked) rules.asked number items plain h
 
 pub each_is_one_line : EachIsOneLine
-each_is_one_line state by reply h = told_one (rules_for state by) reply h
+each_is_one_line state by reply h = told_one (rules_for state by) reply (all_plain (named_by state.rev2 by) by) h
 
 -- ---- all lines
 
@@ -174,4 +176,4 @@ all_are_read state by (reply ∷ replies) h =
     let rules = rules_for state by in
     let rest = retold rev1 state by replies in
     subst (λ l. AreReadFrom (lines_by rules reply ++ flat_map (lines_by rules) replies) (l ++ rest)) (lines_are rules reply)
-    (read_more (lines_by rules reply) (flat_map (lines_by rules) replies) rest (told_one rules reply h.0) (all_are_read state by replies h.1))
+    (read_more (lines_by rules reply) (flat_map (lines_by rules) replies) rest (told_one rules reply (all_plain (named_by state.rev2 by) by) h.0) (all_are_read state by replies h.1))

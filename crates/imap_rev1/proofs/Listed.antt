@@ -22,13 +22,15 @@ use Rattle.imap_rev1_frames.specs.declared.scan.Depth.TheVariants as depth
 use Rattle.imap_rev1_frames.specs.declared.scan.Quoting.TheVariants as quoting
 use Rattle.imap_rev1_frames.specs.Asked.{status_asked}
 use Rattle.imap_rev1_frames.specs.Named.{named_in}
-use Rattle.imap_rev1_frames.specs.Scan.{start, is_outside, is_word_octet, is_in_word, exchanged, asked_by_word, written_word, word_asked, option_list, after_word, after_octet, written, asked}
+use Rattle.imap_rev1_frames.specs.Scan.{start, is_outside, is_word_octet, is_in_word, has_list, opens_list, exchanged, asked_by_word, written_word, word_asked, option_list, after_word, after_octet, written, asked}
 use Rattle.imap_rev1.specs.Rev1.{status_text}
 use Rattle.imap_rev1_frames.specs.Rewritten.{are_plain, line_asked, after_line, section_length, asked_after, command_asked}
 use Rattle.imap_rev1.specs.Laws.{IsPlainWord, listed, status_octets, AsksMessages, TellsRecent}
+use Rattle.std.proofs.lemmas.Bool.Decides.{nat_tests}
 use Rattle.imap_rev1.proofs.Commands.{take_front}
 use Rattle.imap_rev1.proofs.FirstWord.{tag_in_word}
 use Rattle.imap_rev1_frames.proofs.Sections.{asked_next}
+use Rattle.imap_rev1_frames.proofs.Steps.{no_item_list, no_opened_list, no_taken_list, word_written, word_asks, end_written, end_asks}
 use Rattle.imap_rev1.proofs.Spelt.{text_of_line, tag_chars, after_first, plain_after_tag, one_line, rewritten_as}
 use Rattle.imap_rev1.proofs.Strings.{no_word}
 
@@ -42,13 +44,43 @@ pub word_read : (command : Named) (level : Depth) (word next octets : List ℕ) 
 word_read command level word [] octets h = ap (λ (w : List ℕ). written (within command level) w octets) (sym (append-nil word))
 word_read command level word (b ∷ next) octets h =
     let parts = both_true (is_word_octet b) (list_all is_word_octet next) h in
-    rw parts.0 (word_read command level (word ++ b ∷ []) next octets parts.1 ∙ ap (λ (w : List ℕ). written (within command level) w octets) (append_assoc word (b ∷ []) next))
+    word_written (within command level) word b (next ++ octets) parts.0 ∙ word_read command level (word ++ b ∷ []) next octets parts.1 ∙ ap (λ (w : List ℕ). written (within command level) w octets) (append_assoc word (b ∷ []) next)
 
 pub asked_read : (command : Named) (level : Depth) (word next octets : List ℕ) → list_all is_word_octet next ≡ true → asked (within command level) word (next ++ octets) ≡ asked (within command level) (word ++ next) octets
 asked_read command level word [] octets h = ap (λ (w : List ℕ). asked (within command level) w octets) (sym (append-nil word))
 asked_read command level word (b ∷ next) octets h =
     let parts = both_true (is_word_octet b) (list_all is_word_octet next) h in
-    rw parts.0 (asked_read command level (word ++ b ∷ []) next octets parts.1 ∙ ap (λ (w : List ℕ). asked (within command level) w octets) (append_assoc word (b ∷ []) next))
+    word_asks (within command level) word b (next ++ octets) parts.0 ∙ asked_read command level (word ++ b ∷ []) next octets parts.1 ∙ ap (λ (w : List ℕ). asked (within command level) w octets) (append_assoc word (b ∷ []) next)
+
+-- ---- the octet after a word
+
+not_parenthesis : (b : ℕ) → is_word_octet b ≡ true → (b == 40) ≡ false
+not_parenthesis b h = grind (arith, nat_tests)
+
+-- no list is opened before a word
+pub no_opening : (next octets : List ℕ) → IsPlainWord next → opens_list (32 ∷ (next ++ octets)) ≡ false
+no_opening [] octets is = let none : true ≡ false = is.some in absurd cc
+no_opening (b ∷ next) octets is = not_parenthesis b (both_true (is_word_octet b) (list_all is_word_octet next) is.octets).0
+
+closing : (octets : List ℕ) → opens_list (41 ∷ octets) ≡ false
+closing [] = refl
+closing (b ∷ octets) = refl
+
+module _ (command : Named) (level : Depth) (word : List ℕ) where
+  -- a parenthesis
+  pub closed_written : (octets : List ℕ) → written (within command level) word (41 ∷ octets) ≡ written_word (within command level) word ++ 41 ∷ written (after_octet (after_word (within command level) word) 41) [] octets
+  closed_written octets = end_written (within command level) word 41 octets refl (no_opened_list (within command level) word (41 ∷ octets) (closing octets))
+
+  pub closed_asks : (octets : List ℕ) → asked (within command level) word (41 ∷ octets) ≡ option_list (word_asked (within command level) word) ++ asked (after_octet (after_word (within command level) word) 41) [] octets
+  closed_asks octets = end_asks (within command level) word 41 octets refl (no_opened_list (within command level) word (41 ∷ octets) (closing octets))
+
+  -- a space before another word
+  module _ (next octets : List ℕ) (is : IsPlainWord next) where
+    pub spaced_written : written (within command level) word (32 ∷ (next ++ octets)) ≡ written_word (within command level) word ++ 32 ∷ written (after_octet (after_word (within command level) word) 32) [] (next ++ octets)
+    spaced_written = end_written (within command level) word 32 (next ++ octets) refl (no_opened_list (within command level) word (32 ∷ (next ++ octets)) (no_opening next octets is))
+
+    pub spaced_asks : asked (within command level) word (32 ∷ (next ++ octets)) ≡ option_list (word_asked (within command level) word) ++ asked (after_octet (after_word (within command level) word) 32) [] (next ++ octets)
+    spaced_asks = end_asks (within command level) word 32 (next ++ octets) refl (no_opened_list (within command level) word (32 ∷ (next ++ octets)) (no_opening next octets is))
 
 -- ---- a list
 
@@ -62,12 +94,14 @@ module _ (command : Named) (stays : (word : List ℕ) → after_word (within com
   items_written : (item : List ℕ) (items : List (List ℕ)) → AllByRecursion IsPlainWord items
       → written (within command depth.One) item (before_each 32 items ++ codes ")") ≡ (new_item command item ++ before_each 32 (map (new_item command) items)) ++ codes ")"
   items_written item [] h =
-      ap (λ (s : Scan). new_item command item ++ 41 ∷ written (after_octet s 41) [] []) (stays item)
+      closed_written command depth.One item []
+      ∙ ap (λ (s : Scan). new_item command item ++ 41 ∷ written (after_octet s 41) [] []) (stays item)
       ∙ ap (λ (l : List ℕ). new_item command item ++ 41 ∷ l) (no_word (within command depth.None))
       ∙ ap (λ (l : List ℕ). l ++ codes ")") (sym (append-nil (new_item command item)))
   items_written item (next ∷ items) h =
-      ap (λ (s : Scan). new_item command item ++ 32 ∷ written (after_octet s 32) [] ((next ++ before_each 32 items) ++ codes ")")) (stays item)
-      ∙ ap (λ (l : List ℕ). new_item command item ++ 32 ∷ written (within command depth.One) [] l) (append_assoc next (before_each 32 items) (codes ")"))
+      ap (λ (l : List ℕ). written (within command depth.One) item (32 ∷ l)) (append_assoc next (before_each 32 items) (codes ")"))
+      ∙ spaced_written command depth.One item next (before_each 32 items ++ codes ")") h.0
+      ∙ ap (λ (s : Scan). new_item command item ++ 32 ∷ written (after_octet s 32) [] (next ++ (before_each 32 items ++ codes ")"))) (stays item)
       ∙ ap (λ (l : List ℕ). new_item command item ++ 32 ∷ l) (word_read command depth.One [] next (before_each 32 items ++ codes ")") h.0.octets ∙ items_written next items h.1)
       ∙ sym (append_assoc (new_item command item) (32 ∷ (new_item command next ++ before_each 32 (map (new_item command) items))) (codes ")"))
 
@@ -81,10 +115,11 @@ module _ (command : Named) (stays : (word : List ℕ) → after_word (within com
       ∙ items_written item items h.1
 
   items_asked : (item : List ℕ) (items : List (List ℕ)) → AllByRecursion IsPlainWord items → asked (within command depth.One) item (before_each 32 items ++ codes ")") ≡ item_asked command item ++ flat_map (item_asked command) items
-  items_asked item [] h = ap (λ (s : Scan). item_asked command item ++ asked (after_octet s 41) [] []) (stays item)
+  items_asked item [] h = closed_asks command depth.One item [] ∙ ap (λ (s : Scan). item_asked command item ++ asked (after_octet s 41) [] []) (stays item)
   items_asked item (next ∷ items) h =
-      ap (λ (s : Scan). item_asked command item ++ asked (after_octet s 32) [] ((next ++ before_each 32 items) ++ codes ")")) (stays item)
-      ∙ ap (λ (l : List ℕ). item_asked command item ++ asked (within command depth.One) [] l) (append_assoc next (before_each 32 items) (codes ")"))
+      ap (λ (l : List ℕ). asked (within command depth.One) item (32 ∷ l)) (append_assoc next (before_each 32 items) (codes ")"))
+      ∙ spaced_asks command depth.One item next (before_each 32 items ++ codes ")") h.0
+      ∙ ap (λ (s : Scan). item_asked command item ++ asked (after_octet s 32) [] (next ++ (before_each 32 items ++ codes ")"))) (stays item)
       ∙ ap (λ (l : List Asked). item_asked command item ++ l) (asked_read command depth.One [] next (before_each 32 items ++ codes ")") h.0.octets ∙ items_asked next items h.1)
 
   list_asked : (items : List (List ℕ)) → AllByRecursion IsPlainWord items → asked (within command depth.One) [] (joined 32 items ++ codes ")") ≡ flat_map (item_asked command) items
@@ -95,11 +130,12 @@ module _ (command : Named) (stays : (word : List ℕ) → after_word (within com
       ∙ items_asked item items h.1
 
   -- a word that stays, and the list after it
-  module _ (first : List ℕ) (items : List (List ℕ)) (is : IsPlainWord first) (kept : after_word (within command depth.None) first ≡ within command depth.None) (h : AllByRecursion IsPlainWord items) where
+  module _ (first : List ℕ) (items : List (List ℕ)) (is : IsPlainWord first) (kept : after_word (within command depth.None) first ≡ within command depth.None) (no_list : (octets : List ℕ) → has_list (within command depth.None) first octets ≡ false) (h : AllByRecursion IsPlainWord items) where
     pub listed_written : written_word (within command depth.None) first ≡ first → written (within command depth.None) [] (listed first items) ≡ listed first (map (new_item command) items)
     listed_written own =
         let list = joined 32 items ++ codes ")" in
         word_read command depth.None [] first (codes " (" ++ list) is.octets
+        ∙ end_written (within command depth.None) first 32 (40 ∷ list) refl (no_list (32 ∷ 40 ∷ list))
         ∙ ap (λ (w : List ℕ). w ++ 32 ∷ written (after_octet (after_word (within command depth.None) first) 32) [] (40 ∷ list)) own
         ∙ ap (λ (s : Scan). first ++ 32 ∷ written (after_octet s 32) [] (40 ∷ list)) kept
         ∙ ap (λ (w : List ℕ). first ++ 32 ∷ (w ++ 40 ∷ written (within command depth.One) [] list)) (no_word (within command depth.None))
@@ -109,6 +145,7 @@ module _ (command : Named) (stays : (word : List ℕ) → after_word (within com
     listed_asked none =
         let list = joined 32 items ++ codes ")" in
         asked_read command depth.None [] first (codes " (" ++ list) is.octets
+        ∙ end_asks (within command depth.None) first 32 (40 ∷ list) refl (no_list (32 ∷ 40 ∷ list))
         ∙ ap (λ (o : Option Asked). option_list o ++ asked (after_octet (after_word (within command depth.None) first) 32) [] (40 ∷ list)) none
         ∙ ap (λ (s : Scan). asked (after_octet s 32) [] (40 ∷ list)) kept
         ∙ list_asked items h
@@ -125,12 +162,13 @@ tag_asked scan word [] octets is h = ap (λ (w : List ℕ). asked scan w octets)
 tag_asked scan word (b ∷ tag) octets is h =
     let parts = both_true (is_tag_char b) (list_all is_tag_char tag) h in
     let inside : is_in_word scan b ≡ true = rw (is, tag_in_word b parts.0) refl in
-    rw inside (tag_asked scan (word ++ b ∷ []) tag octets is parts.1 ∙ ap (λ (w : List ℕ). asked scan w octets) (append_assoc word (b ∷ []) tag))
+    word_asks scan word b (tag ++ octets) inside ∙ tag_asked scan (word ++ b ∷ []) tag octets is parts.1 ∙ ap (λ (w : List ℕ). asked scan w octets) (append_assoc word (b ∷ []) tag)
 
 first_asked : (command : Named) (tag octets : List ℕ) → IsTag tag → asked (start command) [] (tag ++ 32 ∷ octets) ≡ asked (within command depth.None) [] octets
 first_asked command tag octets is =
     let parts = tag_chars tag is in
     tag_asked (start command) [] tag (32 ∷ octets) refl parts.1
+    ∙ end_asks (start command) tag 32 octets refl (no_item_list (start command) tag (32 ∷ octets) refl)
     ∙ ap (λ (o : Option Asked). option_list o ++ asked (after_octet (after_word (start command) tag) 32) [] octets) (none_asked (length tag == 0) (asked_by_word command tag))
     ∙ ap (λ (s : Scan). asked s [] octets) (after_first command tag parts.0)
 
@@ -173,13 +211,16 @@ same_scan level false = refl
 after_status_word : (level : Depth) (word : List ℕ) → after_word (within named.Status level) word ≡ within named.Status level
 after_status_word level word = same_scan level (length word == 0)
 
+no_status_list : (word octets : List ℕ) → has_list (within named.Status depth.None) word octets ≡ false
+no_status_list word octets = no_taken_list (within named.Status depth.None) word octets refl
+
 pub asks_messages : AsksMessages
 asks_messages state tag mailbox items is mailbox_is h last plain found =
     let octets = codes "STATUS " ++ listed mailbox items in
     let new = map (exchanged (codes "RECENT") (codes "MESSAGES")) items in
     ap frame.Whole (rewritten_as state.rev2 (status_octets tag mailbox items) (status_octets tag mailbox new) named.Status found refl
     (one_line named.Status tag octets is plain last
-    ∙ ap (λ (l : List ℕ). (tag ++ 32 ∷ (codes "STATUS " ++ l)) ++ crlf) (listed_written named.Status (after_status_word depth.One) mailbox items mailbox_is (after_status_word depth.None mailbox) h refl)))
+    ∙ ap (λ (l : List ℕ). (tag ++ 32 ∷ (codes "STATUS " ++ l)) ++ crlf) (listed_written named.Status (after_status_word depth.One) mailbox items mailbox_is (after_status_word depth.None mailbox) (no_status_list mailbox) h refl)))
 
 some_asked : (item : List ℕ) → (length item == 0) ≡ false → word_asked (within named.Status depth.One) item ≡ Some (status_asked item)
 some_asked item some = ap (λ b. cond (not b && true) (Some (status_asked item)) None) some
@@ -199,5 +240,5 @@ pub tells_recent : TellsRecent
 tells_recent state tag mailbox items name values is mailbox_is h last plain found =
     told_as state.rev2 (status_octets tag mailbox items) name values (map status_asked items) found
     (all_asked named.Status tag (codes "STATUS " ++ listed mailbox items) is plain last
-    ∙ listed_asked named.Status (after_status_word depth.One) mailbox items mailbox_is (after_status_word depth.None mailbox) h (none_asked (length mailbox == 0) (Some (status_asked mailbox)))
+    ∙ listed_asked named.Status (after_status_word depth.One) mailbox items mailbox_is (after_status_word depth.None mailbox) (no_status_list mailbox) h (none_asked (length mailbox == 0) (Some (status_asked mailbox)))
     ∙ each_asked items h)

@@ -22,6 +22,8 @@ use Rattle.imap_rev1.specs.NameLaws.{AllAreRead, EachIsOneLine, EndsByEnabled, P
 use Rattle.imap_rev1.specs.Rev1.{rules_for, told_by}
 use Rattle.imap_rev1.specs.Shown.{name_in, named_or_same, other_shown, shown_by, shown_reply}
 use Rattle.imap_rev1.specs.Utf7.{accepted_by, accepted_text, ends_names, told_accepted, told_echoed, utf7_rev1}
+use Rattle.imap_rev1_frames.specs.Named.{named_by}
+use Rattle.imap_rev1.proofs.PlainNames.{IsPlainAsked, all_plain}
 use Rattle.imap_rev1.proofs.Lines.{lines_are, read_more, settled_one, told_one}
 use Rattle.imap_rev1.proofs.Rev1Rules.{prints_others as rev1_prints_others}
 use Rattle.imap_rev1.proofs.Told.{plain_shown, shown_plain}
@@ -84,10 +86,10 @@ accepted_quiet enabled =
     (each_quiet enabled.condstore (codes "CONDSTORE") (quiet _ refl)) (each_quiet enabled.imap4rev2 (codes "IMAP4rev2") (quiet _ refl)) (each_quiet enabled.qresync (codes "QRESYNC") (quiet _ refl))))
     (quiet (codes " UTF8=ACCEPT") refl)
 
-accepted_one : (rules : Rules) (reply : Response) (o : Option EnabledCapabilities) → IsPrintable reply
+accepted_one : (rules : Rules) (reply : Response) (o : Option EnabledCapabilities) → AllByRecursion IsPlainAsked rules.asked → IsPrintable reply
     → AllByRecursion IsOneLine (accepted_lines rules reply o)
-accepted_one rules reply None h = told_one rules reply h
-accepted_one rules reply (Some enabled) h = settled_one (accepted_text enabled) (quiet_settles (accepted_quiet enabled))
+accepted_one rules reply None plain h = told_one rules reply plain h
+accepted_one rules reply (Some enabled) plain h = settled_one (accepted_text enabled) (quiet_settles (accepted_quiet enabled))
 
 accepted_are : (rules : Rules) (reply : Response) (o : Option EnabledCapabilities) → concat (accepted_lines rules reply o) ≡ told_accepted rules reply o
 accepted_are rules reply None = lines_are rules reply
@@ -96,7 +98,7 @@ accepted_are rules reply (Some enabled) = append-nil (accepted_text enabled ++ c
 pub each_is_one_line : EachIsOneLine
 each_is_one_line state by reply h =
     let shown = cond state.utf8 reply (shown_reply reply) in
-    accepted_one (rules_for state.rev1 by) shown (accepted_by (asks_utf8 by) shown) (either_printable state.utf8 reply h)
+    accepted_one (rules_for state.rev1 by) shown (accepted_by (asks_utf8 by) shown) (all_plain (named_by state.rev1.rev2 by) by) (either_printable state.utf8 reply h)
 
 pub all_are_read : AllAreRead
 all_are_read state by [] h = refl

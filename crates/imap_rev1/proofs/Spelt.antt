@@ -1,5 +1,5 @@
 -- CHECK, LSUB and the keys of SEARCH, as they are written.
-use Rattle.std.proofs.Common.{◌≡◌, ◌∙◌, ap, sym, refl, ℕ, ◌-◌, Bool, true, false, cond, not, ◌&&◌, List, [], ◌∷◌, ◌++◌, append_assoc, append-nil, length, length-append, drop, map, arith, Some, None}
+use Rattle.std.proofs.Common.{◌≡◌, ◌∙◌, ap, sym, refl, ℕ, zero, suc, ◌-◌, Bool, true, false, cond, not, ◌&&◌, List, [], ◌∷◌, ◌++◌, append_assoc, append-nil, length, length-append, drop, map, arith, Some, None}
 use Rattle.std.specs.Prelude.{codes, min, ◌==◌}
 use Rattle.std.specs.List.{list_all, AllByRecursion}
 use Rattle.std.proofs.lemmas.List.Folds.{list_all-append}
@@ -22,11 +22,12 @@ use Rattle.imap_rev1_frames.specs.declared.scan.Depth.TheVariants as depth
 use Rattle.imap_rev1_frames.specs.declared.scan.Quoting.{Quoting}
 use Rattle.imap_rev1_frames.specs.declared.scan.Quoting.TheVariants as quoting
 use Rattle.imap_rev1_frames.specs.Named.{after_space, begins, is_fetch, is_word, named_command, named_in, named_until_rev2, is_rewritten}
-use Rattle.imap_rev1_frames.specs.Scan.{start, is_word_octet, is_in_word, key_for, word_for, is_item, written_word, passed, after_key, after_named, after_word, after_octet, after_quoting, deeper, less_deep, written}
+use Rattle.imap_rev1_frames.specs.Scan.{start, is_word_octet, by_held, count_held, key_for, word_for, is_item, written_word, passed, after_key, after_named, after_word, after_octet, after_quoting, deeper, less_deep, written_from, written}
 use Rattle.imap_rev1_frames.specs.Rewritten.{line_text, are_plain, written_line, command_for, rewritten_octets}
 use Rattle.imap_rev1.specs.Laws.{ChecksByNoop, lsub_octets, ListsSubscribed, IsKeyWord, search_octets, SearchesByKeys}
 use Rattle.imap_rev1.proofs.Commands.{drop_front, take_front, plain_line, last_written}
 use Rattle.imap_rev1.proofs.FirstWord.{count, tag_stays}
+use Rattle.imap_rev1_frames.proofs.Steps.{no_item_list, no_taken_list, word_written, end_written}
 
 -- ---- a plain last line
 
@@ -59,7 +60,9 @@ after_first command tag some = ap (λ b. after_octet (cond b (start command) (pa
 tag_written : (command : Named) (tag octets : List ℕ) → IsTag tag → written (start command) [] (tag ++ 32 ∷ octets) ≡ tag ++ 32 ∷ written (tagged command) [] octets
 tag_written command tag octets is =
     let parts = tag_chars tag is in
-    tag_stays (start command) [] tag (32 ∷ octets) (refl, refl) parts.1 ∙ ap (λ (s : Scan). tag ++ 32 ∷ written s [] octets) (after_first command tag parts.0)
+    tag_stays (start command) [] tag (32 ∷ octets) (refl, refl) parts.1
+    ∙ end_written (start command) tag 32 octets refl (no_item_list (start command) tag (32 ∷ octets) refl)
+    ∙ ap (λ (s : Scan). tag ++ 32 ∷ written s [] octets) (after_first command tag parts.0)
 
 named_after_tag : (rev2 : Bool) (tag octets : List ℕ) → IsTag tag → named_in rev2 (tag ++ 32 ∷ octets) ≡ named_command rev2 octets
 named_after_tag rev2 tag octets is =
@@ -143,16 +146,16 @@ word_other : (scan : Scan) (word : List ℕ) (b : Bool) → scan.named ≡ named
 word_other scan word true is = ap (λ (c : Named). word_for c (is_item scan) word) is
 word_other scan word false is = refl
 
-other_by : (word octets later : List ℕ) (octet : ℕ) (new : List ℕ) (b : Bool) → new ≡ word → later ≡ (word ++ octet ∷ []) ++ octets → (next : List ℕ) → next ≡ octets → cond b later (new ++ octet ∷ next) ≡ word ++ octet ∷ octets
-other_by word octets later octet new true e f next g = f ∙ append_assoc word (octet ∷ []) octets
-other_by word octets later octet new false e f next g = ap (λ (l : List ℕ). l ++ octet ∷ next) e ∙ ap (λ (l : List ℕ). word ++ octet ∷ l) g
+other_by : (count : ℕ) (word octets : List ℕ) (more : ℕ → List ℕ) (octet : ℕ) (new next : List ℕ) → ((n : ℕ) → more n ≡ (word ++ octet ∷ []) ++ octets) → new ≡ word → next ≡ octets → by_held count more (new ++ octet ∷ next) ≡ word ++ octet ∷ octets
+other_by (suc n) word octets more octet new next f e g = f n ∙ append_assoc word (octet ∷ []) octets
+other_by zero word octets more octet new next f e g = ap (λ (l : List ℕ). l ++ octet ∷ next) e ∙ ap (λ (l : List ℕ). word ++ octet ∷ l) g
 
-other_stays : (scan : Scan) (word octets : List ℕ) → scan.named ≡ named.Other → written scan word octets ≡ word ++ octets
-other_stays scan word [] is = word_other scan word (scan.passes == 0) is ∙ sym (append-nil word)
-other_stays scan word (octet ∷ octets) is =
+other_from : (held : ℕ) (scan : Scan) (word octets : List ℕ) → scan.named ≡ named.Other → written_from held scan word octets ≡ word ++ octets
+other_from held scan word [] is = word_other scan word (scan.passes == 0) is ∙ sym (append-nil word)
+other_from held scan word (octet ∷ octets) is =
     let next = after_octet (after_word scan word) octet in
     let kept : next.named ≡ named.Other = octet_other (after_word scan word).quoting (after_word scan word) octet (after_word_other word scan (length word == 0) (scan.passes == 0) is) in
-    other_by word octets (written scan (word ++ octet ∷ []) octets) octet (written_word scan word) (is_in_word scan octet) (word_other scan word (scan.passes == 0) is) (other_stays scan (word ++ octet ∷ []) octets is) (written next [] octets) (other_stays next [] octets kept)
+    other_by (count_held held scan word octet (octet ∷ octets)) word octets (λ n. written_from n scan (word ++ octet ∷ []) octets) octet (written_word scan word) (written_from 0 next [] octets) (λ n. other_from n scan (word ++ octet ∷ []) octets is) (word_other scan word (scan.passes == 0) is) (other_from 0 next [] octets kept)
 
 begins_with : (word rest : List ℕ) → begins word (word ++ rest) ≡ is_word word word
 begins_with word rest =
@@ -168,7 +171,7 @@ lists_subscribed state tag operands is last plain =
     let all : list_all is_plain octets ≡ true = plain in
     let found : named_in state.rev2 (lsub_octets tag operands) ≡ named.Lsub = ap (named_in state.rev2) (append_assoc tag (32 ∷ octets) crlf) ∙ named_after_tag state.rev2 tag (octets ++ crlf) is ∙ ap (named_command state.rev2) (append_assoc (codes "LSUB ") operands crlf) ∙ lsub_named state.rev2 (operands ++ crlf) in
     let new : written (tagged named.Lsub) [] octets ≡ codes "LIST (SUBSCRIBED) " ++ operands =
-    ap (λ (l : List ℕ). codes "LIST (SUBSCRIBED) " ++ l) (other_stays (tagged named.Other) [] operands refl) in
+    ap (λ (l : List ℕ). codes "LIST (SUBSCRIBED) " ++ l) (other_from 0 (tagged named.Other) [] operands refl) in
     ap frame.Whole (rewritten_as state.rev2 (lsub_octets tag operands) ((tag ++ 32 ∷ (codes "LIST (SUBSCRIBED) " ++ operands)) ++ crlf) named.Lsub found refl
     (one_line named.Lsub tag octets is all last ∙ ap (λ (l : List ℕ). (tag ++ 32 ∷ l) ++ crlf) new))
 
@@ -178,7 +181,7 @@ word_read : (word key octets : List ℕ) → list_all is_word_octet key ≡ true
 word_read word [] octets h = ap (λ (w : List ℕ). written (tagged named.Search) w octets) (sym (append-nil word))
 word_read word (b ∷ key) octets h =
     let parts = both_true (is_word_octet b) (list_all is_word_octet key) h in
-    rw parts.0 (word_read (word ++ b ∷ []) key octets parts.1 ∙ ap (λ (w : List ℕ). written (tagged named.Search) w octets) (append_assoc word (b ∷ []) key))
+    word_written (tagged named.Search) word b (key ++ octets) parts.0 ∙ word_read (word ++ b ∷ []) key octets parts.1 ∙ ap (λ (w : List ℕ). written (tagged named.Search) w octets) (append_assoc word (b ∷ []) key)
 
 after_key_word : (key : List ℕ) → IsKeyWord key → after_octet (after_word (tagged named.Search) key) 32 ≡ tagged named.Search
 after_key_word key is =
@@ -188,7 +191,8 @@ after_key_word key is =
 keys_written : (key : List ℕ) (keys : List (List ℕ)) → IsKeyWord key → AllByRecursion IsKeyWord keys → written (tagged named.Search) key (before_each 32 keys) ≡ key_for key ++ before_each 32 (map key_for keys)
 keys_written key [] is h = sym (append-nil (key_for key))
 keys_written key (next ∷ keys) is h =
-    ap (λ (s : Scan). key_for key ++ 32 ∷ written s [] (next ++ before_each 32 keys)) (after_key_word key is)
+    end_written (tagged named.Search) key 32 (next ++ before_each 32 keys) refl (no_taken_list (tagged named.Search) key (32 ∷ (next ++ before_each 32 keys)) refl)
+    ∙ ap (λ (s : Scan). key_for key ++ 32 ∷ written s [] (next ++ before_each 32 keys)) (after_key_word key is)
     ∙ ap (λ (l : List ℕ). key_for key ++ 32 ∷ l) (word_read [] next (before_each 32 keys) h.0.octets ∙ keys_written next keys h.0 h.1)
 
 search_word : IsKeyWord (codes "SEARCH")

@@ -8,8 +8,9 @@ use Rattle.imap_rev1_frames.specs.declared.named.Named.TheVariants as named
 use Rattle.imap_rev1_frames.specs.declared.scan.Quoting.{Quoting}
 use Rattle.imap_rev1_frames.specs.declared.scan.Quoting.TheVariants as quoting
 use Rattle.imap_rev1_frames.specs.declared.scan.Scan.{Scan}
-use Rattle.imap_rev1_frames.specs.Scan.{is_outside, word_for, item_for, fetch_item_for, is_item, written_word, passed, after_inside, after_octet, after_quoting, next_line, written}
+use Rattle.imap_rev1_frames.specs.Scan.{is_outside, is_in_word, word_for, item_for, fetch_item_for, is_item, written_word, passed, after_inside, after_octet, after_quoting, next_line, written}
 use Rattle.imap_rev1.specs.Laws.{StringsStay}
+use Rattle.imap_rev1_frames.proofs.Steps.{end_written}
 
 -- ---- no word
 
@@ -76,9 +77,12 @@ opens quoting.Inside scan h = absurd cc
 opens quoting.Escaped scan h = absurd cc
 
 -- a quote is of no word
-quote_step : (scan : Scan) (rest : List ℕ) (b : Bool) → b ≡ true → cond (b && false) (written scan (34 ∷ []) rest) (written_word scan [] ++ 34 ∷ written (after_octet scan 34) [] rest) ≡ written_word scan [] ++ 34 ∷ written (after_octet scan 34) [] rest
-quote_step scan rest true h = refl
-quote_step scan rest false h = refl
+quote_outside : (b : Bool) → (b && false) ≡ false
+quote_outside true = refl
+quote_outside false = refl
+
+quote_step : (scan : Scan) (rest : List ℕ) → written scan [] (34 ∷ rest) ≡ written_word scan [] ++ 34 ∷ written (after_octet scan 34) [] rest
+quote_step scan rest = end_written scan [] 34 rest (quote_outside (is_outside scan.quoting)) refl
 
 pub strings_stay : StringsStay
 strings_stay scan octets rest outside =
@@ -86,7 +90,7 @@ strings_stay scan octets rest outside =
     let whole : quoted_text octets ++ rest ≡ 34 ∷ (text ++ (34 ∷ rest)) = ap (λ (l : List ℕ). 34 ∷ l) (append_assoc text (34 ∷ []) rest) in
     let left = written (next_line (passed scan)) [] rest in
     ap (written scan []) whole
-    ∙ quote_step scan (text ++ (34 ∷ rest)) (is_outside scan.quoting) outside
+    ∙ quote_step scan (text ++ (34 ∷ rest))
     ∙ ap (λ (l : List ℕ). l ++ 34 ∷ written (after_octet scan 34) [] (text ++ (34 ∷ rest))) (no_word scan)
     ∙ ap (λ (s : Scan). 34 ∷ written s [] (text ++ (34 ∷ rest))) (opens scan.quoting scan outside)
     ∙ ap (λ (l : List ℕ). 34 ∷ l) (text_stays scan octets (34 ∷ rest) ∙ ap (λ (l : List ℕ). text ++ l) (inside_step scan 34 rest))

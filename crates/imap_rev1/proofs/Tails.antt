@@ -1,5 +1,5 @@
 -- Words that are written in place of others leave lines and their marks.
-use Rattle.std.proofs.Common.{◌≡◌, ◌∙◌, ap, sym, refl, ℕ, Bool, true, false, cond, ◌||◌, List, [], ◌∷◌, ◌++◌, append_assoc, append-nil, length, take, arith, Option, Some, None, ◌-◌}
+use Rattle.std.proofs.Common.{◌≡◌, ◌∙◌, ap, sym, refl, ℕ, zero, suc, Bool, true, false, cond, ◌||◌, List, [], ◌∷◌, ◌++◌, append_assoc, append-nil, length, take, arith, Option, Some, None, ◌-◌}
 use Rattle.std.specs.Prelude.{codes, ◌==◌, eqb}
 use Rattle.std.specs.Char.{is_ascii_alphabetic, is_ascii_digit, to_ascii_lowercase}
 use Rattle.std.specs.List.{ends_with, list_all}
@@ -23,7 +23,7 @@ use Rattle.imap_rev1_frames.specs.declared.asked.Label.{Label}
 use Rattle.imap_rev1_frames.specs.Asked.{section_by, contents_label, envelope_section}
 use Rattle.imap_rev1_frames.specs.Named.{begins, is_word}
 use Rattle.imap_rev1_frames.specs.Part.{PartWords, after_bracket, is_ended, part_for, part_words, words_in}
-use Rattle.imap_rev1_frames.specs.Scan.{is_in_word, exchanged, item_for, fetch_item_for, word_for, is_item, written_word, after_word, after_octet, written}
+use Rattle.imap_rev1_frames.specs.Scan.{by_held, count_held, exchanged, item_for, fetch_item_for, word_for, is_item, written_word, after_word, after_octet, written_from, written}
 
 -- ---- words that begin with a letter
 
@@ -220,11 +220,14 @@ end_alike : (word new : List ℕ) → Alike word new → Alike (word ++ []) new
 end_alike word new h = rw append-nil h
 
 -- the octets of a word and further octets, and what is written in their place
-pub text_alike : (scan : Scan) (word octets : List ℕ) → Alike (word ++ octets) (written scan word octets)
-text_alike scan word [] = end_alike word (written_word scan word) (written_word_alike scan word)
-text_alike scan word (octet ∷ octets) = by (is_in_word scan octet) (text_alike scan (word ++ octet ∷ []) octets) (text_alike (after_octet (after_word scan word) octet) [] octets)
+from_alike : (held : ℕ) (scan : Scan) (word octets : List ℕ) → Alike (word ++ octets) (written_from held scan word octets)
+from_alike held scan word [] = end_alike word (written_word scan word) (written_word_alike scan word)
+from_alike held scan word (octet ∷ octets) = by (count_held held scan word octet (octet ∷ octets)) (λ n. from_alike n scan (word ++ octet ∷ []) octets) (from_alike 0 (after_octet (after_word scan word) octet) [] octets)
   where
-    by : (b : Bool) → Alike ((word ++ octet ∷ []) ++ octets) (written scan (word ++ octet ∷ []) octets) → Alike ([] ++ octets) (written (after_octet (after_word scan word) octet) [] octets)
-        → Alike (word ++ octet ∷ octets) (cond b (written scan (word ++ octet ∷ []) octets) (written_word scan word ++ octet ∷ written (after_octet (after_word scan word) octet) [] octets))
-    by true h k = rw append_assoc at h
-    by false h k = between_alike word (written_word scan word) octets (written (after_octet (after_word scan word) octet) [] octets) octet (written_word_alike scan word) k
+    by : (count : ℕ) → ((n : ℕ) → Alike ((word ++ octet ∷ []) ++ octets) (written_from n scan (word ++ octet ∷ []) octets)) → Alike ([] ++ octets) (written_from 0 (after_octet (after_word scan word) octet) [] octets)
+        → Alike (word ++ octet ∷ octets) (by_held count (λ n. written_from n scan (word ++ octet ∷ []) octets) (written_word scan word ++ octet ∷ written_from 0 (after_octet (after_word scan word) octet) [] octets))
+    by (suc n) h k = let more = h n in rw append_assoc at more
+    by zero h k = between_alike word (written_word scan word) octets (written_from 0 (after_octet (after_word scan word) octet) [] octets) octet (written_word_alike scan word) k
+
+pub text_alike : (scan : Scan) (word octets : List ℕ) → Alike (word ++ octets) (written scan word octets)
+text_alike scan word octets = from_alike 0 scan word octets

@@ -1,5 +1,5 @@
 -- Laws of FETCH in the dialect of IMAP4rev1 (RFC 3501, sections 6.4.5 and 7.4.2).
-use Rattle.std.specs.Prelude.{◌≡◌, ℕ, Bool, true, false, List, [], ◌∷◌, ◌++◌, codes, decimal, map, flat_map}
+use Rattle.std.specs.Prelude.{◌≡◌, ℕ, Bool, true, false, List, [], ◌∷◌, ◌++◌, length, codes, decimal, map, flat_map}
 use Rattle.std.specs.Prelude.{Option, Some, None}
 use Rattle.std.specs.List.{AllByRecursion, concat, list_all, list_any}
 use Rattle.imap_lex.specs.CommandTag.{IsTag}
@@ -20,10 +20,10 @@ use Rattle.imap_rev1_frames.specs.declared.asked.Label.{Label}
 use Rattle.imap_rev1_frames.specs.declared.asked.Label.TheVariants as label
 use Rattle.imap_rev1_frames.specs.declared.named.Named.TheVariants as named
 use Rattle.imap_rev1.specs.declared.rev1.Rev1.{Rev1}
-use Rattle.imap_rev1_frames.specs.Asked.{fetch_for, is_labelled, label_in, section_asked, without_repeats}
+use Rattle.imap_rev1_frames.specs.Asked.{fetch_for, is_labelled, is_section, label_in, section_asked, without_repeats}
 use Rattle.imap_rev1.specs.Labels.{fetch_text, labelled_text, stands_for}
 use Rattle.imap_rev1_frames.specs.declared.part.PartSection.{PartSection}
-use Rattle.imap_rev1_frames.specs.Part.{message_for}
+use Rattle.imap_rev1_frames.specs.Part.{fields_length, message_for}
 use Rattle.imap_rev1.specs.Laws.{IsPlainWord, listed}
 use Rattle.imap_rev1.specs.Parts.{section_text}
 use Rattle.imap_rev1_frames.specs.Named.{named_in}
@@ -157,6 +157,35 @@ TellsListedPart =
     → section_asked word ≡ Some (asked.Part p)
     → fetched.sections ≡ body ∷ [] → stands_for label.Message body ≡ true
     → message_told state (fetch_octets uid tag (listed set (word ∷ []))) number fetched
+    ≡ part_line p number fetched body ++ crlf
+
+-- ---- header fields of parts
+
+-- a word that ends with a header list
+pub record EndsWithList (word : List ℕ) : Type 0 where
+  pub front : List ℕ
+  pub list : List ℕ
+  pub spelt : word ≡ front ++ (codes " (" ++ list)
+  pub plain : IsPlainWord front
+  pub begins : is_section front ≡ true
+  pub ends : fields_length front (codes " (" ++ list) ≡ length (codes " (" ++ list)
+
+-- The message is asked in place of header fields of a part, with the names in parentheses.
+abbrev pub AsksForFields : Type 0
+AsksForFields =
+    (state : Rev1) (uid : Bool) (tag set word : List ℕ) (p : PartSection)
+    → IsFetch state uid tag set (alone set word) → EndsWithList word → section_asked word ≡ Some (asked.Part p)
+    → rev1.rewritten state (Whole (fetch_octets uid tag (alone set word)))
+    ≡ Whole (fetch_octets uid tag (alone set (message_for word)))
+
+-- They are told from it under their name.
+abbrev pub TellsFields : Type 0
+TellsFields =
+    (state : Rev1) (uid : Bool) (tag set word : List ℕ) (p : PartSection)
+    → (number : ℕ) (fetched : FetchedItems) (body : FetchedSection)
+    → IsFetch state uid tag set (alone set word) → EndsWithList word → section_asked word ≡ Some (asked.Part p)
+    → fetched.sections ≡ body ∷ [] → stands_for label.Message body ≡ true
+    → message_told state (fetch_octets uid tag (alone set word)) number fetched
     ≡ part_line p number fetched body ++ crlf
 
 -- ---- other items

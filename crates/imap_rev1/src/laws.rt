@@ -2,7 +2,7 @@
 
 ghost use Rattle.imap_rev1.specs.FetchLaws.{AsksMacro, AsksMessage, AsksSection, AsksSections, PrintsNotices};
 ghost use Rattle.imap_rev1.specs.FetchLaws.{PrintsUnlabelled, TellsAsAsked, TellsLabel, TellsListedLabel};
-ghost use Rattle.imap_rev1.specs.FetchLaws.{TellsListedPart, TellsPart};
+ghost use Rattle.imap_rev1.specs.FetchLaws.{AsksForFields, TellsFields, TellsListedPart, TellsPart};
 ghost use Rattle.imap_rev1.specs.Laws.{AllAreRead, AsksMessages, ChecksByNoop, EachIsOneLine, EndsByRev2};
 ghost use Rattle.imap_rev1.specs.Laws.{HandsOthersOn, IsReadAsOne, KeepsTags, ListsSubscribed};
 ghost use Rattle.imap_rev1.specs.Laws.{PrintsConditions, PrintsOthers, SearchesByKeys, StaysCommand};
@@ -45,11 +45,13 @@ pub fn tells_labels()
     ensures notices { PrintsNotices }
 {}
 
-/// The message is asked in place of a part, and the part is told from it.
+/// The message is asked in place of a part, and the part is told from it. So are header fields of a part.
 pub fn tells_parts()
     ensures asked { AsksMessage }
     ensures told { TellsPart }
     ensures listed { TellsListedPart }
+    ensures asks_for_fields { AsksForFields }
+    ensures fields { TellsFields }
 {}
 
 /// A client reads each line in which a reply is told as one line, and just these lines in all, if

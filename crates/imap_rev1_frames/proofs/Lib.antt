@@ -1,2 +1,4 @@
 pub mod Pushes
+pub mod SameNames
 pub mod Sections
+pub mod Steps

@@ -3,11 +3,18 @@ use Rattle.std.specs.Prelude.{ℕ, ◌+◌, ◌*◌, ◌-◌, Bool, true, false,
 use Rattle.std.specs.Prelude.{List, [], ◌∷◌, ◌++◌, length, take, drop, codes, Option, Some, None, option_map}
 use Rattle.std.specs.Prelude.{if◌then◌else◌}
 use Rattle.std.specs.Char.{is_ascii_alphabetic, is_ascii_digit}
+use Rattle.std.specs.Cmp.Lexicographic.{pointwise}
 use Rattle.std.specs.List.{ends_with, list_all, prefix_len}
 use Rattle.std.specs.Option.{option_and_then}
+use Rattle.imap_query.specs.declared.fetch.FetchItem.{FetchItem}
+use Rattle.imap_query.specs.declared.fetch.FetchItem.TheVariants as item
 use Rattle.imap_query.specs.declared.fetch.Partial.{Partial}
+use Rattle.imap_query.specs.declared.fetch.Section.{Section}
+use Rattle.imap_query.specs.declared.fetch.Section.TheVariants as section
+use Rattle.imap_query.specs.Fetch.{fetch_items}
 use Rattle.imap_syntax.specs.Lexical.{begins_with_zero, decimal}
 use Rattle.imap_syntax.specs.Written.{nz_number64}
+use Rattle.imap_rev1_frames.specs.declared.fields.Fields.{Fields}
 use Rattle.imap_rev1_frames.specs.declared.part.PartSection.{PartSection}
 use Rattle.imap_rev1_frames.specs.declared.part.PartText.{PartText}
 use Rattle.imap_rev1_frames.specs.declared.part.PartText.TheVariants as part_text
@@ -101,7 +108,7 @@ abbrev pub end_in : List ℕ → Option (Option Partial)
 end_in [] = None
 end_in (b ∷ octets) = if b == 93 then range_or_none octets else None
 
--- ---- a word
+-- ---- words
 
 -- a section of a part by its words: its numbers as they are written, and what it has of the part
 pub record PartWords : Type 0 where
@@ -124,11 +131,56 @@ abbrev pub words_with : (numbers rest : List ℕ) → Option PartWords
 words_with numbers rest =
     if not (length numbers == 0) && are_numbers None numbers then words_after numbers rest else None
 
+-- ---- header fields (`header-list`)
+
+abbrev pub fields_text : Section → Option PartText
+fields_text (section.Fields names) = Some (part_text.Fields names)
+fields_text (section.FieldsNot names) = Some (part_text.FieldsNot names)
+fields_text _ = None
+
+-- header fields, if the one item asks for them, before so many octets
+abbrev pub fields_named : List FetchItem → (left : ℕ) → Option Fields
+fields_named (item.Section body ∷ []) left =
+    option_map (λ text. record { text = text; partial = body.partial; left = left }) (fields_text body.section)
+fields_named _ left = None
+
+abbrev pub fields_by : Option (List FetchItem × List ℕ) → Option Fields
+fields_by (Some found) = fields_named found.0 (length found.1)
+fields_by None = None
+
+-- Numbers, a dot, and what asks for header fields of the message, if the numbers and the dot are left out. A name
+-- is no literal, since a line has none.
+abbrev pub fields_after : (numbers rest : List ℕ) → Option Fields
+fields_after numbers rest =
+    if ends_with eqb numbers (codes ".") && are_numbers None numbers
+    then fields_by (fetch_items.read (codes "BODY[" ++ rest)) else None
+
+-- the header fields of a part for which octets after a bracket ask, at their front
+abbrev pub fields_in : List ℕ → Option Fields
+fields_in octets =
+    fields_after (take (prefix_len is_number_octet octets) octets)
+    (drop (prefix_len is_number_octet octets) octets)
+
+-- if no octets follow
+abbrev pub whole_fields : (numbers : List ℕ) → Option Fields → Option PartWords
+whole_fields numbers (Some f) =
+    if f.left == 0 then Some (record { numbers = numbers; text = f.text; partial = f.partial }) else None
+whole_fields numbers None = None
+
+-- ---- a word
+
+-- the first, if there is one
+abbrev pub words_or : Option PartWords → Option PartWords → Option PartWords
+words_or (Some w) other = Some w
+words_or None other = other
+
 -- what stands after the bracket
 abbrev pub words_in : List ℕ → Option PartWords
 words_in octets =
-    words_with (take (prefix_len is_number_octet octets) octets)
-    (drop (prefix_len is_number_octet octets) octets)
+    words_or
+    (words_with (take (prefix_len is_number_octet octets) octets)
+    (drop (prefix_len is_number_octet octets) octets))
+    (whole_fields (take (prefix_len is_number_octet octets) octets) (fields_in octets))
 
 abbrev pub is_ended : (word : List ℕ) → Bool
 is_ended word = ends_with eqb word (codes "]") || ends_with eqb word (codes ">")
@@ -148,6 +200,17 @@ section_of w = record { numbers = numbers_from None w.numbers; text = w.text; pa
 abbrev pub part_in : (word : List ℕ) → Option PartSection
 part_in word = option_map section_of (part_words word)
 
+-- ---- a header list
+
+abbrev pub length_before : (len : ℕ) → Option Fields → ℕ
+length_before len (Some f) = len - f.left
+length_before len None = 0
+
+-- how many octets after a word end it as one that asks for header fields of a part
+abbrev pub fields_length : (word octets : List ℕ) → ℕ
+fields_length word octets =
+    length_before (length octets) (option_and_then fields_in (after_bracket (word ++ octets)))
+
 -- ---- what is asked in its place
 
 abbrev pub message_for : (word : List ℕ) → List ℕ
@@ -165,6 +228,8 @@ is_same_text part_text.Body part_text.Body = true
 is_same_text part_text.Mime part_text.Mime = true
 is_same_text part_text.Header part_text.Header = true
 is_same_text part_text.Text part_text.Text = true
+is_same_text (part_text.Fields names) (part_text.Fields others) = pointwise bytes_eq names others
+is_same_text (part_text.FieldsNot names) (part_text.FieldsNot others) = pointwise bytes_eq names others
 is_same_text _ _ = false
 
 abbrev pub is_same_range : Option Partial → Option Partial → Bool

@@ -1,6 +1,6 @@
 -- The words of a line, and what is written in their place (RFC 3501, sections 6.3.9, 6.3.10, 6.4.1, 6.4.4 and
 -- 6.4.5).
-use Rattle.std.specs.Prelude.{ℕ, ◌-◌, Bool, true, false, not, ◌==◌, ◌&&◌, ◌||◌}
+use Rattle.std.specs.Prelude.{ℕ, zero, suc, ◌-◌, Bool, true, false, not, ◌==◌, ◌&&◌, ◌||◌}
 use Rattle.std.specs.Prelude.{List, [], ◌∷◌, ◌++◌, length, codes, Option, Some, None, is_some, if◌then◌else◌}
 use Rattle.imap_rev1_frames.specs.declared.asked.Asked.{Asked}
 use Rattle.imap_rev1_frames.specs.declared.named.Named.{Named}
@@ -10,8 +10,9 @@ use Rattle.imap_rev1_frames.specs.declared.scan.Depth.TheVariants as depth
 use Rattle.imap_rev1_frames.specs.declared.scan.Quoting.{Quoting}
 use Rattle.imap_rev1_frames.specs.declared.scan.Quoting.TheVariants as quoting
 use Rattle.imap_rev1_frames.specs.declared.scan.Scan.{Scan}
-use Rattle.imap_rev1_frames.specs.Asked.{status_asked, section_asked, fetch_for}
+use Rattle.imap_rev1_frames.specs.Asked.{status_asked, section_asked, fetch_for, is_section}
 use Rattle.imap_rev1_frames.specs.Named.{is_word}
+use Rattle.imap_rev1_frames.specs.Part.{fields_length}
 
 -- at the front of a command, whose first word is its tag
 abbrev pub start : Named → Scan
@@ -26,7 +27,7 @@ is_outside quoting.Outside = true
 is_outside quoting.Inside = false
 is_outside quoting.Escaped = false
 
--- a word begins or goes on with the octet
+-- the octet is of a word
 abbrev pub is_in_word : Scan → ℕ → Bool
 is_in_word scan octet = is_outside scan.quoting && is_word_octet octet
 
@@ -177,29 +178,70 @@ after_octet scan octet = after_quoting scan.quoting scan octet
 abbrev pub next_line : Scan → Scan
 next_line scan = record scan { quoting = quoting.Outside }
 
+-- ---- header lists
+
+abbrev pub takes_lists : Named → Bool
+takes_lists named.Fetch = true
+takes_lists _ = false
+
+abbrev pub opens_list : List ℕ → Bool
+opens_list (a ∷ b ∷ octets) = a == 32 && b == 40
+opens_list _ = false
+
+-- a header list may follow the word
+abbrev pub has_list : Scan → (word : List ℕ) → List ℕ → Bool
+has_list scan word octets = is_section word && opens_list octets && takes_lists scan.named && is_item scan
+
+-- How many octets after a word belong to it, since they are the header list of a part's section and its end
+-- (RFC 9051, section 9, `section-text`).
+abbrev pub list_length : Scan → (word : List ℕ) → List ℕ → ℕ
+list_length scan word octets = if has_list scan word octets then fields_length word octets else 0
+
+-- How many of the octets, of which this is the first, belong to the word; `held` of them if there are some.
+abbrev pub count_held : (held : ℕ) → Scan → (word : List ℕ) → (octet : ℕ) → List ℕ → ℕ
+count_held (suc n) scan word octet octets = suc n
+count_held zero scan word octet octets =
+    if is_in_word scan octet then 1 else list_length scan word octets
+
 -- ---- lines
 
--- what is written in place of a word so far and octets
+abbrev pub by_held : {A : Type 0} → (count : ℕ) → (more : ℕ → A) → (none : A) → A
+by_held zero more none = none
+by_held (suc n) more none = more n
+
+-- what is written in place of a word so far and octets, of which `held` belong to the word
+abbrev pub written_from : (held : ℕ) → Scan → (word : List ℕ) → List ℕ → List ℕ
+written_from held scan word [] = written_word scan word
+written_from held scan word (octet ∷ octets) =
+    by_held (count_held held scan word octet (octet ∷ octets))
+    (λ n. written_from n scan (word ++ octet ∷ []) octets)
+    (written_word scan word ++ octet ∷ written_from 0 (after_octet (after_word scan word) octet) [] octets)
+
 abbrev pub written : Scan → (word : List ℕ) → List ℕ → List ℕ
-written scan word [] = written_word scan word
-written scan word (octet ∷ octets) =
-    if is_in_word scan octet then written scan (word ++ octet ∷ []) octets
-    else written_word scan word ++ octet ∷ written (after_octet (after_word scan word) octet) [] octets
+written scan word octets = written_from 0 scan word octets
 
 abbrev pub option_list : Option Asked → List Asked
 option_list (Some a) = a ∷ []
 option_list None = []
 
 -- what the items in them ask for
+abbrev pub asked_from : (held : ℕ) → Scan → (word : List ℕ) → List ℕ → List Asked
+asked_from held scan word [] = option_list (word_asked scan word)
+asked_from held scan word (octet ∷ octets) =
+    by_held (count_held held scan word octet (octet ∷ octets))
+    (λ n. asked_from n scan (word ++ octet ∷ []) octets)
+    (option_list (word_asked scan word) ++ asked_from 0 (after_octet (after_word scan word) octet) [] octets)
+
 abbrev pub asked : Scan → (word : List ℕ) → List ℕ → List Asked
-asked scan word [] = option_list (word_asked scan word)
-asked scan word (octet ∷ octets) =
-    if is_in_word scan octet then asked scan (word ++ octet ∷ []) octets
-    else option_list (word_asked scan word) ++ asked (after_octet (after_word scan word) octet) [] octets
+asked scan word octets = asked_from 0 scan word octets
 
 -- the state after them
+abbrev pub left_from : (held : ℕ) → Scan → (word : List ℕ) → List ℕ → Scan
+left_from held scan word [] = after_word scan word
+left_from held scan word (octet ∷ octets) =
+    by_held (count_held held scan word octet (octet ∷ octets))
+    (λ n. left_from n scan (word ++ octet ∷ []) octets)
+    (left_from 0 (after_octet (after_word scan word) octet) [] octets)
+
 abbrev pub left : Scan → (word : List ℕ) → List ℕ → Scan
-left scan word [] = after_word scan word
-left scan word (octet ∷ octets) =
-    if is_in_word scan octet then left scan (word ++ octet ∷ []) octets
-    else left (after_octet (after_word scan word) octet) [] octets
+left scan word octets = left_from 0 scan word octets

@@ -198,7 +198,8 @@ fn label_for(word: &[u8]) -> Option<Label>
     }
 }
 
-fn is_section(word: &[u8]) -> bool
+/// Whether the word is a section, or its front.
+pub(crate) fn is_section(word: &[u8]) -> bool
     ensures { result ≡ is_section word.now }
 {
     begins(word, b"BODY[") || begins(word, b"BODY.PEEK[")
@@ -225,8 +226,8 @@ fn unlabelled_asked(alloc: Global, word: &[u8]) -> Result<Option<Asked>, AllocEr
     }
 }
 
-/// Returns the section for which a word of FETCH asks, if it does. If a list of header fields follows, the word
-/// is its front.
+/// Returns the section for which a word of FETCH asks, if it does. If a list of header fields of the message
+/// follows, the word is its front.
 pub(crate) fn section_asked(alloc: Global, word: &[u8]) -> Result<Option<Asked>, AllocError>
     ensures { IfOk result (λ asked. asked ≡ section_asked word.now) }
 {
@@ -244,12 +245,12 @@ pub(crate) fn asks_section(word: &[u8]) -> bool
 }
 
 /// Returns what is asked in place of a word of FETCH.
-pub(crate) fn fetch_for(word: &[u8]) -> &[u8]
-    ensures { result.now ≡ fetch_for word.now }
+pub(crate) fn fetch_for(alloc: Global, word: &[u8]) -> Result<&[u8], AllocError>
+    ensures { IfOk result (λ other. other.now ≡ fetch_for word.now) }
 {
     match label_in(word) {
-        Some(label) => label.section(word),
-        None => part_for(word),
+        Some(label) => Ok(label.section(word)),
+        None => part_for(alloc, word),
     }
 }
 

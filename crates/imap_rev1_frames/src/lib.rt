@@ -10,6 +10,7 @@
 
 mod asked;
 mod enable;
+mod fields;
 mod frames;
 mod named;
 mod names;

@@ -1,23 +1,26 @@
 //! Sections of parts, as FETCH names them (RFC 9051, section 9, `section-part`).
 
-ghost use Rattle.std.specs.Prelude.{◌≡◌, ◌++◌, IfOk, OnOk, None, option_copied};
-ghost use Rattle.std.specs.List.{list_all};
+ghost use Rattle.std.specs.Prelude.{◌≡◌, ◌++◌, IfOk, OnOk, None, bytes_eq, drop, option_copied, take};
+ghost use Rattle.std.specs.Cmp.Lexicographic.{pointwise};
+ghost use Rattle.std.specs.List.{list_all, prefix_len};
 ghost use Rattle.std.specs.Char.{is_ascii_alphabetic, is_ascii_digit};
 ghost use Rattle.imap_rev1_frames.specs.Part.{after_bracket, are_numbers, count_in, end_in, ended, is_ended};
 ghost use Rattle.imap_rev1_frames.specs.Part.{is_number_octet, is_same_part, is_same_range, is_same_text, message_for};
 ghost use Rattle.imap_rev1_frames.specs.Part.{number_in, number_step, numbers_from, part_for, part_in, part_words};
-ghost use Rattle.imap_rev1_frames.specs.Part.{range_in, range_or_none, text_in, text_named, words_after};
-ghost use Rattle.imap_rev1_frames.specs.Part.{words_in, words_with};
+ghost use Rattle.imap_rev1_frames.specs.Part.{range_in, range_or_none, text_in, text_named, whole_fields};
+ghost use Rattle.imap_rev1_frames.specs.Part.{fields_in, words_after, words_in, words_with};
 
+use crate::fields::fields_in;
 use crate::named::{begins, is_word};
 use imap_lex::{OctetClass, leading};
 use imap_query::Partial;
-use imap_syntax::{Digit, Items, NzNumber64, decimal};
+use imap_syntax::{Digit, FieldName, Items, NzNumber64, decimal};
+use imap_values::Same;
 use std::alloc::{AllocError, Global};
 use std::marker::Model;
 
 /// What a section has of a part.
-#[derive(Clone, Copy, Debug, PartialEq, Eq)]
+#[derive(Debug, Drop)]
 pub enum PartText {
     /// The body of the part.
     Body,
@@ -27,6 +30,10 @@ pub enum PartText {
     Header,
     /// The text of the message that the part is.
     Text,
+    /// The header fields of these names, of the message that the part is.
+    Fields(Items<FieldName>),
+    /// The header fields of other names, of the message that the part is.
+    FieldsNot(Items<FieldName>),
 }
 
 /// A section of a part of a message.
@@ -53,6 +60,18 @@ impl<'a> Model for PartWord<'a> {
     ghost Value = { PartWords };
 
     ghost view = { λ w. record { numbers = w.numbers.now; text = w.text; partial = w.partial } };
+}
+
+impl<'a> PartWord<'a> {
+    pub(crate) fn new(numbers: &'a [u8], text: PartText, partial: Option<Partial>) -> PartWord<'a>
+        ensures { result ≡ record { numbers = numbers.now; text = text; partial = partial } }
+    {
+        PartWord {
+            numbers,
+            text,
+            partial,
+        }
+    }
 }
 
 fn is_number_octet(octet: u8) -> bool
@@ -102,7 +121,7 @@ fn number_step(begun: Option<u32>, octet: u8) -> Option<Option<u32>>
 }
 
 /// Whether the octets are numbers, with a dot after each, or after each but the last.
-fn are_numbers(octets: &[u8]) -> bool
+pub(crate) fn are_numbers(octets: &[u8]) -> bool
     ensures { result ≡ are_numbers None octets.now }
 {
     let mut begun: Option<u32> = None;
@@ -247,11 +266,7 @@ fn words_after<'a>(numbers: &'a [u8], rest: &[u8]) -> Option<PartWord<'a>>
     let (word, end) = rest.split_at(leading::<Letter>(rest));
     let text = text_in(numbers.ends_with(b"."), word)?;
     let partial = end_in(end)?;
-    Some(PartWord {
-        numbers,
-        text,
-        partial,
-    })
+    Some(PartWord::new(numbers, text, partial))
 }
 
 fn words_with<'a>(numbers: &'a [u8], rest: &[u8]) -> Option<PartWord<'a>>
@@ -264,12 +279,37 @@ fn words_with<'a>(numbers: &'a [u8], rest: &[u8]) -> Option<PartWord<'a>>
     }
 }
 
-/// Returns the section of a part that stands after a bracket.
-fn words_in(octets: &[u8]) -> Option<PartWord<'_>>
-    ensures { result ≡ words_in octets.now }
+/// Returns the digits and dots at the front of octets, and what follows them.
+pub(crate) fn split_numbers(octets: &[u8]) -> (&[u8], &[u8])
+    ensures numbers { result.0.now ≡ take (prefix_len is_number_octet octets.now) octets.now }
+    ensures rest { result.1.now ≡ drop (prefix_len is_number_octet octets.now) octets.now }
 {
-    let (numbers, rest) = octets.split_at(leading::<NumberOctet>(octets));
-    words_with(numbers, rest)
+    octets.split_at(leading::<NumberOctet>(octets))
+}
+
+/// Returns the section of a part with these numbers, if all of the octets ask for header fields of it.
+fn fields_words<'a>(
+    alloc: Global,
+    numbers: &'a [u8],
+    octets: &[u8],
+) -> Result<Option<PartWord<'a>>, AllocError>
+    ensures { IfOk result (λ words. words ≡ whole_fields numbers.now (fields_in octets.now)) }
+{
+    match fields_in(alloc, octets)? {
+        Some(fields) => Ok(fields.whole(numbers)),
+        None => Ok(None),
+    }
+}
+
+/// Returns the section of a part that stands after a bracket.
+fn words_in(alloc: Global, octets: &[u8]) -> Result<Option<PartWord<'_>>, AllocError>
+    ensures { IfOk result (λ words. words ≡ words_in octets.now) }
+{
+    let (numbers, rest) = split_numbers(octets);
+    match words_with(numbers, rest) {
+        Some(words) => Ok(Some(words)),
+        None => fields_words(alloc, numbers, octets),
+    }
 }
 
 fn is_ended(word: &[u8]) -> bool
@@ -278,7 +318,8 @@ fn is_ended(word: &[u8]) -> bool
     word.ends_with(b"]") || word.ends_with(b">")
 }
 
-fn after_bracket(word: &[u8]) -> Option<&[u8]>
+/// Returns what stands after the bracket of a section.
+pub(crate) fn after_bracket(word: &[u8]) -> Option<&[u8]>
     ensures { option_copied result ≡ after_bracket word.now }
 {
     if begins(word, b"BODY[") {
@@ -291,15 +332,15 @@ fn after_bracket(word: &[u8]) -> Option<&[u8]>
 }
 
 /// Returns the section of a part that a word is.
-fn part_words(word: &[u8]) -> Option<PartWord<'_>>
-    ensures { result ≡ part_words word.now }
+fn part_words(alloc: Global, word: &[u8]) -> Result<Option<PartWord<'_>>, AllocError>
+    ensures { IfOk result (λ words. words ≡ part_words word.now) }
 {
     if !is_ended(word) {
-        return None;
+        return Ok(None);
     }
     match after_bracket(word) {
-        Some(octets) => words_in(octets),
-        None => None,
+        Some(octets) => words_in(alloc, octets),
+        None => Ok(None),
     }
 }
 
@@ -307,7 +348,7 @@ fn part_words(word: &[u8]) -> Option<PartWord<'_>>
 pub(crate) fn part_in(alloc: Global, word: &[u8]) -> Result<Option<PartSection>, AllocError>
     ensures { IfOk result (λ part. part ≡ part_in word.now) }
 {
-    match part_words(word) {
+    match part_words(alloc, word)? {
         Some(words) => {
             let numbers = numbers_from(alloc, words.numbers)?;
             Ok(Some(PartSection {
@@ -331,23 +372,37 @@ fn message_for(word: &[u8]) -> &'static [u8]
 }
 
 /// Returns what is asked in place of a word: the message, if the word is a section of a part.
-pub(crate) fn part_for(word: &[u8]) -> &[u8]
-    ensures { result.now ≡ part_for (part_words word.now) word.now }
+pub(crate) fn part_for(alloc: Global, word: &[u8]) -> Result<&[u8], AllocError>
+    ensures { IfOk result (λ other. other.now ≡ part_for (part_words word.now) word.now) }
 {
-    match part_words(word) {
-        Some(_) => message_for(word),
-        None => word,
+    match part_words(alloc, word)? {
+        Some(_) => Ok(message_for(word)),
+        None => Ok(word),
     }
 }
 
-fn is_same_text(text: PartText, other: PartText) -> bool
-    ensures { result ≡ is_same_text text other }
+fn are_same_names(names: &Items<FieldName>, others: &Items<FieldName>) -> bool
+    ensures { result ≡ pointwise bytes_eq names.now others.now }
+{
+    names.is_same(others)
+}
+
+fn is_same_text(text: &PartText, other: &PartText) -> bool
+    ensures { result ≡ is_same_text text.now other.now }
 {
     match text {
         PartText::Body => matches!(other, PartText::Body),
         PartText::Mime => matches!(other, PartText::Mime),
         PartText::Header => matches!(other, PartText::Header),
         PartText::Text => matches!(other, PartText::Text),
+        PartText::Fields(names) => match other {
+            PartText::Fields(others) => are_same_names(names, others),
+            _ => false,
+        },
+        PartText::FieldsNot(names) => match other {
+            PartText::FieldsNot(others) => are_same_names(names, others),
+            _ => false,
+        },
     }
 }
 
@@ -369,7 +424,7 @@ impl PartSection {
         ensures { result ≡ is_same_part self.now other.now }
     {
         self.numbers.as_slice() == other.numbers.as_slice()
-            && is_same_text(self.text, other.text)
+            && is_same_text(&self.text, &other.text)
             && is_same_range(self.partial, other.partial)
     }
 }

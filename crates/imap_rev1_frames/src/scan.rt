@@ -6,9 +6,10 @@ ghost use Rattle.imap_rev1_frames.specs.Scan.{arguments, key_for, is_among_items
 ghost use Rattle.imap_rev1_frames.specs.Scan.{fetch_item_for, asked_by_word, is_alone};
 ghost use Rattle.imap_rev1_frames.specs.Scan.{is_item, written_word, word_asked, passed, after_named, after_word};
 ghost use Rattle.imap_rev1_frames.specs.Scan.{deeper, less_deep, after_outside, after_inside, after_octet};
-ghost use Rattle.imap_rev1_frames.specs.Scan.{next_line};
+ghost use Rattle.imap_rev1_frames.specs.Scan.{has_list, list_length, next_line, opens_list, takes_lists};
 
-use crate::asked::{Asked, asks_section, fetch_for, section_asked, status_asked};
+use crate::asked::{Asked, asks_section, fetch_for, is_section, section_asked, status_asked};
+use crate::fields::fields_length;
 use crate::named::{Named, is_word};
 use std::alloc::{AllocError, Global};
 
@@ -99,17 +100,24 @@ fn exchanged<'a>(word: &[u8], other: &'a [u8], octets: &'a [u8]) -> &'a [u8]
 
 impl Named {
     /// Returns what is written in place of a word that is no argument.
-    fn word_for(self, is_item: bool, word: &[u8]) -> &[u8]
-        ensures { result.now ≡ word_for self is_item word.now }
+    fn word_for(self, alloc: Global, is_item: bool, word: &[u8]) -> Result<&[u8], AllocError>
+        ensures { IfOk result (λ other. other.now ≡ word_for self is_item word.now) }
     {
         match self {
-            Named::Check => exchanged(b"CHECK", b"NOOP", word),
-            Named::Lsub => exchanged(b"LSUB", b"LIST (SUBSCRIBED)", word),
-            Named::Search => key_for(word),
-            Named::Status | Named::List => item_for(is_item, word),
-            Named::Fetch => fetch_item_for(is_item, word),
-            Named::Select | Named::Other => word,
+            Named::Check => Ok(exchanged(b"CHECK", b"NOOP", word)),
+            Named::Lsub => Ok(exchanged(b"LSUB", b"LIST (SUBSCRIBED)", word)),
+            Named::Search => Ok(key_for(word)),
+            Named::Status | Named::List => Ok(item_for(is_item, word)),
+            Named::Fetch => fetch_item_for(alloc, is_item, word),
+            Named::Select | Named::Other => Ok(word),
         }
+    }
+
+    /// Whether header lists may stand in it.
+    fn takes_lists(self) -> bool
+        ensures { result ≡ takes_lists self }
+    {
+        matches!(self, Named::Fetch)
     }
 
     fn is_among_items(self, depth: Depth) -> bool
@@ -134,10 +142,20 @@ impl Named {
     }
 }
 
-fn fetch_item_for(is_item: bool, word: &[u8]) -> &[u8]
-    ensures { result.now ≡ fetch_item_for is_item word.now }
+fn fetch_item_for(alloc: Global, is_item: bool, word: &[u8]) -> Result<&[u8], AllocError>
+    ensures { IfOk result (λ other. other.now ≡ fetch_item_for is_item word.now) }
 {
-    if is_item { fetch_for(word) } else { word }
+    if is_item {
+        fetch_for(alloc, word)
+    } else {
+        Ok(word)
+    }
+}
+
+fn opens_list(octets: &[u8]) -> bool
+    ensures { result ≡ opens_list octets.now }
+{
+    matches!(octets, [b' ', b'(', ..])
 }
 
 fn item_for(is_item: bool, word: &[u8]) -> &[u8]
@@ -193,11 +211,35 @@ impl Scan {
         }
     }
 
-    /// Whether a word begins or goes on with the octet.
+    /// Whether the octet is of a word.
     pub(crate) fn is_in_word(self, octet: u8) -> bool
         ensures { result ≡ is_in_word self octet }
     {
         matches!(self.quoting, Quoting::Outside) && is_word_octet(octet)
+    }
+
+    /// Whether a header list may follow the word.
+    fn has_list(self, word: &[u8], octets: &[u8]) -> bool
+        ensures { result ≡ has_list self word.now octets.now }
+    {
+        is_section(word) && opens_list(octets) && self.named.takes_lists() && self.is_item()
+    }
+
+    /// Returns how many octets after a word belong to it, since they are the header list of a part's section and
+    /// its end.
+    pub(crate) fn list_length(
+        self,
+        alloc: Global,
+        word: &[u8],
+        octets: &[u8],
+    ) -> Result<usize, AllocError>
+        ensures { IfOk result (λ len. len ≡ list_length self word.now octets.now) }
+    {
+        if self.has_list(word, octets) {
+            fields_length(alloc, word, octets)
+        } else {
+            Ok(0)
+        }
     }
 
     fn is_item(self) -> bool
@@ -207,13 +249,13 @@ impl Scan {
     }
 
     /// Returns what is written in place of the word.
-    pub(crate) fn written_word(self, word: &[u8]) -> &[u8]
-        ensures { result.now ≡ written_word self word.now }
+    pub(crate) fn written_word(self, alloc: Global, word: &[u8]) -> Result<&[u8], AllocError>
+        ensures { IfOk result (λ other. other.now ≡ written_word self word.now) }
     {
         if self.passes == 0 {
-            self.named.word_for(self.is_item(), word)
+            self.named.word_for(alloc, self.is_item(), word)
         } else {
-            word
+            Ok(word)
         }
     }
 

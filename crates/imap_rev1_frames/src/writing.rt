@@ -1,10 +1,11 @@
 //! A command that is written word by word.
 
-ghost use Rattle.std.specs.Prelude.{◌≡◌, ◌≤◌, ◌++◌, ◌∷◌, [], take, length, IfOk, OnOk};
+ghost use Rattle.std.specs.Prelude.{◌≡◌, ◌≤◌, ◌++◌, ◌∷◌, [], drop, take, length, IfOk, OnOk};
 ghost use Rattle.imap_lex.specs.Held.{held_size};
 ghost use Rattle.imap_lex.specs.Mark.{line_mark};
 ghost use Rattle.imap_print.specs.Lines.{is_plain};
 ghost use Rattle.imap_rev1_frames.specs.Scan.{start, written_word, word_asked, option_list, after_word};
+ghost use Rattle.imap_rev1_frames.specs.Scan.{count_held};
 ghost use Rattle.imap_rev1_frames.specs.Rewritten.{are_plain, line_text, written_line, line_asked, after_line};
 ghost use Rattle.imap_rev1_frames.specs.Rewritten.{announced, literal_length, section_length, written_section};
 ghost use Rattle.imap_rev1_frames.specs.Rewritten.{written_after, asked_after, command_for};
@@ -23,6 +24,8 @@ pub(crate) struct Writing {
     scan: Scan,
     /// The octets of the word that has begun.
     word: Vec<u8>,
+    /// So many octets that follow belong to the word.
+    held: usize,
     out: Vec<u8>,
     /// What the items so far ask for.
     asked: Vec<Asked>,
@@ -68,6 +71,7 @@ impl Writing {
             alloc,
             scan: Scan::start(named),
             word: Vec::new(alloc),
+            held: 0,
             out: Vec::new(alloc),
             asked: Vec::new(alloc),
         }
@@ -83,7 +87,8 @@ impl Writing {
         ensures word { OnOk result (self.new.word.items ≡ []) }
     {
         let word = self.word.as_slice();
-        self.out.extend_from_slice(self.scan.written_word(word))?;
+        self.out
+            .extend_from_slice(self.scan.written_word(self.alloc, word)?)?;
         if let Some(asked) = self.scan.word_asked(self.alloc, word)? {
             self.asked.push(asked)?;
         }
@@ -92,24 +97,47 @@ impl Writing {
         Ok(())
     }
 
-    fn push(&mut self, octet: u8) -> Result<(), AllocError>
-        ensures { OnOk result (GoesOn (octet ∷ []) [] self.old self.new) }
+    /// Returns how many of the octets, of which `octet` is the first, belong to the word.
+    fn count_held(&self, octet: u8, octets: &[u8]) -> Result<usize, AllocError>
+        ensures { let word = self.now.word.items in IfOk result (λ count.
+            count ≡ count_held self.now.held self.now.scan word octet octets.now) }
     {
+        if self.held > 0 {
+            return Ok(self.held);
+        }
         if self.scan.is_in_word(octet) {
+            return Ok(1);
+        }
+        self.scan
+            .list_length(self.alloc, self.word.as_slice(), octets)
+    }
+
+    /// Writes `octet`, which is the first of those that are left of the line.
+    fn push(&mut self, octet: u8, octets: &[u8]) -> Result<(), AllocError>
+        requires { octets.now ≡ octet ∷ drop 1 octets.now }
+        ensures { OnOk result (GoesOn octets.now (drop 1 octets.now) self.old self.new) }
+    {
+        let held = self.count_held(octet, octets)?;
+        if held > 0 {
             self.word.push(octet)?;
+            self.held = held - 1;
             return Ok(());
         }
         self.end_word()?;
         self.out.push(octet)?;
         self.scan = self.scan.after_octet(octet);
+        self.held = 0;
         Ok(())
     }
 
+    /// Writes what is left of the line, but for its last word.
     fn push_text(&mut self, text: &[u8]) -> Result<(), AllocError>
         ensures { OnOk result (GoesOn text.now [] self.old self.new) }
     {
-        for octet in text {
-            self.push(*octet)?;
+        let mut rest = text;
+        while let Some((octet, later)) = rest.split_first() {
+            self.push(*octet, rest)?;
+            rest = later;
         }
         Ok(())
     }
@@ -128,6 +156,7 @@ impl Writing {
         if !are_plain(text) {
             return self.out.extend_from_slice(line);
         }
+        self.held = 0;
         self.push_text(text)?;
         self.end_word()?;
         self.out.extend_from_slice(b"\r\n")?;

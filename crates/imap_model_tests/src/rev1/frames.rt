@@ -177,7 +177,16 @@ const FETCHES: &[(&[u8], &[u8])] = &[
     ),
     (
         b"T FETCH 1 BODY[2.HEADER.FIELDS (FROM)]\r\n",
-        b"T FETCH 1 BODY[2.HEADER.FIELDS (FROM)]\r\n",
+        b"T FETCH 1 BODY[]\r\n",
+    ),
+    (
+        b"T FETCH 1 (body.peek[1.2.Header.Fields.Not (\"a)\\\" (RFC822\" To)]<0.5> RFC822) (CHANGEDSINCE 5)\r\n",
+        b"T FETCH 1 (BODY.PEEK[] BODY[]) (CHANGEDSINCE 5)\r\n",
+    ),
+    // A name that is a literal stays, and so does the item.
+    (
+        b"T FETCH 1 (BODY[2.HEADER.FIELDS (RFC822 {4}\r\nFROM)] RFC822)\r\n",
+        b"T FETCH 1 (BODY[2.HEADER.FIELDS (RFC822 {4}\r\nFROM)] BODY[])\r\n",
     ),
     (
         b"T FETCH 1 (UID RFC822.SIZE)\r\n",
@@ -193,6 +202,29 @@ const FETCHES: &[(&[u8], &[u8])] = &[
         b"T STORE 1 FLAGS (RFC822)\r\n",
         b"T STORE 1 FLAGS (RFC822)\r\n",
     ),
+];
+
+/// Items that are no header fields of a part, and stay.
+const NO_FIELDS: &[&[u8]] = &[
+    b"T FETCH 1 BODY[2.HEADER.FIELDS ()]\r\n",
+    b"T FETCH 1 BODY[2.HEADER.FIELDS (A  B)]\r\n",
+    b"T FETCH 1 BODY[2.HEADER.FIELDS  (A)]\r\n",
+    b"T FETCH 1 BODY[2.HEADER.FIELDS(A)]\r\n",
+    b"T FETCH 1 BODY[2.HEADER.FIELDS (A]\r\n",
+    b"T FETCH 1 BODY[2.HEADER.FIELDS (A)\r\n",
+    b"T FETCH 1 BODY[2.HEADER.FIELDS (A)]]\r\n",
+    b"T FETCH 1 BODY[2.HEADER.FIELDS (A)]x\r\n",
+    b"T FETCH 1 BODY[2.HEADER.FIELDS (A)]<0.0>\r\n",
+    b"T FETCH 1 BODY[2.HEADER.FIELDS (\"A)]\r\n",
+    b"T FETCH 1 BODY[2.HEADER.FIELDS A]\r\n",
+    b"T FETCH 1 BODY[2.HEADER (A)]\r\n",
+    b"T FETCH 1 BODY[2.MIME.FIELDS (A)]\r\n",
+    b"T FETCH 1 BODY[2HEADER.FIELDS (A)]\r\n",
+    b"T FETCH 1 BODY[0.HEADER.FIELDS (A)]\r\n",
+    b"T FETCH 1 BODY[2..HEADER.FIELDS (A)]\r\n",
+    b"T FETCH 1 BINARY[2.HEADER.FIELDS (A)]\r\n",
+    b"T SEARCH BODY[2.HEADER.FIELDS (A)]\r\n",
+    b"T STORE 1 BODY[2.HEADER.FIELDS (A)]\r\n",
 ];
 
 /// After IMAP4rev2 was enabled.
@@ -218,5 +250,12 @@ fn labels_are_asked_as_sections(rt: HostRuntime) {
     for &(command, wanted) in FETCHES {
         expect(&rt, seen(rt.alloc(), false, command), wanted);
         expect(&rt, seen(rt.alloc(), true, command), wanted);
+    }
+}
+
+#[test]
+fn other_lists_stay(rt: HostRuntime) {
+    for &command in NO_FIELDS {
+        expect(&rt, seen(rt.alloc(), false, command), command);
     }
 }

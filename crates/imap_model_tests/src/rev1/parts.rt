@@ -276,6 +276,37 @@ const ROWS: &[(&[u8], &[u8])] = &[
          ype:)\r\n",
     ),
     (
+        b"T FETCH 12 BODY[3.HEADER.FIELDS (Subject)]\r\n",
+        b"* 12 FETCH (UID 7 RFC822.SIZE 9 BODY[3.HEADER.FIELDS (Subject)] {18}\r\n\
+         Subject: three\r\n\
+         \r\n\
+         )\r\n",
+    ),
+    (
+        b"T FETCH 12 (BODY.PEEK[3.header.fields.not (subject \"X Odd\")]<0.12> BODY[4.2.HEADER.FIELDS (\"CONTENT-TYPE\" Date)])\r\n",
+        b"* 12 FETCH (UID 7 RFC822.SIZE 9 BODY[3.HEADER.FIELDS.NOT (subject \"X Odd\")]<0> {12}\r\n\
+         Content-Type BODY[4.2.HEADER.FIELDS (CONTENT-TYPE Date)] {45}\r\n\
+         Content-Type: multipart/mixed; boundary=d\r\n\
+         \r\n\
+         )\r\n",
+    ),
+    // Of a part that is no message, and of one that isn't there.
+    (
+        b"T FETCH 12 (BODY[1.HEADER.FIELDS (Subject)] BODY[4.HEADER.FIELDS.NOT (a b)]<3.1> BODY[9.HEADER.FIELDS (x)])\r\n",
+        b"* 12 FETCH (UID 7 RFC822.SIZE 9 BODY[1.HEADER.FIELDS (Subject)] NIL BODY[4.HEADER.FIELDS.NOT (a b)]<3> NIL BODY[9.HEADER.FIELDS (x)] NIL)\r\n",
+    ),
+    // Names are compared without case, and told as they were asked for. The same list is told once.
+    (
+        b"T FETCH 12 (BODY[3.HEADER.FIELDS (\"a)\\\" b\" SUBJECT)] BODY[3.HEADER.FIELDS.NOT (x)]<16.9> BODY.PEEK[3.HEADER.FIELDS (\"a)\\\" b\" SUBJECT)] BODY[3.HEADER.FIELDS (x)])\r\n",
+        b"* 12 FETCH (UID 7 RFC822.SIZE 9 BODY[3.HEADER.FIELDS (\"a)\\\" b\" SUBJECT)] {18}\r\n\
+         Subject: three\r\n\
+         \r\n\
+         \x20BODY[3.HEADER.FIELDS.NOT (x)]<16> {9}\r\n\
+         Content-T BODY[3.HEADER.FIELDS (x)] {2}\r\n\
+         \r\n\
+         )\r\n",
+    ),
+    (
         b"T UID FETCH 7 (RFC822.SIZE BODY[3.1] FLAGS BODY[])\r\n",
         b"* 12 FETCH (UID 7 RFC822.SIZE 9 BODY[3.1] {9}\r\n\
          three one BODY[] {708}\r\n\
