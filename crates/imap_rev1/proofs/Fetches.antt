@@ -1,8 +1,9 @@
 -- FETCH, as it is written and as its messages are told.
-use Rattle.std.proofs.Common.{◌≡◌, ◌∙◌, ap, sym, refl, subst, ℕ, Bool, true, false, cond, not, ◌&&◌, ◌||◌, List, [], ◌∷◌, ◌++◌, append-nil, drop, length, map, flat_map, Option, Some, None}
+use Rattle.std.proofs.Common.{arith, suc, ◌≡◌, ◌∙◌, ap, sym, refl, subst, ℕ, Bool, true, false, cond, not, ◌&&◌, ◌||◌, List, [], ◌∷◌, ◌++◌, append-nil, drop, length, map, flat_map, Option, Some, None}
 use Rattle.std.specs.Prelude.{codes, decimal, ◌==◌, is_some, option_map}
 use Rattle.std.specs.List.{concat, list_all, list_any, AllByRecursion}
 use Rattle.std.specs.Option.{option_and_then}
+use Rattle.std.proofs.lemmas.Bool.Decides.{nat_tests}
 use Rattle.std.proofs.lemmas.Option.{same_Some}
 use Rattle.imap_lex.specs.Framing.{crlf}
 use Rattle.imap_lex.specs.Stream.{IsLastLine}
@@ -282,14 +283,20 @@ tells_listed_part state uid tag set word p number fetched body is word_is asks o
 
 -- ---- header fields of a part
 
+not_both : (o : Option Asked) (a : Asked) → o ≡ None → o ≡ Some a → ⊥
+not_both o a e f = let g : None ≡ Some a = sym e ∙ f in absurd cc
+
+not_none : (n : ℕ) → (suc n == 0) ≡ false
+not_none n = grind (arith, nat_tests)
+
+-- a word that asks for something has an octet
+word_some : (octets : List ℕ) (a : Asked) → section_asked octets ≡ Some a → (length octets == 0) ≡ false
+word_some [] a e = absurd (not_both (section_asked []) a refl e)
+word_some (octet ∷ octets) a e = not_none (length octets)
+
 module _ (state : Rev1) (uid : Bool) (tag set word : List ℕ) (p : PartSection) (is : IsFetch state uid tag set (alone set word)) (ends : EndsWithList word) (asks : section_asked word ≡ Some (asked.Part p)) where
   lists : has_list (within named.Fetch depth.None) ends.front (codes " (" ++ ends.list) ≡ true
   lists = ap (λ (b : Bool). b && true && true && true) ends.begins
-
-  word_some : (word : List ℕ) (a : Asked) (b : Bool) → section_asked word ≡ Some a → (length word == 0) ≡ b → cond (not b && true) (section_asked word) None ≡ Some a
-  word_some word a false e f = e
-  word_some [] a true e f = absurd cc
-  word_some (octet ∷ word) a true e f = absurd cc
 
   fields_written : written (within named.Fetch depth.None) [] (alone set word) ≡ alone set (message_for word)
   fields_written =
@@ -313,7 +320,7 @@ module _ (state : Rev1) (uid : Bool) (tag set word : List ℕ) (p : PartSection)
       ∙ asked_read named.Fetch depth.None [] ends.front (codes " (" ++ ends.list) ends.plain.octets
       ∙ list_word_asks (within named.Fetch depth.None) ends.front ends.list refl lists ends.ends
       ∙ ap (λ (l : List ℕ). option_list (word_asked (within named.Fetch depth.None) l)) (sym ends.spelt)
-      ∙ ap option_list (word_some word (asked.Part p) (length word == 0) asks refl)
+      ∙ ap option_list (item_by word (length word == 0) (word_some word (asked.Part p) asks) ∙ asks)
 
 pub asks_for_fields : AsksForFields
 asks_for_fields state uid tag set word p is ends asks = frame_written state uid tag set (alone set word) is _ (fields_written state uid tag set word p is ends asks)

@@ -4,7 +4,7 @@ use Rattle.std.specs.Prelude.{filter, take_while}
 use Rattle.std.specs.List.{concat, flat_map}
 use Rattle.std.proofs.lemmas.List.Folds.{concat-append}
 use Rattle.std.proofs.lemmas.List.Sums.{take_while-cons}
-use Rattle.imap_text.specs.Sections.{sections, header}
+use Rattle.imap_text.specs.Sections.{sections}
 use Rattle.imap_text.specs.Fields.{is_continuation, HeaderField, fields_among, fields_of, header_fields, field_lines, is_chosen, fields}
 use Rattle.imap_text.proofs.Cuts.{header_within}
 

@@ -1,5 +1,5 @@
 -- The names of header fields for which a command asks are of one line.
-use Rattle.std.proofs.Common.{◌≡◌, ◌∙◌, ap, sym, refl, ℕ, ◌-◌, zero, suc, Bool, true, false, cond, not, ◌&&◌, ◌||◌, eqb, List, [], ◌∷◌, ◌++◌, length, take, drop, Option, Some, None}
+use Rattle.std.proofs.Common.{◌≡◌, refl, ℕ, ◌-◌, zero, suc, Bool, true, false, cond, not, ◌&&◌, eqb, List, [], ◌∷◌, ◌++◌, length, take, drop, Option, Some, None}
 use Rattle.std.specs.Prelude.{codes, option_map, ◌==◌}
 use Rattle.std.specs.List.{AllByRecursion, ends_with, list_all, list_any, prefix_len}
 use Rattle.std.specs.Char.{is_ascii_alphabetic}
@@ -23,13 +23,12 @@ use Rattle.imap_syntax.proofs.Writing.{both_true}
 use Rattle.imap_rev1_frames.specs.declared.asked.Asked.{Asked}
 use Rattle.imap_rev1_frames.specs.declared.asked.Asked.TheVariants as asked
 use Rattle.imap_rev1_frames.specs.declared.asked.Label.{Label}
-use Rattle.imap_rev1_frames.specs.declared.fields.Fields.{Fields}
 use Rattle.imap_rev1_frames.specs.declared.named.Named.{Named}
 use Rattle.imap_rev1_frames.specs.declared.named.Named.TheVariants as named
 use Rattle.imap_rev1_frames.specs.declared.part.PartText.{PartText}
 use Rattle.imap_rev1_frames.specs.declared.part.PartText.TheVariants as part_text
 use Rattle.imap_rev1_frames.specs.declared.scan.Scan.{Scan}
-use Rattle.imap_rev1_frames.specs.Asked.{is_repeat, is_section, label_for, label_in, labelled_by, other_asked, part_or_section, section_asked, status_asked, unlabelled_by, with_asked, without_repeats}
+use Rattle.imap_rev1_frames.specs.Asked.{is_repeat, is_section, label_for, label_in, labelled_by, part_or_section, status_asked, unlabelled_by, with_asked, without_repeats}
 use Rattle.imap_rev1_frames.specs.Named.{has_items, is_word}
 use Rattle.imap_rev1_frames.specs.Part.{PartWords, after_bracket, are_numbers, end_in, fields_after, fields_by, fields_in, fields_named, fields_text, is_ended, is_number_octet, part_in, part_words, section_of, text_in, text_named, whole_fields, words_after, words_by, words_in, words_or, words_with}
 use Rattle.imap_rev1_frames.specs.Rewritten.{are_plain, line_text, line_asked, after_line, section_length, asked_after, command_asked, each_once, asked_by}
@@ -50,10 +49,6 @@ abbrev ArePlainWords : Option PartWords → Type 0
 ArePlainWords (Some w) = HasPlainNames w.text
 ArePlainWords None = Unit {0}
 
-abbrev ArePlainFields : Option Fields → Type 0
-ArePlainFields (Some f) = HasPlainNames f.text
-ArePlainFields None = Unit {0}
-
 abbrev IsPlainText : Option PartText → Type 0
 IsPlainText (Some t) = HasPlainNames t
 IsPlainText None = Unit {0}
@@ -69,57 +64,49 @@ plain_names (name ∷ names) h =
 listed_plain : (names : List (List ℕ)) → (not (length names == 0) && list_all is_quotable names) ≡ true → AllByRecursion IsPlain names
 listed_plain names h = plain_names names (both_true (not (length names == 0)) (list_all is_quotable names) h).1
 
-section_plain : (s : Section) → written_fetch.section_fits s ≡ true → IsPlainText (fields_text s)
-section_plain section.Whole h = tt
-section_plain section.Header h = tt
-section_plain section.Text h = tt
-section_plain (section.Fields names) h = listed_plain names h
-section_plain (section.FieldsNot names) h = listed_plain names h
-
-text_plain : (found : Option PartText) (partial : Option Partial) (left : ℕ) → IsPlainText found → ArePlainFields (option_map (λ text. record { text = text; partial = partial; left = left }) found)
-text_plain (Some t) partial left h = h
-text_plain None partial left h = tt
-
-named_plain : (items : List FetchItem) (left : ℕ) → written_fetch.fetch_items.fits items ≡ true → ArePlainFields (fields_named items left)
-named_plain [] left h = tt
-named_plain (item.Section body ∷ []) left h =
-    let one = both_true (written_fetch.item_fits (item.Section body)) true h in
-    let parts = both_true (written_fetch.section_fits body.section) (written_fetch.partial_fits body.partial) one.0 in
-    text_plain (fields_text body.section) body.partial left (section_plain body.section parts.0)
-named_plain (item.Section body ∷ i ∷ items) left h = tt
-named_plain (item.Uid ∷ items) left h = tt
-named_plain (item.Flags ∷ items) left h = tt
-named_plain (item.InternalDate ∷ items) left h = tt
-named_plain (item.Rfc822Size ∷ items) left h = tt
-named_plain (item.ModSeq ∷ items) left h = tt
-named_plain (item.Unserved ∷ items) left h = tt
-
-read_plain : (input : List ℕ) (found : Option (List FetchItem × List ℕ)) → fetch_items.read input ≡ found → ArePlainFields (fields_by found)
-read_plain input None e = tt
-read_plain input (Some found) e =
-    let sound = fetch_items_lawful.sound input found.0 found.1 e in
-    named_plain found.0 (length found.1) (fetch_items_writes.fits found.0 sound.0 sound.1)
-
-after_by : (b : Bool) (found : Option Fields) → ArePlainFields found → ArePlainFields (cond b found None)
-after_by true found h = h
-after_by false found h = tt
-
-after_plain : (numbers rest : List ℕ) → ArePlainFields (fields_after numbers rest)
-after_plain numbers rest =
-    after_by (ends_with eqb numbers (codes ".") && are_numbers None numbers) (fields_by (fetch_items.read (codes "BODY[" ++ rest))) (read_plain (codes "BODY[" ++ rest) (fetch_items.read (codes "BODY[" ++ rest)) refl)
-
-fields_plain : (octets : List ℕ) → ArePlainFields (fields_in octets)
-fields_plain octets = after_plain (take (prefix_len is_number_octet octets) octets) (drop (prefix_len is_number_octet octets) octets)
-
--- ---- words
-
 whole_by : (b : Bool) (words : PartWords) → HasPlainNames words.text → ArePlainWords (cond b (Some words) None)
 whole_by true words h = h
 whole_by false words h = tt
 
-whole_plain : (numbers : List ℕ) (found : Option Fields) → ArePlainFields found → ArePlainWords (whole_fields numbers found)
-whole_plain numbers (Some f) h = whole_by (f.left == 0) (record { numbers = numbers; text = f.text; partial = f.partial }) h
-whole_plain numbers None h = tt
+section_plain : (numbers : List ℕ) (s : Section) (partial : Option Partial) (left : ℕ) → written_fetch.section_fits s ≡ true
+    → ArePlainWords (whole_fields numbers (option_map (λ text. record { text = text; partial = partial; left = left }) (fields_text s)))
+section_plain numbers section.Whole partial left h = tt
+section_plain numbers section.Header partial left h = tt
+section_plain numbers section.Text partial left h = tt
+section_plain numbers (section.Fields names) partial left h =
+    whole_by (left == 0) (record { numbers = numbers; text = part_text.Fields names; partial = partial }) (listed_plain names h)
+section_plain numbers (section.FieldsNot names) partial left h =
+    whole_by (left == 0) (record { numbers = numbers; text = part_text.FieldsNot names; partial = partial }) (listed_plain names h)
+
+named_plain : (numbers : List ℕ) (items : List FetchItem) (left : ℕ) → written_fetch.fetch_items.fits items ≡ true → ArePlainWords (whole_fields numbers (fields_named items left))
+named_plain numbers [] left h = tt
+named_plain numbers (item.Section body ∷ []) left h =
+    let one = both_true (written_fetch.item_fits (item.Section body)) true h in
+    let parts = both_true (written_fetch.section_fits body.section) (written_fetch.partial_fits body.partial) one.0 in
+    section_plain numbers body.section body.partial left parts.0
+named_plain numbers (item.Section body ∷ i ∷ items) left h = tt
+named_plain numbers (item.Uid ∷ items) left h = tt
+named_plain numbers (item.Flags ∷ items) left h = tt
+named_plain numbers (item.InternalDate ∷ items) left h = tt
+named_plain numbers (item.Rfc822Size ∷ items) left h = tt
+named_plain numbers (item.ModSeq ∷ items) left h = tt
+named_plain numbers (item.Unserved ∷ items) left h = tt
+
+read_plain : (numbers input : List ℕ) (found : Option (List FetchItem × List ℕ)) → fetch_items.read input ≡ found → ArePlainWords (whole_fields numbers (fields_by found))
+read_plain numbers input None e = tt
+read_plain numbers input (Some found) e =
+    let sound = fetch_items_lawful.sound input found.0 found.1 e in
+    named_plain numbers found.0 (length found.1) (fetch_items_writes.fits found.0 sound.0 sound.1)
+
+after_by : (b : Bool) (numbers : List ℕ) (found : Option (List FetchItem × List ℕ)) → ArePlainWords (whole_fields numbers (fields_by found)) → ArePlainWords (whole_fields numbers (cond b (fields_by found) None))
+after_by true numbers found h = h
+after_by false numbers found h = tt
+
+after_plain : (numbers rest : List ℕ) → ArePlainWords (whole_fields numbers (fields_after numbers rest))
+after_plain numbers rest =
+    after_by (ends_with eqb numbers (codes ".") && are_numbers None numbers) numbers (fetch_items.read (codes "BODY[" ++ rest)) (read_plain numbers (codes "BODY[" ++ rest) (fetch_items.read (codes "BODY[" ++ rest)) refl)
+
+-- ---- words
 
 -- a word without a list
 named_by : (mime header text : Bool) → IsPlainText (cond mime (Some part_text.Mime) (cond header (Some part_text.Header) (cond text (Some part_text.Text) None)))
@@ -159,7 +146,7 @@ words_plain octets =
     let rest = drop (prefix_len is_number_octet octets) octets in
     either_plain (words_with numbers rest) (whole_fields numbers (fields_in octets))
     (same_by (not (length numbers == 0) && are_numbers None numbers) (words_after numbers rest) (words_after_plain numbers rest))
-    (whole_plain numbers (fields_in octets) (fields_plain octets))
+    (after_plain numbers rest)
 
 bracket_plain : (found : Option (List ℕ)) → ArePlainWords (option_and_then words_in found)
 bracket_plain (Some octets) = words_plain octets

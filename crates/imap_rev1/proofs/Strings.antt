@@ -8,7 +8,7 @@ use Rattle.imap_rev1_frames.specs.declared.named.Named.TheVariants as named
 use Rattle.imap_rev1_frames.specs.declared.scan.Quoting.{Quoting}
 use Rattle.imap_rev1_frames.specs.declared.scan.Quoting.TheVariants as quoting
 use Rattle.imap_rev1_frames.specs.declared.scan.Scan.{Scan}
-use Rattle.imap_rev1_frames.specs.Scan.{is_outside, is_in_word, word_for, item_for, fetch_item_for, is_item, written_word, passed, after_inside, after_octet, after_quoting, next_line, written}
+use Rattle.imap_rev1_frames.specs.Scan.{is_outside, word_for, item_for, fetch_item_for, is_item, written_word, passed, after_inside, after_octet, after_quoting, next_line, written}
 use Rattle.imap_rev1.specs.Laws.{StringsStay}
 use Rattle.imap_rev1_frames.proofs.Steps.{end_written}
 
