@@ -5,10 +5,10 @@ ghost use Rattle.std.specs.Ordering.{eq_by_cmp};
 ghost use Rattle.std.specs.Vec.{vec_capacity};
 ghost use Rattle.imap_names.specs.Order.{name_cmp};
 
-use crate::places::find_place;
+use crate::places::{find_near_end, find_place};
 use imap_names::{Name, NameRef};
 
-/// Sets the value of `name`.
+/// Sets the value of `name`. A name that comes after all entries takes one comparison.
 pub(crate) fn put_entry<V: Drop>(entries: &mut Vec<(Name, V)>, name: Name, value: V)
     requires sorted { IsTrue (is_sorted name_cmp entries.old.items) }
     requires room { vec_len entries.old < vec_capacity entries.old }
@@ -16,7 +16,7 @@ pub(crate) fn put_entry<V: Drop>(entries: &mut Vec<(Name, V)>, name: Name, value
     ensures len { vec_len entries.new ≤ vec_len entries.old + 1 }
     ensures capacity { vec_capacity entries.old ≤ vec_capacity entries.new }
 {
-    let found = find_place(entries.as_slice(), &name.as_ref());
+    let found = find_near_end(entries.as_slice(), &name.as_ref());
     match found {
         Ok(place) => entries[place].1 = value,
         Err(place) => drop(entries.insert(place, (name, value))),

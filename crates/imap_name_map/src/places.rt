@@ -69,6 +69,29 @@ pub(crate) fn find_place<V>(entries: &[(Name, V)], name: &NameRef<'_>) -> Result
     }
 }
 
+/// Whether all the entries stand before `name`. The last one tells.
+fn end_before<V>(entries: &[(Name, V)], name: &NameRef<'_>) -> bool
+    requires { IsTrue (is_sorted name_cmp entries.now) }
+    ensures { IsTrue result ↔ (before (λ x. name_cmp x name.now) entries.now ≡ length entries.now) }
+{
+    match entries.last() {
+        Some(entry) => entry.0.as_ref().compare(name).is_lt(),
+        None => true,
+    }
+}
+
+/// As `find_place`. A name that comes after all entries takes one comparison.
+pub(crate) fn find_near_end<V>(entries: &[(Name, V)], name: &NameRef<'_>) -> Result<usize, usize>
+    requires { IsTrue (is_sorted name_cmp entries.now) }
+    ensures { MatchResult result (IsPlace name.now entries.now) (IsGap name.now entries.now) }
+{
+    if end_before(entries, name) {
+        Err(entries.len())
+    } else {
+        find_place(entries, name)
+    }
+}
+
 /// The value of `name`.
 pub(crate) fn find_in<'a, V>(entries: &'a [(Name, V)], name: &NameRef<'_>) -> Option<&'a V>
     requires { IsTrue (is_sorted name_cmp entries.now) }

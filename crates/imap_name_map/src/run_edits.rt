@@ -4,36 +4,13 @@ ghost use Rattle.std.specs.Prelude.{MatchResult};
 ghost use Rattle.std.specs.FinMap.Entries.{is_sorted, put};
 ghost use Rattle.std.specs.Vec.{vec_capacity};
 ghost use Rattle.imap_names.specs.Order.{name_cmp, run_cmp};
-ghost use Rattle.imap_name_map.specs.Cuts.{before, IsPlace, IsGap};
+ghost use Rattle.imap_name_map.specs.Cuts.{IsPlace, IsGap};
 ghost use Rattle.imap_name_map.specs.Rows.{entries_within, put_all};
 ghost use Rattle.imap_name_map.specs.Renaming.{entries_apart, with_run};
 
 use crate::moves::{from_back, run_to_back, start_among};
-use crate::places::find_place;
+use crate::places::find_near_end;
 use imap_names::{Name, NameRef};
-
-/// Whether all the entries stand before `name`. The last one tells.
-fn end_before<V>(entries: &[(Name, V)], name: &NameRef<'_>) -> bool
-    requires { IsTrue (is_sorted name_cmp entries.now) }
-    ensures { IsTrue result ↔ (before (λ x. name_cmp x name.now) entries.now ≡ length entries.now) }
-{
-    match entries.last() {
-        Some(entry) => entry.0.as_ref().compare(name).is_lt(),
-        None => true,
-    }
-}
-
-/// As `find_place`. A name that comes after all entries takes one comparison.
-fn find_near_end<V>(entries: &[(Name, V)], name: &NameRef<'_>) -> Result<usize, usize>
-    requires { IsTrue (is_sorted name_cmp entries.now) }
-    ensures { MatchResult result (IsPlace name.now entries.now) (IsGap name.now entries.now) }
-{
-    if end_before(entries, name) {
-        Err(entries.len())
-    } else {
-        find_place(entries, name)
-    }
-}
 
 /// As `find_near_end`, among the entries from `start` on. The place is counted from there.
 fn find_from<V>(entries: &[(Name, V)], start: usize, name: &NameRef<'_>) -> Result<usize, usize>

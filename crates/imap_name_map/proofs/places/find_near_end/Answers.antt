@@ -1,6 +1,6 @@
 use Rattle.std.proofs.Common.{length, refl}
 use Rattle.imap_name_map.proofs.RunInserts.{gap_at_end}
-use Rattle.imap_name_map.proofs.run_edits.find_near_end.Goals as goal
+use Rattle.imap_name_map.proofs.places.find_near_end.Goals as goal
 
 pub returns-then-end_before : goal.returns-then-end_before
 returns-then-end_before g c =

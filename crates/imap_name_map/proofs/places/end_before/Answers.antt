@@ -1,7 +1,7 @@
 use Rattle.std.proofs.Common.{ap, is_lt, ◌∙◌}
 use Rattle.imap_names.specs.Order.{name_cmp}
 use Rattle.imap_name_map.proofs.RunInserts.{last_decides}
-use Rattle.imap_name_map.proofs.run_edits.end_before.Goals as goal
+use Rattle.imap_name_map.proofs.places.end_before.Goals as goal
 
 pub returns-in-Some : goal.returns-in-Some
 returns-in-Some g c =
