@@ -1,6 +1,6 @@
 -- Rows that are taken from the end of a table, mailbox by mailbox.
-use Rattle.std.proofs.Common.{◌≡◌, ◌≢◌, ◌++◌, ◌+◌, ◌≤◌, ◌<◌, ℕ, ℤ, List, [], ◌∷◌, Bool, true, false, cond, filter, get_or, is_lt, length, map, append-nil, arith, ap, inl, inr, refl, subst, sym, ◌∙◌}
-use Rattle.std.specs.List.{AllByRecursion, AllZip, IsDistinct}
+use Rattle.std.proofs.Common.{◌≡◌, ◌≢◌, ◌++◌, ◌+◌, ℤ, List, [], ◌∷◌, Bool, true, false, cond, get_or, is_lt, map, append-nil, arith, ap, inl, inr, refl, subst, sym, ◌∙◌}
+use Rattle.std.specs.List.{AllByRecursion, IsDistinct}
 use Rattle.std.specs.List.Sorted.{IsSortedByKey}
 use Rattle.std.specs.Ordering.{eq_by_cmp, int_cmp, int_eq}
 use Rattle.std.proofs.lemmas.Bool.Decides.{Decides-int_eq}

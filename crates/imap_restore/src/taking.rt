@@ -3,7 +3,7 @@
 //! What is read of a row takes the room of the row: the rows of a table and all that is read of them are never in
 //! memory at once.
 
-ghost use Rattle.std.specs.Prelude.{◌≡◌, ◌++◌, ◌∷◌, ◌<◌, [], ℤ, List, Err, IfNone, IfOk, IfSome, OnOk, length, reverse, true};
+ghost use Rattle.std.specs.Prelude.{◌≡◌, ◌++◌, ◌∷◌, ◌<◌, [], List, Err, IfNone, IfOk, IfSome, OnOk, length, reverse, true};
 ghost use Rattle.std.specs.List.{AllZip};
 ghost use Rattle.std.specs.Ordering.{int_eq};
 ghost use Rattle.imap_restore.specs.Parts.{AreGrouped, LeavesOthers, ReadsEnd, below, is_first_below};

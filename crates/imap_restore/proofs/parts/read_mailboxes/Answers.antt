@@ -1,4 +1,4 @@
-use Rattle.std.proofs.Common.{◌≡◌, ◌≤◌, ◌∷◌, ◌∙◌, arith, length, refl, reverse, subst, sym}
+use Rattle.std.proofs.Common.{◌≡◌, ◌≤◌, ◌∷◌, ◌∙◌, arith, length, reverse, subst, sym}
 use Rattle.std.specs.List.{AllZip}
 use Rattle.imap_message_tables.proofs.Ends.{none_left, turned}
 use Rattle.imap_tables.proofs.Zipped.{first_holds, rest_holds}

@@ -1,4 +1,4 @@
-use Rattle.std.proofs.Common.{◌≡◌, ◌++◌, ◌∙◌, ℤ, ap, of_z, subst, sym, to_z, w64}
+use Rattle.std.proofs.Common.{◌≡◌, ◌++◌, ◌∙◌, ap, of_z, subst, sym, to_z, w64}
 use Rattle.std.specs.List.{AllZip}
 use Rattle.std.proofs.lemmas.Int.{to_z-of_z}
 use Rattle.imap_restore.specs.Parts.{AreGrouped, LeavesOthers, ReadsEnd, below}
