@@ -85,6 +85,22 @@ above_all now before rest name h lacks n = (λ c. (h.exact n).0 (inl c), λ k. b
 pub record AllLevels (now walked : List Text) : Type 0 where
   pub exact : (n : Text) → Contains now n ↔ HasBelow walked n
 
+-- the levels above a name are there
+pub record HasLevelsOf (levels : List Text) (name : Text) : Type 0 where
+  pub all : (n : Text) → IsBelow n name → Contains levels n
+
+-- the empty text has none above it
+pub none_of_empty : (levels : List Text) → HasLevelsOf levels []
+none_of_empty levels = record { all = λ n b. absurd (none_above [] n refl b) }
+
+-- those of a name whose levels are there already
+pub no_more_levels : (now : List Text) (before name : Text) → ((n : Text) → IsBelow n before → Contains now n) → ((n : Text) → IsBelow n name ↔ IsBelow n before) → (n : Text) → Contains now n ↔ (Contains now n ⊎ IsBelow n name)
+no_more_levels now before name there same n = (λ c. inl c, λ k. by k)
+  where
+    by : Contains now n ⊎ IsBelow n name → Contains now n
+    by (inl c) = c
+    by (inr b) = there n ((same n).0 b)
+
 pub all_levels_first : (xs : List Text) → AllLevels [] (take 0 xs)
 all_levels_first xs = record { exact = λ n. (λ h. absurd (none_held n h), λ (m, h, b). absurd (none_held m h)) }
 

@@ -4,7 +4,7 @@ use Rattle.std.specs.Borrow.{Bor}
 use Rattle.std.specs.Prelude.{◌↔◌, ◌⊎◌, is_ok, is_some, bytes_eq, MatchOption, Option, Some}
 use Rattle.std.specs.Slice.{IsItemAt}
 use Rattle.std.proofs.lemmas.Bool.{ltb-true, ltb-false}
-use Rattle.std.specs.List.{AllByRecursion, Contains, dedup, list_any}
+use Rattle.std.specs.List.{AllByRecursion, Contains, IsAllAdjacentAnswer, dedup, list_any}
 use Rattle.std.specs.List.Sorted.{IsSearchInRange, IsSorted, IsStrictlySortedBy, IsPermutation, IsBinarySearchResult}
 use Rattle.std.specs.Ordering.{eq_by_cmp, is_eq, is_lt, ordering_reverse}
 use Rattle.std.specs.Cmp.{eq_by_cmp_equiv}
@@ -29,7 +29,7 @@ tied Less e = cc
 tied Equal e = refl
 tied Greater e = cc
 
-same_texts : (x y : Text) → bytes_eq x y ≡ true → x ≡ y
+pub same_texts : (x y : Text) → bytes_eq x y ≡ true → x ≡ y
 same_texts x y e = same_text x y (tied (text_cmp x y) (sym (texts_ties x y) ∙ e))
 
 same_tied : (x y : Text) → eq_by_cmp text_cmp x y ≡ true → x ≡ y
@@ -103,6 +103,35 @@ module _ {K X : Type 0} (R : K → K → Ordering) where
 pub in_order_rises : (xs : List Text) → IsStrictlySortedBy text_cmp (in_order xs)
 in_order_rises xs = let m = fin.from_entries {R = text_cmp} (entries_of xs) in rising_keys text_cmp (fin.entries m) (entries_sorted m)
 
+-- texts of which each is less than the next
+lesser : (x y : Text) → true ≡ is_lt (text_cmp x y) → text_cmp x y ≡ Less
+lesser x y h = by (text_cmp x y) h
+  where
+    by : (o : Ordering) → true ≡ is_lt o → o ≡ Less
+    by Less h = refl
+    by Equal h = cc
+    by Greater h = cc
+
+all_greater : (x y : Text) (zs : List Text) → text_cmp x y ≡ Less → AllByRecursion (λ z. text_cmp y z ≡ Less) zs → AllByRecursion (λ z. text_cmp x z ≡ Less) zs
+all_greater x y [] lt h = tt
+all_greater x y (z ∷ zs) lt h = (nat_list_cmp_total.trans x y z lt h.0, all_greater x y zs lt h.1)
+
+rising_texts : (xs : List Text) → ((k : ℕ) (d : Text) → k + 1 < length xs → true ≡ is_lt (text_cmp (get_or xs k d) (get_or xs (k + 1) d))) → IsStrictlySortedBy text_cmp xs
+unfolding IsStrictlySortedBy
+rising_texts [] h = tt
+rising_texts (x ∷ []) h = (tt, tt)
+rising_texts (x ∷ y ∷ ys) h =
+    let lt = lesser x y (h 0 x (omega arith)) in
+    let rest = rising_texts (y ∷ ys) (λ k d l. later k d (h (suc k) d (omega (arith, l)))) in
+    ((lt, all_greater x y ys lt rest.0), rest)
+  where
+    later : (k : ℕ) (d : Text) → true ≡ is_lt (text_cmp (get_or (y ∷ ys) k d) (get_or (x ∷ y ∷ ys) (suc k + 1) d)) → true ≡ is_lt (text_cmp (get_or (y ∷ ys) k d) (get_or (y ∷ ys) (k + 1) d))
+    later k d = let same : suc k + 1 ≡ suc (k + 1) = omega arith in subst (λ j. true ≡ is_lt (text_cmp (get_or (y ∷ ys) k d) (get_or (x ∷ y ∷ ys) j d))) same
+
+pub rising_tested : (xs : List Text) (r : Bool) → IsAllAdjacentAnswer (λ x y b. b ≡ is_lt (text_cmp x y)) xs r → r ≡ true → IsStrictlySortedBy text_cmp xs
+rising_tested xs true h e = rising_texts xs h
+rising_tested xs false h e = absurd (cc e)
+
 -- ---- lists in order are determined by what they have
 
 pub holds_first : {X : Type 0} (x : X) (xs : List X) → Contains (x ∷ xs) x
@@ -163,6 +192,10 @@ pub is_in_order : (xs ys : List Text) → IsStrictlySortedBy text_cmp ys → ((n
 is_in_order xs ys up same =
     same_lists ys (in_order xs) up (in_order_rises xs)
     (λ n. (λ c. (in_order_same xs n).1 ((same n).0 c), λ c. (same n).1 ((in_order_same xs n).0 c)))
+
+-- what rises is in order already
+pub already_in_order : (xs : List Text) → IsStrictlySortedBy text_cmp xs → xs ≡ in_order xs
+already_in_order xs up = is_in_order xs xs up (λ n. (λ c. c, λ c. c))
 
 -- lists with the same elements are the same in order
 pub same_in_order : (xs ys : List Text) → ((n : Text) → Contains xs n ↔ Contains ys n) → in_order xs ≡ in_order ys

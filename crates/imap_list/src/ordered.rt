@@ -1,6 +1,8 @@
 //! Shown names in their order.
 ghost use Rattle.std.specs.Prelude.{◌≡◌, true, is_some, IfOk};
-ghost use Rattle.imap_list.specs.Texts.{has, in_order};
+ghost use Rattle.std.specs.List.Sorted.{IsStrictlySortedBy};
+ghost use Rattle.std.specs.Ordering.{is_lt};
+ghost use Rattle.imap_list.specs.Texts.{has, in_order, text_cmp};
 
 use crate::shown_name::ShownRef;
 use std::alloc::AllocError;
@@ -23,9 +25,13 @@ impl<'a> Model for OrderedNames<'a> {
 }
 
 impl<'a> OrderedNames<'a> {
+    /// The names in their order, each once. Takes one comparison a name where they are so already.
     pub(crate) fn from_names(mut names: Vec<ShownRef<'a>>) -> Result<OrderedNames<'a>, AllocError>
         ensures { IfOk result (λ ordered. ordered ≡ in_order names.entry.items) }
     {
+        if are_rising(names.as_slice()) {
+            return Ok(OrderedNames(names));
+        }
         names.sort()?;
         names.dedup();
         Ok(OrderedNames(names))
@@ -78,4 +84,15 @@ fn is_at(names: &[ShownRef<'_>], name: &ShownRef<'_>, place: usize) -> bool
         Some(other) => other == name,
         None => false,
     }
+}
+
+/// Whether each name comes after the one before it.
+fn are_rising(names: &[ShownRef<'_>]) -> bool
+    ensures { result ≡ true → IsStrictlySortedBy text_cmp names.now }
+{
+    names.is_sorted_by(
+        |name: &ShownRef<'_>, next: &ShownRef<'_>| -> bool
+            ensures { result ≡ is_lt (text_cmp name.now next.now) }
+        { name.cmp(next).is_lt() },
+    )
 }
