@@ -10,7 +10,7 @@ use Rattle.imap_world.proofs.Growing.{messages_grow}
 use Rattle.imap_world.proofs.Histories.{used_once}
 use Rattle.imap_core.specs.declared.step.Step.{Step}
 use Rattle.imap_core.specs.Machine.{State, after_steps, next, outcome}
-use Rattle.imap_core.proofs.Steps.{one_is_apart}
+use Rattle.imap_sessions.proofs.InStep.{one_is_apart}
 use Rattle.imap_core.specs.Histories.{RunsGrowMessages, RunsKeepValidities}
 
 abbrev effects_in : State → List Step → List (List Effect)

@@ -1,5 +1,5 @@
 -- Sessions stay in step with their mailboxes, whosever step is made.
-use Rattle.std.proofs.Common.{◌≡◌, inl, inr, ℕ, Bool, true, false, cond, not, eqb, ◌&&◌, List, [], ◌∷◌, Option, Some, None, refl, sym, ap, subst, ◌∙◌, arith}
+use Rattle.std.proofs.Common.{◌≡◌, ℕ, Bool, true, false, cond, not, eqb, ◌&&◌, List, [], ◌∷◌, Option, Some, None, refl, sym, ap, subst, ◌∙◌, arith}
 use Rattle.std.specs.Prelude.{nat_le, option_and_then, option_map}
 use Rattle.std.specs.Str.{bytes_eq}
 use Rattle.std.specs.FinMap as map
@@ -16,7 +16,7 @@ use Rattle.imap_mailbox.specs.Rows.{first_uid}
 use Rattle.imap_mailbox.specs.Shown.{content_of}
 use Rattle.imap_names.specs.Name.{Name}
 use Rattle.imap_session.proofs.Applying.{changes_are_applied}
-use Rattle.imap_session.proofs.ByUid.{all_told_by_uid, later_by_uid, uids_of}
+use Rattle.imap_session.proofs.ByUid.{all_told_by_uid, uids_of}
 use Rattle.imap_session.specs.ByUid.{IsBroughtByUid}
 use Rattle.imap_session.proofs.Kept.{told_is_brought}
 use Rattle.imap_session.specs.declared.options.NoticeOptions.{NoticeOptions}
@@ -33,30 +33,32 @@ use Rattle.imap_view.specs.Readable.{readable_in}
 use Rattle.imap_view.specs.View.{View, view_of}
 use Rattle.imap_world.specs.declared.site.Site.{Site}
 use Rattle.imap_world.specs.Kept.{AreKept, IsSound}
-use Rattle.imap_world.specs.Laws.{IsGrownFromSome, IsGrownOrNew, MessagesGrown}
+use Rattle.imap_world.specs.Laws.{MessagesGrown}
 use Rattle.imap_world.specs.Mailbox.{Mailbox}
 use Rattle.imap_world.specs.World.{World}
-use Rattle.imap_core.specs.Accounts.{Accounts}
-use Rattle.imap_core.specs.InStep.{AreInStep, IsInStep, IsSelectedInStep, SessionsStayInStep, session_at}
-use Rattle.imap_core.proofs.Numbered.{at_number, both_true}
+use Rattle.imap_sessions.specs.Accounts.{Accounts, accounts_after, session_at}
+use Rattle.imap_core.specs.InStep.{AreInStep, SessionsStayInStep}
+use Rattle.imap_sessions.specs.InStep.{IsInStep, IsSelectedInStep}
+use Rattle.imap_sessions.proofs.Numbered.{at_number, both_true}
 use Rattle.imap_core.proofs.StepLaws.{sessions_apart}
-use Rattle.imap_core.proofs.Steps.{accounts_after_here, kept_next, one_is_apart}
-use Rattle.imap_core.specs.declared.session_id.SessionId.{SessionId}
+use Rattle.imap_core.proofs.Steps.{accounts_after_here, kept_next}
+use Rattle.imap_sessions.proofs.InStep.{grown_by, one_is_apart, stays}
+use Rattle.imap_sessions.specs.declared.session_id.SessionId.{SessionId}
 use Rattle.imap_core.specs.declared.idling.Idling.{Idling}
 use Rattle.imap_core.specs.declared.idling.Idling.TheVariants as idling
-use Rattle.imap_core.specs.declared.sessions.SessionEffect.{SessionEffect}
-use Rattle.imap_core.specs.declared.sessions.SessionEffect.TheVariants as session
+use Rattle.imap_sessions.specs.declared.sessions.SessionEffect.{SessionEffect}
+use Rattle.imap_sessions.specs.declared.sessions.SessionEffect.TheVariants as session
 use Rattle.imap_core.specs.declared.step.Act.{Act}
 use Rattle.imap_core.specs.declared.step.Act.TheVariants as act
 use Rattle.imap_core.specs.declared.step.Step.{Step}
-use Rattle.imap_core.specs.Machine.{accounts_after, outcome, outcome_for, own_in}
+use Rattle.imap_core.specs.Machine.{outcome, outcome_for, own_in}
 use Rattle.imap_core.specs.Outcome.{Outcome, answered, said}
 use Rattle.imap_changes.specs.Expunge.{close_answer}
 use Rattle.imap_core.specs.Answers.{command_answer}
-use Rattle.imap_core.specs.Reply.{command_outcome, enables_nothing, highest_line, idle_outcome, if_selected, newly_enables_condstore, noting, opened, outcome_of_answer, outcome_of_selecting, reply_by_idle, reply_by_session}
+use Rattle.imap_core.specs.Reply.{command_outcome, highest_line, idle_outcome, if_selected, newly_enables_condstore, opened, outcome_of_answer, outcome_of_selecting, reply_by_idle, reply_by_session}
+use Rattle.imap_sessions.specs.Notices.{enables_nothing, idle_telling, is_bad, mailbox_after, mailbox_left, may_tell_expunges, notice_options, notice_telling, noting, options_after, selected_mailbox}
 use Rattle.imap_core.specs.Reply.{reply_when_closed, reply_when_open, request_outcome, select_outcome, unless_lost, unselect_outcome, close_outcome, with_notices}
 use Rattle.imap_core.proofs.Fitting.{command_fits, highest_fits}
-use Rattle.imap_world.proofs.Growing.{messages_grow}
 use Rattle.imap_world.proofs.Histories.{all_stay_kept, steps_stay_sound}
 use Rattle.imap_world.specs.declared.effect.Effect.{Effect}
 use Rattle.imap_world.specs.Effects.{after_all}
@@ -73,34 +75,12 @@ use Rattle.imap_print.specs.declared.response.Farewell.TheVariants.{LimitReached
 use Rattle.imap_print.specs.declared.response.Refusal.TheVariants.{Limit, Malformed, WrongState}
 use Rattle.imap_print.specs.declared.response.Response.{Response}
 use Rattle.imap_print.specs.declared.response.Response.TheVariants as response
-use Rattle.imap_core.specs.Sessions.{Own, edited, edited_if_open, max_sessions, own_with}
-use Rattle.imap_core.specs.Notices.{idle_telling, is_bad, mailbox_after, mailbox_left, may_tell_expunges, notice_options, notice_telling, options_after, selected_mailbox}
+use Rattle.imap_sessions.specs.Sessions.{Own, edited, edited_if_open, max_sessions, own_with}
 
 pub some_same : {A : Type 0} (x y : A) → Some x ≡ Some y → x ≡ y
 some_same x y e = cc
 
 -- ---- while mailboxes change
-
-module _ (old new : World) (grown : MessagesGrown old new) (user : List ℕ) where
-  selected_stays : (s : Selection) → IsSelectedInStep old user s → IsSelectedInStep new user s
-  selected_stays s h = record {
-    used = let more = grown.epochs s.name in omega (arith, h.used, more);
-    brought = λ m there same. by m same (grown.mailboxes s.name m there);
-  }
-    where
-      of_old : (m : Mailbox) → m.validity ≡ s.validity → (before : Option Mailbox) → map.get old.mailboxes s.name ≡ before → IsGrownFromSome m before
-          → IsBroughtByUid s.up_to s.known (content_of user m.messages)
-      of_old m same None there g = absurd g
-      of_old m same (Some before) there g =
-          later_by_uid (content_of user before.messages) (content_of user m.messages) s.up_to s.known (g.messages.later user) (h.brought before there (g.validity ∙ same))
-
-      by : (m : Mailbox) → m.validity ≡ s.validity → IsGrownOrNew old s.name m → IsBroughtByUid s.up_to s.known (content_of user m.messages)
-      by m same (inl g) = of_old m same (map.get old.mailboxes s.name) refl g
-      by m same (inr above) = absurd (omega (arith, h.used, above, same))
-
-  pub stays : (selected : Option Selection) → IsInStep old user selected → IsInStep new user selected
-  stays None h = tt
-  stays (Some s) h = selected_stays s h
 
 pub all_stay : (old new : World) (accounts : Accounts) → MessagesGrown old new → AreInStep old accounts → AreInStep new accounts
 all_stay old new accounts grown h = record { at = λ user number state is. stays old new grown user state.selected (h.at user number state is) }
@@ -238,9 +218,6 @@ all_after world accounts who change h own = record { at = λ user number state i
     by user number state there false apart = h.at user number state (sym (sessions_apart accounts who change user number apart) ∙ there)
 
 -- ---- by what comes of the step
-
-pub grown_by : (world : World) → AreKept world.mailboxes → (asked : Option Effect) → MessagesGrown world (after_all (effects_of asked) world)
-grown_by world kept asked = messages_grow world (effects_of asked ∷ []) (one_is_apart asked, tt) kept
 
 -- the selected mailbox once the session is told
 abbrev pub told_selection : Option Telling → Option Selection → Option Selection

@@ -4,16 +4,11 @@ pub mod Fitting
 pub mod HiddenTrees
 pub mod Histories
 pub mod InStep
-pub mod Lent
 pub mod MadeByEvents
-pub mod MailboxLeft
 pub mod MessagesKnown
 pub mod Noticed
-pub mod Numbered
-pub mod Opened
 pub mod Preparing
 pub mod Quiet
-pub mod Roomless
 pub mod Runs
 pub mod Sameness
 pub mod Silent

@@ -39,7 +39,7 @@ use Rattle.imap_core.specs.MadeByEvents.{AreMadeByEvents, IsMadeByEvents, RunsAr
 use Rattle.imap_core.specs.Machine.{next, outcome}
 use Rattle.imap_core.specs.Opening.{admission}
 use Rattle.imap_core.proofs.Starting.{admission_apart}
-use Rattle.imap_core.proofs.Steps.{one_is_apart}
+use Rattle.imap_sessions.proofs.InStep.{one_is_apart}
 use Rattle.imap_answer.specs.Alike.{effects_of}
 
 -- ---- one mailbox

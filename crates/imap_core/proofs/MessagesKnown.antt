@@ -36,20 +36,21 @@ use Rattle.imap_view.specs.Readable.{readable_in}
 use Rattle.imap_view.specs.View.{View}
 use Rattle.imap_core.specs.declared.idling.Idling.{Idling}
 use Rattle.imap_core.specs.declared.idling.Idling.TheVariants as idling
-use Rattle.imap_core.specs.declared.sessions.SessionEffect.TheVariants as session
+use Rattle.imap_sessions.specs.declared.sessions.SessionEffect.TheVariants as session
 use Rattle.imap_core.specs.declared.step.Act.{Act}
 use Rattle.imap_core.specs.declared.step.Act.TheVariants as act
 use Rattle.imap_core.specs.Laws.{KnowsMessages, MessagesAreKnown, may_be_told}
 use Rattle.imap_core.specs.Machine.{next, outcome, own_in, view_in}
-use Rattle.imap_core.specs.Notices.{idle_telling, is_bad, mailbox_after, mailbox_left, may_tell_expunges, notice_lines, notice_options, notice_telling, options_after, selected_mailbox}
+use Rattle.imap_sessions.specs.Notices.{enables_nothing, idle_telling, is_bad, mailbox_after, mailbox_left, may_tell_expunges, notice_lines, notice_options, notice_telling, noting, options_after, selected_mailbox}
 use Rattle.imap_core.specs.Outcome.{Outcome, answered}
 use Rattle.imap_core.specs.Answers.{command_answer}
-use Rattle.imap_core.specs.Reply.{command_outcome, enables_nothing, idle_outcome, if_selected, kept, noting, outcome_of_answer, outcome_of_selecting, reply_by_idle, reply_by_session, reply_when_open, select_outcome, unless_lost, with_highest, with_notices}
-use Rattle.imap_core.specs.Sessions.{Own, edited}
-use Rattle.imap_core.proofs.InStep.{grown_by, left_is, session_there, session_with, some_same, stays, told_selection}
+use Rattle.imap_core.specs.Reply.{command_outcome, idle_outcome, if_selected, kept, outcome_of_answer, outcome_of_selecting, reply_by_idle, reply_by_session, reply_when_open, select_outcome, unless_lost, with_highest, with_notices}
+use Rattle.imap_sessions.specs.Sessions.{Own, edited}
+use Rattle.imap_core.proofs.InStep.{left_is, session_there, session_with, some_same, told_selection}
+use Rattle.imap_sessions.proofs.InStep.{grown_by, stays}
 use Rattle.imap_core.proofs.Preparing.{outcome_known}
 use Rattle.imap_core.proofs.Steps.{kept_next, view_in-next}
-use Rattle.imap_core.specs.InStep.{IsInStep}
+use Rattle.imap_sessions.specs.InStep.{IsInStep}
 use Rattle.imap_upcoming.proofs.Reading.{read_of}
 use Rattle.imap_world.specs.Kept.{AreKept}
 use Rattle.imap_world.specs.World.{World}

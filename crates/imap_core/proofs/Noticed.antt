@@ -12,7 +12,7 @@ use Rattle.imap_session.specs.declared.options.NoticeOptions.{NoticeOptions}
 use Rattle.imap_session.specs.Notices.{exists_line, expunge_lines, expunge_notices, expunged_uids, fetch_line, fetch_lines, notice_items, notices, vanished_line}
 use Rattle.imap_session.specs.State.{Selection}
 use Rattle.imap_view.specs.declared.readable.Readable.{Readable}
-use Rattle.imap_core.specs.Notices.{notice_lines}
+use Rattle.imap_sessions.specs.Notices.{notice_lines}
 
 module _ (test : Response → Bool) (expunge : (n : ℕ) → test (response.Expunge n) ≡ false) (vanished : (earlier : Bool) (uids : List ℕ) → test (response.Vanished earlier uids) ≡ false)
     (exists : (n : ℕ) → test (response.Exists n) ≡ false) (fetch : (n : ℕ) (items : FetchedItems) → test (response.Fetch n items) ≡ false) where

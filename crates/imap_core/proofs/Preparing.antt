@@ -13,22 +13,23 @@ use Rattle.imap_world.specs.declared.change.Write.{Write}
 use Rattle.imap_world.specs.Effects.{after_result, after_writes, writes_of}
 use Rattle.imap_world.specs.Kept.{AreKept, IsSound}
 use Rattle.imap_world.specs.World.{World}
-use Rattle.imap_core.specs.declared.session_id.SessionId.{SessionId}
-use Rattle.imap_core.specs.declared.sessions.SessionEffect.{SessionEffect}
-use Rattle.imap_core.specs.declared.sessions.SessionEffect.TheVariants as session
+use Rattle.imap_sessions.specs.declared.session_id.SessionId.{SessionId}
+use Rattle.imap_sessions.specs.declared.sessions.SessionEffect.{SessionEffect}
+use Rattle.imap_sessions.specs.declared.sessions.SessionEffect.TheVariants as session
 use Rattle.imap_core.specs.declared.idling.Idling.{Idling}
 use Rattle.imap_core.specs.declared.idling.Idling.TheVariants as idling
 use Rattle.imap_core.specs.declared.pending.Pending.{Pending}
 use Rattle.imap_core.specs.declared.pending.Pending.TheVariants as pending
 use Rattle.imap_core.specs.declared.step.Step.{Step}
-use Rattle.imap_core.specs.Accounts.{Accounts}
-use Rattle.imap_core.specs.InStep.{IsInStep, IsMachineKept, session_at}
-use Rattle.imap_core.specs.Machine.{State, accounts_after, next, outcome, outcome_for, own_in, view_in}
+use Rattle.imap_sessions.specs.Accounts.{Accounts, accounts_after, session_at}
+use Rattle.imap_core.specs.InStep.{IsMachineKept}
+use Rattle.imap_sessions.specs.InStep.{IsInStep}
+use Rattle.imap_core.specs.Machine.{State, next, outcome, outcome_for, own_in, view_in}
 use Rattle.imap_core.specs.Outcome.{Outcome}
 use Rattle.imap_core.specs.Pending.{AreFound, IsCompletable, completed, effect_in, tells_nothing}
-use Rattle.imap_core.specs.Planned.{MayTell}
+use Rattle.imap_sessions.specs.Planned.{MayTell}
 use Rattle.imap_core.specs.Reply.{idle_outcome, reply}
-use Rattle.imap_core.specs.Sessions.{Own}
+use Rattle.imap_sessions.specs.Sessions.{Own}
 use Rattle.imap_core.proofs.Fitting.{outcome_fits}
 use Rattle.imap_core.proofs.InStep.{all_stay_in_step}
 

@@ -5,12 +5,13 @@ use Rattle.std.specs.FinMap as map
 use Rattle.imap_core.specs.declared.step.Act.{Act}
 use Rattle.imap_core.specs.declared.step.Act.TheVariants as act
 use Rattle.imap_core.specs.declared.step.Step.{Step}
-use Rattle.imap_core.specs.Machine.{accounts_after, outcome_for, answer, view_in, own_in}
+use Rattle.imap_core.specs.Machine.{outcome_for, answer, view_in, own_in}
+use Rattle.imap_sessions.specs.Accounts.{accounts_after}
 use Rattle.imap_core.specs.Laws.{QuietPollsChangeNothing}
-use Rattle.imap_core.specs.Notices.{mailbox_left, notice_options}
+use Rattle.imap_sessions.specs.Notices.{mailbox_left, notice_options, noting}
 use Rattle.imap_core.specs.Outcome.{Outcome}
-use Rattle.imap_core.specs.Reply.{noting, reply_by_idle, reply_by_session, unless_lost}
-use Rattle.imap_core.specs.Sessions.{Own}
+use Rattle.imap_core.specs.Reply.{reply_by_idle, reply_by_session, unless_lost}
+use Rattle.imap_sessions.specs.Sessions.{Own}
 use Rattle.imap_core.specs.Trace.{is_quiet, same_view, EqualViewsAreSame}
 use Rattle.imap_session.specs.Lost.{is_lost}
 use Rattle.imap_session.specs.State.{SessionState}

@@ -4,7 +4,7 @@ use Rattle.std.proofs.lemmas.Bool.Decides.{nat_tests}
 use base.Stored.{Gv, gnil, gnum, gcons}
 use Rattle.std.specs.Coded.{Coded}
 use Rattle.imap_core.specs.Same.{same_code, same}
-use Rattle.imap_core.proofs.Numbered.{both_true}
+use Rattle.imap_sessions.proofs.Numbered.{both_true}
 
 equal_codes : (a b : Gv) → same_code a b ≡ true → a ≡ b
 equal_codes gnil gnil e = refl

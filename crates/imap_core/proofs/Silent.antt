@@ -9,7 +9,7 @@ use Rattle.imap_session.specs.Notices.{exists_line, expunge_lines, expunge_notic
 use Rattle.imap_session.specs.State.{Selection}
 use Rattle.imap_session.specs.Telling.{Telling, difference, is_empty}
 use Rattle.imap_view.specs.declared.readable.Readable.{Readable}
-use Rattle.imap_core.specs.Notices.{notice_lines, notice_telling}
+use Rattle.imap_sessions.specs.Notices.{notice_lines, notice_telling}
 
 front_nil : {A : Type 0} (a b : List A) → a ++ b ≡ [] → a ≡ []
 front_nil [] b e = refl

@@ -29,9 +29,9 @@ use Rattle.imap_world.specs.Effects.{after_all, after_result, after_writes, put_
 use Rattle.imap_world.specs.Ready.{AreApart, inbox_owner, is_plain}
 use Rattle.imap_world.specs.NewMailbox.{NewMailbox}
 use Rattle.imap_world.specs.World.{World, epoch, inbox, max_validity}
-use Rattle.imap_core.specs.Accounts.{Accounts}
+use Rattle.imap_sessions.specs.Accounts.{Accounts}
 use Rattle.imap_core.specs.Opening.{Admission, admission, inbox_for, needs_inbox, nobody, with_user, with_users}
-use Rattle.imap_core.specs.Sessions.{Own}
+use Rattle.imap_sessions.specs.Sessions.{Own}
 use Rattle.imap_core.specs.Starting.{StartsWithInboxes, gets_inbox, is_one_of, new_inbox}
 
 pub equal_users : (user other : List ℕ) → bytes_eq user other ≡ true → user ≡ other

@@ -29,7 +29,7 @@ use Rattle.imap_world.specs.Kept.{AreKept}
 use Rattle.imap_world.specs.NewMailbox.{NewMailbox}
 use Rattle.imap_world.specs.Tree.{created_rows, with_last, with_rows}
 use Rattle.imap_world.specs.World.{World, epoch, inbox, max_validity}
-use Rattle.imap_core.specs.Accounts.{Accounts}
+use Rattle.imap_sessions.specs.Accounts.{Accounts}
 use Rattle.imap_core.specs.Opening.{Admission, admission, needs_inbox, nobody, with_user, with_users}
 use Rattle.imap_core.specs.Starting.{StartsAreAlike, gets_inbox, is_one_of}
 use Rattle.imap_core.proofs.Starting.{admission_apart, asked_users, both, equal_users, fair, grown, inbox_row, inboxes, one_owner, or_true, room_left, written}

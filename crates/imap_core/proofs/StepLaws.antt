@@ -19,20 +19,19 @@ use Rattle.imap_world.specs.World.{World}
 use Rattle.imap_answer.specs.Answer.{nothing_enabled}
 use Rattle.imap_session.specs.State.{SessionState, new_session}
 use Rattle.imap_session.specs.Telling.{Telling}
-use Rattle.imap_core.specs.Accounts.{Accounts}
-use Rattle.imap_core.specs.declared.session_id.SessionId.{SessionId}
-use Rattle.imap_core.specs.InStep.{session_at}
-use Rattle.imap_core.specs.Reply.{noting}
-use Rattle.imap_core.specs.declared.sessions.SessionEffect.{SessionEffect}
-use Rattle.imap_core.specs.declared.sessions.SessionEffect.TheVariants as session
+use Rattle.imap_sessions.specs.Accounts.{Accounts, accounts_after, session_at}
+use Rattle.imap_sessions.specs.declared.session_id.SessionId.{SessionId}
+use Rattle.imap_sessions.specs.Notices.{noting}
+use Rattle.imap_sessions.specs.declared.sessions.SessionEffect.{SessionEffect}
+use Rattle.imap_sessions.specs.declared.sessions.SessionEffect.TheVariants as session
 use Rattle.imap_core.specs.Laws.{EffectsAreMade, IsIdleBroken, IsMadeIfAsked, IsOnlyTold, NeverUnavailable, OtherSessionsStay, OtherUsersStay, RefusalsChangeNothing, selects, session_in, unselected}
 use Rattle.imap_answer.proofs.Alike.{viewed}
 use Rattle.imap_answer.specs.Alike.{effects_of}
 use Rattle.imap_answer.specs.Fit.{MayBeAsked}
-use Rattle.imap_core.specs.Machine.{accounts_after, answer, next, outcome, own_in, view_in}
-use Rattle.imap_core.specs.Sessions.{Own, edited, edited_if_open}
+use Rattle.imap_core.specs.Machine.{answer, next, outcome, own_in, view_in}
+use Rattle.imap_sessions.specs.Sessions.{Own, edited, edited_if_open}
 use Rattle.imap_core.proofs.Fitting.{BreaksIdle, IsRefused, IsTied, OnlyNotes, outcome_fits}
-use Rattle.imap_core.proofs.Numbered.{at_number}
+use Rattle.imap_sessions.proofs.Numbered.{at_number}
 use Rattle.imap_core.proofs.Steps.{accounts_after_here, accounts_after_there, own_after_change, own_in-other}
 
 -- ---- other sessions

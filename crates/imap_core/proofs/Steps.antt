@@ -1,5 +1,5 @@
 -- What one step leaves of the mailboxes and of each user's sessions.
-use Rattle.std.proofs.Common.{◌≡◌, inl, ℕ, true, false, cond, List, [], ◌∷◌, Option, Some, None, refl, ap, ◌∙◌, arith}
+use Rattle.std.proofs.Common.{◌≡◌, ℕ, true, false, cond, List, [], ◌∷◌, Option, Some, None, refl, ap, ◌∙◌}
 use Rattle.std.specs.Str.{bytes_eq}
 use Rattle.std.specs.Cmp.Lexicographic.{nat_list_cmp_total, nat_list_eq_equiv}
 use Rattle.std.proofs.lemmas.Map.Text.{is_eq-slice_cmp}
@@ -9,17 +9,16 @@ use Rattle.std.specs.FinMap.{get-insert}
 use Rattle.imap_answer.proofs.Alike.{after_asking, viewed}
 use Rattle.imap_answer.specs.Alike.{effects_of, view_after_asking}
 use Rattle.imap_view.specs.View.{View}
-use Rattle.imap_world.specs.declared.effect.Effect.{Effect}
 use Rattle.imap_world.specs.Kept.{AreKept}
-use Rattle.imap_world.specs.Ready.{AreApart}
 use Rattle.imap_world.proofs.Histories.{all_stay_kept}
-use Rattle.imap_core.specs.declared.sessions.SessionEffect.{SessionEffect}
-use Rattle.imap_core.specs.declared.sessions.SessionEffect.TheVariants as session
-use Rattle.imap_core.specs.declared.session_id.SessionId.{SessionId}
+use Rattle.imap_sessions.specs.declared.sessions.SessionEffect.{SessionEffect}
+use Rattle.imap_sessions.specs.declared.sessions.SessionEffect.TheVariants as session
+use Rattle.imap_sessions.specs.declared.session_id.SessionId.{SessionId}
 use Rattle.imap_core.specs.declared.step.Step.{Step}
-use Rattle.imap_core.specs.Accounts.{Accounts}
-use Rattle.imap_core.specs.Machine.{State, outcome_for, outcome, next, view_in, own_in, with_own, accounts_after, accounts_with}
-use Rattle.imap_core.specs.Sessions.{Own, own_with}
+use Rattle.imap_sessions.specs.Accounts.{Accounts, accounts_after, accounts_with, with_own}
+use Rattle.imap_core.specs.Machine.{State, outcome_for, outcome, next, view_in, own_in}
+use Rattle.imap_sessions.specs.Sessions.{Own, own_with}
+use Rattle.imap_sessions.proofs.InStep.{one_is_apart}
 use Rattle.imap_core.proofs.Fitting.{outcome_fits}
 
 -- ---- the view
@@ -32,10 +31,6 @@ pub view_in-next : (state : State) (step : Step) → AreKept state.world.mailbox
 view_in-next state step kept =
     after_asking state.site step.who.user state.world (outcome state step).effect kept
     ((outcome_fits (view_in state step.who.user) (own_in state step.who.user) step).asks (viewed state.site step.who.user state.world kept))
-
-pub one_is_apart : (asked : Option Effect) → AreApart (effects_of asked)
-one_is_apart None = inl (omega arith)
-one_is_apart (Some effect) = inl (omega arith)
 
 -- what the type of a mailbox keeps holds after it, too
 pub kept_next : (state : State) (step : Step) → AreKept state.world.mailboxes → AreKept (next state step).world.mailboxes

@@ -25,17 +25,17 @@ use Rattle.imap_world.specs.Effects.{after_all}
 use Rattle.imap_world.specs.Kept.{AreKept}
 use Rattle.imap_world.specs.World.{World}
 use Rattle.imap_core.specs.Answers.{command_answer}
-use Rattle.imap_core.specs.declared.sessions.SessionEffect.TheVariants as session
+use Rattle.imap_sessions.specs.declared.sessions.SessionEffect.TheVariants as session
 use Rattle.imap_core.specs.declared.step.Act.{Act}
 use Rattle.imap_core.specs.declared.step.Act.TheVariants as act
 use Rattle.imap_core.specs.declared.step.Step.{Step}
 use Rattle.imap_core.specs.Laws.{StepsAreAlike}
 use Rattle.imap_core.specs.Machine.{State, next, outcome, outcome_for, own_in, view_in}
-use Rattle.imap_core.specs.Notices.{may_tell_expunges, selected_mailbox}
+use Rattle.imap_sessions.specs.Notices.{may_tell_expunges, selected_mailbox}
 use Rattle.imap_core.specs.Outcome.{Outcome, answered, said}
 use Rattle.imap_core.specs.Reply.{command_outcome, highest_line, if_selected, kept, newly_enables_condstore, opened, outcome_of_answer, outcome_of_selecting, reply_by_idle, reply_by_session}
 use Rattle.imap_core.specs.Reply.{reply_when_closed, reply_when_open, request_outcome, select_outcome, unless_lost}
-use Rattle.imap_core.specs.Sessions.{Own, max_sessions}
+use Rattle.imap_sessions.specs.Sessions.{Own, max_sessions}
 use Rattle.imap_core.specs.Trace.{Alike}
 use Rattle.imap_core.proofs.Steps.{kept_next, own_after, own_in-next}
 

@@ -9,13 +9,14 @@ use Rattle.imap_names.specs.Name.{Name}
 use Rattle.imap_session.specs.State.{Selection, SessionState}
 use Rattle.imap_session.specs.Telling.{Telling}
 use Rattle.imap_session.specs.Told.{KnowsRows}
-use Rattle.imap_core.specs.InStep.{IsMachineKept, session_at}
+use Rattle.imap_core.specs.InStep.{IsMachineKept}
+use Rattle.imap_sessions.specs.Accounts.{accounts_with, session_at}
 use Rattle.imap_commands.specs.declared.command.Command.{Command}
 use Rattle.imap_commands.specs.declared.command.Command.TheVariants as command
 use Rattle.imap_commands.specs.declared.request.Request.{Request}
 use Rattle.imap_commands.specs.declared.request.Request.TheVariants as request
-use Rattle.imap_core.specs.declared.session_id.SessionId.{SessionId}
-use Rattle.imap_core.specs.declared.sessions.SessionEffect.TheVariants as session
+use Rattle.imap_sessions.specs.declared.session_id.SessionId.{SessionId}
+use Rattle.imap_sessions.specs.declared.sessions.SessionEffect.TheVariants as session
 use Rattle.imap_core.specs.declared.step.Act.{Act}
 use Rattle.imap_core.specs.declared.step.Act.TheVariants as act
 use Rattle.imap_core.specs.declared.step.Step.{Step}
@@ -30,9 +31,9 @@ use Rattle.imap_world.specs.World.{World}
 use Rattle.imap_print.specs.declared.response.Response.{Response}
 use Rattle.imap_view.specs.declared.readable.Readable.{Readable}
 use Rattle.imap_view.specs.View.{View}
-use Rattle.imap_core.specs.Machine.{State, accounts_with, answer, next, outcome, own_in, view_in}
-use Rattle.imap_core.specs.Notices.{is_bad, mailbox_left, may_tell_expunges, notice_lines, notice_options}
-use Rattle.imap_core.specs.Notices.{notice_telling}
+use Rattle.imap_core.specs.Machine.{State, answer, next, outcome, own_in, view_in}
+use Rattle.imap_sessions.specs.Notices.{is_bad, mailbox_left, may_tell_expunges}
+use Rattle.imap_sessions.specs.Notices.{notice_lines, notice_options, notice_telling}
 use Rattle.imap_core.specs.Trace.{Alike, is_quiet}
 
 -- A step in two states that are alike to its user is answered alike, and leaves them alike to that user.

@@ -9,14 +9,12 @@ use Rattle.imap_world.specs.declared.site.Site.{Site}
 use Rattle.imap_world.specs.Effects.{after_all}
 use Rattle.imap_world.specs.Stored.{Stored, stored_code}
 use Rattle.imap_world.specs.World.{World, world_code}
-use Rattle.imap_core.specs.declared.sessions.SessionEffect.{SessionEffect}
-use Rattle.imap_core.specs.declared.sessions.SessionEffect.TheVariants as session
-use Rattle.imap_core.specs.declared.session_id.SessionId.{SessionId}
+use Rattle.imap_sessions.specs.declared.session_id.SessionId.{SessionId}
 use Rattle.imap_core.specs.declared.step.Step.{Step}
-use Rattle.imap_core.specs.Accounts.{Accounts, HeldAccounts, accounts_code, held_accounts_code}
+use Rattle.imap_sessions.specs.Accounts.{Accounts, HeldAccounts, accounts_after, accounts_code, held_accounts_code}
 use Rattle.imap_core.specs.Outcome.{Outcome, silence}
 use Rattle.imap_core.specs.Reply.{reply}
-use Rattle.imap_core.specs.Sessions.{Own, own_with}
+use Rattle.imap_sessions.specs.Sessions.{Own}
 
 pub record State : Type 0 where
   pub site : Site
@@ -63,23 +61,6 @@ abbrev pub answer : State → Step → List Response
 answer state step = (outcome state step).replies
 
 -- ---- after a step
-
-abbrev pub with_own : Accounts → List ℕ → (Own → Own) → Option Own → Accounts
-with_own accounts user f None = accounts
-with_own accounts user f (Some own) = map.insert accounts user (f own)
-
-abbrev pub accounts_with : Accounts → SessionId → SessionEffect → Accounts
-accounts_with accounts who effect =
-    with_own accounts who.user (own_with who.number effect) (map.get accounts who.user)
-
-abbrev pub accounts_after : Accounts → SessionId → SessionEffect → Accounts
-accounts_after accounts who session.Keep = accounts
-accounts_after accounts who session.Open = accounts_with accounts who session.Open
-accounts_after accounts who (session.Note more told) = accounts_with accounts who (session.Note more told)
-accounts_after accounts who (session.Select more selection) =
-    accounts_with accounts who (session.Select more selection)
-accounts_after accounts who (session.Idle tag told) = accounts_with accounts who (session.Idle tag told)
-accounts_after accounts who session.End = accounts_with accounts who session.End
 
 abbrev pub next : State → Step → State
 next state step = record {

@@ -8,7 +8,7 @@ use Rattle.imap_world.specs.declared.site.Limits.{Limits}
 use Rattle.imap_world.specs.Effects.{after_all}
 use Rattle.imap_world.specs.World.{World, epoch, inbox, max_validity}
 use Rattle.imap_core.specs.declared.opening.Opening.{Opening}
-use Rattle.imap_core.specs.Accounts.{Accounts, accounts_of}
+use Rattle.imap_sessions.specs.Accounts.{Accounts, accounts_of}
 use Rattle.imap_core.specs.Machine.{State}
 
 -- the users who are known so far, and the INBOXes that are to be made for them

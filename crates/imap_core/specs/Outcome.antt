@@ -3,8 +3,8 @@ use Rattle.std.specs.Prelude.{List, [], Option, None}
 use Rattle.imap_answer.specs.Answer.{Answer, lines_of}
 use Rattle.imap_print.specs.declared.response.Response.{Response}
 use Rattle.imap_world.specs.declared.effect.Effect.{Effect}
-use Rattle.imap_core.specs.declared.sessions.SessionEffect.{SessionEffect}
-use Rattle.imap_core.specs.declared.sessions.SessionEffect.TheVariants as session
+use Rattle.imap_sessions.specs.declared.sessions.SessionEffect.{SessionEffect}
+use Rattle.imap_sessions.specs.declared.sessions.SessionEffect.TheVariants as session
 
 -- the replies, what is asked of the mailboxes, and what becomes of the session
 pub record Outcome : Type 0 where

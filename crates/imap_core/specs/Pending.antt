@@ -2,18 +2,16 @@
 use Rattle.std.specs.Prelude.{◌≡◌, ℕ, Bool, true, false, not, is_some, List, Option, Some, None}
 use Rattle.imap_session.specs.Lost.{is_lost}
 use Rattle.imap_session.specs.State.{SessionState}
-use Rattle.imap_upcoming.specs.Asked.{IsAskedBy}
-use Rattle.imap_view.specs.View.{View, view_of}
+use Rattle.imap_view.specs.View.{View}
 use Rattle.imap_world.specs.declared.change.Write.{Write}
 use Rattle.imap_world.specs.declared.effect.Effect.{Effect}
 use Rattle.imap_world.specs.declared.site.Site.{Site}
-use Rattle.imap_world.specs.Kept.{AreKept}
 use Rattle.imap_world.specs.World.{World}
 use Rattle.imap_core.specs.declared.pending.Pending.{Pending}
 use Rattle.imap_core.specs.declared.pending.Pending.TheVariants as pending
-use Rattle.imap_core.specs.declared.sessions.SessionEffect.{SessionEffect}
-use Rattle.imap_core.specs.declared.sessions.SessionEffect.TheVariants as session
-use Rattle.imap_core.specs.InStep.{IsInStep}
+use Rattle.imap_sessions.specs.declared.sessions.SessionEffect.{SessionEffect}
+use Rattle.imap_sessions.specs.declared.sessions.SessionEffect.TheVariants as session
+use Rattle.imap_sessions.specs.Planned.{IsFoundForEffect}
 use Rattle.imap_core.specs.Outcome.{Outcome, answered, silence}
 use Rattle.imap_core.specs.Reply.{idle_outcome, with_notices}
 
@@ -30,21 +28,6 @@ abbrev pub effect_in : Pending → Option Effect
 effect_in (pending.Whole outcome) = outcome.effect
 effect_in (pending.Command answer expunges) = answer.effect
 effect_in (pending.Idle step) = None
-
--- a change that was found for what a user asked, in a session that has not lost its mailbox and is in step with
--- it
-pub record IsFoundFor (site : Site) (user : List ℕ) (world : World) (change : List Write) (own : SessionState)
-    : Type 0 where
-  pub kept : AreKept world.mailboxes
-  pub asked : IsAskedBy site user world change
-  pub unlost : is_lost (view_of site user world) own ≡ false
-  pub step : IsInStep world user own.selected
-
--- it was found for this effect, if for any
-pub record IsFoundForEffect (site : Site) (user : List ℕ) (world : World) (change : List Write)
-    (own : SessionState) (effect : Option Effect) : Type 0 where
-  pub found : IsFoundFor site user world change own
-  pub asked : found.asked.effect ≡ effect
 
 -- the session is told nothing
 abbrev pub tells_nothing : SessionEffect → Bool

@@ -1,5 +1,5 @@
 -- What the code has prepared, against what is to be answered.
-use Rattle.std.specs.Prelude.{◌≡◌, ◌⊎◌, ◌<◌, true, ℕ, List, Option, Some, None, Ok, IfSome}
+use Rattle.std.specs.Prelude.{◌≡◌, List, Ok}
 use Rattle.std.specs.Prelude.{map as map_list}
 use Rattle.std.specs.FinMap as map
 use Rattle.std.specs.List.{AllByRecursion}
@@ -10,17 +10,15 @@ use Rattle.imap_print.specs.declared.response.Response.{Response}
 use Rattle.imap_world.specs.declared.change.Write.{Write}
 use Rattle.imap_world.specs.Effects.{after_writes, writes_of}
 use Rattle.imap_world.specs.Ready as world
-use Rattle.imap_core.specs.declared.session_id.SessionId.{SessionId}
-use Rattle.imap_core.specs.declared.sessions.SessionEffect.{SessionEffect}
-use Rattle.imap_core.specs.declared.sessions.SessionEffect.TheVariants as session
+use Rattle.imap_sessions.specs.declared.session_id.SessionId.{SessionId}
+use Rattle.imap_sessions.specs.declared.sessions.SessionEffect.{SessionEffect}
 use Rattle.imap_core.specs.declared.machine.Prepared.{Prepared}
 use Rattle.imap_core.specs.declared.step.Step.{Step}
-use Rattle.imap_core.specs.Accounts.{held_in}
-use Rattle.imap_core.specs.Held.{HasKnownRoom, room_for_any}
-use Rattle.imap_core.specs.InStep.{IsMachineKept, session_at}
-use Rattle.imap_core.specs.Machine.{State, Machine, accounts_after, answer, outcome}
-use Rattle.imap_session.specs.State.{IsTellingFor, SessionState}
-use Rattle.imap_core.specs.Sessions.{Own, max_sessions}
+use Rattle.imap_sessions.specs.Accounts.{accounts_after, held_in, session_at}
+use Rattle.imap_sessions.specs.Held.{HasKnownRoom}
+use Rattle.imap_sessions.specs.Planned.{MayOpen, MayTell, room_needed}
+use Rattle.imap_core.specs.InStep.{IsMachineKept}
+use Rattle.imap_core.specs.Machine.{State, Machine, answer, outcome}
 
 -- A client reads each reply as one line.
 abbrev pub ArePrintable : {Z : Type 0} → Vec Response Z → Type 0
@@ -50,36 +48,6 @@ state_after prepared state = record {
   world = after_writes (change_of prepared) state.world;
   accounts = accounts_after state.accounts prepared.who prepared.session;
 }
-
--- if a session is opened, fewer are open than may be, or it is one of them
-abbrev pub MayOpen : Option Own → ℕ → SessionEffect → Type 0
-MayOpen None number change = Unit {0}
-MayOpen (Some own) number session.Keep = Unit {0}
-MayOpen (Some own) number (session.Note more told) = Unit {0}
-MayOpen (Some own) number (session.Select more selection) = Unit {0}
-MayOpen (Some own) number (session.Idle tag told) = Unit {0}
-MayOpen (Some own) number session.Open =
-    (map.len own < max_sessions) ⊎ (map.contains_key own number ≡ true)
-MayOpen (Some own) number session.End = Unit {0}
-
--- what is told changes the known list of the session, if it has one
-abbrev pub MayTell : Option SessionState → SessionEffect → Type 0
-MayTell None change = Unit {0}
-MayTell (Some state) session.Keep = Unit {0}
-MayTell (Some state) (session.Note more told) = IfSome told (λ t. IsTellingFor t state.selected)
-MayTell (Some state) (session.Select more selection) = Unit {0}
-MayTell (Some state) (session.Idle tag told) = IfSome told (λ t. IsTellingFor t state.selected)
-MayTell (Some state) session.Open = Unit {0}
-MayTell (Some state) session.End = Unit {0}
-
--- the number of messages that are added to the known list of the session
-abbrev pub room_needed : SessionEffect → ℕ
-room_needed session.Keep = 0
-room_needed session.Open = 0
-room_needed (session.Note more told) = room_for_any told
-room_needed (session.Select more selection) = 0
-room_needed (session.Idle tag told) = room_for_any told
-room_needed session.End = 0
 
 -- The step finds it in the state: replies, session and change are those of its definition.
 pub record IsFoundBy (step : Step) (prepared : Prepared) (state : State) : Type 0 where

@@ -1,6 +1,6 @@
 -- What a step is answered, what becomes of its session, and what it asks of the mailboxes: by what the
 -- user sees, and the user's own sessions, alone.
-use Rattle.std.specs.Prelude.{ℕ, Bool, true, false, not, ◌&&◌, ◌||◌, nat_le, List, [], ◌∷◌, ◌++◌}
+use Rattle.std.specs.Prelude.{ℕ, Bool, true, false, not, ◌&&◌, nat_le, List, [], ◌∷◌, ◌++◌}
 use Rattle.std.specs.Prelude.{Option, Some, None, if◌then◌else◌}
 use Rattle.std.specs.FinMap as map
 use Rattle.imap_answer.specs.Answer.{Answer, done, done_line, followed_by, nothing_enabled, preceded_by}
@@ -15,39 +15,28 @@ use Rattle.imap_print.specs.declared.response.Response.{Response}
 use Rattle.imap_print.specs.declared.response.Response.TheVariants as response
 use Rattle.imap_changes.specs.Expunge.{close_answer}
 use Rattle.imap_print.specs.declared.response.Farewell.TheVariants.{LimitReached, MailboxUnavailable}
-use Rattle.imap_print.specs.declared.enabled.EnabledCapabilities.{EnabledCapabilities}
 use Rattle.imap_print.specs.declared.response.Refusal.{Refusal}
 use Rattle.imap_print.specs.declared.response.Refusal.TheVariants.{Limit, Malformed, WrongState}
 use Rattle.imap_session.specs.declared.select.Selecting.{Selecting}
 use Rattle.imap_resync.specs.Select.{is_malformed, select_with_parameters}
 use Rattle.imap_session.specs.Lost.{is_lost}
 use Rattle.imap_session.specs.State.{Selection, SessionState}
-use Rattle.imap_session.specs.Telling.{Telling}
 use Rattle.imap_view.specs.declared.readable.Readable.{Readable}
 use Rattle.imap_view.specs.View.{View}
 use Rattle.imap_core.specs.declared.idling.Idling.{Idling}
 use Rattle.imap_core.specs.declared.idling.Idling.TheVariants as idling
-use Rattle.imap_core.specs.declared.sessions.SessionEffect.{SessionEffect}
-use Rattle.imap_core.specs.declared.sessions.SessionEffect.TheVariants as session
+use Rattle.imap_sessions.specs.declared.sessions.SessionEffect.TheVariants as session
 use Rattle.imap_core.specs.declared.step.Act.{Act}
 use Rattle.imap_core.specs.declared.step.Act.TheVariants as act
 use Rattle.imap_core.specs.declared.step.Step.{Step}
 use Rattle.imap_core.specs.Commands.Session.{logout_answer}
-use Rattle.imap_core.specs.Notices.{idle_lines, idle_telling, may_tell_expunges, mailbox_after, notice_lines}
-use Rattle.imap_core.specs.Notices.{notice_telling, options_after, selected_mailbox}
+use Rattle.imap_sessions.specs.Notices.{idle_lines, idle_telling, mailbox_after, may_tell_expunges}
+use Rattle.imap_sessions.specs.Notices.{notice_lines, notice_telling, noting, options_after, selected_mailbox}
 use Rattle.imap_core.specs.Outcome.{Outcome, answered, said, silence}
-use Rattle.imap_core.specs.Sessions.{Own, max_sessions}
+use Rattle.imap_sessions.specs.Sessions.{Own, max_sessions}
 use Rattle.imap_core.specs.Answers.{command_answer}
 
 -- ---- commands, with what becomes of the session
-
-abbrev pub enables_nothing : EnabledCapabilities → Bool
-enables_nothing enables = not (enables.condstore || (enables.imap4rev2 || enables.qresync))
-
--- what a session notes of an answer
-abbrev pub noting : EnabledCapabilities → Option Telling → SessionEffect
-noting enables None = if enables_nothing enables then session.Keep else session.Note enables None
-noting enables (Some told) = session.Note enables (Some told)
 
 abbrev pub newly_enables_condstore : SessionState → Answer → Bool
 newly_enables_condstore own answer = answer.enables.condstore && not own.enabled.condstore

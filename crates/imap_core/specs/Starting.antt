@@ -15,7 +15,7 @@ use Rattle.imap_world.specs.Mailbox.{Mailbox, new_mailbox}
 use Rattle.imap_world.specs.World.{World, epoch, inbox}
 use Rattle.imap_core.specs.Machine.{State}
 use Rattle.imap_core.specs.Opening.{needs_inbox, state_at_start}
-use Rattle.imap_core.specs.Sessions.{Own}
+use Rattle.imap_sessions.specs.Sessions.{Own}
 use Rattle.imap_core.specs.Trace.{Alike}
 
 abbrev pub is_one_of : List (List ℕ) → List ℕ → Bool

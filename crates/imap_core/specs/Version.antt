@@ -5,8 +5,8 @@ use Rattle.imap_view.specs.declared.readable.Readable.{Readable}
 use Rattle.imap_view.specs.View.{View}
 use Rattle.imap_core.specs.declared.mailbox_version.MailboxVersion.{MailboxVersion}
 use Rattle.imap_core.specs.Machine.{State, view_in}
-use Rattle.imap_core.specs.InStep.{session_at}
-use Rattle.imap_core.specs.Notices.{selected_mailbox}
+use Rattle.imap_sessions.specs.Accounts.{session_at}
+use Rattle.imap_sessions.specs.Notices.{selected_mailbox}
 
 abbrev pub version_of : Readable → MailboxVersion
 version_of mailbox = record { uid_validity = mailbox.validity; highest_mod_seq = mailbox.highest }

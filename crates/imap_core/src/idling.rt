@@ -11,20 +11,18 @@ ghost use Rattle.imap_session.specs.Told.{IsInStepIfSelected};
 ghost use Rattle.imap_upcoming.specs.Readable.{readable};
 ghost use Rattle.imap_view.specs.View.{view_of};
 ghost use Rattle.imap_world.specs.Stored.{world_of};
-ghost use Rattle.imap_core.specs.Notices as specs;
+ghost use Rattle.imap_sessions.specs.Notices as specs;
 ghost use Rattle.imap_core.specs.Outcome.{said};
-ghost use Rattle.imap_core.specs.Pending.{IsFoundForEffect};
-ghost use Rattle.imap_core.specs.Planned.{MayTell};
+ghost use Rattle.imap_sessions.specs.Planned.{IsFoundForEffect, MayTell};
 ghost use Rattle.imap_core.specs.Reply as reply;
-ghost use Rattle.imap_core.specs.declared.sessions.SessionEffect.TheVariants as session;
+ghost use Rattle.imap_sessions.specs.declared.sessions.SessionEffect.TheVariants as session;
 
-use crate::notices::{PlannedChange, mailbox_left, notices_of_mailbox, noting};
 use crate::outcome::Outcome;
-use crate::sessions::SessionEffect;
 use imap_answer::refused_line;
 use imap_lex::Tag;
 use imap_print::{EnabledCapabilities, Refusal, Response};
 use imap_session::{KnownUpdate, NoticeOptions, Session, SessionNotices};
+use imap_sessions::{PlannedChange, SessionEffect, mailbox_left, notices_of_mailbox, noting};
 use imap_upcoming::Upcoming;
 use std::alloc::{AllocError, Global};
 
@@ -137,7 +135,7 @@ fn begun(
 /// An IDLE goes on.
 fn polled(lines: Vec<Response>, told: Option<KnownUpdate>) -> Outcome
     requires { AllByRecursion IsPrintable lines.items }
-    ensures { result ≡ said lines.items (reply.noting nothing_enabled told) }
+    ensures { result ≡ said lines.items (specs.noting nothing_enabled told) }
 {
     let nothing = EnabledCapabilities {
         condstore: false,

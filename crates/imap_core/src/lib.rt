@@ -8,7 +8,6 @@
 //! by the user's own sessions, and by nothing else.
 #![tactic(auto)]
 
-mod accounts;
 mod commands;
 mod effects;
 mod frames;
@@ -17,18 +16,14 @@ pub mod laws;
 mod machine;
 mod mailbox_version;
 mod notices;
-mod open_session;
 mod opening;
 mod outcome;
 mod pending;
 mod reply;
-mod session_id;
-mod sessions;
 mod step;
 
 pub use imap_answer::Moment;
+pub use imap_sessions::{SessionEffect, SessionId, SessionNumber};
 pub use machine::{Core, Prepared};
 pub use mailbox_version::MailboxVersion;
-pub use session_id::{SessionId, SessionNumber};
-pub use sessions::SessionEffect;
 pub use step::{Act, Step};

@@ -9,38 +9,38 @@ ghost use Rattle.imap_world.specs.Mailbox.{AreShared};
 ghost use Rattle.imap_world.specs.Ready as world;
 ghost use Rattle.imap_world.specs.Ready.{AreApart};
 ghost use Rattle.imap_world.specs.Stored.{world_of};
-ghost use Rattle.imap_core.specs.Accounts.{held_in};
-ghost use Rattle.imap_core.specs.Held.{HasKnownRoom};
-ghost use Rattle.imap_core.specs.InStep.{IsMachineKept, session_at};
+ghost use Rattle.imap_sessions.specs.Accounts.{accounts_after, held_in, session_at};
+ghost use Rattle.imap_sessions.specs.Held.{HasKnownRoom};
+ghost use Rattle.imap_core.specs.InStep.{IsMachineKept};
 ghost use Rattle.imap_core.specs.Machine as specs;
 ghost use Rattle.imap_answer.specs.Alike.{effects_of};
-ghost use Rattle.imap_core.specs.Machine.{IsOneStep, IsPartWay, accounts_after, after_steps, answer, answers, next};
+ghost use Rattle.imap_core.specs.Machine.{IsOneStep, IsPartWay, after_steps, answer, answers, next};
 ghost use Rattle.imap_core.specs.Opening.{admission, state_at_start};
 ghost use Rattle.imap_core.specs.Pending.{IsCompletable, completed, effect_in};
-ghost use Rattle.imap_core.specs.Planned.{ArePrintable, IsReady, MayTell, change_of};
-ghost use Rattle.imap_core.specs.Planned.{replies_in, replies_of, room_needed, session_of};
+ghost use Rattle.imap_core.specs.Planned.{ArePrintable, IsReady, change_of};
+ghost use Rattle.imap_sessions.specs.Planned.{MayTell, room_needed};
+ghost use Rattle.imap_core.specs.Planned.{replies_in, replies_of, session_of};
 ghost use Rattle.imap_core.specs.Planned.{state_after, who_of};
 ghost use Rattle.imap_core.specs.Trace.{AreIsolated, sent_to, transcript};
 ghost use Rattle.imap_core.specs.Version.{version_in, version_of};
-ghost use Rattle.imap_core.specs.Notices.{selected_mailbox};
+ghost use Rattle.imap_sessions.specs.Notices.{selected_mailbox};
 
-use crate::accounts::{change_session, open_session, own_sessions, reserve_known};
 use crate::commands::selected_mailbox;
 use crate::effects::{resolve_effects, with_effects};
 use crate::laws::isolation_of_replies;
 use crate::mailbox_version::MailboxVersion;
-use crate::notices::{PlannedChange, with_notices};
+use crate::notices::with_notices;
 use crate::opening::Opening;
 use crate::outcome::Outcome;
 use crate::pending::Pending;
 use crate::reply::step_pending;
-use crate::session_id::SessionId;
-use crate::sessions::{OwnSessions, SessionEffect, room_needed};
 use crate::step::Step;
 use imap_names::{UserName, inbox_ref};
 use imap_print::Response;
 use imap_rights::{Groups, SharedGroups};
 use imap_session::Session;
+use imap_sessions::accounts::{change_session, open_session, own_sessions, reserve_known};
+use imap_sessions::{OwnSessions, PlannedChange, SessionEffect, SessionId, room_needed};
 use imap_user_map::UserMap;
 use imap_values::beside;
 use imap_view::View;
@@ -59,7 +59,7 @@ pub struct Core {
 }
 
 impl Model for Core {
-    ghost use Rattle.imap_core.specs.Accounts.{accounts_of};
+    ghost use Rattle.imap_sessions.specs.Accounts.{accounts_of};
     ghost use Rattle.imap_core.specs.InStep.{IsMachineKept};
     ghost use Rattle.imap_core.specs.Machine.{Machine, machine_code};
     ghost use Rattle.imap_world.specs.Stored.{world_of};

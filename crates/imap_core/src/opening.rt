@@ -3,12 +3,12 @@
 ghost use Rattle.std.specs.Prelude.{◌≡◌, OnOk};
 ghost use Rattle.std.specs.FinMap as map;
 ghost use Rattle.imap_world.specs.Stored.{world_of};
-ghost use Rattle.imap_core.specs.Accounts.{accounts_of};
+ghost use Rattle.imap_sessions.specs.Accounts.{accounts_of};
 ghost use Rattle.imap_core.specs.Opening.{admission_of, needs_inbox, nobody, with_user, with_users};
 
-use crate::accounts::{add_account, is_known, no_accounts};
-use crate::sessions::OwnSessions;
 use imap_names::{UserName, inbox_ref};
+use imap_sessions::OwnSessions;
+use imap_sessions::accounts::{add_account, is_known, no_accounts};
 use imap_user_map::UserMap;
 use imap_world::{Effect, World};
 use std::alloc::{AllocError, Global};

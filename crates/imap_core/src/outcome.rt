@@ -5,9 +5,9 @@ ghost use Rattle.std.specs.List.{AllByRecursion};
 ghost use Rattle.imap_print.specs.Lines.{IsPrintable};
 ghost use Rattle.imap_core.specs.Outcome as specs;
 
-use crate::sessions::SessionEffect;
 use imap_answer::Answer;
 use imap_print::Response;
+use imap_sessions::SessionEffect;
 use imap_values::{beside, pushed};
 use imap_world::Effect;
 use std::alloc::{AllocError, Global};
@@ -31,8 +31,8 @@ impl Model for Outcome {
     ghost use Rattle.imap_print.specs.declared.response.Response.{Response};
     ghost use Rattle.imap_world.specs.contracts.effect.Effect.{the_row as effect_row};
     ghost use Rattle.imap_world.specs.declared.effect.Effect.{Effect};
-    ghost use Rattle.imap_core.specs.contracts.sessions.SessionEffect.{the_row as session_row};
-    ghost use Rattle.imap_core.specs.declared.sessions.SessionEffect.{SessionEffect};
+    ghost use Rattle.imap_sessions.specs.contracts.sessions.SessionEffect.{the_row as session_row};
+    ghost use Rattle.imap_sessions.specs.declared.sessions.SessionEffect.{SessionEffect};
     ghost use Rattle.imap_core.specs.Outcome as specs;
 
     ghost Value = { specs.Outcome };

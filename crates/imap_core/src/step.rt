@@ -2,9 +2,9 @@
 
 ghost use Rattle.std.specs.Prelude.{◌≡◌, ◌↔◌, IfOk, IsTrue};
 
-use crate::session_id::SessionId;
 use imap_answer::Moment;
 use imap_grammar::Request;
+use imap_sessions::SessionId;
 use imap_values::{Same, TryCopy};
 use std::alloc::{AllocError, Global};
 

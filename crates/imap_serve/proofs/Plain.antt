@@ -5,7 +5,7 @@ use Rattle.imap_lex.specs.declared.frame.Frame.{Frame}
 use Rattle.imap_lex.specs.Framing.{run, beginning}
 use Rattle.imap_print.specs.Printed.{printed}
 use Rattle.imap_dialect.specs.Telling.{standard}
-use Rattle.imap_core.specs.declared.session_id.SessionId.{SessionId}
+use Rattle.imap_sessions.specs.declared.session_id.SessionId.{SessionId}
 use Rattle.imap_core.specs.declared.step.Act.TheVariants as act
 use Rattle.imap_core.specs.declared.step.Step.{Step}
 use Rattle.imap_hall.specs.declared.error.HallError.{HallError}

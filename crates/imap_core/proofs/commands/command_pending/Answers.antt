@@ -6,7 +6,7 @@ use Rattle.imap_commands.specs.declared.commands.select.SelectParameters.{Select
 use Rattle.imap_session.specs.State.{SessionState, state_of}
 use Rattle.imap_syntax.specs.Moments.{Moment}
 use Rattle.imap_view.specs.View.{View}
-use Rattle.imap_core.specs.Notices.{may_tell_expunges}
+use Rattle.imap_sessions.specs.Notices.{may_tell_expunges}
 use Rattle.imap_core.specs.Outcome.{Outcome}
 use Rattle.imap_core.specs.Pending.{completed}
 use Rattle.imap_core.specs.Answers.{command_answer}

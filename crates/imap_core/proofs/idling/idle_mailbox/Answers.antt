@@ -3,8 +3,8 @@ use Rattle.imap_answer.specs.Alike.{view_after_asking}
 use Rattle.imap_session.specs.State.{state_of}
 use Rattle.imap_view.specs.View.{view_of}
 use Rattle.imap_world.specs.Stored.{world_of}
-use Rattle.imap_core.specs.Notices.{mailbox_left}
-use Rattle.imap_core.proofs.MailboxLeft.{viewed_after}
+use Rattle.imap_sessions.specs.Notices.{mailbox_left}
+use Rattle.imap_sessions.proofs.MailboxLeft.{viewed_after}
 use Rattle.imap_core.proofs.idling.idle_mailbox.Goals as goal
 
 pub returns-clause-mailbox : goal.returns-clause-mailbox

@@ -2,7 +2,8 @@ use Rattle.std.proofs.Common.{refl, sym, ap, subst, ◌∙◌}
 use Rattle.imap_answer.specs.Alike.{effects_of}
 use Rattle.imap_world.specs.Effects.{writes_of}
 use Rattle.imap_world.specs.Stored.{world_of}
-use Rattle.imap_core.specs.InStep.{IsMachineKept, session_at}
+use Rattle.imap_core.specs.InStep.{IsMachineKept}
+use Rattle.imap_sessions.specs.Accounts.{session_at}
 use Rattle.imap_core.specs.Machine.{Machine}
 use Rattle.imap_core.specs.Pending.{AreFound}
 use Rattle.imap_core.proofs.Preparing.{are_found, effect_is, stays_kept}

@@ -3,7 +3,7 @@ use Rattle.std.specs.FinMap as map
 use Rattle.imap_world.specs.Ready.{AreApart}
 use Rattle.imap_world.specs.Stored.{world_of}
 use Rattle.imap_core.specs.Opening.{Admission, admission, admission_of, with_user, with_users}
-use Rattle.imap_core.specs.Sessions.{Own}
+use Rattle.imap_sessions.specs.Sessions.{Own}
 use Rattle.imap_core.proofs.Preparing.{starts_kept}
 use Rattle.imap_core.proofs.Starting.{admission_apart, starts_so}
 use Rattle.imap_core.proofs.machine.Core.open.Goals as goal

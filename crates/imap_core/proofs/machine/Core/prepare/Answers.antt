@@ -6,13 +6,14 @@ use Rattle.imap_world.specs.Effects.{after_writes, writes_of}
 use Rattle.imap_world.specs.Ready as world
 use Rattle.imap_world.specs.Stored.{Stored}
 use Rattle.std.specs.Prelude.{List}
-use Rattle.imap_core.specs.Accounts.{held_in}
+use Rattle.imap_sessions.specs.Accounts.{accounts_after, held_in, session_at}
 use Rattle.imap_core.specs.declared.machine.Prepared.{Prepared}
-use Rattle.imap_core.specs.Held.{HasKnownRoom}
-use Rattle.imap_core.specs.InStep.{IsMachineKept, session_at}
-use Rattle.imap_core.specs.Machine.{State, accounts_after, outcome, own_in, view_in}
+use Rattle.imap_sessions.specs.Held.{HasKnownRoom}
+use Rattle.imap_core.specs.InStep.{IsMachineKept}
+use Rattle.imap_core.specs.Machine.{State, outcome, own_in, view_in}
 use Rattle.imap_core.specs.Outcome.{Outcome}
-use Rattle.imap_core.specs.Planned.{IsFoundBy, IsReady, MayOpen, MayTell, change_of, state_after}
+use Rattle.imap_core.specs.Planned.{IsFoundBy, IsReady, change_of, state_after}
+use Rattle.imap_sessions.specs.Planned.{MayOpen, MayTell}
 use Rattle.imap_core.proofs.Fitting.{outcome_fits}
 use Rattle.imap_core.proofs.Preparing.{effect_is, found_so, next_is, prepared_so, tried_so}
 use Rattle.imap_core.proofs.machine.Core.prepare.Goals as goal

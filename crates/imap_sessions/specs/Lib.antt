@@ -1,0 +1,7 @@
+-- The open sessions of all users, what a step asks of one, and the notices of one.
+pub mod Accounts
+pub mod Held
+pub mod InStep
+pub mod Notices
+pub mod Planned
+pub mod Sessions
