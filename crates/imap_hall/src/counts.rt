@@ -46,8 +46,8 @@ fn add_user(
     if counts.contains(user) {
         return Ok(());
     }
-    let key = String::from_str(alloc, user)?;
     counts.reserve(1)?;
+    let key = String::from_str(alloc, user)?;
     counts.insert_reserved(key, OwnCounts::new(alloc));
     Ok(())
 }

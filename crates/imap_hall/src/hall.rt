@@ -123,7 +123,8 @@ impl<K: Keeper> Hall<K> {
         ensures alone { IfOk result (λ r. IsAlone K.failed K.is_honest K.leaves K.stands self.old.now.state
             self.old.keeper step.now r.replies self.new.now.state self.new.keeper) }
     {
-        let (first, _second) = self.step_pair(alloc, step)?;
+        let (first, second) = self.step_pair(alloc, step)?;
+        drop(second);
         Ok(first)
     }
 
@@ -223,14 +224,15 @@ impl<K: Keeper> Hall<K> {
         ensures stored { K.content result self.now.state.world }
     {
         let Hall {
-            core: _,
-            counts: _,
+            core,
+            counts,
             keeper,
-            base: _,
-            base_counts: _,
+            base,
+            base_counts,
             before: _,
-            journal: _,
+            journal,
         } = self;
+        drop((core, counts, base, base_counts, journal));
         keeper
     }
 }

@@ -17,6 +17,7 @@ use imap_core::Core;
 use imap_keeper::{KeepError, Keeper};
 use imap_names::UserName;
 use imap_rights::Groups;
+use imap_values::beside;
 use imap_world::{Change, Limits, World};
 use std::alloc::{AllocError, Global};
 
@@ -60,12 +61,21 @@ pub(crate) fn begin<K: Keeper>(
 {
     let world = match keeper.load(alloc) {
         Ok(world) => world,
-        Err(error) => return Err(open_error(error)),
+        Err(error) => {
+            drop((administrator, groups));
+            return Err(open_error(error));
+        }
     };
     let (start, change) = start_machine(alloc, world, administrator, users, groups, limits)?;
     match save_change(keeper, alloc, &change) {
-        Ok(()) => Ok(start),
-        Err(error) => Err(open_error(error)),
+        Ok(()) => {
+            drop(change);
+            Ok(start)
+        }
+        Err(error) => {
+            drop((start, change));
+            Err(open_error(error))
+        }
     }
 }
 
@@ -85,7 +95,8 @@ fn start_machine(
     ensures change { IfOk result (λ made. made.0.core.state.world ≡ after_writes made.1 (world_of world)) }
 {
     let (mut core, change) = Core::open(alloc, world, administrator, users, groups, limits)?;
-    let base = base_of(alloc, &mut core)?;
+    let base = base_of(alloc, &mut core);
+    let (base, (core, change)) = beside(base, (core, change))?;
     Ok((Start { core, base }, change))
 }
 

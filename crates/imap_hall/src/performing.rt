@@ -54,15 +54,16 @@ pub(crate) fn perform<K: Keeper>(
     } = ready;
     match save_step(keeper, alloc, core, prepared.change()) {
         Ok(()) => {
+            drop(refusal);
             drop(core.commit(prepared));
             Ok(answered)
         }
         Err(KeepError::Refused) => {
-            drop(prepared);
+            drop((prepared, answered));
             Ok(refusal)
         }
         Err(KeepError::Memory | KeepError::Damaged) => {
-            drop(prepared);
+            drop((prepared, answered, refusal));
             Err(HallError::Memory)
         }
     }

@@ -9,7 +9,7 @@ use imap_core::{Act, Step};
 use imap_grammar::Request;
 use imap_lex::Tag;
 use imap_print::{Refusal, Response};
-use imap_values::{TryCopy, beside};
+use imap_values::{TryCopy, beside, pushed};
 use std::alloc::{AllocError, Global};
 
 /// The replies to one step, for the entry of the journal and for two receipts.
@@ -63,13 +63,11 @@ pub(crate) fn refusal(alloc: Global, step: &Step) -> Result<Replies, AllocError>
 fn unavailable(alloc: Global, step: &Step) -> Result<Vec<Response>, AllocError>
     ensures { IfOk result (λ replies. replies.items ≡ unavailable step.now) }
 {
-    let tag = tag_of(alloc, &step.act)?;
-    let mut replies = Vec::with_capacity(alloc, 1)?;
-    replies.push_reserved(Response::Refused {
-        tag,
+    let reply = Response::Refused {
+        tag: tag_of(alloc, &step.act)?,
         refusal: Refusal::Unavailable,
-    });
-    Ok(replies)
+    };
+    pushed(Vec::new(alloc), reply)
 }
 
 /// Returns the tag of the command that the act sends, if it sends one.
