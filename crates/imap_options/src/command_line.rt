@@ -3,10 +3,11 @@
 use crate::command_line_error::CommandLineError;
 use crate::config_file::ConfigFile;
 use crate::secret::{SecretFiles, why_unread};
-use crate::serve_options::{read_service, read_user};
+use crate::serve_options::{read_service, read_user, value_of};
 use crate::service::Service;
+use crate::subcommands::with_subcommands;
 use clap::error::ErrorKind;
-use clap::{Arg, ArgAction, ArgMatches, Command};
+use clap::{ArgMatches, Command};
 use imap_names::UserName;
 use std::alloc::{AllocError, Global};
 use std::rt::{Env, Files};
@@ -52,19 +53,36 @@ pub enum Task {
 pub fn read_command_line<R: Env + Files + AllocGlobal + Eprint>(
     rt: &R,
 ) -> Result<Task, CommandLineError> {
-    let words = match env::args(rt) {
-        Ok(words) => words.collect::<Vec<String>>(rt.alloc())?,
-        Err(error) if error.kind() == io::ErrorKind::OutOfMemory => {
-            return Err(CommandLineError::Memory);
-        }
-        Err(_) => return Err(CommandLineError::Unreadable),
-    };
-    match config_name(rt.alloc(), words.as_slice())? {
+    let words = program_words(rt)?;
+    let task = read_with_config(rt, words.as_slice());
+    drop(words);
+    task
+}
+
+/// Returns the words that the program was started with.
+fn program_words<R: Env + AllocGlobal>(rt: &R) -> Result<Vec<String>, CommandLineError> {
+    match env::args(rt) {
+        Ok(words) => Ok(words.collect::<Vec<String>>(rt.alloc())?),
+        Err(error) => match error.kind() {
+            io::ErrorKind::OutOfMemory => Err(CommandLineError::Memory),
+            _ => Err(CommandLineError::Unreadable),
+        },
+    }
+}
+
+/// Reads the words of a command line after the options in the configuration file that they name, if they do.
+fn read_with_config<R: Files + AllocGlobal + Eprint>(
+    rt: &R,
+    words: &[String],
+) -> Result<Task, CommandLineError> {
+    match config_name(rt.alloc(), words)? {
         Some(name) => {
             let text = read_config(rt, name)?;
-            read_words_after(rt.alloc(), rt, words.as_slice(), name, text.as_str())
+            let task = read_words_after(rt.alloc(), rt, words, name, text.as_str());
+            drop(text);
+            task
         }
-        None => read_words(rt.alloc(), rt, words.as_slice()),
+        None => read_words(rt.alloc(), rt, words),
     }
 }
 
@@ -76,16 +94,28 @@ fn config_name<'a>(
     if !words.iter().any(|word| word.starts_with("--config")) {
         return Ok(None);
     }
-    match command(alloc, false)?.try_get_matches_from(words) {
-        Ok(matches) => match matches.subcommand() {
-            Some(("serve", found)) => Ok(found.get_str("config")),
-            _ => Ok(None),
-        },
-        Err(error) => match error.kind() {
-            ErrorKind::OutOfMemory => Err(CommandLineError::Memory),
-            // What is wrong is said when all words are read.
-            _ => Ok(None),
-        },
+    match parse(alloc, words, false) {
+        Ok(matches) => {
+            let name = config_of(&matches);
+            drop(matches);
+            Ok(name)
+        }
+        Err(error) => {
+            let kind = error.kind();
+            drop(error);
+            match kind {
+                ErrorKind::OutOfMemory => Err(CommandLineError::Memory),
+                // What is wrong is said when all words are read.
+                _ => Ok(None),
+            }
+        }
+    }
+}
+
+fn config_of<'a>(matches: &ArgMatches<'a>) -> Option<&'a str> {
+    match matches.subcommand() {
+        Some(("serve", found)) => found.get_str("config"),
+        _ => None,
     }
 }
 
@@ -118,8 +148,22 @@ pub fn read_words_after<S: SecretFiles>(
     text: &str,
 ) -> Result<Task, CommandLineError> {
     let file = ConfigFile::read(alloc, name, text)?;
+    let task = read_after(alloc, secrets, &file, words);
+    drop(file);
+    task
+}
+
+/// Reads the words of a command line after the options of the file.
+fn read_after<S: SecretFiles>(
+    alloc: Global,
+    secrets: &S,
+    file: &ConfigFile<'_>,
+    words: &[String],
+) -> Result<Task, CommandLineError> {
     let joined = file.joined(words)?;
-    read_with(alloc, secrets, &file, joined.as_slice())
+    let task = read_with(alloc, secrets, file, joined.as_slice());
+    drop(joined);
+    task
 }
 
 fn read_with<S: SecretFiles>(
@@ -128,28 +172,41 @@ fn read_with<S: SecretFiles>(
     file: &ConfigFile<'_>,
     words: &[String],
 ) -> Result<Task, CommandLineError> {
-    match command(alloc, true)?.try_get_matches_from(words) {
-        Ok(matches) => read_matches(secrets, file, &matches),
-        Err(error) => match error.kind() {
-            ErrorKind::DisplayVersion => Ok(Task::Version),
-            _ => Err(CommandLineError::from(error)),
-        },
+    match parse(alloc, words, true) {
+        Ok(matches) => {
+            let task = read_matches(secrets, file, &matches);
+            drop(matches);
+            task
+        }
+        Err(error) => task_of(error),
     }
 }
 
-/// The program's command line. `is_whole` says whether the options of `serve` that it can't do without are asked for.
+/// Returns the task of words that the parser doesn't take: it takes no words that ask for the version.
+fn task_of(error: clap::Error) -> Result<Task, CommandLineError> {
+    if error.kind() == ErrorKind::DisplayVersion {
+        drop(error);
+        return Ok(Task::Version);
+    }
+    Err(CommandLineError::from(error))
+}
+
+/// Parses the words of a command line. `is_whole` says whether the options that a subcommand can't do without are asked
+/// for.
+fn parse<'a>(
+    alloc: Global,
+    words: &'a [String],
+    is_whole: bool,
+) -> Result<ArgMatches<'a>, clap::Error> {
+    command(alloc, is_whole)?.try_get_matches_from(words)
+}
+
+/// The program's command line.
 fn command<'a>(alloc: Global, is_whole: bool) -> Result<Command<'a>, AllocError> {
-    let script = Command::new(alloc, "script").about(
-        "Runs a script from standard input and writes its transcript to standard output",
-    );
     let command = Command::new(alloc, "imapd")
         .about("An IMAP server for shared mailboxes")
-        .version(VERSION)
-        .subcommand(script)?;
-    let command = with_check(alloc, command, is_whole)?;
-    let command = with_dump(alloc, command, is_whole)?;
-    let command = with_load(alloc, command, is_whole)?;
-    with_serve(alloc, command, is_whole)
+        .version(VERSION);
+    with_subcommands(alloc, command, is_whole)
 }
 
 fn read_matches<S: SecretFiles>(
@@ -158,26 +215,25 @@ fn read_matches<S: SecretFiles>(
     matches: &ArgMatches<'_>,
 ) -> Result<Task, CommandLineError> {
     match matches.subcommand() {
-        Some(("check", found)) => {
-            let database = String::from_str(file.alloc(), found.get_str("db").unwrap_or(""))?;
-            Ok(Task::Check(database))
-        }
-        Some(("dump", found)) => {
-            let database = String::from_str(file.alloc(), found.get_str("db").unwrap_or(""))?;
-            let folder = String::from_str(file.alloc(), found.get_str("to").unwrap_or(""))?;
-            Ok(Task::Dump { database, folder })
-        }
+        Some(("check", found)) => Ok(Task::Check(read_path(file, found, "db")?)),
+        Some(("dump", found)) => read_dump(file, found),
         Some(("load", found)) => read_load(file, found),
         Some(("script", _)) => Ok(Task::Script),
-        Some(("serve", found)) => read_service(secrets, file, found),
+        Some(("serve", found)) => read_serve(secrets, file, found),
         _ => Err(CommandLineError::NoSubcommand),
     }
 }
 
+fn read_dump(file: &ConfigFile<'_>, found: &ArgMatches<'_>) -> Result<Task, CommandLineError> {
+    let database = read_path(file, found, "db")?;
+    let folder = read_path(file, found, "to")?;
+    Ok(Task::Dump { database, folder })
+}
+
 fn read_load(file: &ConfigFile<'_>, found: &ArgMatches<'_>) -> Result<Task, CommandLineError> {
-    let administrator = read_user(file, "admin", 0, found.get_str("admin").unwrap_or(""))?;
-    let database = String::from_str(file.alloc(), found.get_str("db").unwrap_or(""))?;
-    let folder = String::from_str(file.alloc(), found.get_str("from").unwrap_or(""))?;
+    let database = read_path(file, found, "db")?;
+    let folder = read_path(file, found, "from")?;
+    let administrator = read_user(file, "admin", 0, value_of(found, "admin", ""))?;
     Ok(Task::Load {
         database,
         folder,
@@ -185,160 +241,21 @@ fn read_load(file: &ConfigFile<'_>, found: &ArgMatches<'_>) -> Result<Task, Comm
     })
 }
 
-/// Adds the subcommand `check`.
-fn with_check<'a>(
-    alloc: Global,
-    command: Command<'a>,
-    is_whole: bool,
-) -> Result<Command<'a>, AllocError> {
-    match check_command(alloc, is_whole) {
-        Ok(check) => command.subcommand(check),
-        Err(error) => {
-            drop(command);
-            Err(error)
-        }
-    }
+fn read_serve<S: SecretFiles>(
+    secrets: &S,
+    file: &ConfigFile<'_>,
+    found: &ArgMatches<'_>,
+) -> Result<Task, CommandLineError> {
+    let database = read_path(file, found, "db")?;
+    let service = read_service(secrets, file, found)?;
+    Ok(Task::Serve { database, service })
 }
 
-fn check_command<'a>(alloc: Global, is_whole: bool) -> Result<Command<'a>, AllocError> {
-    let database = option(alloc, "db", "FILE")
-        .help("The database that keeps the mail")
-        .required(is_whole);
-    Command::new(alloc, "check")
-        .about("Says how much a store holds, or which of its rows is damaged")
-        .arg(database)
-}
-
-/// Adds the subcommand `dump`.
-fn with_dump<'a>(
-    alloc: Global,
-    command: Command<'a>,
-    is_whole: bool,
-) -> Result<Command<'a>, AllocError> {
-    match dump_command(alloc, is_whole) {
-        Ok(dump) => command.subcommand(dump),
-        Err(error) => {
-            drop(command);
-            Err(error)
-        }
-    }
-}
-
-fn dump_command<'a>(alloc: Global, is_whole: bool) -> Result<Command<'a>, AllocError> {
-    let database = option(alloc, "db", "FILE")
-        .help("The database that keeps the mail")
-        .required(is_whole);
-    let folder = option(alloc, "to", "FOLDER")
-        .help("The folder to be made, with a Maildir for each mailbox")
-        .required(is_whole);
-    let command = Command::new(alloc, "dump")
-        .about("Writes all mailboxes of a store as folders of messages")
-        .arg(database)?;
-    command.arg(folder)
-}
-
-/// Adds the subcommand `load`.
-fn with_load<'a>(
-    alloc: Global,
-    command: Command<'a>,
-    is_whole: bool,
-) -> Result<Command<'a>, AllocError> {
-    match load_command(alloc, is_whole) {
-        Ok(load) => command.subcommand(load),
-        Err(error) => {
-            drop(command);
-            Err(error)
-        }
-    }
-}
-
-fn load_command<'a>(alloc: Global, is_whole: bool) -> Result<Command<'a>, AllocError> {
-    let database = option(alloc, "db", "FILE")
-        .help("The database that keeps the mail; it is made if it is missing")
-        .required(is_whole);
-    let folder = option(alloc, "from", "FOLDER")
-        .help("The folder with a Maildir for each mailbox, as dump writes them")
-        .required(is_whole);
-    let command = Command::new(alloc, "load")
-        .about("Adds the messages in folders to the mailboxes of a store")
-        .arg(database)?;
-    let command = command.arg(folder)?;
-    let administrator = option(alloc, "admin", "NAME")
-        .help("The administrator, who owns the Shared tree")
-        .required(is_whole);
-    command.arg(administrator)
-}
-
-/// Adds the subcommand `serve`.
-fn with_serve<'a>(
-    alloc: Global,
-    command: Command<'a>,
-    is_whole: bool,
-) -> Result<Command<'a>, AllocError> {
-    match serve_command(alloc, is_whole) {
-        Ok(serve) => command.subcommand(serve),
-        Err(error) => {
-            drop(command);
-            Err(error)
-        }
-    }
-}
-
-fn serve_command<'a>(alloc: Global, is_whole: bool) -> Result<Command<'a>, AllocError> {
-    let database = option(alloc, "db", "FILE")
-        .help("The database that keeps the mail; it is made if it is missing")
-        .required(is_whole);
-    let command = Command::new(alloc, "serve")
-        .about("Serves users over TCP and by socket files")
-        .arg(database)?;
-    let administrator = option(alloc, "admin", "NAME")
-        .help("The administrator, who owns the Shared tree")
-        .required(is_whole);
-    let command = command.arg(administrator)?;
-    let listen = option(alloc, "listen", "NAME=PORT")
-        .help(
-            "Serves a user at a port of 127.0.0.1, or with NAME=PATH at a socket file; may be repeated",
-        )
-        .required(is_whole)
-        .action(ArgAction::Append);
-    let command = command.arg(listen)?;
-    let member = option(alloc, "member", "GROUP=NAME")
-        .help("Puts a served user or the administrator into a group; may be repeated")
-        .action(ArgAction::Append);
-    let command = command.arg(member)?;
-    let secret = option(alloc, "secret", "NAME=FILE")
-        .help("Has a user's clients log in with the first line of a file; may be repeated")
-        .action(ArgAction::Append);
-    let command = command.arg(secret)?;
-    with_manner(alloc, command)
-}
-
-/// Adds the options that say how mail is served.
-fn with_manner<'a>(alloc: Global, command: Command<'a>) -> Result<Command<'a>, AllocError> {
-    let max_messages = option(alloc, "max-messages", "N").help(
-        "How many messages a mailbox may hold",
-    );
-    let command = command.arg(max_messages)?;
-    let max_octets = option(alloc, "max-octets", "N").help("How many octets a message may have");
-    let command = command.arg(max_octets)?;
-    let dialect = option(alloc, "dialect", "NAME").help(
-        "What clients are spoken to in: rev2 (the default), or rev1 for those that know no IMAP4rev2",
-    );
-    let command = command.arg(dialect)?;
-    let log = option(alloc, "log", "LINES").help(
-        "What standard error is told: off, errors (the default) or connections",
-    );
-    let command = command.arg(log)?;
-    let config = option(alloc, "config", "FILE").help(
-        "Reads options from a file, one a line without its hyphens, before those given here",
-    );
-    command.arg(config)
-}
-
-/// An option `--NAME` that may be given once. `value` names its value in the help.
-fn option<'a>(alloc: Global, name: &'a str, value: &'a str) -> Arg<'a> {
-    Arg::new(alloc, name)
-        .long(name)
-        .value_name(value)
-        .action(ArgAction::Set)
+/// Reads the value of an option that names a file or a folder.
+fn read_path(
+    file: &ConfigFile<'_>,
+    found: &ArgMatches<'_>,
+    option: &str,
+) -> Result<String, AllocError> {
+    String::from_str(file.alloc(), value_of(found, option, ""))
 }

@@ -1,10 +1,11 @@
 //! Configuration files: options of `serve`, one a line.
 
 use crate::command_line_error::CommandLineError;
+use crate::completed::completed;
 use std::alloc::{AllocError, Global};
 
 /// The options that a file may give, and whether it may give them again.
-const OPTIONS: [(&str, bool); 9] = [
+const OPTIONS: &[(&str, bool)] = &[
     ("db", false),
     ("admin", false),
     ("listen", true),
@@ -51,14 +52,20 @@ impl<'a> ConfigFile<'a> {
         text: &'a str,
     ) -> Result<ConfigFile<'a>, CommandLineError> {
         let mut file = ConfigFile::none(alloc);
-        file.name.push_str(name)?;
+        let done = file.add_all(name, text);
+        completed(file, done)
+    }
+
+    /// Adds the name and the lines.
+    fn add_all(&mut self, name: &str, text: &'a str) -> Result<(), CommandLineError> {
+        self.name.push_str(name)?;
         for (index, line) in text.lines().enumerate() {
             let line = line.trim();
             if !line.is_empty() && !line.starts_with('#') {
-                file.add(index.saturating_add(1), line)?;
+                self.add(index.saturating_add(1), line)?;
             }
         }
-        Ok(file)
+        Ok(())
     }
 
     /// Adds the line of this number.
@@ -80,7 +87,7 @@ impl<'a> ConfigFile<'a> {
 
     /// The option that a line gives, or why it can't.
     fn option_of(&self, word: &str, value: &str) -> Result<&'static str, &'static str> {
-        for &(option, may_repeat) in &OPTIONS {
+        for &(option, may_repeat) in OPTIONS {
             if option == word {
                 if value.is_empty() {
                     return Err("a value is wanted");
@@ -158,13 +165,19 @@ impl<'a> ConfigFile<'a> {
     /// Returns the words of a command line, with the file's options after the program and the subcommand.
     pub(crate) fn joined(&self, words: &[String]) -> Result<Vec<String>, AllocError> {
         let mut joined = Vec::new(self.alloc);
+        let done = self.append_all(&mut joined, words);
+        completed(joined, done)
+    }
+
+    /// Appends the words, with the file's options before the third.
+    fn append_all(&self, joined: &mut Vec<String>, words: &[String]) -> Result<(), AllocError> {
         for (index, word) in words.iter().enumerate() {
             if index == 2 {
-                self.append(&mut joined)?;
+                self.append(joined)?;
             }
             joined.push(String::from_str(self.alloc, word.as_str())?)?;
         }
-        Ok(joined)
+        Ok(())
     }
 
     /// Appends the file's options as words of a command line.

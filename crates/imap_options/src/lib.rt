@@ -9,12 +9,14 @@
 mod address;
 mod command_line;
 mod command_line_error;
+mod completed;
 mod config_file;
 mod dialect_name;
 mod log_level;
 mod secret;
 mod serve_options;
 mod service;
+mod subcommands;
 
 pub use address::{Address, MAX_SOCKET_PATH, SocketPath};
 pub use command_line::{Task, VERSION, read_command_line, read_words, read_words_after};

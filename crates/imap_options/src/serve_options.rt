@@ -1,8 +1,8 @@
 //! The values of the options of `serve`.
 
 use crate::address::{Address, SocketPath};
-use crate::command_line::Task;
 use crate::command_line_error::CommandLineError;
+use crate::completed::completed;
 use crate::config_file::ConfigFile;
 use crate::dialect_name::DialectName;
 use crate::log_level::LogLevel;
@@ -21,30 +21,42 @@ pub(crate) fn read_service<S: SecretFiles>(
     secrets: &S,
     file: &ConfigFile<'_>,
     found: &ArgMatches<'_>,
-) -> Result<Task, CommandLineError> {
-    let database = String::from_str(file.alloc(), found.get_str("db").unwrap_or(""))?;
-    let administrator = read_user(file, "admin", 0, found.get_str("admin").unwrap_or(""))?;
-    let limits = read_limits(file, found)?;
-    let log = read_log(file, found.get_str("log").unwrap_or("errors"))?;
-    let dialect = read_dialect(file, found.get_str("dialect").unwrap_or("rev2"))?;
-    let ports = read_ports(file, found.get_strs("listen").unwrap_or(&[]))?;
-    let ports = read_secrets(
-        secrets,
-        file,
-        found.get_strs("secret").unwrap_or(&[]),
-        ports,
-    )?;
-    let members = found.get_strs("member").unwrap_or(&[]);
-    let groups = read_groups(file, members, &administrator, ports.as_slice())?;
-    let service = Service {
+) -> Result<Service, CommandLineError> {
+    let administrator = read_user(file, "admin", 0, value_of(found, "admin", ""))?;
+    let mut service = Service {
         administrator,
-        ports,
-        groups,
-        limits,
-        dialect,
-        log,
+        ports: Vec::new(file.alloc()),
+        groups: Groups::new(file.alloc()),
+        limits: DEFAULT_LIMITS,
+        dialect: DialectName::Rev2,
+        log: LogLevel::Errors,
     };
-    Ok(Task::Serve { database, service })
+    let done = complete(secrets, file, found, &mut service);
+    completed(service, done)
+}
+
+/// Reads the options of `serve` but for the administrator.
+fn complete<S: SecretFiles>(
+    secrets: &S,
+    file: &ConfigFile<'_>,
+    found: &ArgMatches<'_>,
+    service: &mut Service,
+) -> Result<(), CommandLineError> {
+    service.limits = read_limits(file, found)?;
+    service.log = read_log(file, value_of(found, "log", "errors"))?;
+    service.dialect = read_dialect(file, value_of(found, "dialect", "rev2"))?;
+    let texts = found.get_strs("listen").unwrap_or(&[]);
+    add_ports(file, texts, &mut service.ports)?;
+    let texts = found.get_strs("secret").unwrap_or(&[]);
+    add_secrets(secrets, file, texts, service.ports.as_mut_slice())?;
+    let texts = found.get_strs("member").unwrap_or(&[]);
+    add_members(file, texts, service)?;
+    Ok(())
+}
+
+/// The value of an option, or `other` if it isn't given.
+pub(crate) fn value_of<'a>(found: &ArgMatches<'a>, option: &str, other: &'a str) -> &'a str {
+    found.get_str(option).unwrap_or(other)
 }
 
 fn read_limits(file: &ConfigFile<'_>, found: &ArgMatches<'_>) -> Result<Limits, CommandLineError> {
@@ -83,48 +95,51 @@ fn read_dialect(file: &ConfigFile<'_>, text: &str) -> Result<DialectName, Comman
 }
 
 /// Reads the users with their ports. No user is named twice.
-fn read_ports(file: &ConfigFile<'_>, texts: &[&str]) -> Result<Vec<Port>, CommandLineError> {
-    let mut ports = Vec::new(file.alloc());
+fn add_ports(
+    file: &ConfigFile<'_>,
+    texts: &[&str],
+    ports: &mut Vec<Port>,
+) -> Result<(), CommandLineError> {
     for (index, text) in texts.iter().enumerate() {
-        let port = read_port(file, index, text)?;
-        if is_named(ports.as_slice(), &port.user) {
-            return Err(file.fault("listen", index, text, "the user is named before"));
-        }
-        ports.push(port)?;
+        add_port(file, index, text, ports)?;
     }
-    Ok(ports)
-}
-
-fn is_named(ports: &[Port], user: &UserName) -> bool {
-    ports.iter().any(|other| other.user.is_same(user))
+    Ok(())
 }
 
 /// Reads `NAME=PORT` or `NAME=PATH`.
-fn read_port(file: &ConfigFile<'_>, index: usize, text: &str) -> Result<Port, CommandLineError> {
-    match split_port(text) {
-        Ok((name, address)) => Ok(Port {
-            user: read_user(file, "listen", index, name)?,
-            address,
-            credentials: None,
-        }),
-        Err(reason) => Err(file.fault("listen", index, text, reason)),
+fn add_port(
+    file: &ConfigFile<'_>,
+    index: usize,
+    text: &str,
+    ports: &mut Vec<Port>,
+) -> Result<(), CommandLineError> {
+    let (name, address) = match split_port(text) {
+        Ok(found) => found,
+        Err(reason) => return Err(file.fault("listen", index, text, reason)),
+    };
+    if find_served(name, ports.as_slice()).is_some() {
+        return Err(file.fault("listen", index, text, "the user is named before"));
     }
+    let user = read_user(file, "listen", index, name)?;
+    ports.push(Port {
+        user,
+        address,
+        credentials: None,
+    })?;
+    Ok(())
 }
 
 /// Reads the secrets of users who are served.
-fn read_secrets<S: SecretFiles>(
+fn add_secrets<S: SecretFiles>(
     secrets: &S,
     file: &ConfigFile<'_>,
     texts: &[&str],
-    mut ports: Vec<Port>,
-) -> Result<Vec<Port>, CommandLineError> {
+    ports: &mut [Port],
+) -> Result<(), CommandLineError> {
     for (index, text) in texts.iter().enumerate() {
-        let added = add_secret(secrets, file, index, text, ports.as_mut_slice());
-        if let Err(error) = added {
-            return Err(error);
-        }
+        add_secret(secrets, file, index, text, ports)?;
     }
-    Ok(ports)
+    Ok(())
 }
 
 /// Reads `NAME=FILE` and the file, and gives the user of this name its secret.
@@ -168,7 +183,14 @@ fn read_secret<S: SecretFiles>(
     path: &str,
 ) -> Result<Credentials, SecretFault> {
     let text = secrets.read(path)?;
-    match first_line(text.as_str()) {
+    let credentials = credentials_in(alloc, name, text.as_str());
+    drop(text);
+    credentials
+}
+
+/// Returns the name, and the first line of the text.
+fn credentials_in(alloc: Global, name: &str, text: &str) -> Result<Credentials, SecretFault> {
+    match first_line(text) {
         Some(line) => Ok(Credentials::new(alloc, name.as_bytes(), line.as_bytes())?),
         None => Err(SecretFault::Unread(
             "its first line is no secret: 1 to 1024 octets without NUL are wanted",
@@ -177,35 +199,28 @@ fn read_secret<S: SecretFiles>(
 }
 
 /// Reads who is in which groups. Who is named twice in a group is in it once.
-fn read_groups(
+fn add_members(
     file: &ConfigFile<'_>,
     texts: &[&str],
-    administrator: &UserName,
-    ports: &[Port],
-) -> Result<Groups, CommandLineError> {
-    let mut groups = Groups::new(file.alloc());
+    service: &mut Service,
+) -> Result<(), CommandLineError> {
     for (index, text) in texts.iter().enumerate() {
-        let added = add_member(file, &mut groups, index, text, administrator, ports);
-        if let Err(error) = added {
-            return Err(error);
-        }
+        add_member(file, index, text, service)?;
     }
-    Ok(groups)
+    Ok(())
 }
 
 /// Reads `GROUP=NAME`, and puts the user into the group. The group's name ends at the first `=`.
 fn add_member(
     file: &ConfigFile<'_>,
-    groups: &mut Groups,
     index: usize,
     text: &str,
-    administrator: &UserName,
-    ports: &[Port],
+    service: &mut Service,
 ) -> Result<(), CommandLineError> {
     let Some((group, name)) = text.split_once('=') else {
         return Err(file.fault("member", index, text, "GROUP=NAME is wanted"));
     };
-    let Some(user) = find_user(name, administrator, ports) else {
+    let Some(user) = find_user(name, &service.administrator, service.ports.as_slice()) else {
         return Err(file.fault(
             "member",
             index,
@@ -213,7 +228,7 @@ fn add_member(
             "this is neither a user who is served nor the administrator",
         ));
     };
-    if groups.add(file.alloc(), group, user)? {
+    if service.groups.add(file.alloc(), group, user)? {
         Ok(())
     } else {
         Err(file.fault("member", index, group, "this is no name of a group"))
@@ -229,6 +244,11 @@ fn find_user<'a>(
     if administrator.as_str() == name {
         return Some(administrator);
     }
+    find_served(name, ports)
+}
+
+/// The served user of this name.
+fn find_served<'a>(name: &str, ports: &'a [Port]) -> Option<&'a UserName> {
     for port in ports {
         if port.user.as_str() == name {
             return Some(&port.user);
