@@ -5,12 +5,14 @@ use crate::limits::{DEFAULT_LIMITS, read_max_messages, read_max_octets};
 use crate::line::LineError;
 use crate::mailboxes::Mailboxes;
 use crate::members::Members;
+use crate::owned::with_made;
 use imap_hall::Hall;
 use imap_keeper::Keeper;
 use imap_names::{Name, UserName, read_full};
-use imap_rights::{Identifier, read_rights};
+use imap_rights::{Groups, Identifier, read_rights};
+use imap_values::beside;
 use imap_world::{Limits, World};
-use std::alloc::Global;
+use std::alloc::{AllocError, Global};
 use std::collections::HashSet;
 
 /// The first word of a head line.
@@ -59,10 +61,7 @@ impl Start {
         alloc: Global,
         keeper: K,
     ) -> Result<Hall<K>, (ScriptError, K)> {
-        let Ok(administrator) = self.administrator.try_copy() else {
-            return Err((ScriptError::Memory, keeper));
-        };
-        let Ok(groups) = self.members.groups(alloc) else {
+        let Ok((groups, administrator)) = self.owners(alloc) else {
             return Err((ScriptError::Memory, keeper));
         };
         match Hall::open(
@@ -77,16 +76,18 @@ impl Start {
             Err((error, keeper)) => Err((ScriptError::from(error), keeper)),
         }
     }
+
+    /// The groups, and the administrator.
+    fn owners(&self, alloc: Global) -> Result<(Groups, UserName), AllocError> {
+        let administrator = self.administrator.try_copy()?;
+        beside(self.members.groups(alloc), administrator)
+    }
 }
 
 /// The head lines that have been read.
 #[derive(Drop)]
 pub(crate) struct Head {
-    administrator: UserName,
-    /// The other users, each once.
-    users: Vec<UserName>,
-    members: Members,
-    limits: Limits,
+    start: Start,
     mailboxes: Mailboxes,
     /// The names of all users, the administrator among them.
     known: HashSet<String>,
@@ -96,13 +97,15 @@ impl Head {
     /// The head whose first line names the administrator.
     pub(crate) fn begin(alloc: Global, administrator: &str) -> Result<Head, LineError> {
         let administrator = read_user(alloc, administrator)?;
-        let mut known = HashSet::new(alloc);
-        known.insert(String::from_str(alloc, administrator.as_str())?)?;
-        Ok(Head {
+        let (known, administrator) = beside(known(alloc, administrator.as_str()), administrator)?;
+        let start = Start {
             administrator,
             users: Vec::new(alloc),
             members: Members::new(alloc),
             limits: DEFAULT_LIMITS,
+        };
+        Ok(Head {
+            start,
             mailboxes: Mailboxes::new(alloc),
             known,
         })
@@ -128,27 +131,18 @@ impl Head {
     /// Returns what the lines say: the users, groups and limits, and the mailboxes at the start.
     pub(crate) fn finish(self, alloc: Global) -> Result<(Start, World), LineError> {
         let Head {
-            administrator,
-            users,
-            members,
-            limits,
+            start,
             mailboxes,
-            known: _,
+            known,
         } = self;
-        let world = mailboxes.into_world(alloc)?;
-        let start = Start {
-            administrator,
-            users,
-            members,
-            limits,
-        };
-        Ok((start, world))
+        drop(known);
+        with_made(start, mailboxes.into_world(alloc))
     }
 
     fn add_user(&mut self, alloc: Global, name: &str) -> Result<(), LineError> {
-        let user = read_user(alloc, name)?;
         if self.known.insert(String::from_str(alloc, name)?)? {
-            self.users.push(user)?;
+            let user = read_user(alloc, name)?;
+            self.start.users.push(user)?;
         }
         Ok(())
     }
@@ -160,17 +154,18 @@ impl Head {
             return Err(LineError::Bad);
         }
         let group = read_user(alloc, group)?;
-        self.members.add(group, read_user(alloc, user)?)
+        let (group, user) = with_made(group, read_user(alloc, user))?;
+        self.start.members.add(group, user)
     }
 
     fn set_limit(&mut self, text: &str) -> Result<(), LineError> {
         let (limit, number) = text.split_once(' ').ok_or(LineError::Bad)?;
         match limit {
             "max_messages" => {
-                self.limits.max_messages = read_max_messages(number).ok_or(LineError::Bad)?;
+                self.start.limits.max_messages = read_max_messages(number).ok_or(LineError::Bad)?;
             }
             "max_octets" => {
-                self.limits.max_octets = read_max_octets(number).ok_or(LineError::Bad)?;
+                self.start.limits.max_octets = read_max_octets(number).ok_or(LineError::Bad)?;
             }
             _ => return Err(LineError::Bad),
         }
@@ -181,9 +176,11 @@ impl Head {
     fn choose_mailbox(&mut self, alloc: Global, text: &str) -> Result<(), LineError> {
         let name = read_full(alloc, text.as_bytes())?;
         if !self.knows_owner_of(&name) {
+            drop(name);
             return Err(LineError::Bad);
         }
-        self.mailboxes.choose(alloc, &self.administrator, name)
+        self.mailboxes
+            .choose(alloc, &self.start.administrator, name)
     }
 
     /// Whether `name` lies in the tree of a known user or in the Shared tree.
@@ -197,12 +194,24 @@ impl Head {
     /// Changes an entry of the chosen mailbox's access control list.
     fn set_entry(&mut self, alloc: Global, text: &str) -> Result<(), LineError> {
         let (identifier, rights) = text.rsplit_once(' ').ok_or(LineError::Bad)?;
-        let identifier = Identifier::read(alloc, identifier.as_bytes())?;
         let change = read_rights(rights.as_bytes()).ok_or(LineError::Bad)?;
-        self.mailboxes.set_entry(identifier, change)
+        let list = self.mailboxes.chosen_list()?;
+        let identifier = Identifier::read(alloc, identifier.as_bytes())?;
+        let rights = change.applied(list.rights_of(&identifier));
+        list.set(identifier, rights)?;
+        Ok(())
     }
 }
 
 fn read_user(alloc: Global, name: &str) -> Result<UserName, LineError> {
     UserName::read(alloc, name)?.ok_or(LineError::Bad)
+}
+
+/// The set of this name alone.
+fn known(alloc: Global, name: &str) -> Result<HashSet<String>, AllocError> {
+    let name = String::from_str(alloc, name)?;
+    let mut known = HashSet::new(alloc);
+    let inserted = known.insert(name);
+    let (known, _) = with_made(known, inserted)?;
+    Ok(known)
 }

@@ -8,6 +8,7 @@ mod limits;
 mod line;
 mod mailboxes;
 mod members;
+mod owned;
 mod run;
 mod scenario;
 mod step;
@@ -35,7 +36,11 @@ pub fn script<R: AllocGlobal, I: Read + Drop, O: Write + Drop>(
 ) -> Result<(), ScriptError> {
     let alloc = rt.alloc();
     let text = read_input(alloc, input, MAX_READS)?;
-    let (scenario, world) = Scenario::read(alloc, text.as_slice())?;
-    let (_keeper, ended) = scenario.run(alloc, ListKeeper::new(world), output);
+    let read = Scenario::read(alloc, text.as_slice());
+    drop(text);
+    let (scenario, world) = read?;
+    let (keeper, ended) = scenario.run(alloc, ListKeeper::new(world), output);
+    drop(keeper);
+    drop(scenario);
     ended
 }

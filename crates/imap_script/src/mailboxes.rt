@@ -4,8 +4,10 @@
 //! placed in the order of their names, which moves nothing.
 
 use crate::line::LineError;
+use crate::owned::with_made;
 use imap_names::{Name, UserName, show_name};
-use imap_rights::{Acl, Identifier, RightsChange};
+use imap_rights::Acl;
+use imap_values::beside;
 use imap_world::World;
 use std::alloc::Global;
 use std::collections::HashMap;
@@ -37,12 +39,24 @@ impl Mailboxes {
         administrator: &UserName,
         name: Name,
     ) -> Result<(), LineError> {
-        let label = show_name(alloc, administrator, &name)?;
-        if let Some(index) = self.indexes.get(label.as_str()) {
-            self.chosen = Some(*index);
-            return Ok(());
+        let label = show_name(alloc, administrator, &name);
+        let (label, name) = beside(label, name)?;
+        match self.indexes.get(label.as_str()) {
+            Some(index) => {
+                self.chosen = Some(*index);
+                drop(label);
+                drop(name);
+                Ok(())
+            }
+            None => self.make(alloc, name, label),
         }
+    }
+
+    /// Makes and chooses a mailbox. `label` shows `name`.
+    fn make(&mut self, alloc: Global, name: Name, label: String) -> Result<(), LineError> {
         if !self.has_superior(&name, label.as_str()) {
+            drop(label);
+            drop(name);
             return Err(LineError::Bad);
         }
         let index = self.made.len();
@@ -63,32 +77,40 @@ impl Mailboxes {
         }
     }
 
-    /// Changes an entry of the chosen mailbox's list.
-    pub(crate) fn set_entry(
-        &mut self,
-        identifier: Identifier,
-        change: RightsChange,
-    ) -> Result<(), LineError> {
+    /// The access control list of the chosen mailbox. Fails with `Bad` if none is chosen.
+    pub(crate) fn chosen_list(&mut self) -> Result<&mut Acl, LineError> {
         let index = self.chosen.ok_or(LineError::Bad)?;
-        let (_, acl) = self.made.get_mut(index).ok_or(LineError::Bad)?;
-        let rights = change.applied(acl.rights_of(&identifier));
-        acl.set(identifier, rights)?;
-        Ok(())
+        match self.made.get_mut(index) {
+            Some((_, acl)) => Ok(acl),
+            None => Err(LineError::Bad),
+        }
     }
 
     /// Returns the world with these mailboxes. They are placed in the order of their names, so that none moves the
     /// others.
     pub(crate) fn into_world(self, alloc: Global) -> Result<World, LineError> {
         let Mailboxes {
-            mut made,
-            indexes: _,
+            made,
+            indexes,
             chosen: _,
         } = self;
-        made.sort_by(|one, other| one.0.as_ref().compare(&other.0.as_ref()))?;
+        drop(indexes);
         let mut world = World::new(alloc);
-        for (name, acl) in made {
-            world.place(alloc, name, acl)?;
-        }
+        let placed = place_all(alloc, &mut world, made);
+        let (world, ()) = with_made(world, placed)?;
         Ok(world)
     }
+}
+
+/// Places the mailboxes in the order of their names.
+fn place_all(
+    alloc: Global,
+    world: &mut World,
+    mut made: Vec<(Name, Acl)>,
+) -> Result<(), LineError> {
+    made.sort_by(|one, other| one.0.as_ref().compare(&other.0.as_ref()))?;
+    for (name, acl) in made {
+        world.place(alloc, name, acl)?;
+    }
+    Ok(())
 }

@@ -80,18 +80,29 @@ impl<K: Keeper, O: Write + Drop> Run<K, O> {
     /// Begins a stream, unless the session is refused.
     fn open(&mut self, alloc: Global, step: &ScriptStep) -> Result<(), ScriptError> {
         let replies = self.make_act(alloc, step, Act::Open)?;
+        let told = self.begin(alloc, step, replies.as_slice());
+        drop(replies);
+        told
+    }
+
+    /// Begins the stream of a session that has been opened, and writes the replies.
+    fn begin(
+        &mut self,
+        alloc: Global,
+        step: &ScriptStep,
+        replies: &[Response],
+    ) -> Result<(), ScriptError> {
         if self.hall.is_open(&step.who) {
             let label = String::from_str(alloc, step.label.as_str())?;
             self.framers
                 .insert(label, Framer::new(alloc, self.max_octets))?;
         }
-        self.transcript
-            .tell(alloc, step.label.as_str(), replies.as_slice())
+        self.transcript.tell(alloc, step.label.as_str(), replies)
     }
 
     /// Ends the session's stream, and makes the act Leave.
     fn leave(&mut self, alloc: Global, step: &ScriptStep) -> Result<(), ScriptError> {
-        self.framers.remove(step.label.as_str());
+        drop(self.framers.remove(step.label.as_str()));
         self.act(alloc, step, Act::Leave)
     }
 
@@ -103,16 +114,27 @@ impl<K: Keeper, O: Write + Drop> Run<K, O> {
         octets: &[u8],
     ) -> Result<(), ScriptError> {
         for frame in self.frames(alloc, step, octets)? {
-            if !self.framers.contains_key(step.label.as_str()) {
-                return Ok(());
-            }
-            match frame {
-                Frame::Continue => self.tell(alloc, step, Response::Ready)?,
-                Frame::Hangup => self.hang_up(alloc, step)?,
-                frame => self.act_on_frame(alloc, step, frame)?,
-            }
+            self.take_frame(alloc, step, frame)?;
         }
         Ok(())
+    }
+
+    /// Takes a frame of the session's client, unless the session has ended.
+    fn take_frame(
+        &mut self,
+        alloc: Global,
+        step: &ScriptStep,
+        frame: Frame,
+    ) -> Result<(), ScriptError> {
+        if !self.framers.contains_key(step.label.as_str()) {
+            drop(frame);
+            return Ok(());
+        }
+        match frame {
+            Frame::Continue => self.tell(alloc, step, Response::Ready),
+            Frame::Hangup => self.hang_up(alloc, step),
+            frame => self.act_on_frame(alloc, step, frame),
+        }
     }
 
     /// The frames that end in `octets`, and none if the session isn't open.
@@ -146,8 +168,11 @@ impl<K: Keeper, O: Write + Drop> Run<K, O> {
         response: Response,
     ) -> Result<(), ScriptError> {
         let responses = [response];
-        self.transcript
-            .tell(alloc, step.label.as_str(), responses.as_slice())
+        let told = self
+            .transcript
+            .tell(alloc, step.label.as_str(), responses.as_slice());
+        drop(responses);
+        told
     }
 
     /// Makes the act of a frame, if it has one.
@@ -167,10 +192,13 @@ impl<K: Keeper, O: Write + Drop> Run<K, O> {
     fn act(&mut self, alloc: Global, step: &ScriptStep, act: Act) -> Result<(), ScriptError> {
         let replies = self.make_act(alloc, step, act)?;
         if !self.hall.is_open(&step.who) {
-            self.framers.remove(step.label.as_str());
+            drop(self.framers.remove(step.label.as_str()));
         }
-        self.transcript
-            .tell(alloc, step.label.as_str(), replies.as_slice())
+        let told = self
+            .transcript
+            .tell(alloc, step.label.as_str(), replies.as_slice());
+        drop(replies);
+        told
     }
 
     /// Makes the act, and returns the replies.

@@ -4,6 +4,7 @@ use crate::error::ScriptError;
 use crate::head::{Head, HeadWord, Start};
 use crate::limits::read_number;
 use crate::line::LineError;
+use crate::owned::with_made;
 use crate::run::run_steps;
 use crate::step::ScriptStep;
 use imap_core::Moment;
@@ -25,14 +26,12 @@ impl Scenario {
     /// without an administrator is bad at the line after its last.
     pub fn read(alloc: Global, text: &[u8]) -> Result<(Scenario, World), ScriptError> {
         let mut draft = Draft::new(alloc);
-        let mut line = 1u64;
-        for octets in text.split_inclusive(|octet| *octet == b'\n') {
-            draft
-                .take_line(alloc, octets)
-                .map_err(|error| error.at(line))?;
-            line = line.saturating_add(1);
+        let taken = draft.take_all(alloc, text);
+        let (draft, line) = with_made(draft, taken)?;
+        match draft.finish(alloc) {
+            Ok(read) => Ok(read),
+            Err(error) => Err(error.at(line)),
         }
-        draft.finish(alloc).map_err(|error| error.at(line))
     }
 
     /// Runs the script over a keeper of the mailboxes at its start, and writes its transcript to `output`.
@@ -82,9 +81,20 @@ impl Draft {
             clock: _,
             steps,
         } = self;
-        let head = head.ok_or(LineError::Bad)?;
-        let (start, world) = head.finish(alloc)?;
+        let (steps, (start, world)) = with_made(steps, finish_head(alloc, head))?;
         Ok((Scenario { start, steps }, world))
+    }
+
+    /// Takes all lines. Returns the number of the line after the last.
+    fn take_all(&mut self, alloc: Global, text: &[u8]) -> Result<u64, ScriptError> {
+        let mut line = 1u64;
+        for octets in text.split_inclusive(|octet| *octet == b'\n') {
+            if let Err(error) = self.take_line(alloc, octets) {
+                return Err(error.at(line));
+            }
+            line = line.saturating_add(1);
+        }
+        Ok(line)
     }
 
     /// Takes a line, with or without the LF that ends it.
@@ -134,6 +144,14 @@ impl Draft {
             self.steps.push(step)?;
         }
         Ok(())
+    }
+}
+
+/// What the head says. Fails with `Bad` without one.
+fn finish_head(alloc: Global, head: Option<Head>) -> Result<(Start, World), LineError> {
+    match head {
+        Some(head) => head.finish(alloc),
+        None => Err(LineError::Bad),
     }
 }
 

@@ -4,7 +4,8 @@ use crate::limits::read_number;
 use crate::line::LineError;
 use imap_core::{Moment, SessionId, SessionNumber};
 use imap_names::UserName;
-use std::alloc::Global;
+use imap_values::beside;
+use std::alloc::{AllocError, Global};
 
 /// What happens to a session.
 #[derive(Debug, Drop)]
@@ -38,20 +39,39 @@ impl ScriptStep {
         let (user, number) = session.rsplit_once('.').ok_or(LineError::Bad)?;
         let number = read_session_number(number).ok_or(LineError::Bad)?;
         let event = Event::read(alloc, text)?;
-        let Some(user) = UserName::read(alloc, user)? else {
-            return Ok(None);
-        };
-        let name = user.as_str();
-        let shown = number.get();
-        let label = format!(in alloc; "{name}.{shown}")?;
-        let who = SessionId { user, number };
-        Ok(Some(ScriptStep {
+        let (user, event) = beside(UserName::read(alloc, user), event)?;
+        match user {
+            Some(user) => Ok(Some(ScriptStep::of(alloc, at, SessionId { user, number }, event)?)),
+            None => {
+                drop(event);
+                Ok(None)
+            }
+        }
+    }
+
+    /// The step of a session.
+    fn of(
+        alloc: Global,
+        at: Moment,
+        who: SessionId,
+        event: Event,
+    ) -> Result<ScriptStep, AllocError> {
+        let label = label_of(alloc, &who);
+        let (label, (who, event)) = beside(label, (who, event))?;
+        Ok(ScriptStep {
             who,
             label,
             at,
             event,
-        }))
+        })
     }
+}
+
+/// The session as the transcript names it.
+fn label_of(alloc: Global, who: &SessionId) -> Result<String, AllocError> {
+    let name = who.user.as_str();
+    let number = who.number.get();
+    format!(in alloc; "{name}.{number}")
 }
 
 impl Event {
