@@ -3,7 +3,7 @@
 ghost use Rattle.std.specs.Prelude.{◌≡◌, IfOk};
 
 use crate::command::Command;
-use imap_values::TryCopy;
+use imap_values::{TryCopy, beside, copy_two};
 use std::alloc::{AllocError, Global};
 
 // One long match, as each arm only copies its fields.
@@ -69,8 +69,9 @@ impl TryCopy for Command {
                 patterns,
                 returns,
             } => {
-                let (selection, reference) = copy_two(selection, reference, alloc)?;
-                let (patterns, returns) = copy_two(patterns, returns, alloc)?;
+                let front = copy_two(selection, reference, alloc)?;
+                let back = copy_two(patterns, returns, alloc);
+                let ((patterns, returns), (selection, reference)) = beside(back, front)?;
                 Ok(Command::List {
                     selection,
                     reference,
@@ -209,18 +210,6 @@ impl TryCopy for Command {
             }
         }
     }
-}
-
-fn copy_two<A: TryCopy + Drop, B: TryCopy + Drop>(
-    first: &A,
-    second: &B,
-    alloc: Global,
-) -> Result<(A, B), AllocError>
-    ensures { IfOk result (λ copies. copies ≡ (first.now, second.now)) }
-{
-    let first = first.try_copy(alloc)?;
-    let second = second.try_copy(alloc)?;
-    Ok((first, second))
 }
 
 fn copy_three<A: TryCopy + Drop, B: TryCopy + Drop, C: TryCopy + Drop>(

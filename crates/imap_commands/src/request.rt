@@ -4,7 +4,7 @@ ghost use Rattle.std.specs.Prelude.{◌≡◌, IfOk};
 
 use crate::command::Command;
 use imap_lex::Tag;
-use imap_values::{Same, TryCopy, same_two};
+use imap_values::{Same, TryCopy, copy_two, same_two};
 use std::alloc::{AllocError, Global};
 
 /// The request that a frame of the stream makes.
@@ -38,8 +38,7 @@ impl TryCopy for Request {
 fn copy_command(tag: &Tag, body: &Command, alloc: Global) -> Result<Request, AllocError>
     ensures { IfOk result (λ copy. copy ≡ Request.Command tag.now body.now) }
 {
-    let tag = tag.try_copy(alloc)?;
-    let body = body.try_copy(alloc)?;
+    let (tag, body) = copy_two(tag, body, alloc)?;
     Ok(Request::Command { tag, body })
 }
 

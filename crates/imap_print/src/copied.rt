@@ -1,7 +1,7 @@
 //! The UIDs of messages that were copied.
 
 use crate::numbering::NumberSet;
-use imap_values::{Same, TryCopy};
+use imap_values::{Same, TryCopy, copy_two};
 use std::alloc::{AllocError, Global};
 
 /// The UIDs of messages that were copied or moved (RFC 9051, section 7.1, of COPYUID).
@@ -17,10 +17,11 @@ pub struct CopiedUids {
 
 impl TryCopy for CopiedUids {
     fn try_copy(&self, alloc: Global) -> Result<CopiedUids, AllocError> {
+        let (source, target) = copy_two(&self.source, &self.target, alloc)?;
         Ok(CopiedUids {
             validity: self.validity,
-            source: self.source.try_copy(alloc)?,
-            target: self.target.try_copy(alloc)?,
+            source,
+            target,
         })
     }
 }

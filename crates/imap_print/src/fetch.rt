@@ -4,7 +4,7 @@ use crate::flag::FlagSet;
 use crate::literal_parts::LiteralParts;
 use imap_query::Section;
 use imap_syntax::{DateTime, Items};
-use imap_values::{Same, TryCopy, same_five};
+use imap_values::{Same, TryCopy, copy_two, same_five};
 use std::alloc::{AllocError, Global};
 
 /// The octets of a part of a message.
@@ -31,10 +31,11 @@ pub struct FetchedItems {
 
 impl TryCopy for FetchedSection {
     fn try_copy(&self, alloc: Global) -> Result<FetchedSection, AllocError> {
+        let (section, octets) = copy_two(&self.section, &self.octets, alloc)?;
         Ok(FetchedSection {
-            section: self.section.try_copy(alloc)?,
+            section,
             origin: self.origin,
-            octets: self.octets.try_copy(alloc)?,
+            octets,
         })
     }
 }
@@ -49,8 +50,7 @@ impl Same for FetchedSection {
 
 impl TryCopy for FetchedItems {
     fn try_copy(&self, alloc: Global) -> Result<FetchedItems, AllocError> {
-        let flags = self.flags.try_copy(alloc)?;
-        let sections = self.sections.try_copy(alloc)?;
+        let (flags, sections) = copy_two(&self.flags, &self.sections, alloc)?;
         Ok(FetchedItems {
             uid: self.uid,
             flags,

@@ -145,8 +145,7 @@ fn push_flags_line(out: &mut Vec<u8>, keywords: &[Atom]) -> Result<(), AllocErro
     ensures { OnOk result (out.new.items ≡ out.old.items ++ line_text (response.Flags keywords.now)) }
 {
     out.extend_from_slice(b"* FLAGS ")?;
-    push_all_flags(out, keywords)?;
-    Ok(())
+    push_all_flags(out, keywords)
 }
 
 fn push_permanent_flags(out: &mut Vec<u8>, flags: &FlagSet, any: bool) -> Result<(), AllocError>
@@ -184,8 +183,7 @@ fn push_vanished(out: &mut Vec<u8>, earlier: bool, uids: &NumberSet) -> Result<(
 {
     out.extend_from_slice(b"* VANISHED ")?;
     push_earlier(out, earlier)?;
-    push_set(out, uids)?;
-    Ok(())
+    push_set(out, uids)
 }
 
 fn push_fetch(out: &mut Pieces, number: u32, items: &FetchedItems) -> Result<(), AllocError>

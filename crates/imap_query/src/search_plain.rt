@@ -103,8 +103,7 @@ fn read_entry(cursor: &mut Cursor<'_>, alloc: Global) -> Result<(), ReadError>
     if !cursor.has(b'"') {
         return Ok(());
     }
-    let name = cursor.quoted_end(alloc)?;
-    if !is_entry(name.as_slice()) {
+    if !is_entry(cursor.quoted_end(alloc)?.as_slice()) {
         return Err(ReadError::Syntax);
     }
     cursor.space()?;

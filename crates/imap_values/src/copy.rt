@@ -31,3 +31,16 @@ impl<T: TryCopy + Drop> TryCopy for Option<T> {
         }
     }
 }
+
+/// Returns equal copies of two values.
+pub fn copy_two<A: TryCopy + Drop, B: TryCopy + Drop>(
+    first: &A,
+    second: &B,
+    alloc: Global,
+) -> Result<(A, B), AllocError>
+    ensures { IfOk result (λ copies. copies ≡ (first.now, second.now)) }
+{
+    let first = first.try_copy(alloc)?;
+    let second = second.try_copy(alloc)?;
+    Ok((first, second))
+}

@@ -8,6 +8,6 @@ mod copy;
 mod owned;
 mod same;
 
-pub use copy::TryCopy;
+pub use copy::{TryCopy, copy_two};
 pub use owned::{beside, joined, pushed};
 pub use same::{Same, same_five, same_four, same_three, same_two};

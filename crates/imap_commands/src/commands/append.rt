@@ -7,7 +7,7 @@ ghost use Rattle.imap_commands.specs.commands.Append.{date_fits, date_text, mess
 ghost use Rattle.imap_commands.specs.commands.Append.{append_fits, append_text};
 
 use crate::command::Command;
-use crate::commands::argument::{push_argument, read_argument};
+use crate::commands::argument::{after, push_argument, read_argument};
 use imap_lex::Octets;
 use imap_syntax::{
     Cursor, DateTime, Flag, Flags, Items, ReadError, all_fit, date_time_fits, has_nul,
@@ -52,8 +52,8 @@ pub(crate) fn read_append(cursor: &mut Cursor<'_>, alloc: Global) -> Result<Comm
     let mailbox = read_argument(cursor, alloc)?;
     cursor.space()?;
     let flags = read_append_flags(cursor, alloc)?;
-    let date = read_append_date(cursor)?;
-    let message = read_message(cursor, alloc)?;
+    let (front, date) = after((mailbox, flags), read_append_date(cursor))?;
+    let ((mailbox, flags), message) = after(front, read_message(cursor, alloc))?;
     Ok(Command::Append {
         mailbox,
         flags,

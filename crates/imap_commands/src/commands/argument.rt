@@ -1,6 +1,6 @@
 //! An argument, as the name of a mailbox.
 
-ghost use Rattle.std.specs.Prelude.{◌≡◌, ◌&&◌, ◌++◌, OnOk};
+ghost use Rattle.std.specs.Prelude.{◌≡◌, ◌&&◌, ◌++◌, IfErr, IfOk, OnOk};
 ghost use Rattle.imap_syntax.specs.Reading.{ReadsIfMemory};
 ghost use Rattle.imap_syntax.specs.Written.{string};
 ghost use Rattle.imap_commands.specs.commands.Argument.{argument, argument_text};
@@ -15,6 +15,19 @@ pub(crate) fn read_argument(cursor: &mut Cursor<'_>, alloc: Global) -> Result<Oc
 {
     cursor.space()?;
     cursor.astring(alloc)
+}
+
+/// Returns `front` and the value that was read after it. Fails as `read` did.
+pub(crate) fn after<F: Drop, T: Drop>(
+    front: F,
+    read: Result<T, ReadError>,
+) -> Result<(F, T), ReadError>
+    ensures read { IfOk result (λ both. read ≡ Ok both.1) }
+    ensures front { IfOk result (λ both. both.0 ≡ front) }
+    ensures failed { IfErr result (λ error. read ≡ Err error) }
+{
+    let read = read?;
+    Ok((front, read))
 }
 
 pub(crate) fn two_fit(first: &Octets, second: &Octets) -> bool

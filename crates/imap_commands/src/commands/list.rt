@@ -10,6 +10,7 @@ ghost use Rattle.imap_commands.specs.commands.List.{patterns_fit, patterns_text,
 ghost use Rattle.imap_commands.specs.commands.List.{returns_text, list_fits, list_text};
 
 use crate::command::Command;
+use crate::commands::argument::after;
 use imap_lex::{AstringChar, OctetClass, Octets, is_astring_char, leading};
 use imap_query::StatusItem;
 use imap_syntax::{
@@ -248,7 +249,7 @@ fn read_patterns(cursor: &mut Cursor<'_>, alloc: Global) -> Result<Patterns, Rea
         return Ok(Patterns::One(read_pattern(cursor, alloc)?));
     }
     let all = cursor.separated::<Pattern>(alloc, b' ')?;
-    cursor.octet(b')')?;
+    let (all, ()) = after(all, cursor.octet(b')'))?;
     Ok(Patterns::Many(all.into_items()))
 }
 
@@ -286,9 +287,12 @@ pub(crate) fn read_list(cursor: &mut Cursor<'_>, alloc: Global) -> Result<Comman
     cursor.space()?;
     let selection = read_selections(cursor, alloc)?;
     let reference = cursor.astring(alloc)?;
-    cursor.space()?;
-    let patterns = read_patterns(cursor, alloc)?;
-    let returns = read_list_returns(cursor, alloc)?;
+    let (front, ()) = after((selection, reference), cursor.space())?;
+    let front = after(front, read_patterns(cursor, alloc))?;
+    let (((selection, reference), patterns), returns) = after(
+        front,
+        read_list_returns(cursor, alloc),
+    )?;
     Ok(Command::List {
         selection,
         reference,

@@ -8,7 +8,9 @@ ghost use Rattle.imap_commands.specs.commands.Mailboxes.{mailbox_fits, mailbox_t
 ghost use Rattle.imap_commands.specs.Reading.{arguments};
 
 use crate::command::Command;
-use crate::commands::argument::{push_argument, push_three, push_two, read_argument, two_fit};
+use crate::commands::argument::{
+    after, push_argument, push_three, push_two, read_argument, two_fit,
+};
 use crate::commands::messages::{messages_fit, push_messages};
 use crate::commands::select::read_parameters;
 use crate::verb::Verb;
@@ -97,8 +99,8 @@ pub(crate) fn read_set_acl(cursor: &mut Cursor<'_>, alloc: Global) -> Result<Com
     ensures { ReadsIfMemory (λ c. c) result cursor.new ((arguments Verb.SetAcl).read cursor.old) }
 {
     let mailbox = read_argument(cursor, alloc)?;
-    let identifier = read_argument(cursor, alloc)?;
-    let rights = read_argument(cursor, alloc)?;
+    let front = after(mailbox, read_argument(cursor, alloc))?;
+    let ((mailbox, identifier), rights) = after(front, read_argument(cursor, alloc))?;
     Ok(Command::SetAcl {
         mailbox,
         identifier,

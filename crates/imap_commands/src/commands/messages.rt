@@ -7,7 +7,7 @@ ghost use Rattle.imap_commands.specs.commands.Messages.{uid_command, copy_text, 
 ghost use Rattle.imap_commands.specs.commands.Messages.{store_text, messages_fit, messages_text};
 
 use crate::command::Command;
-use crate::commands::argument::{push_argument, read_argument};
+use crate::commands::argument::{after, push_argument, read_argument};
 use crate::commands::store::{StoreSpec, push_store_spec, read_store_spec, store_spec_fits};
 use crate::verb::{UidVerb, push_uid_verb};
 use imap_lex::Octets;
@@ -90,7 +90,7 @@ pub(crate) fn read_fetch(
     let messages = cursor.message_set(alloc)?;
     cursor.space()?;
     let items = read_fetch_items(cursor, alloc)?;
-    let modifiers = read_modifiers(cursor)?;
+    let ((messages, items), modifiers) = after((messages, items), read_modifiers(cursor))?;
     Ok(Command::Fetch {
         numbering,
         messages,
@@ -110,7 +110,7 @@ pub(crate) fn read_search(
     cursor.space()?;
     let returns = read_search_returns(cursor, alloc)?;
     let charset = read_search_charset(cursor, alloc)?;
-    let keys = read_search_keys(cursor, alloc)?;
+    let ((returns, charset), keys) = after((returns, charset), read_search_keys(cursor, alloc))?;
     Ok(Command::Search {
         numbering,
         returns,

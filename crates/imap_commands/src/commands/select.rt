@@ -10,7 +10,7 @@ ghost use Rattle.imap_commands.specs.commands.Select.{known_fits, known_text, qr
 ghost use Rattle.imap_commands.specs.commands.Select.{parameters_by, parameters_writing, selecting_fits};
 ghost use Rattle.imap_commands.specs.commands.Select.{selecting_text};
 
-use crate::commands::argument::push_argument;
+use crate::commands::argument::{after, push_argument};
 use imap_lex::{AstringChar, Octets};
 use imap_syntax::{
     Cursor, Keyword, ReadError, SeqNumber, SeqRange, SeqSet, mod_sequence_fits, push_between,
@@ -203,7 +203,7 @@ fn read_known_uids(cursor: &mut Cursor<'_>, alloc: Global) -> Result<Option<SeqS
         return Ok(None);
     }
     let uids = read_known_set(cursor, alloc)?;
-    read_match_data(cursor, alloc)?;
+    let (uids, ()) = after(uids, read_match_data(cursor, alloc))?;
     Ok(Some(uids))
 }
 

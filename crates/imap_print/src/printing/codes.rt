@@ -10,7 +10,7 @@ use super::numbers::push_set;
 use crate::copied::CopiedUids;
 use crate::response::{Code, Farewell, Refusal};
 use imap_lex::Tag;
-use imap_syntax::push_number;
+use imap_syntax::{push_between, push_number};
 use std::alloc::AllocError;
 
 /// The capabilities of the greeting and of CAPABILITY (RFC 9051, section 7.2.2).
@@ -29,28 +29,23 @@ pub(super) fn push_capability(out: &mut Vec<u8>) -> Result<(), AllocError>
     ensures { OnOk result (out.new.items ≡ out.old.items ++ line_text response.Capability) }
 {
     out.extend_from_slice(b"* CAPABILITY ")?;
-    out.extend_from_slice(CAPABILITIES.as_bytes())?;
-    Ok(())
+    out.extend_from_slice(CAPABILITIES.as_bytes())
 }
 
 pub(super) fn push_bye(out: &mut Vec<u8>, farewell: Farewell) -> Result<(), AllocError>
     ensures { OnOk result (out.new.items ≡ out.old.items ++ line_text (response.Bye farewell)) }
 {
     out.extend_from_slice(b"* BYE ")?;
-    out.extend_from_slice(farewell.text().as_bytes())?;
-    Ok(())
+    out.extend_from_slice(farewell.text().as_bytes())
 }
 
 fn push_copied(out: &mut Vec<u8>, copied: &CopiedUids) -> Result<(), AllocError>
     ensures { OnOk result (out.new.items ≡ out.old.items ++ copied_text copied.now) }
 {
-    out.extend_from_slice(b"COPYUID ")?;
-    push_number(out, u64::from(copied.validity))?;
-    out.push(b' ')?;
+    push_between(out, b"COPYUID ", u64::from(copied.validity), b" ")?;
     push_set(out, &copied.source)?;
     out.push(b' ')?;
-    push_set(out, &copied.target)?;
-    Ok(())
+    push_set(out, &copied.target)
 }
 
 pub(super) fn push_moved(out: &mut Vec<u8>, copied: &CopiedUids) -> Result<(), AllocError>
@@ -58,8 +53,7 @@ pub(super) fn push_moved(out: &mut Vec<u8>, copied: &CopiedUids) -> Result<(), A
 {
     out.extend_from_slice(b"* OK [")?;
     push_copied(out, copied)?;
-    out.extend_from_slice(b"] moved")?;
-    Ok(())
+    out.extend_from_slice(b"] moved")
 }
 
 fn push_code(out: &mut Vec<u8>, code: &Code) -> Result<(), AllocError>
@@ -84,19 +78,15 @@ fn push_code(out: &mut Vec<u8>, code: &Code) -> Result<(), AllocError>
 fn push_appended(out: &mut Vec<u8>, validity: u32, uid: u32) -> Result<(), AllocError>
     ensures { OnOk result (out.new.items ≡ out.old.items ++ code_text (code.AppendUid validity uid)) }
 {
-    out.extend_from_slice(b"APPENDUID ")?;
-    push_number(out, u64::from(validity))?;
-    out.push(b' ')?;
-    push_number(out, u64::from(uid))?;
-    Ok(())
+    push_between(out, b"APPENDUID ", u64::from(validity), b" ")?;
+    push_number(out, u64::from(uid))
 }
 
 pub(super) fn push_done(out: &mut Vec<u8>, tag: &Tag, code: &Option<Code>) -> Result<(), AllocError>
     ensures { OnOk result (out.new.items ≡ out.old.items ++ line_text (response.Done tag.now code.now)) }
 {
     out.extend_from_slice(tag.as_slice())?;
-    push_outcome(out, code)?;
-    Ok(())
+    push_outcome(out, code)
 }
 
 fn push_outcome(out: &mut Vec<u8>, code: &Option<Code>) -> Result<(), AllocError>
@@ -130,8 +120,7 @@ pub(super) fn push_refused(
 {
     push_tag(out, tag)?;
     out.push(b' ')?;
-    out.extend_from_slice(refusal.text().as_bytes())?;
-    Ok(())
+    out.extend_from_slice(refusal.text().as_bytes())
 }
 
 impl Farewell {

@@ -17,7 +17,7 @@ use crate::fetch::{FetchedItems, FetchedSection};
 use crate::flag::FlagSet;
 use crate::literal_parts::LiteralParts;
 use imap_query::Section;
-use imap_syntax::{DateTime, push_between, push_date_time, push_number};
+use imap_syntax::{DateTime, push_between, push_date_time};
 use std::alloc::AllocError;
 
 fn push_section(out: &mut Vec<u8>, section: &Section) -> Result<(), AllocError>
@@ -42,9 +42,7 @@ fn push_origin(out: &mut Vec<u8>, origin: Option<u64>) -> Result<(), AllocError>
     ensures { OnOk result (out.new.items ≡ out.old.items ++ origin_text origin) }
 {
     if let Some(origin) = origin {
-        out.push(b'<')?;
-        push_number(out, origin)?;
-        out.push(b'>')?;
+        push_between(out, b"<", origin, b">")?;
     }
     Ok(())
 }
@@ -74,9 +72,7 @@ pub fn print_section(out: &mut Pieces, body: &FetchedSection) -> Result<(), Allo
 pub fn print_literal(out: &mut Pieces, octets: &LiteralParts) -> Result<(), AllocError>
     ensures { OnOk result (octets_of out.new ≡ octets_of out.old ++ literal_text (concat octets.now)) }
 {
-    out.text.push(b'{')?;
-    push_number(&mut out.text, octets.len())?;
-    out.text.extend_from_slice(b"}\r\n")?;
+    push_between(&mut out.text, b"{", octets.len(), b"}\r\n")?;
     out.push_parts(octets.as_slice())
 }
 
@@ -122,9 +118,7 @@ fn push_mod_seq(out: &mut Vec<u8>, begun: bool, mod_seq: Option<u64>) -> Result<
     match mod_seq {
         Some(mod_seq) => {
             push_space(out, begun)?;
-            out.extend_from_slice(b"MODSEQ (")?;
-            push_number(out, mod_seq)?;
-            out.push(b')')?;
+            push_between(out, b"MODSEQ (", mod_seq, b")")?;
             Ok(true)
         }
         None => Ok(begun),

@@ -49,8 +49,7 @@ pub(super) fn push_list(
     out.extend_from_slice(b"* LIST ")?;
     push_attributes(out, attributes)?;
     out.extend_from_slice(b" \"/\" ")?;
-    push_name(out, mailbox.as_slice())?;
-    Ok(())
+    push_name(out, mailbox.as_slice())
 }
 
 fn push_value(out: &mut Vec<u8>, value: StatusValue) -> Result<(), AllocError>
@@ -58,8 +57,7 @@ fn push_value(out: &mut Vec<u8>, value: StatusValue) -> Result<(), AllocError>
 {
     out.extend_from_slice(value.item.name())?;
     out.push(b' ')?;
-    push_number(out, value.value)?;
-    Ok(())
+    push_number(out, value.value)
 }
 
 fn push_values(out: &mut Vec<u8>, values: &[StatusValue]) -> Result<(), AllocError>
@@ -95,8 +93,7 @@ pub(super) fn push_status(
     out.extend_from_slice(b"* STATUS ")?;
     push_name(out, mailbox.as_slice())?;
     out.push(b' ')?;
-    push_values(out, items)?;
-    Ok(())
+    push_values(out, items)
 }
 
 fn push_entry(out: &mut Vec<u8>, entry: &AclEntry) -> Result<(), AllocError>
@@ -104,8 +101,7 @@ fn push_entry(out: &mut Vec<u8>, entry: &AclEntry) -> Result<(), AllocError>
 {
     push_name(out, entry.identifier.as_slice())?;
     out.push(b' ')?;
-    entry.rights.push_letters(out)?;
-    Ok(())
+    entry.rights.push_letters(out)
 }
 
 fn push_entries(out: &mut Vec<u8>, entries: &[AclEntry]) -> Result<(), AllocError>
@@ -128,8 +124,7 @@ pub(super) fn push_acl(
 {
     out.extend_from_slice(b"* ACL ")?;
     push_name(out, mailbox.as_slice())?;
-    push_entries(out, entries)?;
-    Ok(())
+    push_entries(out, entries)
 }
 
 pub(super) fn push_my_rights(
@@ -143,8 +138,7 @@ pub(super) fn push_my_rights(
     out.extend_from_slice(b"* MYRIGHTS ")?;
     push_name(out, mailbox.as_slice())?;
     out.push(b' ')?;
-    rights.push_letters(out)?;
-    Ok(())
+    rights.push_letters(out)
 }
 
 fn push_grantable(out: &mut Vec<u8>, owner: bool) -> Result<(), AllocError>
