@@ -18,7 +18,7 @@ use Rattle.imap_view.specs.declared.readable.Readable.{Readable}
 use Rattle.imap_view.specs.Readable.{readable_in}
 use Rattle.imap_view.specs.View.{View, rights_in}
 use Rattle.imap_world.specs.declared.effect.Effect.TheVariants.{Subscribe, Unsubscribe}
-use Rattle.imap_list.specs.declared.line.Line.{Line}
+use Rattle.imap_listing.specs.declared.line.Line.{Line}
 use Rattle.imap_list.specs.ListCommand.{ListArguments, asks_for_root, given_line, is_unbuilt, lines_of, list_answer, may_have_status, namespace_answer, responses_of, status_after, status_items, status_of_text}
 use Rattle.imap_list.specs.Status.{answer_of_line, enabled_by, status_answer, status_in, status_line, status_of_name}
 use Rattle.imap_list.specs.Subscriptions.{is_listed, max_subscriptions, subscribe_answer, subscribe_of_name, unsubscribe_answer, unsubscribe_of_name}

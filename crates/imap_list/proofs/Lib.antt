@@ -1,10 +1,1 @@
-pub mod Determined
-pub mod Exact
-pub mod Finding
 pub mod Fitting
-pub mod Hierarchy
-pub mod Listed
-pub mod Members
-pub mod Order
-pub mod Plain
-pub mod Started

@@ -1,13 +1,5 @@
--- LIST, SUBSCRIBE and UNSUBSCRIBE: what is listed, the answers, and what holds of them.
-pub mod IsListing
-pub mod Laws
-pub mod Lines
+-- LIST, NAMESPACE, STATUS, SUBSCRIBE and UNSUBSCRIBE: the answers.
 pub mod ListCommand
-pub mod Listing
-pub mod MailboxLine
-pub mod Matching
 pub mod Namespaces
 pub mod Status
 pub mod Subscriptions
-pub mod Texts
-pub mod ViewNames

@@ -13,15 +13,14 @@ use Rattle.imap_commands.specs.declared.commands.list.Selection.{Selection}
 use Rattle.imap_names.specs.Name.{is_empty}
 use Rattle.imap_names.specs.Pattern.{pattern_read}
 use Rattle.imap_names.specs.declared.token.Token.{Token}
-use Rattle.imap_print.specs.declared.list.Children.{Children}
-use Rattle.imap_print.specs.declared.list.Children.TheVariants.{Has, HasNo}
 use Rattle.imap_print.specs.declared.response.Refusal.TheVariants.{Cannot}
 use Rattle.imap_print.specs.declared.response.Response.{Response}
 use Rattle.imap_print.specs.declared.response.Response.TheVariants as response
 use Rattle.imap_query.specs.declared.status.StatusItem.{StatusItem}
 use Rattle.imap_view.specs.View.{View}
-use Rattle.imap_list.specs.declared.line.Line.{Line}
-use Rattle.imap_list.specs.Listing.{listing, subscribed_listing}
+use Rattle.imap_listing.specs.declared.line.Line.{Line}
+use Rattle.imap_listing.specs.ListLine.{list_line}
+use Rattle.imap_listing.specs.Listing.{listing, subscribed_listing}
 use Rattle.imap_list.specs.Status.{enabled_by, status_in}
 
 -- the arguments of LIST
@@ -103,17 +102,6 @@ abbrev pub lines_of : View → ListArguments → List Line
 lines_of view arguments =
     if selects_subscribed arguments then subscribed_listing view (patterns_of arguments)
     else listing view (patterns_of arguments)
-
-abbrev pub children_of : Bool → Children
-children_of true = Has
-children_of false = HasNo
-
-abbrev pub list_line : (with_subscribed : Bool) → Line → Response
-list_line with_subscribed line = response.List (record {
-  non_existent = not line.is_there;
-  children = children_of line.has_children;
-  subscribed = with_subscribed && line.is_subscribed;
-}) line.name
 
 -- a level of the hierarchy is no mailbox; a name that is subscribed to may be one without `l`
 abbrev pub may_have_status : ListArguments → Line → Bool

@@ -8,7 +8,7 @@ use Rattle.imap_print.specs.declared.response.Refusal.TheVariants.{Limit, NonExi
 use Rattle.imap_view.specs.Seen.{Seen}
 use Rattle.imap_view.specs.View.{View}
 use Rattle.imap_world.specs.declared.effect.Effect.TheVariants.{Subscribe, Unsubscribe}
-use Rattle.imap_list.specs.ViewNames.{is_listable}
+use Rattle.imap_listing.specs.ViewNames.{is_listable}
 
 -- the most names that a user may have subscribed to
 abbrev pub max_subscriptions : ℕ

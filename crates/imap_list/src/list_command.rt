@@ -4,14 +4,13 @@ ghost use Rattle.std.specs.Prelude.{◌≡◌, ◌∷◌, ◌++◌, [], flat_map
 ghost use Rattle.std.specs.List.{AllByRecursion};
 ghost use Rattle.imap_print.specs.Lines.{IsPrintable};
 ghost use Rattle.imap_list.specs.ListCommand as specs;
+ghost use Rattle.imap_listing.specs.ListLine.{list_line};
 
-use crate::line::Line;
 use crate::list_arguments::ListArguments;
-use crate::listing::{list, list_subscribed};
 use crate::status::{enabled_by, status_line};
 use imap_answer::{Answer, CommandContext};
-use imap_lex::Octets;
-use imap_print::{Children, ListAttributes, Refusal, Response};
+use imap_listing::{Line, list, list_line, list_subscribed};
+use imap_print::{Refusal, Response};
 use imap_query::StatusItem;
 use imap_values::beside;
 use imap_view::View;
@@ -109,7 +108,7 @@ fn push_line(
     line: Line,
 ) -> Result<(), AllocError>
     requires { AllByRecursion IsPrintable responses.old.items }
-    ensures line { let meant = specs.list_line with_subscribed line in
+    ensures line { let meant = list_line with_subscribed line in
         OnOk result (responses.new.items ≡ responses.old.items ++ meant ∷ []) }
     ensures printable { OnOk result (AllByRecursion IsPrintable responses.new.items) }
 {
@@ -166,37 +165,6 @@ fn status_of_text(
     match context.name_of_text(text.as_bytes())? {
         Some(name) => status_line(context, &name, items),
         None => Ok(None),
-    }
-}
-
-pub(crate) fn list_line(with_subscribed: bool, line: Line) -> Result<Response, AllocError>
-    ensures line { IfOk result (λ response. response ≡ specs.list_line with_subscribed line) }
-    ensures printable { IsPrintable (specs.list_line with_subscribed line) }
-{
-    let Line {
-        name,
-        is_there,
-        has_children,
-        is_subscribed,
-    } = line;
-    let attributes = ListAttributes {
-        non_existent: !is_there,
-        children: children_of(has_children),
-        subscribed: with_subscribed && is_subscribed,
-    };
-    Ok(Response::List {
-        attributes,
-        mailbox: Octets::from_vec(name.into_string().into_bytes())?,
-    })
-}
-
-fn children_of(has_children: bool) -> Children
-    ensures { result ≡ specs.children_of has_children }
-{
-    if has_children {
-        Children::Has
-    } else {
-        Children::HasNo
     }
 }
 

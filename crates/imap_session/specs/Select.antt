@@ -4,7 +4,7 @@ use Rattle.std.specs.Prelude.{Option, Some, None, if◌then◌else◌}
 use Rattle.imap_answer.specs.Access.{missing_right_refusal}
 use Rattle.imap_answer.specs.Answer.{carried_out, preceded_by, refusal}
 use Rattle.imap_answer.specs.Name.{name_of_text}
-use Rattle.imap_list.specs.MailboxLine.{mailbox_line}
+use Rattle.imap_listing.specs.MailboxLine.{mailbox_line}
 use Rattle.imap_mailbox.specs.Lent.{row_uids}
 use Rattle.imap_mailbox.specs.Rows.{Row}
 use Rattle.imap_names.specs.Name.{Name}

@@ -20,7 +20,7 @@ use crate::session::{Selected, Session};
 use bitflags::Flags;
 use imap_answer::{Answer, CommandContext, missing_right_refusal};
 use imap_lex::Octets;
-use imap_list::mailbox_line;
+use imap_listing::mailbox_line;
 use imap_mailbox::Rows;
 use imap_names::Name;
 use imap_print::{
@@ -28,7 +28,7 @@ use imap_print::{
 };
 use imap_rights::Rights;
 use imap_syntax::Keywords;
-use imap_values::TryCopy;
+use imap_values::{TryCopy, beside};
 use imap_view::Readable;
 use std::alloc::{AllocError, Global};
 
@@ -85,13 +85,29 @@ fn select_readable(
     ensures { let answer = specs.selecting context.now.view (state_of session.now) context.now.tag in
         IfOk result (λ given. given ≡ answer read_only name mailbox.now) }
 {
+    let opened = opening(context, session, read_only, &name, mailbox);
+    let (answer, name) = beside(opened, name)?;
+    let selection = selection_of(context.alloc(), name, read_only, mailbox);
+    let (selection, answer) = beside(selection, answer)?;
+    Ok(Selecting { answer, selection })
+}
+
+/// The answer to a command that selects the mailbox.
+fn opening(
+    context: &CommandContext<'_>,
+    session: &Session,
+    read_only: bool,
+    name: &Name,
+    mailbox: &Readable<'_>,
+) -> Result<Answer, AllocError>
+    requires { AreRowsInOrder mailbox.now.next_uid mailbox.now.highest mailbox.now.rows }
+    ensures { let answer = specs.selecting context.now.view (state_of session.now) context.now.tag in
+        IfOk result (λ given. given ≡ (answer read_only name.now mailbox.now).answer) }
+{
     let rights = context.view().rights(&name.as_ref());
-    let lines = mailbox_lines(context, &name, rights_to_change(read_only, rights), mailbox)?;
+    let lines = mailbox_lines(context, name, rights_to_change(read_only, rights), mailbox)?;
     let answer = context.carried_out(lines, Some(mode(read_only, rights)), None)?;
-    Ok(Selecting {
-        answer: closing(context, session, answer)?,
-        selection: selection_of(context.alloc(), name, read_only, mailbox)?,
-    })
+    closing(context, session, answer)
 }
 
 /// Refuses SELECT or EXAMINE: then no mailbox is selected any more.
@@ -119,9 +135,19 @@ fn closing(
     ensures { let closed = specs.closed_line (state_of session.now).selected in
         IfOk result (λ given. given ≡ preceded_by closed answer) }
 {
+    let (closed, answer) = beside(closed_line(context.alloc(), session), answer)?;
+    answer.preceded_by(closed)
+}
+
+/// The line that closes the mailbox which was selected, or none if none was.
+fn closed_line(alloc: Global, session: &Session) -> Result<Vec<Response>, AllocError>
+    ensures lines { let closed = specs.closed_line (state_of session.now).selected in
+        IfOk result (λ lines. lines.items ≡ closed) }
+    ensures printable { IfOk result (λ lines. AllByRecursion IsPrintable lines.items) }
+{
     match &session.selected {
-        Some(_) => answer.preceded_by(vec![in context.alloc(); Response::Closed]?),
-        None => Ok(answer),
+        Some(_) => Ok(vec![in alloc; Response::Closed]?),
+        None => Ok(Vec::new(alloc)),
     }
 }
 
@@ -158,14 +184,16 @@ fn mailbox_lines(
     ensures printable { IfOk result (λ lines. AllByRecursion IsPrintable lines.items) }
 {
     let keywords = keywords_of(context.alloc(), &mailbox.rows)?;
-    let flags = permanent_flags(context.alloc(), rights, &keywords)?;
+    let flags = permanent_flags(context.alloc(), rights, &keywords);
+    let (flags, keywords) = beside(flags, keywords)?;
+    let (line, (flags, keywords)) = beside(mailbox_line(context, name), (flags, keywords))?;
     let any = rights.has_any(Rights::WRITE);
     flags_are_printable(&keywords);
     permanent_flags_are_printable(&flags, any);
     Ok(vec![in context.alloc();
         Response::Flags { keywords },
         Response::Exists(count(&mailbox.rows, mailbox.next_uid)),
-        mailbox_line(context, name)?,
+        line,
         Response::PermanentFlags { flags, any },
         Response::UidValidity(mailbox.validity),
         Response::UidNext(mailbox.next_uid),

@@ -1,5 +1,0 @@
-use Rattle.imap_list.proofs.Exact.{order_free}
-use Rattle.imap_list.proofs.laws.order_makes_no_difference.Goals as goal
-
-pub returns : goal.returns
-returns c = order_free

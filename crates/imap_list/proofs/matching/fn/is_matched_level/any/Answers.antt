@@ -1,5 +1,0 @@
-use Rattle.std.proofs.Common.{rules}
-use Rattle.imap_list.proofs.matching.fn.is_matched_level.any.Goals as goal
-
-pub returns : goal.returns
-returns c = search rules

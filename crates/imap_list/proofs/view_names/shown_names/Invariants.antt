@@ -1,6 +1,0 @@
-use Rattle.std.proofs.Common.{◌≡◌, take}
-use Rattle.imap_list.specs.ViewNames.{shown_names}
-use Rattle.imap_list.proofs.view_names.shown_names.Given as goal
-
-abbrev pub invariant-loop-name : goal.invariant-loop-name
-invariant-loop-name l = l.names.items ≡ shown_names l.view (take l.name-index l.entries)

@@ -1,0 +1,9 @@
+pub mod Determined
+pub mod Exact
+pub mod Finding
+pub mod Hierarchy
+pub mod Listed
+pub mod Members
+pub mod Order
+pub mod Plain
+pub mod Started

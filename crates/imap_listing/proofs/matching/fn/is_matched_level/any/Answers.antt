@@ -1,0 +1,5 @@
+use Rattle.std.proofs.Common.{rules}
+use Rattle.imap_listing.proofs.matching.fn.is_matched_level.any.Goals as goal
+
+pub returns : goal.returns
+returns c = search rules
