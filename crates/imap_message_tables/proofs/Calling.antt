@@ -1,5 +1,6 @@
 -- Calls of a transaction one after the other.
-use Rattle.std.proofs.Common.{◌≡◌, OnOk, IsTrue, List, [], ◌∷◌, Ok, Err, Result, sym, ap, subst, ◌∙◌, arith}
+use Rattle.std.proofs.Common.{◌≡◌, OnOk, IsTrue, List, [], ◌∷◌, Ok, Err, Result, sym, ap, subst, true≢false, ◌∙◌, arith}
+use Rattle.std.specs.Prelude.{IsOk, MatchResult}
 use Rattle.sqlite.specs.Effect.{Database}
 use Rattle.sqlite.specs.State.{State, HasCleanDisk, IsUnchanged, KeepsCommit, Survives}
 use Rattle.sqlite.specs.Tree.{Trees}
@@ -31,6 +32,15 @@ goes_so old new {X} {E} P r call = record { made = λ clean inside. by r (call.m
     by : (s : Result X E) → OnOk s (Turns P old new) → OnOk s (Goes P old new)
     by (Err e) h = tt
     by (Ok x) h = goes old new P h
+
+-- the count of the rows that were written is dropped
+pub made_so : (old new : State) {X Y E : Type 0} (A : Type 0) (r : Result X E) (made : Result Y E) → MatchResult made (λ _. IsOk r) (λ error. r ≡ Err error) → IsCall old new (OnOk r A) → IsCall old new (OnOk made A)
+made_so old new {X} {Y} {E} A r made h call = record { made = λ clean inside. by r made h (call.made clean inside); kept = call.kept; survives = call.survives }
+  where
+    by : (s : Result X E) (m : Result Y E) → MatchResult m (λ _. IsOk s) (λ error. s ≡ Err error) → OnOk s A → OnOk m A
+    by s (Err e) h it = tt
+    by (Ok x) (Ok y) h it = it
+    by (Err e) (Ok y) h it = absurd (true≢false (sym h))
 
 -- ---- two calls
 
@@ -157,6 +167,17 @@ goes_on One All cons changes rest later c old mid new is h call = (
             (one.1, λ after more. so_far.1 after (subst (λ cs. All cs mid.now.trees after) (sym is) (cons c later mid.now.trees new.now.trees after one.0 more))),
       ),
 )
+  where
+    before : HasCleanDisk new → HasCleanDisk mid
+    before clean = omega (arith, call.survives.clean, clean)
+
+-- a call that fails ends it
+pub ends_on : {C A Made : Type 0} (All : List C → Trees → Trees → Type 0) (changes rest : List C) (old mid new : State) → HasGone All changes rest old mid → IsCall mid new A → Made → IsCall old new Made
+ends_on All changes rest old mid new h call made = record {
+  made = λ clean inside. made;
+  kept = λ clean inside. let was = h.2 (before clean) in keeps_then old mid new was.0 (call.kept clean was.1);
+  survives = both_survive old mid new h.0 call.survives;
+}
   where
     before : HasCleanDisk new → HasCleanDisk mid
     before clean = omega (arith, call.survives.clean, clean)

@@ -14,6 +14,7 @@ ghost use Rattle.sqlite.specs.State.{HasCleanDisk, Survives};
 ghost use Rattle.sqlite.specs.Tree.{Trees};
 
 use crate::copying::copy_messages;
+use crate::writing::made;
 use imap_tables::{STORE_VERSION, StoredMessage, delete_messages, make_added, update_meta};
 use sqlite::{Alter, Connection, Error, Transaction};
 use std::alloc::Global;
@@ -41,8 +42,7 @@ fn copy_all<S: Alter>(
         OnOk result (Goes (Then (CopiesRows messages.now) SetsVersion) old new)) }
 {
     copy_messages(tx, alloc, messages)?;
-    set_version(tx)?;
-    Ok(())
+    made(set_version(tx))
 }
 
 /// Deletes the messages that stand in one row each, adds these in turn, and sets the version.

@@ -1,6 +1,6 @@
 //! Changes of rows are written.
 
-ghost use Rattle.std.specs.Prelude.{◌≡◌, ◌≢◌, [], false, Err, IsOk, IsTrue, MatchResult, OnErr, OnOk};
+ghost use Rattle.std.specs.Prelude.{◌≡◌, ◌≢◌, [], false, IsTrue, OnErr, OnOk};
 ghost use Rattle.imap_message_tables.specs.Writing.{Writes, WritesAll, WritesAllBelow, WritesBelow};
 ghost use Rattle.imap_message_tables.specs.Writing.{WritesUnder};
 ghost use Rattle.imap_tables.specs.Changes.{PutsEpoch, PutsSubscription};
@@ -11,7 +11,7 @@ ghost use Rattle.sqlite.specs.Held.{state};
 ghost use Rattle.sqlite.specs.State.{HasCleanDisk, Survives};
 ghost use Rattle.sqlite.specs.Tree.{Trees};
 
-use crate::writing::{add_message, flag_message, remove_message};
+use crate::writing::{add_message, flag_message, made, remove_message};
 use imap_tables::{
     ChangeBelow, MailboxKey, RowChange, count_mailbox, delete_acl, delete_epoch, delete_mailbox,
     delete_subscription, find_mailbox, insert_acl, insert_epoch, insert_gone, insert_mailbox,
@@ -104,9 +104,10 @@ fn put_epoch<S: Alter>(
     ensures call { Calls S.Store tx.old.conn.now tx.new.conn.now (λ old new.
         OnOk result (Turns (PutsEpoch key.now greatest) old new)) }
 {
-    delete_epoch(tx, &key.tree, &key.path)?;
-    insert_epoch(tx, &key.tree, &key.path, greatest)?;
-    Ok(())
+    let tree: &str = &key.tree;
+    let path: &str = &key.path;
+    delete_epoch(tx, tree, path)?;
+    made(insert_epoch(tx, tree, path, greatest))
 }
 
 /// Puts a subscription, whether or not it is there.
@@ -121,19 +122,10 @@ fn put_subscription<S: Alter>(
     ensures call { Calls S.Store tx.old.conn.now tx.new.conn.now (λ old new.
         OnOk result (Turns (PutsSubscription user.now key.now) old new)) }
 {
-    delete_subscription(tx, user, &key.tree, &key.path)?;
-    insert_subscription(tx, user, &key.tree, &key.path)?;
-    Ok(())
-}
-
-/// Drops the count of rows that were written.
-fn made(count: Result<usize, Error>) -> Result<(), Error>
-    ensures { MatchResult result (λ _. IsOk count) (λ error. count ≡ Err error) }
-{
-    match count {
-        Ok(_) => Ok(()),
-        Err(error) => Err(error),
-    }
+    let tree: &str = &key.tree;
+    let path: &str = &key.path;
+    delete_subscription(tx, user, tree, path)?;
+    made(insert_subscription(tx, user, tree, path))
 }
 
 /// Makes one change.

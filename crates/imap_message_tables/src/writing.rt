@@ -1,6 +1,6 @@
 //! A message is added, gets flags and goes, in the three tables.
 
-ghost use Rattle.std.specs.Prelude.{◌≡◌, IfOk, OnOk, map, string_bytes};
+ghost use Rattle.std.specs.Prelude.{◌≡◌, Err, IfOk, IsOk, MatchResult, OnOk, map, string_bytes};
 ghost use Rattle.imap_message_tables.specs.Going.{Goes};
 ghost use Rattle.imap_message_tables.specs.Joining.{AreWordsOf};
 ghost use Rattle.imap_message_tables.specs.Parts.{MakesParts, parts_removed};
@@ -23,6 +23,16 @@ use imap_tables::{
 };
 use sqlite::{Alter, Error, Transaction};
 use std::alloc::Global;
+
+/// Drops the count of rows that were written.
+pub(crate) fn made(count: Result<usize, Error>) -> Result<(), Error>
+    ensures { MatchResult result (λ _. IsOk count) (λ error. count ≡ Err error) }
+{
+    match count {
+        Ok(_) => Ok(()),
+        Err(error) => Err(error),
+    }
+}
 
 // ---- keywords
 
@@ -257,8 +267,7 @@ fn remove_rest<S: Alter>(tx: &mut Transaction<'_, S>, mailbox: &i64, uid: u32) -
         (λ db after. Removes db after 20 (IsMessageOf mailbox.now uid))) old new)) }
 {
     delete_body(tx, mailbox, uid)?;
-    delete_keywords(tx, mailbox, uid)?;
-    Ok(())
+    made(delete_keywords(tx, mailbox, uid))
 }
 
 /// Removes a message.

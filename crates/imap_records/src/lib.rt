@@ -1,5 +1,4 @@
-//! The tables of a store as the rows of a world: which rows a change of the world writes, and that the tables
-//! stand for the changed world then.
+//! The rows of a world: which of them a change writes, and that the tables stand for the changed world then.
 #![tactic(auto)]
 
 mod batch;

@@ -18,7 +18,7 @@ use Rattle.imap_world.specs.Effects.{if_filled}
 use Rattle.imap_world.specs.Mailbox.{Mailbox}
 use Rattle.imap_world.specs.World.{World, subscribed_by}
 use Rattle.imap_restore.specs.Parts.{IsChangeFor, IsMessageFor}
-use Rattle.imap_restore.proofs.Kept.{string_utf8}
+use Rattle.imap_stored_values.proofs.Kept.{string_utf8}
 use Rattle.imap_restore.proofs.Matching.{filtered_zip}
 use Rattle.imap_restore.proofs.Listed.{has_moved}
 use Rattle.imap_restore.proofs.Owners.{Read, owner}

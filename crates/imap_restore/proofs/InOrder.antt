@@ -16,7 +16,7 @@ use Rattle.imap_world.specs.declared.world_parts.MailboxRow.{MailboxRow}
 use Rattle.imap_world.specs.declared.world_parts.WorldParts.{WorldParts}
 use Rattle.imap_restore.specs.Parts.{AreBelow, AreOf, ArePartsFor, HasMailbox, HasParts, HaveGroups, HaveMailboxes, HaveMessages}
 use Rattle.imap_restore.specs.Parts.{IsChangeFor, IsEntryFor, IsGoneMessageFor, IsGrouped, IsMailboxFor, IsMessageFor, IsOneOf}
-use Rattle.imap_restore.specs.Restored.{IsEpochFor, IsSubscriptionFor}
+use Rattle.imap_stored_values.specs.Restored.{IsEpochFor, IsSubscriptionFor}
 
 zip_weaker : {A B : Type 0} (R S : A → B → Type 0) → ((x : A) (y : B) → R x y → S x y) → (xs : List A) (ys : List B) → AllZip R xs ys → AllZip S xs ys
 zip_weaker R S weaker [] [] h = h

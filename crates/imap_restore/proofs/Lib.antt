@@ -1,6 +1,3 @@
-mod Full
-mod Words
-mod Kept
 mod Zipped
 mod Matching
 pub mod Forms

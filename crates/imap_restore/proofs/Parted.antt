@@ -24,8 +24,8 @@ use Rattle.imap_world.specs.Subscription.{Subscription}
 use Rattle.imap_world.specs.World.{World}
 use Rattle.imap_restore.specs.Holding.{Hold}
 use Rattle.imap_restore.specs.Parts.{HasMailbox, HasParts, HaveMailboxes, HaveMessages, IsChangeFor, IsEntryFor, IsGoneMessageFor, IsMessageFor}
-use Rattle.imap_restore.specs.Restored.{IsEpochFor, IsSubscriptionFor}
-use Rattle.imap_restore.proofs.Kept.{string_utf8}
+use Rattle.imap_stored_values.specs.Restored.{IsEpochFor, IsSubscriptionFor}
+use Rattle.imap_stored_values.proofs.Kept.{string_utf8}
 use Rattle.imap_restore.proofs.Keyed.{zip_all}
 use Rattle.imap_restore.proofs.TableRows.{Rows}
 use Rattle.imap_restore.proofs.Told.{entry_told, epoch_told, gone_told, known_at, mark_told, message_told, subscription_told, told}

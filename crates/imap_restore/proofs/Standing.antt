@@ -24,7 +24,7 @@ use Rattle.imap_world.specs.Mailbox.{Mailbox}
 use Rattle.imap_world.specs.Parts.{is_subscription}
 use Rattle.imap_world.specs.Subscription.{Subscription}
 use Rattle.imap_world.specs.World.{World, subscribed_by}
-use Rattle.imap_restore.specs.Restored.{IsEpochFor, IsSubscriptionFor}
+use Rattle.imap_stored_values.specs.Restored.{IsEpochFor, IsSubscriptionFor}
 use Rattle.imap_restore.proofs.Children.{entries_stand, gone_stand, messages_stand}
 use Rattle.imap_restore.proofs.Listed.{entry_get, get_entry, has_moved}
 use Rattle.imap_restore.proofs.Marks.{marks_stand}

@@ -29,7 +29,7 @@ use Rattle.imap_tables.specs.declared.stored.StoredSubscription.{StoredSubscript
 use Rattle.imap_world.specs.Mailbox.{Mailbox}
 use Rattle.imap_world.specs.World.{World, subscribed_by}
 use Rattle.imap_restore.specs.Parts.{IsOneOf}
-use Rattle.imap_restore.specs.Restored.{HasKeyOf, IsGoneFor, IsMarkFor, IsRowFor}
+use Rattle.imap_stored_values.specs.Restored.{HasKeyOf, IsGoneFor, IsMarkFor, IsRowFor}
 use Rattle.imap_restore.proofs.TableRows.{Rows, entry_is, entry_rows, epoch_is, epoch_rows, gone_is, gone_rows, mailbox_is, mailbox_rows, mark_is, mark_rows, message_is, message_rows, sub_is, sub_rows}
 
 abbrev number_in : Value → ℤ

@@ -29,7 +29,7 @@ use Rattle.imap_world.specs.declared.world_parts.MailboxRow.{MailboxRow}
 use Rattle.imap_world.specs.declared.world_parts.WorldParts.{WorldParts}
 use Rattle.imap_restore.specs.Holding.{Hold, IsMadeOf}
 use Rattle.imap_restore.specs.Parts.{ArePartsFor, IsMailboxFor}
-use Rattle.imap_restore.specs.Restored.{IsEpochFor, IsSubscriptionFor}
+use Rattle.imap_stored_values.specs.Restored.{IsEpochFor, IsSubscriptionFor}
 use Rattle.imap_restore.proofs.Again.{acl_again, gone_again, messages_again, own_again}
 use Rattle.imap_restore.proofs.Keyed.{Apart, apart_by, apart_from, entries_apart, reorder, same_sets, zip_apart}
 use Rattle.imap_restore.proofs.Listed.{entry_get, get_entry}

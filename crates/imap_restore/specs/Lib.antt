@@ -1,4 +1,3 @@
 -- The mailboxes that rows hold.
-pub mod Restored
 pub mod Parts
 pub mod Holding

@@ -11,8 +11,8 @@ use Rattle.imap_mailbox.specs.declared.parts.MailboxParts.{MailboxParts}
 use Rattle.imap_mailbox.specs.UserChange.{UserChange}
 use Rattle.imap_names.specs.Name.{Name}
 use Rattle.imap_names.specs.Valid.{IsName}
-use Rattle.imap_restore.specs.Restored.{HasKeyOf, HasRights, IsAnEntry, IsEpochFor, IsFit, IsGoneFor}
-use Rattle.imap_restore.specs.Restored.{IsMarkFor, IsRowFor, IsSubscriptionFor}
+use Rattle.imap_stored_values.specs.Restored.{HasKeyOf, HasRights, IsAnEntry, IsEpochFor, IsFit, IsGoneFor}
+use Rattle.imap_stored_values.specs.Restored.{IsMarkFor, IsRowFor, IsSubscriptionFor}
 use Rattle.imap_restore.specs.declared.parts.MailboxWithOwn.{MailboxWithOwn}
 use Rattle.imap_restore.specs.declared.parts.RowsBelow.{RowsBelow}
 use Rattle.imap_rights.specs.declared.acl.Entry.{Entry}

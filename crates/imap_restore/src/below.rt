@@ -4,12 +4,12 @@ ghost use Rattle.std.specs.Prelude.{◌≡◌, ℤ, true, List, Err, IfOk, strin
 ghost use Rattle.std.specs.List.{AllZip};
 ghost use Rattle.std.specs.Str.{is_utf8};
 ghost use Rattle.imap_restore.specs.Parts.{AreGrouped, below};
-ghost use Rattle.imap_restore.specs.Restored.{HasRights, IsAnEntry, IsFit, IsGoneFor, IsMarkFor, IsRowFor};
+ghost use Rattle.imap_stored_values.specs.Restored.{HasRights, IsAnEntry, IsFit, IsGoneFor, IsMarkFor, IsRowFor};
 
 use crate::grouping::rows_of;
-use crate::rows::{read_change, read_entry, read_gone, read_message};
 use imap_mailbox::{GoneMessage, Message, PartsError, UserChange};
 use imap_rights::Entry;
+use imap_stored_values::{read_change, read_entry, read_gone, read_message};
 use imap_tables::{StoredEntry, StoredGone, StoredMessage, StoredSeenFlag};
 use std::alloc::Global;
 

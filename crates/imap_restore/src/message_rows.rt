@@ -3,9 +3,9 @@
 //! As in `diagnosing`, no contract says which row is named: it is tested.
 
 use crate::diagnosing::of_row;
-use crate::values::read_flags;
 use imap_keeper::{Damage, RowFault};
 use imap_mailbox::PartsError;
+use imap_stored_values::read_flags;
 use imap_tables::{AddedTables, FromRow, StoredBody, StoredHead, StoredKeyword};
 use std::alloc::{AllocError, Global};
 use std::collections::BTreeSet;

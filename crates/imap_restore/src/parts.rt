@@ -14,12 +14,10 @@ ghost use Rattle.imap_restore.specs.Parts.{HaveMessages, IsMailboxOf, IsWithOwn}
 
 use crate::below::{Restore, read_below};
 use crate::grouping::grouped;
-use crate::lists::{read_epochs, read_subscriptions};
-use crate::names::read_key;
 use crate::taking::take_below;
-use crate::values::read_count;
 use imap_mailbox::{GoneMessage, MailboxParts, Message, PartsError, UserChange};
 use imap_rights::Entry;
+use imap_stored_values::{read_count, read_epochs, read_key, read_subscriptions};
 use imap_tables::{
     StoredEntry, StoredGone, StoredMailbox, StoredMessage, StoredSeenFlag, StoredTables,
 };

@@ -12,7 +12,7 @@ use imap_tables::{
     FromRow, StoredBody, StoredEntry, StoredEpoch, StoredGone, StoredHead, StoredKeyword,
     StoredMailbox, StoredMessage, StoredMeta, StoredSeenFlag, StoredSubscription,
 };
-use sqlite::{Alter, Connection, Error, ErrorCode, Row};
+use sqlite::{Alter, Connection, Error, ErrorCode, Row, Rows};
 use std::alloc::Global;
 
 /// Finds a row that stands for nothing. Returns `None` if none is found, or the tables can't be read.
@@ -94,16 +94,23 @@ fn unread_in<S: Alter, R: FromRow>(
     table: &'static str,
     text: &str,
 ) -> Option<Damage> {
-    let query = conn.prepare(text).ok()?;
-    let mut rows = conn.query_prepared(&query, &[]).ok()?;
+    let mut rows = conn.query(text, &[]).ok()?;
+    let row = first_unread::<S, R>(&mut rows)?;
+    Some(Damage {
+        table,
+        row,
+        fault: RowFault::Value,
+    })
+}
+
+/// Returns the number in the first column of the first row of which nothing is read, and 0 if none is there.
+fn first_unread<S: Alter, R: FromRow>(rows: &mut Rows<'_, S>) -> Option<i64> {
     for _ in 0..u64::MAX {
-        let row = rows.next().ok()??;
+        let Ok(Some(row)) = rows.next() else {
+            return None;
+        };
         if is_unread::<R>(row) {
-            return Some(Damage {
-                table,
-                row: row.get(0).unwrap_or(0),
-                fault: RowFault::Value,
-            });
+            return Some(row.get(0).unwrap_or(0));
         }
     }
     None

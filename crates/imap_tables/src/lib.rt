@@ -1,4 +1,4 @@
-//! The tables of a store of mailboxes, in a SQL database: how they are made, written and read.
+//! The tables of a store in a SQL database: how they are made, written and read.
 //!
 //! A row below a mailbox names it by the `id` of its row, which is the store's own and means nothing else.
 //! Each statement is a function of its own, within a transaction.

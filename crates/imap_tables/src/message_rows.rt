@@ -55,9 +55,9 @@ impl FromRow for StoredHead {
         let rowid = row.get(0)?;
         let mailbox = row.get(1)?;
         let uid = row.get(2)?;
-        let date = row.get(3)?;
         let flags = row.get(4)?;
         let place = row.get(5)?;
+        let date = row.get(3)?;
         Ok(StoredHead {
             rowid,
             mailbox,

@@ -1,4 +1,4 @@
-use Rattle.std.proofs.Common.{◌≡◌, ◌+◌, ◌∷◌, ◌∙◌, arith, drop, drop_of_length-le, map, string_bytes, refl, sym, ap}
+use Rattle.std.proofs.Common.{rules, ◌≡◌, ◌+◌, ◌∷◌, ◌∙◌, arith, drop, drop_of_length-le, map, string_bytes, refl, sym, ap}
 use Rattle.std.proofs.lemmas.List.{drop_more}
 use Rattle.std.specs.Global.{Global}
 use Rattle.std.specs.declared.string.String.{String}
@@ -7,7 +7,7 @@ use Rattle.sqlite.specs.Tree.{Trees}
 use Rattle.imap_tables.specs.Edits.{Adds}
 use Rattle.imap_tables.specs.Rows.{keyword_row}
 use Rattle.imap_message_tables.specs.Writing.{AddsWords}
-use Rattle.imap_message_tables.proofs.Calling.{goes_on, gone_all}
+use Rattle.imap_message_tables.proofs.Calling.{ends_on, goes_on, gone_all}
 use Rattle.imap_message_tables.proofs.writing.put_words.Goals as goal
 
 pub words-preserved : goal.words-preserved
@@ -31,3 +31,10 @@ returns-clause-call g c =
     let new = state g.S.Store c.words.tx.conn.now in
     gone_all (λ ks. AddsWords c.args.mailbox.now c.args.uid (map string_bytes ks)) (λ db. refl) c.args.words.now (drop c.words.word-index c.args.words.now) old new
     (drop_of_length-le c.args.words.now (omega (arith, c.words-test.false))) c.words.invariant.1
+
+pub returns-in_err-insert_keyword-clause-call : goal.returns-in_err-insert_keyword-clause-call
+returns-in_err-insert_keyword-clause-call g c =
+    let old = state g.S.Store c.args.tx.now.conn.now in
+    let mid = state g.S.Store c.words.tx.conn.now in
+    let new = state g.S.Store c.insert_keyword.new.tx.conn.now in
+    ends_on (λ ks. AddsWords c.args.mailbox.now c.args.uid (map string_bytes ks)) c.args.words.now (drop c.words.word-index c.args.words.now) old mid new c.words.invariant.1 c.insert_keyword.ensures.call (search rules)

@@ -1,6 +1,6 @@
 use Rattle.std.proofs.Common.{◌≡◌, ◌+◌, ◌∷◌, ◌∙◌, arith, ap, drop, drop_of_length-le, subst, sym}
 use Rattle.std.proofs.lemmas.List.{drop_more}
-use Rattle.imap_restore.proofs.Words.{same_fault}
+use Rattle.imap_stored_values.proofs.Words.{same_fault}
 use Rattle.imap_restore.proofs.Zipped.{HasRead, read_end, read_never, read_next}
 use Rattle.imap_restore.proofs.below.read_all.Goals as goal
 

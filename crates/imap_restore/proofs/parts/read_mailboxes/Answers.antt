@@ -7,7 +7,7 @@ use Rattle.imap_restore.specs.Parts.{HasMailboxOf, IsMailboxOf}
 use Rattle.imap_restore.specs.declared.parts.MailboxWithOwn.{MailboxWithOwn}
 use Rattle.imap_restore.proofs.Backwards.{all_reverse, zip_back}
 use Rattle.imap_restore.proofs.Taken.{groups_left, has_mailbox_left, mailbox_of_all, still_next, still_of}
-use Rattle.imap_restore.proofs.Words.{same_fault}
+use Rattle.imap_stored_values.proofs.Words.{same_fault}
 use Rattle.imap_restore.proofs.Zipped.{HasRead, read_end, read_next}
 use Rattle.imap_restore.proofs.parts.read_mailboxes.Goals as goal
 

@@ -8,7 +8,7 @@ use Rattle.imap_restore.specs.Parts.{HasOwn, IsChangeFor, IsOwn, IsWithOwn, Leav
 use Rattle.imap_restore.specs.declared.parts.MailboxWithOwn.{MailboxWithOwn}
 use Rattle.imap_restore.proofs.Backwards.{all_reverse, zip_back}
 use Rattle.imap_restore.proofs.Taken.{still_next, still_of}
-use Rattle.imap_restore.proofs.Words.{same_fault}
+use Rattle.imap_stored_values.proofs.Words.{same_fault}
 use Rattle.imap_restore.proofs.Zipped.{HasRead, read_end, read_next}
 use Rattle.imap_restore.proofs.parts.with_own.Goals as goal
 

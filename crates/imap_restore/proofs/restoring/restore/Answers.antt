@@ -3,7 +3,7 @@ use Rattle.imap_restore.specs.Holding.{IsUnmade}
 use Rattle.imap_restore.specs.Parts.{ArePartsFor}
 use Rattle.imap_restore.proofs.Refused.{are_apart, never_unmade}
 use Rattle.imap_restore.proofs.Restored.{holds, if_ok}
-use Rattle.imap_restore.proofs.Words.{same_fault}
+use Rattle.imap_stored_values.proofs.Words.{same_fault}
 use Rattle.imap_tables.specs.Contents.{AreAllApart}
 use Rattle.imap_restore.proofs.restoring.restore.Goals as goal
 

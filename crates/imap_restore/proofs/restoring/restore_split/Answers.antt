@@ -1,7 +1,7 @@
 use Rattle.imap_world.specs.Stored.{world_of}
 use Rattle.imap_restore.proofs.Restored.{if_ok}
 use Rattle.imap_restore.proofs.Split.{never_joined, split_holds, split_refused}
-use Rattle.imap_restore.proofs.Words.{same_fault}
+use Rattle.imap_stored_values.proofs.Words.{same_fault}
 use Rattle.imap_restore.proofs.restoring.restore_split.Goals as goal
 
 pub returns-in-Ok-clause-ok : goal.returns-in-Ok-clause-ok

@@ -2,7 +2,7 @@ use Rattle.std.proofs.Common.{◌≡◌, ◌++◌, ◌∙◌, ap, of_z, subst, s
 use Rattle.std.specs.List.{AllZip}
 use Rattle.std.proofs.lemmas.Int.{to_z-of_z}
 use Rattle.imap_restore.specs.Parts.{AreGrouped, LeavesOthers, ReadsEnd, below}
-use Rattle.imap_restore.proofs.Words.{same_fault}
+use Rattle.imap_stored_values.proofs.Words.{same_fault}
 use Rattle.imap_restore.proofs.taking.take_below.Goals as goal
 
 pub read_below-requires : goal.read_below-requires

@@ -6,7 +6,7 @@ use Rattle.imap_message_tables.proofs.Ends.{turned}
 use Rattle.imap_restore.specs.Parts.{LeavesOthers, ReadsEnd, below}
 use Rattle.imap_restore.proofs.Backwards.{never_back, read_both, read_rest}
 use Rattle.imap_restore.proofs.Taken.{first_below, leaves_next}
-use Rattle.imap_restore.proofs.Words.{same_fault}
+use Rattle.imap_stored_values.proofs.Words.{same_fault}
 use Rattle.imap_restore.proofs.Zipped.{HasRead, read_never, read_next}
 use Rattle.imap_restore.proofs.taking.take_end.Goals as goal
 

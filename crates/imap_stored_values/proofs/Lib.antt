@@ -1,0 +1,4 @@
+mod Full
+pub mod Words
+pub mod Kept
+mod Zipped

@@ -1,0 +1,2 @@
+-- Values that rows keep.
+pub mod Restored
