@@ -119,10 +119,9 @@ impl Core {
         ensures change { let asked = (admission (world_of world) administrator users.now).effects in
             IfOk result (λ made. writes_of asked (world_of world) ≡ Ok made.1) }
     {
-        let groups = SharedGroups::new(alloc, groups)?;
-        let mut opening = Opening::new(alloc);
-        opening.admit(alloc, &world, &administrator)?;
-        opening.admit_all(alloc, &world, users)?;
+        let found = Opening::of_users(alloc, &world, &administrator, users);
+        let (opening, (world, administrator)) = beside(found, (world, administrator))?;
+        let (groups, world) = beside(SharedGroups::new(alloc, groups), world)?;
         let Opening { accounts, effects } = opening;
         let (world, change) = with_effects(alloc, world, effects.as_slice())?;
         // The contract of a look-up hands on what the type of the world keeps.

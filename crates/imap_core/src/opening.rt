@@ -1,10 +1,10 @@
 //! The state in which a host starts.
 
-ghost use Rattle.std.specs.Prelude.{◌≡◌, OnOk};
+ghost use Rattle.std.specs.Prelude.{◌≡◌, IfOk, OnOk};
 ghost use Rattle.std.specs.FinMap as map;
 ghost use Rattle.imap_world.specs.Stored.{world_of};
 ghost use Rattle.imap_sessions.specs.Accounts.{accounts_of};
-ghost use Rattle.imap_core.specs.Opening.{admission_of, needs_inbox, nobody, with_user, with_users};
+ghost use Rattle.imap_core.specs.Opening.{admission, admission_of, needs_inbox, nobody, with_user, with_users};
 
 use imap_names::{UserName, inbox_ref};
 use imap_sessions::OwnSessions;
@@ -21,7 +21,23 @@ pub(crate) struct Opening {
 }
 
 impl Opening {
-    pub(crate) fn new(alloc: Global) -> Opening
+    /// The administrator and the users are known, each once.
+    pub(crate) fn of_users(
+        alloc: Global,
+        world: &World,
+        administrator: &UserName,
+        users: &[UserName],
+    ) -> Result<Opening, AllocError>
+        ensures { let found = admission (world_of world.now) administrator.now users.now in
+            IfOk result (λ opening. admission_of opening ≡ found) }
+    {
+        let mut opening = Opening::new(alloc);
+        opening.admit(alloc, world, administrator)?;
+        opening.admit_all(alloc, world, users)?;
+        Ok(opening)
+    }
+
+    fn new(alloc: Global) -> Opening
         ensures { admission_of result ≡ nobody }
     {
         Opening {
@@ -30,7 +46,7 @@ impl Opening {
         }
     }
 
-    pub(crate) fn admit_all(
+    fn admit_all(
         &mut self,
         alloc: Global,
         world: &World,
@@ -46,12 +62,7 @@ impl Opening {
     }
 
     /// Makes a user known who isn't yet, and asks for the user's INBOX, if it isn't there.
-    pub(crate) fn admit(
-        &mut self,
-        alloc: Global,
-        world: &World,
-        user: &UserName,
-    ) -> Result<(), AllocError>
+    fn admit(&mut self, alloc: Global, world: &World, user: &UserName) -> Result<(), AllocError>
         ensures { let so_far = admission_of self.old in
             OnOk result (admission_of self.new ≡ with_user (world_of world.now) user.now so_far) }
     {
