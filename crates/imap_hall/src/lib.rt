@@ -22,6 +22,7 @@ mod shared_replies;
 
 pub use error::{HallError, OpenError};
 pub use hall::Hall;
+pub use imap_core::{Act, MailboxVersion, Moment, SessionId, SessionNumber, Step};
 pub use journal::{Entry, OldBase, Receipt};
 pub use memory::{entry_octets, reply_octets};
 pub use room::Room;

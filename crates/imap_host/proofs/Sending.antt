@@ -42,10 +42,10 @@ use Rattle.imap_commands.proofs.commands.store.StoreSpec.TheSendSync.{the_send a
 use Rattle.imap_commands.specs.contracts.command.Command.{the_type as command_type, the_field as command_field}
 use Rattle.imap_commands.specs.contracts.request.Request.{the_field as request_field, the_type as request_type}
 use Rattle.imap_answer.proofs.moment.Moment.TheSendSync.{the_send as moment_send}
-use Rattle.imap_core.proofs.machine.Core.TheSendSync.{the_send as core_send}
-use Rattle.imap_sessions.proofs.session_id.SessionId.TheSendSync.{the_send as session_send}
-use Rattle.imap_core.specs.contracts.step.Act.{the_row as act_row, the_type as act_type}
-use Rattle.imap_core.specs.contracts.step.Step.{the_row as step_row, the_type as step_type}
+use Rattle.imap_hall.proofs.CoreSend.{the_send as core_send}
+use Rattle.imap_hall.proofs.SessionIdSend.{the_send as session_send}
+use Rattle.imap_hall.specs.ActType.{the_row as act_row, the_type as act_type}
+use Rattle.imap_hall.specs.StepType.{the_row as step_row, the_type as step_type}
 use Rattle.imap_hall.proofs.own_counts.OwnCounts.TheSendSync.{the_send as own_counts_send}
 use Rattle.imap_keeper.specs.declared.keeper.Keeper as keeper
 use Rattle.imap_hall.specs.contracts.hall.Hall.{the_row as hall_row}

@@ -1,7 +1,7 @@
 -- What a seat keeps of what it was given.
 use Rattle.std.specs.Prelude.{◌≡◌, ◌⊎◌, ℕ, Bool, false, List, [], ◌∷◌, ◌++◌, Option, Some, None, nat_le, if◌then◌else◌}
 use Rattle.std.specs.FinMap as map
-use Rattle.imap_core.specs.declared.step.Step.{Step}
+use Rattle.imap_hall.specs.Step.{Step}
 use Rattle.imap_hall.specs.declared.journal.Receipt.{Receipt}
 use Rattle.imap_hall.specs.Hall.{entry_of}
 use Rattle.imap_hall.specs.Journal.{JournalEntry}

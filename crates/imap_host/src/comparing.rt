@@ -6,8 +6,7 @@ ghost use Rattle.imap_host.specs.Seats.{kept_entry};
 ghost use Rattle.imap_host.specs.Settling.{AreSettled, IsOfEntry, IsSettled, notes_of, since};
 
 use crate::seat::{Kept, Seat};
-use imap_core::SessionId;
-use imap_hall::Entry;
+use imap_hall::{Entry, SessionId};
 use imap_syntax::are_same;
 use std::collections::VecDeque;
 use std::sync::ledger::Ledger;

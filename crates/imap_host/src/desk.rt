@@ -5,8 +5,7 @@ ghost use Rattle.imap_host.specs.Seats.{LetsGo};
 
 use crate::host::Host;
 use crate::seat::Seat;
-use imap_core::Step;
-use imap_hall::{HallError, Receipt, Room};
+use imap_hall::{HallError, Receipt, Room, Step};
 use imap_keeper::Keeper;
 use std::alloc::Global;
 use std::sync::Wait;

@@ -5,8 +5,7 @@ ghost use Rattle.imap_hall.specs.Hall.{HasStepped, IsBaseOf, IsTurnedOver, IsUnt
 ghost use Rattle.imap_hall.specs.Receipts.{IsSameReceipt};
 
 use crate::host::PARTS;
-use imap_core::Step;
-use imap_hall::{Hall, HallError, OldBase, Receipt};
+use imap_hall::{Hall, HallError, OldBase, Receipt, Step};
 use imap_keeper::Keeper;
 use std::alloc::{AllocError, Global};
 use std::sync::ledger::{Blank, Book, Ledger, Share};

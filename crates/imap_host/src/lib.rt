@@ -23,6 +23,8 @@ pub use desk::Desk;
 pub use door::Door;
 pub use host::{Host, OpenHost, PARTS};
 pub use host_state::{HostState, ReceiptPair};
+pub use imap_hall::{Hall, Moment, OpenError, SessionId};
+pub use imap_serve::{End, Gate, Moments, ServeError};
 pub use seat::{Kept, Seat, SeatError};
 pub use settling::SettleError;
 pub use workers::{CrewError, crew, crew_in};

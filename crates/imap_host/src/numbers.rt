@@ -6,7 +6,7 @@ ghost use Rattle.imap_host.specs.Seats.{last_of};
 
 use crate::host::PARTS;
 use crate::seat::SeatError;
-use imap_core::{SessionId, SessionNumber};
+use imap_hall::{SessionId, SessionNumber};
 use imap_names::UserName;
 use imap_user_map::UserMap;
 use std::alloc::Global;

@@ -1,7 +1,7 @@
 //! Steps after which sessions may be told something.
 
-use imap_core::Act;
 use imap_grammar::{Command, Request};
+use imap_hall::Act;
 use imap_query::FetchItem;
 
 /// Whether sessions may be told something after this act. It is a hint.

@@ -9,10 +9,10 @@ use crate::log_level::LogLevel;
 use crate::secret::{SecretFault, SecretFiles, first_line};
 use crate::service::{Port, Service};
 use clap::ArgMatches;
+use imap_limits::{DEFAULT_LIMITS, read_max_messages, read_max_octets, read_number};
 use imap_login::Credentials;
 use imap_names::UserName;
 use imap_rights::Groups;
-use imap_script::{DEFAULT_LIMITS, read_max_messages, read_max_octets, read_number};
 use imap_world::Limits;
 use std::alloc::Global;
 

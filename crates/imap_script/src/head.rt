@@ -1,13 +1,13 @@
 //! The head of a script: the users and their groups, the limits, and the mailboxes at the start.
 
 use crate::error::ScriptError;
-use crate::limits::{DEFAULT_LIMITS, read_max_messages, read_max_octets};
 use crate::line::LineError;
 use crate::mailboxes::Mailboxes;
 use crate::members::Members;
 use crate::owned::with_made;
 use imap_hall::Hall;
 use imap_keeper::Keeper;
+use imap_limits::{DEFAULT_LIMITS, read_max_messages, read_max_octets};
 use imap_names::{Name, UserName, read_full};
 use imap_rights::{Groups, Identifier, read_rights};
 use imap_values::beside;

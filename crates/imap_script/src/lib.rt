@@ -4,7 +4,6 @@
 mod error;
 mod head;
 mod input;
-mod limits;
 mod line;
 mod mailboxes;
 mod members;
@@ -17,7 +16,6 @@ mod transcript;
 pub use error::ScriptError;
 use imap_keeper::ListKeeper;
 pub use input::read_input;
-pub use limits::{DEFAULT_LIMITS, read_max_messages, read_max_octets, read_number};
 pub use scenario::Scenario;
 use std::io::{Read, Write};
 

@@ -6,8 +6,7 @@
 use crate::error::ScriptError;
 use crate::step::{Event, ScriptStep};
 use crate::transcript::Transcript;
-use imap_core::{Act, Step};
-use imap_hall::{Hall, HallError, Receipt, SharedReplies};
+use imap_hall::{Act, Hall, HallError, Receipt, SharedReplies, Step};
 use imap_keeper::Keeper;
 use imap_lex::{Frame, Framer, LexError};
 use imap_print::{Farewell, Response};

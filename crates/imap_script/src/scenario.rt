@@ -2,13 +2,13 @@
 
 use crate::error::ScriptError;
 use crate::head::{Head, HeadWord, Start};
-use crate::limits::read_number;
 use crate::line::LineError;
 use crate::owned::with_made;
 use crate::run::run_steps;
 use crate::step::ScriptStep;
-use imap_core::Moment;
+use imap_hall::Moment;
 use imap_keeper::Keeper;
+use imap_limits::read_number;
 use imap_world::World;
 use std::alloc::Global;
 use std::io::Write;

@@ -1,8 +1,8 @@
 //! Step lines of a script.
 
-use crate::limits::read_number;
 use crate::line::LineError;
-use imap_core::{Moment, SessionId, SessionNumber};
+use imap_hall::{Moment, SessionId, SessionNumber};
+use imap_limits::read_number;
 use imap_names::UserName;
 use imap_values::beside;
 use std::alloc::{AllocError, Global};

@@ -5,9 +5,9 @@ use Rattle.imap_lex.specs.declared.frame.Frame.{Frame}
 use Rattle.imap_lex.specs.Framing.{run, beginning}
 use Rattle.imap_print.specs.Printed.{printed}
 use Rattle.imap_dialect.specs.Telling.{standard}
-use Rattle.imap_sessions.specs.declared.session_id.SessionId.{SessionId}
-use Rattle.imap_core.specs.declared.step.Act.TheVariants as act
-use Rattle.imap_core.specs.declared.step.Step.{Step}
+use Rattle.imap_hall.specs.SessionId.{SessionId}
+use Rattle.imap_hall.specs.Act.TheVariants as act
+use Rattle.imap_hall.specs.Step.{Step}
 use Rattle.imap_hall.specs.declared.error.HallError.{HallError}
 use Rattle.imap_hall.specs.Journal.{JournalEntry}
 use Rattle.imap_serve.specs.declared.error.End.{End}

@@ -10,11 +10,11 @@ use Rattle.imap_lex.proofs.Runs.{run-append, run-hung_up}
 use Rattle.imap_print.specs.declared.response.Farewell.TheVariants.{LimitReached, IdleTooLong}
 use Rattle.imap_print.specs.declared.response.Response.TheVariants as response
 use Rattle.imap_dialect.specs.Telling.{Telling, after, retold}
-use Rattle.imap_core.specs.declared.step.Act.{Act}
-use Rattle.imap_core.specs.declared.step.Act.TheVariants as act
-use Rattle.imap_core.specs.Frames.{act_of_command, is_done, rejected}
+use Rattle.imap_hall.specs.Act.{Act}
+use Rattle.imap_hall.specs.Act.TheVariants as act
+use Rattle.imap_hall.specs.Frames.{act_of_command, is_done, rejected}
 use Rattle.imap_commands.specs.Spells.{request_read}
-use Rattle.imap_core.specs.declared.step.Step.{Step}
+use Rattle.imap_hall.specs.Step.{Step}
 use Rattle.imap_hall.specs.declared.error.HallError.{HallError}
 use Rattle.imap_hall.specs.declared.error.HallError.TheVariants as hall
 use Rattle.imap_hall.specs.declared.journal.Receipt.{Receipt}

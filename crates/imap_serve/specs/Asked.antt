@@ -2,9 +2,9 @@
 use Rattle.std.specs.Prelude.{ℕ}
 use Rattle.imap_lex.specs.declared.frame.Frame.{Frame}
 use Rattle.imap_lex.specs.declared.frame.Frame.TheVariants as frame
-use Rattle.imap_core.specs.declared.step.Act.{Act}
-use Rattle.imap_core.specs.declared.step.Act.TheVariants as act
-use Rattle.imap_core.specs.Frames.{act_of_command, rejected}
+use Rattle.imap_hall.specs.Act.{Act}
+use Rattle.imap_hall.specs.Act.TheVariants as act
+use Rattle.imap_hall.specs.Frames.{act_of_command, rejected}
 
 -- a step of the session; a continuation request (RFC 9051, section 7); or the end of a connection whose line or
 -- literal is too long

@@ -2,9 +2,9 @@
 use Rattle.std.specs.Prelude.{⊤, ◌≡◌, ◌&&◌, ◌||◌, ℕ, Bool, true, false, List, [], ◌∷◌, flat_map, if◌then◌else◌}
 use Rattle.std.specs.Prelude.{Option, Some, None}
 use Rattle.std.specs.List.{list_any}
-use Rattle.imap_sessions.specs.declared.session_id.SessionId.{SessionId}
-use Rattle.imap_core.specs.declared.step.Act.{Act}
-use Rattle.imap_core.specs.declared.step.Act.TheVariants as act
+use Rattle.imap_hall.specs.SessionId.{SessionId}
+use Rattle.imap_hall.specs.Act.{Act}
+use Rattle.imap_hall.specs.Act.TheVariants as act
 use Rattle.imap_hall.specs.Journal.{JournalEntry}
 use Rattle.imap_print.specs.declared.response.Farewell.TheVariants.{LimitReached, IdleTooLong}
 use Rattle.imap_print.specs.declared.response.Response.{Response}

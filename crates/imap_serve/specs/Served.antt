@@ -3,9 +3,9 @@ use Rattle.std.specs.Prelude.{⊤, ◌≡◌, ◌⊎◌, ℕ, Bool, true, false,
 use Rattle.std.specs.List.{AllByRecursion}
 use Rattle.std.specs.Io.KnownBytes.{Appends, Consumes, IsAtEnd}
 use Rattle.imap_lex.specs.Framing.{Framing, beginning, run}
-use Rattle.imap_sessions.specs.declared.session_id.SessionId.{SessionId}
-use Rattle.imap_core.specs.declared.step.Act.TheVariants as act
-use Rattle.imap_core.specs.declared.step.Step.{Step}
+use Rattle.imap_hall.specs.SessionId.{SessionId}
+use Rattle.imap_hall.specs.Act.TheVariants as act
+use Rattle.imap_hall.specs.Step.{Step}
 use Rattle.imap_hall.specs.declared.error.HallError.{HallError}
 use Rattle.imap_hall.specs.declared.error.HallError.TheVariants as hall
 use Rattle.imap_hall.specs.declared.journal.Receipt.{Receipt}

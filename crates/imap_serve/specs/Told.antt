@@ -4,8 +4,8 @@ use Rattle.std.specs.List.{AllByRecursion}
 use Rattle.std.specs.Io.KnownBytes.{Appends, Consumes}
 use Rattle.imap_lex.specs.Framing.{Framing, beginning, run}
 use Rattle.imap_dialect.specs.Telling.{Telling}
-use Rattle.imap_sessions.specs.declared.session_id.SessionId.{SessionId}
-use Rattle.imap_core.specs.declared.step.Step.{Step}
+use Rattle.imap_hall.specs.SessionId.{SessionId}
+use Rattle.imap_hall.specs.Step.{Step}
 use Rattle.imap_hall.specs.declared.error.HallError.{HallError}
 use Rattle.imap_hall.specs.Journal.{JournalEntry}
 use Rattle.imap_hall.specs.Receipts.{AreLast}

@@ -1,7 +1,7 @@
 -- What happens in a session over a connection, and the client's frames at which it happens.
 use Rattle.std.specs.Prelude.{⊤, ◌≡◌, ◌⊎◌, ℕ, List, [], ◌∷◌, map, flat_map, Option, Some, None}
 use Rattle.imap_lex.specs.declared.frame.Frame.{Frame}
-use Rattle.imap_core.specs.declared.step.Act.TheVariants as act
+use Rattle.imap_hall.specs.Act.TheVariants as act
 use Rattle.imap_dialect.specs.Telling.{Telling, Exchange, after, all_told}
 use Rattle.imap_serve.specs.Asked.{Asked, step, ask_of}
 use Rattle.imap_serve.specs.Events.{Event, ask_in, replies_of}

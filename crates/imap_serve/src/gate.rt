@@ -3,7 +3,7 @@
 ghost use Rattle.std.specs.Prelude.{◌≡◌, ◌+◌, ◌-◌, ◌^◌, ◌≤◌, min};
 ghost use Rattle.imap_serve.specs.Asked.{max_asks};
 
-use imap_core::SessionId;
+use imap_hall::SessionId;
 
 /// How many times a gate is asked at most. After that the request goes on.
 const MAX_ASKS: u32 = 1000;

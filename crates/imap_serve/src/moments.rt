@@ -1,6 +1,6 @@
 //! The time of day.
 
-use imap_core::Moment;
+use imap_hall::Moment;
 
 /// A clock.
 pub trait Moments {

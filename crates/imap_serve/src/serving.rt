@@ -4,7 +4,7 @@
 //! else. If the room refuses it, the next Open of the session begins it anew.
 
 ghost use Rattle.std.specs.Prelude.{◌≡◌, ◌≤◌, false, IfErr, IfOk, OnErr};
-ghost use Rattle.imap_core.specs.declared.step.Act.TheVariants as specs;
+ghost use Rattle.imap_hall.specs.Act.TheVariants as specs;
 ghost use Rattle.imap_serve.specs.declared.error.End.TheVariants.{Idle};
 ghost use Rattle.imap_serve.specs.Reading.{unasked};
 ghost use Rattle.imap_serve.specs.Served as plain;
@@ -19,9 +19,8 @@ use crate::moments::Moments;
 use crate::talking::talk;
 use crate::telling::Flow;
 use crate::watched::Watched;
-use imap_core::{Act, SessionId, Step};
 use imap_dialect::Dialect;
-use imap_hall::Room;
+use imap_hall::{Act, Room, SessionId, Step};
 use std::alloc::Global;
 use std::io::{Read, Write};
 use std::sync::Wait;

@@ -12,9 +12,8 @@ ghost use Rattle.imap_serve.specs.Served.{IsCausedWriting};
 
 use crate::error::ServeError;
 use crate::watched::{Failed, Watched};
-use imap_core::Act;
 use imap_dialect::Dialect;
-use imap_hall::{Receipt, reply_octets};
+use imap_hall::{Act, Receipt, reply_octets};
 use imap_lex::{Frame, Octets};
 use imap_print::{Pieces, Response};
 use imap_syntax::Items;

@@ -3,8 +3,8 @@
 use crate::connection::{Behaviour, OCTETS, Sink, Source, WHOLE};
 use crate::serving::{IDLE_TICKS, Standing, new_hall, session};
 use crate::wanted::expect;
+use imap_limits::DEFAULT_LIMITS;
 use imap_rev1::Utf7Rev1;
-use imap_script::DEFAULT_LIMITS;
 use imap_serve::{OpenGate, Watched, serve_in};
 use std::alloc::AllocError;
 use std::sync::Wait;

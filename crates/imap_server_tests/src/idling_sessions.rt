@@ -9,7 +9,7 @@ use imap_core::{Act, SessionId};
 use imap_hall::Room;
 use imap_host::{Desk, Host, PARTS, Seat};
 use imap_keeper::{Keeper, ListKeeper};
-use imap_script::DEFAULT_LIMITS;
+use imap_limits::DEFAULT_LIMITS;
 use imap_serve::{End, OpenGate, ServeError, Watched, serve};
 use std::alloc::{AllocError, Global};
 use std::io::{self, ErrorKind, Read};

@@ -9,7 +9,7 @@ use imap_core::SessionId;
 use imap_hall::Entry;
 use imap_host::{Host, PARTS, Seat, SettleError, crew};
 use imap_keeper::{Keeper, ListKeeper};
-use imap_script::DEFAULT_LIMITS;
+use imap_limits::DEFAULT_LIMITS;
 use imap_serve::{Gate, OpenGate};
 use std::marker::Brand;
 use std::rt::Clock;

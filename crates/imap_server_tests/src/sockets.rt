@@ -6,7 +6,7 @@ use crate::hosts::{hall, host, seat};
 use crate::serving::{IDLE_TICKS, Standing};
 use imap_host::{Door, Host, PARTS, Seat, crew};
 use imap_keeper::{Keeper, ListKeeper};
-use imap_script::DEFAULT_LIMITS;
+use imap_limits::DEFAULT_LIMITS;
 use imap_serve::{End, OpenGate, ServeError};
 use std::alloc::{AllocError, Global};
 use std::io::{self, Read, Write};

@@ -7,10 +7,10 @@ use crate::peers::{connection, listener, named, reception, told};
 use crate::wanted::expect;
 use imap_host::{Host, PARTS, Seat};
 use imap_keeper::{Keeper, ListKeeper};
+use imap_limits::DEFAULT_LIMITS;
 use imap_login::Credentials;
 use imap_names::UserName;
 use imap_options::{DialectName, LogLevel};
-use imap_script::DEFAULT_LIMITS;
 use imap_service::{
     ClientDoor, Connection, IdleWakers, Listener, PortDoor, Reception, Report, serve_in,
 };

@@ -1,9 +1,7 @@
 //! Waking workers after changes.
 
 use crate::idle_waker::IdleWakers;
-use imap_core::SessionId;
-use imap_host::ChangeCount;
-use imap_serve::Gate;
+use imap_host::{ChangeCount, Gate, SessionId};
 use std::sync::Wait;
 use std::sync::atomic::{AtomicU64, Ordering};
 

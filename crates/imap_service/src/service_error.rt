@@ -1,8 +1,7 @@
 //! Why serving ends.
 
 use crate::store_table::StoreTable;
-use imap_hall::OpenError;
-use imap_host::SeatError;
+use imap_host::{OpenError, SeatError};
 use imap_keeper::{Damage, KeepError, RowFault};
 use imap_options::SocketPath;
 use std::alloc::{AllocError, AllocFailed};

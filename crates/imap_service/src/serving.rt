@@ -1,7 +1,7 @@
 //! Serving users at ports and socket files.
 
 ghost use Rattle.std.specs.Prelude.{◌≡◌, IfOk};
-ghost use Rattle.imap_hall.specs.Hall.{IsFresh};
+ghost use Rattle.imap_host.specs.Hall.{IsFresh};
 
 use crate::client_door::ClientDoor;
 use crate::idle_ticks::TICKS_PER_SECOND;
@@ -15,8 +15,7 @@ use crate::reporting_keeper::ReportingKeeper;
 use crate::service_error::ServiceError;
 use crate::system_clock::SystemClock;
 use imap_dialect::{Dialect, Standard};
-use imap_hall::Hall;
-use imap_host::{Host, Seat, crew_in};
+use imap_host::{Hall, Host, Seat, crew_in};
 use imap_keeper::Keeper;
 use imap_names::UserName;
 use imap_options::{DialectName, Port, Service};

@@ -1,7 +1,6 @@
 //! The time of day.
 
-use imap_core::Moment;
-use imap_serve::Moments;
+use imap_host::{Moment, Moments};
 use std::rt::Clock;
 use std::time::SystemTime;
 

@@ -1,4 +1,5 @@
 //! The limits of a host, as scripts and command lines give them.
+#![tactic(auto)]
 
 ghost use Rattle.std.specs.Prelude.{◌≤◌, IfSome};
 

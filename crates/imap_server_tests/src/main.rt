@@ -3,7 +3,7 @@
 //! exit statuses of the program.
 //!
 //! They stand in a crate of their own, since a crate that has tests is proved twice: once without and
-//! once with them.
+//! once with them. It is a program, which does nothing, since no library of it is wanted.
 #![tactic(auto)]
 
 #[cfg(test)]
@@ -58,3 +58,5 @@ mod spoken_dialects;
 mod store_refusals;
 #[cfg(test)]
 mod wanted;
+
+fn main() {}
