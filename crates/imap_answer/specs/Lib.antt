@@ -6,3 +6,7 @@ pub mod CommandContext
 pub mod Fit
 pub mod Moment
 pub mod Name
+-- what those above say of what a user sees
+pub use Rattle.imap_view.specs.Readable
+pub use Rattle.imap_view.specs.View
+pub use Rattle.imap_view.specs.declared.readable.Readable as ReadableMailbox

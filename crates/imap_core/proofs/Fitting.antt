@@ -31,8 +31,8 @@ use Rattle.imap_print.specs.declared.response.Response.TheVariants as response
 use Rattle.imap_session.specs.declared.options.NoticeOptions.{NoticeOptions}
 use Rattle.imap_session.specs.Lost.{is_lost}
 use Rattle.imap_session.specs.declared.select.Selecting.{Selecting}
-use Rattle.imap_resync.proofs.Fitting as resync
-use Rattle.imap_resync.specs.Select.{is_malformed, select_with_parameters}
+use Rattle.imap_messages.proofs.SelectFitting as resync
+use Rattle.imap_messages.specs.Select.{is_malformed, select_with_parameters}
 use Rattle.imap_session.specs.State.{Selection, SessionState, both_enabled, selected_name}
 use Rattle.imap_tree.proofs.Fitting as tree
 use Rattle.imap_print.specs.declared.response.Refusal.TheVariants.{Malformed, WrongState}

@@ -21,13 +21,13 @@ use Rattle.imap_session.specs.ByUid.{IsBroughtByUid}
 use Rattle.imap_session.proofs.Kept.{told_is_brought}
 use Rattle.imap_session.specs.declared.options.NoticeOptions.{NoticeOptions}
 use Rattle.imap_session.specs.Lost.{has_other_validity, is_lost, is_lost_selection}
-use Rattle.imap_resync.specs.Select.{is_malformed, lines_if_asked, select_with_parameters, with_lines}
+use Rattle.imap_messages.specs.Select.{is_malformed, lines_if_asked, select_with_parameters, with_lines}
 use Rattle.imap_session.specs.Select.{select_if_named, select_if_readable, selected_as}
 use Rattle.imap_session.specs.Compared.{known_after}
 use Rattle.imap_session.specs.State.{Selection, SessionState, new_session, with_telling}
 use Rattle.imap_session.specs.Telling.{Telling, difference, is_empty, known_with}
 use Rattle.imap_session.specs.Told.{selection_after, selection_telling}
-use Rattle.imap_upcoming.proofs.Reading.{read_of}
+use Rattle.imap_sessions.proofs.Reading.{read_of}
 use Rattle.imap_view.specs.declared.readable.Readable.{Readable}
 use Rattle.imap_view.specs.Readable.{readable_in}
 use Rattle.imap_view.specs.View.{View, view_of}

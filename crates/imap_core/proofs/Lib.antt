@@ -18,3 +18,5 @@ pub mod StepLaws
 pub mod Quotas
 pub mod Steps
 pub mod StepsAlike
+pub use Rattle.imap_sessions.proofs.InStep as SessionsInStep
+pub use Rattle.imap_sessions.proofs.session_id.SessionId.TheSendSync as SessionIdSend

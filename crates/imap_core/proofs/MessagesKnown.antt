@@ -25,7 +25,7 @@ use Rattle.imap_session.proofs.AfterNotices.{notices_tell_selection}
 use Rattle.imap_session.proofs.ByUid.{uids_of}
 use Rattle.imap_session.specs.declared.options.NoticeOptions.{NoticeOptions}
 use Rattle.imap_session.specs.Lost.{has_other_validity, is_lost, is_lost_selection}
-use Rattle.imap_resync.specs.Select.{is_malformed, lines_if_asked, select_with_parameters, with_lines}
+use Rattle.imap_messages.specs.Select.{is_malformed, lines_if_asked, select_with_parameters, with_lines}
 use Rattle.imap_session.specs.Select.{select_if_named, select_if_readable, selected_as}
 use Rattle.imap_session.specs.State.{Selection, SessionState}
 use Rattle.imap_session.specs.Telling.{Telling}
@@ -51,7 +51,7 @@ use Rattle.imap_sessions.proofs.InStep.{grown_by, stays}
 use Rattle.imap_core.proofs.Preparing.{outcome_known}
 use Rattle.imap_core.proofs.Steps.{kept_next, view_in-next}
 use Rattle.imap_sessions.specs.InStep.{IsInStep}
-use Rattle.imap_upcoming.proofs.Reading.{read_of}
+use Rattle.imap_sessions.proofs.Reading.{read_of}
 use Rattle.imap_world.specs.Kept.{AreKept}
 use Rattle.imap_world.specs.World.{World}
 

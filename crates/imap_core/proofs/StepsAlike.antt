@@ -13,7 +13,7 @@ use Rattle.imap_commands.specs.declared.request.Request.TheVariants as request
 use Rattle.imap_print.specs.declared.response.Farewell.TheVariants.{LimitReached}
 use Rattle.imap_print.specs.declared.response.Refusal.TheVariants.{Malformed}
 use Rattle.imap_print.specs.declared.response.Response.TheVariants as response
-use Rattle.imap_resync.specs.Select.{is_malformed, select_with_parameters}
+use Rattle.imap_messages.specs.Select.{is_malformed, select_with_parameters}
 use Rattle.imap_session.specs.Lost.{is_lost}
 use Rattle.imap_session.specs.State.{Selection, SessionState}
 use Rattle.imap_syntax.specs.Moments.{Moment}

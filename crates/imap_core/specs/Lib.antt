@@ -17,3 +17,6 @@ pub mod Same
 pub mod Starting
 pub mod Trace
 pub mod Version
+-- what those above say of sessions
+pub use Rattle.imap_sessions.specs.Accounts
+pub use Rattle.imap_sessions.specs.declared.session_id.SessionId

@@ -18,7 +18,7 @@ use Rattle.imap_print.specs.declared.response.Farewell.TheVariants.{LimitReached
 use Rattle.imap_print.specs.declared.response.Refusal.{Refusal}
 use Rattle.imap_print.specs.declared.response.Refusal.TheVariants.{Limit, Malformed, WrongState}
 use Rattle.imap_session.specs.declared.select.Selecting.{Selecting}
-use Rattle.imap_resync.specs.Select.{is_malformed, select_with_parameters}
+use Rattle.imap_messages.specs.Select.{is_malformed, select_with_parameters}
 use Rattle.imap_session.specs.Lost.{is_lost}
 use Rattle.imap_session.specs.State.{Selection, SessionState}
 use Rattle.imap_view.specs.declared.readable.Readable.{Readable}

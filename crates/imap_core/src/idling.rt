@@ -8,7 +8,7 @@ ghost use Rattle.imap_print.specs.declared.response.Response.TheVariants as resp
 ghost use Rattle.imap_print.specs.declared.response.Refusal.TheVariants.{Malformed};
 ghost use Rattle.imap_session.specs.State.{IsTellingFor, state_of};
 ghost use Rattle.imap_session.specs.Told.{IsInStepIfSelected};
-ghost use Rattle.imap_upcoming.specs.Readable.{readable};
+ghost use Rattle.imap_sessions.specs.Readable.{readable};
 ghost use Rattle.imap_view.specs.View.{view_of};
 ghost use Rattle.imap_world.specs.Stored.{world_of};
 ghost use Rattle.imap_sessions.specs.Notices as specs;
@@ -22,8 +22,9 @@ use imap_answer::refused_line;
 use imap_lex::Tag;
 use imap_print::{EnabledCapabilities, Refusal, Response};
 use imap_session::{KnownUpdate, NoticeOptions, Session, SessionNotices};
-use imap_sessions::{PlannedChange, SessionEffect, mailbox_left, notices_of_mailbox, noting};
-use imap_upcoming::Upcoming;
+use imap_sessions::{
+    PlannedChange, SessionEffect, Upcoming, mailbox_left, notices_of_mailbox, noting,
+};
 use std::alloc::{AllocError, Global};
 
 /// A step of an IDLE, before notices are added.

@@ -83,7 +83,7 @@ pub fn steps_are_alike()
     imap_copies::laws::commands_are_alike();
     imap_list::laws::commands_are_alike();
     imap_messages::laws::commands_are_alike();
-    imap_resync::laws::commands_are_alike();
+    imap_messages::select_laws::commands_are_alike();
     imap_search::laws::commands_are_alike();
     imap_tree::laws::commands_are_alike();
 }

@@ -151,15 +151,19 @@ impl Core {
     pub fn try_copy(&self, alloc: Global) -> Result<Core, AllocError>
         ensures { IfOk result (λ copy. copy.state ≡ self.now.state) }
     {
+        let groups = self.site.groups.try_copy()?;
+        let (administrator, groups) = beside(self.site.administrator.try_copy(), groups)?;
         let site = Site {
-            administrator: self.site.administrator.try_copy()?,
+            administrator,
             limits: self.site.limits,
-            groups: self.site.groups.try_copy()?,
+            groups,
         };
+        let (world, site) = beside(self.world.try_copy(alloc), site)?;
+        let (accounts, (world, site)) = beside(self.accounts.try_copy(alloc), (world, site))?;
         Ok(Core {
             site,
-            world: self.world.try_copy(alloc)?,
-            accounts: self.accounts.try_copy(alloc)?,
+            world,
+            accounts,
         })
     }
 

@@ -6,4 +6,4 @@ pub mod Refusing
 pub mod Stepped
 pub mod Users
 pub use Rattle.imap_core.proofs.machine.Core.TheSendSync as CoreSend
-pub use Rattle.imap_sessions.proofs.session_id.SessionId.TheSendSync as SessionIdSend
+pub use Rattle.imap_core.proofs.SessionIdSend

@@ -2,7 +2,7 @@
 use Rattle.std.proofs.Common.{◌≡◌, ◌∙◌, ◌⊎◌, ◌↔◌, ◌+◌, inl, inr, sym, ap, ℕ, List, [], ◌∷◌, Ok, Err, Result, IfErr, IfOk, IsErrOf, OnErr, OnOk, length, length-append, arith}
 use Rattle.imap_core.specs.declared.step.Step.{Step}
 use Rattle.imap_core.specs.Machine.{State, outcome}
-use Rattle.imap_sessions.proofs.InStep.{one_is_apart}
+use Rattle.imap_core.proofs.SessionsInStep.{one_is_apart}
 use Rattle.imap_core.proofs.Starting.{admission_apart}
 use Rattle.imap_core.specs.Opening.{admission}
 use Rattle.imap_answer.specs.Alike.{effects_of}

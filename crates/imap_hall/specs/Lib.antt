@@ -13,4 +13,4 @@ pub use Rattle.imap_core.specs.declared.step.Act
 pub use Rattle.imap_core.specs.declared.step.Step
 pub use Rattle.imap_core.specs.contracts.step.Act as ActType
 pub use Rattle.imap_core.specs.contracts.step.Step as StepType
-pub use Rattle.imap_sessions.specs.declared.session_id.SessionId
+pub use Rattle.imap_core.specs.SessionId

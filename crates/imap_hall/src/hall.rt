@@ -2,7 +2,7 @@
 
 ghost use Rattle.std.specs.Prelude.{◌≡◌, ◌+◌, ◌↔◌, is_some, length, map};
 ghost use Rattle.std.specs.Prelude.{IfErr, IfOk, IsErrOf, OnErr, OnOk};
-ghost use Rattle.imap_sessions.specs.Accounts.{session_at};
+ghost use Rattle.imap_core.specs.Accounts.{session_at};
 ghost use Rattle.imap_core.specs.Opening.{state_at_start};
 ghost use Rattle.imap_core.specs.Version.{version_in};
 ghost use Rattle.imap_world.specs.World.{World as Mailboxes};

@@ -4,8 +4,8 @@ use Rattle.std.proofs.Common.{◌≡◌, ◌∙◌, ◌↔◌, ◌⊎◌, ℕ, �
 use Rattle.std.proofs.lemmas.Bool.{le-leb}
 use Rattle.std.proofs.lemmas.Bool.Decides.{leb_tells}
 use Rattle.imap_host.specs.declared.seat.Kept.{Kept}
-use Rattle.imap_hall.specs.SessionId.{SessionId}
-use Rattle.imap_hall.specs.Journal.{JournalEntry}
+use Rattle.imap_serve.specs.SessionId.{SessionId}
+use Rattle.imap_serve.specs.Journal.{JournalEntry}
 use Rattle.imap_host.specs.Settling.{AreOfEntries, IsOfEntry, Rise, since}
 
 -- of all receipts since the base these are left, after one at this place and so many

@@ -2,11 +2,11 @@
 use Rattle.std.proofs.Common.{◌≡◌, ◌∙◌, inl, inr, sym, ap, refl, subst, ℕ, ◌<◌, ◌≤◌, Bool, true, false, true≢false, List, [], ◌∷◌, ◌++◌, drop, length, map, nat_le, if◌then◌else◌, Option, Some, None, append_assoc, arith}
 use Rattle.std.proofs.lemmas.List.{map-append}
 use Rattle.std.specs.Prelude.{option_to_list}
-use Rattle.imap_hall.specs.Step.{Step}
-use Rattle.imap_hall.specs.declared.journal.Receipt.{Receipt}
-use Rattle.imap_hall.specs.Hall.{entry_of}
-use Rattle.imap_hall.specs.Journal.{JournalEntry}
-use Rattle.imap_hall.specs.Receipts.{AreLast, IsNewest}
+use Rattle.imap_serve.specs.Step.{Step}
+use Rattle.imap_serve.specs.Receipt.{Receipt}
+use Rattle.imap_serve.specs.Hall.{entry_of}
+use Rattle.imap_serve.specs.Journal.{JournalEntry}
+use Rattle.imap_serve.specs.Receipts.{AreLast, IsNewest}
 use Rattle.imap_host.specs.declared.seat.Kept.{Kept}
 use Rattle.imap_host.specs.Seats.{IsReceipt, LetsGo, Remembers, begins_before, but_newest, from_base, has_more_before, kept_entry}
 

@@ -1,7 +1,7 @@
 -- Seats that are compared one after the other.
 use Rattle.std.proofs.Common.{◌≡◌, ◌↔◌, ℕ, ◌+◌, ◌-◌, ◌<◌, ◌≤◌, List, [], ◌∷◌, refl, subst, length, max, arith}
 use Rattle.std.proofs.lemmas.List.Sums.{sum_by-cons}
-use Rattle.imap_hall.specs.Journal.{JournalEntry}
+use Rattle.imap_serve.specs.Journal.{JournalEntry}
 use Rattle.imap_host.specs.Settling.{AreEachSettled, AreSettled, IsSettled, SeatNotes, last_base, receipts_since, since}
 
 -- of all seats these are left: so many entries have no receipt yet, and this is the greatest base so far

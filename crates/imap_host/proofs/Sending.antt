@@ -42,16 +42,16 @@ use Rattle.imap_commands.proofs.commands.store.StoreSpec.TheSendSync.{the_send a
 use Rattle.imap_commands.specs.contracts.command.Command.{the_type as command_type, the_field as command_field}
 use Rattle.imap_commands.specs.contracts.request.Request.{the_field as request_field, the_type as request_type}
 use Rattle.imap_answer.proofs.moment.Moment.TheSendSync.{the_send as moment_send}
-use Rattle.imap_hall.proofs.CoreSend.{the_send as core_send}
-use Rattle.imap_hall.proofs.SessionIdSend.{the_send as session_send}
-use Rattle.imap_hall.specs.ActType.{the_row as act_row, the_type as act_type}
-use Rattle.imap_hall.specs.StepType.{the_row as step_row, the_type as step_type}
-use Rattle.imap_hall.proofs.own_counts.OwnCounts.TheSendSync.{the_send as own_counts_send}
+use Rattle.imap_serve.proofs.CoreSend.{the_send as core_send}
+use Rattle.imap_serve.proofs.SessionIdSend.{the_send as session_send}
+use Rattle.imap_serve.specs.ActType.{the_row as act_row, the_type as act_type}
+use Rattle.imap_serve.specs.StepType.{the_row as step_row, the_type as step_type}
+use Rattle.imap_serve.proofs.OwnCountsSend.{the_send as own_counts_send}
 use Rattle.imap_keeper.specs.declared.keeper.Keeper as keeper
-use Rattle.imap_hall.specs.contracts.hall.Hall.{the_row as hall_row}
-use Rattle.imap_hall.specs.contracts.journal.Entry.{the_row as entry_row, the_type as entry_type}
-use Rattle.imap_hall.proofs.journal.Receipt.TheSendSync.{the_send as receipt_send}
-use Rattle.imap_hall.proofs.shared_replies.SharedReplies.TheSendSync.{the_send as shared_replies_send}
+use Rattle.imap_serve.specs.HallType.{the_row as hall_row}
+use Rattle.imap_serve.specs.EntryType.{the_row as entry_row, the_type as entry_type}
+use Rattle.imap_serve.proofs.ReceiptSend.{the_send as receipt_send}
+use Rattle.imap_serve.proofs.SharedRepliesSend.{the_send as shared_replies_send}
 use Rattle.imap_host.specs.contracts.host_state.HostState.{the_row as host_state_row, the_type as host_state_type}
 use Rattle.imap_host.specs.contracts.host.Host.{the_row as host_row}
 use Rattle.imap_host.specs.contracts.seat.Kept.{the_row as kept_row, the_type as kept_type}

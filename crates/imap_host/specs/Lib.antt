@@ -2,4 +2,4 @@
 pub mod Seats
 pub mod Settling
 -- what those above say of halls
-pub use Rattle.imap_hall.specs.Hall
+pub use Rattle.imap_serve.specs.Hall

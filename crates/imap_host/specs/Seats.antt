@@ -1,11 +1,11 @@
 -- What a seat keeps of what it was given.
 use Rattle.std.specs.Prelude.{◌≡◌, ◌⊎◌, ℕ, Bool, false, List, [], ◌∷◌, ◌++◌, Option, Some, None, nat_le, if◌then◌else◌}
 use Rattle.std.specs.FinMap as map
-use Rattle.imap_hall.specs.Step.{Step}
-use Rattle.imap_hall.specs.declared.journal.Receipt.{Receipt}
-use Rattle.imap_hall.specs.Hall.{entry_of}
-use Rattle.imap_hall.specs.Journal.{JournalEntry}
-use Rattle.imap_hall.specs.Receipts.{IsSameReceipt}
+use Rattle.imap_serve.specs.Step.{Step}
+use Rattle.imap_serve.specs.Receipt.{Receipt}
+use Rattle.imap_serve.specs.Hall.{entry_of}
+use Rattle.imap_serve.specs.Journal.{JournalEntry}
+use Rattle.imap_serve.specs.Receipts.{IsSameReceipt}
 use Rattle.imap_host.specs.declared.seat.Kept.{Kept}
 use Rattle.imap_user_map.specs.Rows.{Users}
 

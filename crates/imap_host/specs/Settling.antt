@@ -1,7 +1,7 @@
 -- When a journal and what the seats keep say the same.
 use Rattle.std.specs.Prelude.{◌≡◌, ℕ, ◌-◌, ◌<◌, List, [], ◌∷◌, Some, ⊤, length, max, nat_le, if◌then◌else◌, slice_get, sum_by}
-use Rattle.imap_hall.specs.SessionId.{SessionId}
-use Rattle.imap_hall.specs.Journal.{JournalEntry}
+use Rattle.imap_serve.specs.SessionId.{SessionId}
+use Rattle.imap_serve.specs.Journal.{JournalEntry}
 use Rattle.imap_host.specs.declared.seat.Kept.{Kept}
 use Rattle.imap_host.specs.declared.seat.Seat.{Seat}
 use Rattle.imap_host.specs.Seats.{kept_entry}

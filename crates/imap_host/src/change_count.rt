@@ -4,7 +4,7 @@
 //! idling sessions would have each other polled for ever.
 
 use crate::telling::may_tell;
-use imap_hall::Act;
+use imap_serve::Act;
 use std::sync::atomic::{AtomicU64, Ordering};
 
 /// Counts the steps after which sessions may be told something. It is a hint.

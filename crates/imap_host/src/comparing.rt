@@ -1,12 +1,12 @@
 //! Journals are compared with the receipts that seats keep.
 
 ghost use Rattle.std.specs.Prelude.{◌≡◌, ◌↔◌, ◌<◌, IfSome, IsNone, IsTrue, length, map};
-ghost use Rattle.imap_hall.specs.Hall.{journal_entry};
+ghost use Rattle.imap_serve.specs.Hall.{journal_entry};
 ghost use Rattle.imap_host.specs.Seats.{kept_entry};
 ghost use Rattle.imap_host.specs.Settling.{AreSettled, IsOfEntry, IsSettled, notes_of, since};
 
 use crate::seat::{Kept, Seat};
-use imap_hall::{Entry, SessionId};
+use imap_serve::{Entry, SessionId};
 use imap_syntax::are_same;
 use std::collections::VecDeque;
 use std::sync::ledger::Ledger;

@@ -5,8 +5,8 @@ ghost use Rattle.imap_host.specs.Seats.{LetsGo};
 
 use crate::host::Host;
 use crate::seat::Seat;
-use imap_hall::{HallError, Receipt, Room, Step};
 use imap_keeper::Keeper;
+use imap_serve::{HallError, Receipt, Room, Step};
 use std::alloc::Global;
 use std::sync::Wait;
 use std::sync::ledger::Ledger;

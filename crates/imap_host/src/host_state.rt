@@ -1,12 +1,12 @@
 //! The state of a host, which lies under its lock.
 
 ghost use Rattle.std.specs.Prelude.{◌≡◌, ◌+◌, ◌↔◌, ◌<◌, ◌≤◌, [], length, IfOk, IsTrue, OnErr, OnOk};
-ghost use Rattle.imap_hall.specs.Hall.{HasStepped, IsBaseOf, IsTurnedOver, IsUntouched};
-ghost use Rattle.imap_hall.specs.Receipts.{IsSameReceipt};
+ghost use Rattle.imap_serve.specs.Hall.{HasStepped, IsBaseOf, IsTurnedOver, IsUntouched};
+ghost use Rattle.imap_serve.specs.Receipts.{IsSameReceipt};
 
 use crate::host::PARTS;
-use imap_hall::{Hall, HallError, OldBase, Receipt, Step};
 use imap_keeper::Keeper;
+use imap_serve::{Hall, HallError, OldBase, Receipt, Step};
 use std::alloc::{AllocError, Global};
 use std::sync::ledger::{Blank, Book, Ledger, Share};
 

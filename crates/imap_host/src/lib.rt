@@ -1,6 +1,6 @@
 //! Sessions of many users side by side over one hall.
 //!
-//! A [`Host`] has its [`Hall`](imap_hall::Hall) under a lock, which is held for the length of one step. Each
+//! A [`Host`] has its [`Hall`] under a lock, which is held for the length of one step. Each
 //! session has a [`Seat`], which keeps its receipts. [`crew`] runs a worker for each seat, which serves the
 //! connections that come through a door, one after the other. [`Host::settle`] ends a host with all its seats, if
 //! the journal and the receipts say the same.
@@ -23,8 +23,7 @@ pub use desk::Desk;
 pub use door::Door;
 pub use host::{Host, OpenHost, PARTS};
 pub use host_state::{HostState, ReceiptPair};
-pub use imap_hall::{Hall, Moment, OpenError, SessionId};
-pub use imap_serve::{End, Gate, Moments, ServeError};
+pub use imap_serve::{End, Gate, Hall, Moment, Moments, OpenError, ServeError, SessionId};
 pub use seat::{Kept, Seat, SeatError};
 pub use settling::SettleError;
 pub use workers::{CrewError, crew, crew_in};

@@ -6,8 +6,8 @@ ghost use Rattle.imap_host.specs.Seats.{last_of};
 
 use crate::host::PARTS;
 use crate::seat::SeatError;
-use imap_hall::{SessionId, SessionNumber};
 use imap_names::UserName;
+use imap_serve::{SessionId, SessionNumber};
 use imap_user_map::UserMap;
 use std::alloc::Global;
 

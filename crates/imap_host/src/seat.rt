@@ -8,7 +8,7 @@ ghost use Rattle.std.specs.Prelude.{◌≡◌, ◌≤◌, []};
 ghost use Rattle.std.specs.VecDeque.{deque_capacity, deque_len};
 ghost use Rattle.imap_host.specs.Seats.{begins_before, but_newest, from_base, has_more_before};
 
-use imap_hall::{Receipt, SessionId, Step};
+use imap_serve::{Receipt, SessionId, Step};
 use std::alloc::{AllocError, Global};
 use std::collections::VecDeque;
 use std::sync::ledger::{Ledger, Share};

@@ -8,8 +8,8 @@ use crate::comparing::are_settled;
 use crate::host::{Host, OpenHost, PARTS};
 use crate::host_state::HostState;
 use crate::seat::Seat;
-use imap_hall::Hall;
 use imap_keeper::Keeper;
+use imap_serve::Hall;
 use std::sync::ledger::{Ledger, Share};
 use thiserror::Error;
 

@@ -1,8 +1,8 @@
 //! Steps after which sessions may be told something.
 
 use imap_grammar::{Command, Request};
-use imap_hall::Act;
 use imap_query::FetchItem;
+use imap_serve::Act;
 
 /// Whether sessions may be told something after this act. It is a hint.
 pub(crate) fn may_tell(act: &Act) -> bool {

@@ -14,6 +14,7 @@ mod ordered;
 mod shown_name;
 mod view_names;
 
+pub use imap_answer::{Answer, CommandContext, Readable, View, missing_right_refusal};
 pub use line::{Line, list_line};
 pub use listing::{list, list_subscribed};
 pub use one_line::mailbox_line;

@@ -21,6 +21,10 @@ mod watched;
 
 pub use error::{End, ServeError};
 pub use gate::{Gate, OpenGate};
+pub use imap_hall::{
+    Act, Entry, Hall, HallError, MailboxVersion, Moment, OldBase, OpenError, Receipt, Room,
+    SessionId, SessionNumber, SharedReplies, Step, entry_octets,
+};
 pub use moments::Moments;
 pub use serving::serve_in;
 pub use standard::serve;

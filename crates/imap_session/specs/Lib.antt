@@ -15,3 +15,5 @@ pub mod Shared
 pub mod State
 pub mod Telling
 pub mod Told
+-- what a command on messages says of its answer
+pub use Rattle.imap_listing.specs.Fit

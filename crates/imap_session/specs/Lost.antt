@@ -1,8 +1,8 @@
 -- A session that has lost its mailbox.
 use Rattle.std.specs.Prelude.{ℕ, Bool, true, false, not, ◌==◌, Option, Some, None}
-use Rattle.imap_view.specs.declared.readable.Readable.{Readable}
-use Rattle.imap_view.specs.Readable.{readable_in}
-use Rattle.imap_view.specs.View.{View}
+use Rattle.imap_listing.specs.ReadableMailbox.{Readable}
+use Rattle.imap_listing.specs.Readable.{readable_in}
+use Rattle.imap_listing.specs.View.{View}
 use Rattle.imap_session.specs.State.{Selection, SessionState}
 
 abbrev pub has_other_validity : (validity : ℕ) → Option Readable → Bool

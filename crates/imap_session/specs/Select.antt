@@ -1,9 +1,9 @@
 -- SELECT and EXAMINE (RFC 9051, sections 6.3.2 and 6.3.3).
 use Rattle.std.specs.Prelude.{ℕ, Bool, not, ◌&&◌, ◌||◌, List, [], ◌∷◌, length}
 use Rattle.std.specs.Prelude.{Option, Some, None, if◌then◌else◌}
-use Rattle.imap_answer.specs.Access.{missing_right_refusal}
-use Rattle.imap_answer.specs.Answer.{carried_out, preceded_by, refusal}
-use Rattle.imap_answer.specs.Name.{name_of_text}
+use Rattle.imap_listing.specs.Access.{missing_right_refusal}
+use Rattle.imap_listing.specs.Answer.{carried_out, preceded_by, refusal}
+use Rattle.imap_listing.specs.Name.{name_of_text}
 use Rattle.imap_listing.specs.MailboxLine.{mailbox_line}
 use Rattle.imap_mailbox.specs.Lent.{row_uids}
 use Rattle.imap_mailbox.specs.Rows.{Row}
@@ -17,9 +17,9 @@ use Rattle.imap_print.specs.declared.response.Response.{Response}
 use Rattle.imap_print.specs.declared.response.Response.TheVariants as response
 use Rattle.imap_rights.specs.Rights.{has_any, no_rights, seen, write, insert, delete_messages, expunge}
 use Rattle.imap_syntax.specs.Keywords.{with_words}
-use Rattle.imap_view.specs.declared.readable.Readable.{Readable}
-use Rattle.imap_view.specs.Readable.{readable_in}
-use Rattle.imap_view.specs.View.{View, rights_in}
+use Rattle.imap_listing.specs.ReadableMailbox.{Readable}
+use Rattle.imap_listing.specs.Readable.{readable_in}
+use Rattle.imap_listing.specs.View.{View, rights_in}
 use Rattle.imap_session.specs.declared.select.Selecting.{Selecting}
 use Rattle.imap_session.specs.State.{Selection, SessionState}
 

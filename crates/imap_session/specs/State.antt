@@ -2,7 +2,7 @@
 use Rattle.std.specs.Prelude.{ℕ, ◌≤◌, Bool, ◌||◌, List, Option, Some, None, option_map, refl}
 use Rattle.std.specs.Coded.{Coded, code_by, coded×, coded_ℕ, coded_bool, coded_list, coded_option}
 use Rattle.imap_print.specs.contracts.enabled.EnabledCapabilities as enabled
-use Rattle.imap_answer.specs.Answer.{nothing_enabled}
+use Rattle.imap_listing.specs.Answer.{nothing_enabled}
 use Rattle.imap_names.specs.Name.{Name}
 use Rattle.imap_print.specs.declared.enabled.EnabledCapabilities.{EnabledCapabilities}
 use Rattle.imap_session.specs.declared.session.Selected.{Selected}

@@ -7,7 +7,7 @@ use Rattle.imap_mailbox.specs.Order.{AreAtMost}
 use Rattle.imap_mailbox.specs.Rows.{Row}
 use Rattle.imap_mailbox.specs.Shown.{Content}
 use Rattle.imap_names.specs.Name.{Name}
-use Rattle.imap_view.specs.declared.readable.Readable.{Readable}
+use Rattle.imap_listing.specs.ReadableMailbox.{Readable}
 use Rattle.imap_session.specs.declared.options.NoticeOptions.{NoticeOptions}
 use Rattle.imap_session.specs.Held.{uid_limit}
 use Rattle.imap_session.specs.InStep.{IsInStep}

@@ -5,7 +5,7 @@ ghost use Rattle.imap_session.specs.Lost as specs;
 ghost use Rattle.imap_session.specs.State.{state_of};
 
 use crate::session::Session;
-use imap_view::View;
+use imap_listing::View;
 
 impl Session {
     /// Whether the user may not read the selected mailbox any more, or another one has its name.

@@ -2,7 +2,7 @@
 
 ghost use Rattle.std.specs.Prelude.{◌≡◌, length, Some, IfOk, OnOk};
 ghost use Rattle.std.specs.List.{AllByRecursion};
-ghost use Rattle.imap_answer.specs.Answer.{preceded_by};
+ghost use Rattle.imap_listing.specs.Answer.{preceded_by};
 ghost use Rattle.imap_mailbox.specs.Lent.{row_uids};
 ghost use Rattle.imap_mailbox.specs.Order.{AreRowsInOrder};
 ghost use Rattle.imap_mailbox.specs.Rows.{first_uid};
@@ -12,15 +12,14 @@ ghost use Rattle.imap_rights.specs.Rights.{bits};
 ghost use Rattle.imap_session.specs.Select as specs;
 ghost use Rattle.imap_session.specs.State.{state_of};
 ghost use Rattle.imap_syntax.specs.Keywords.{with_words};
-ghost use Rattle.imap_view.specs.Readable.{readable_in};
+ghost use Rattle.imap_listing.specs.Readable.{readable_in};
 
 use crate::known_list::KnownList;
 use crate::selection::NewSelection;
 use crate::session::{Selected, Session};
 use bitflags::Flags;
-use imap_answer::{Answer, CommandContext, missing_right_refusal};
 use imap_lex::Octets;
-use imap_listing::mailbox_line;
+use imap_listing::{Answer, CommandContext, Readable, mailbox_line, missing_right_refusal};
 use imap_mailbox::Rows;
 use imap_names::Name;
 use imap_print::{
@@ -29,7 +28,6 @@ use imap_print::{
 use imap_rights::Rights;
 use imap_syntax::Keywords;
 use imap_values::{TryCopy, beside};
-use imap_view::Readable;
 use std::alloc::{AllocError, Global};
 
 /// What a command that selects a mailbox is answered, and what is selected afterwards.

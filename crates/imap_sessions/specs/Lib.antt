@@ -5,3 +5,5 @@ pub mod InStep
 pub mod Notices
 pub mod Planned
 pub mod Sessions
+-- what a machine says of the mailboxes that a change leaves
+pub use Rattle.imap_upcoming.specs.Readable

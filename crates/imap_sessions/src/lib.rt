@@ -13,6 +13,7 @@ mod open_session;
 mod session_id;
 mod sessions;
 
+pub use imap_upcoming::Upcoming;
 pub use notices::{
     PlannedChange, mailbox_left, may_tell_expunges, notices_of, notices_of_mailbox, noting,
 };

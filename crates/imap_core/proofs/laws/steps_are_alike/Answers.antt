@@ -14,7 +14,7 @@ use Rattle.imap_core.proofs.StepsAlike.{alike_on, alone}
 use Rattle.imap_core.proofs.laws.steps_are_alike.Goals as goal
 
 -- by the laws of the crates of commands, in the order of their calls: imap_changes, imap_copies, imap_list, imap_messages,
--- imap_resync, imap_search and imap_tree
+-- SELECT, imap_search and imap_tree
 pub returns : goal.returns
 returns c = alike_on commands c.commands_are_alike-5.ensures c.commands_are_alike.ensures.close
   where

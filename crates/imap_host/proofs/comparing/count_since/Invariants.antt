@@ -1,6 +1,6 @@
 use Rattle.std.proofs.Common.{map}
 use Rattle.std.specs.VecDeque.Iter.{deque_iter_rest}
-use Rattle.imap_hall.specs.Hall.{journal_entry}
+use Rattle.imap_serve.specs.Hall.{journal_entry}
 use Rattle.imap_host.specs.Settling.{since}
 use Rattle.imap_host.proofs.Counted.{IsCounted}
 use Rattle.imap_host.proofs.comparing.count_since.Given as goal

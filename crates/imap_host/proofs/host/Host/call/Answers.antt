@@ -1,6 +1,6 @@
 use Rattle.std.proofs.Common.{rules, ◌∙◌, ap, sym, subst, [], ◌∷◌, ◌++◌}
 use Rattle.imap_host.specs.declared.seat.Kept.{Kept}
-use Rattle.imap_hall.specs.Receipts.{IsSameReceipt}
+use Rattle.imap_serve.specs.Receipts.{IsSameReceipt}
 use Rattle.imap_host.specs.Seats.{from_base}
 use Rattle.imap_host.proofs.host.Host.call.Goals as goal
 
