@@ -16,9 +16,10 @@ use Rattle.imap_targets.specs.MessageNumbers.{row_with}
 use Rattle.imap_session.specs.State.{Selection}
 use Rattle.imap_changes.specs.declared.store_outcome.StoreOutcome.{StoreOutcome}
 use Rattle.imap_changes.specs.Laws.{SkippedMessagesStay}
-use Rattle.imap_changes.specs.Store.{is_skipped, marks_of, number_with, stored_all, stored_if_named, stored_of, unskipped, was_changed}
+use Rattle.imap_changes.specs.Store.{marks_of, number_with, stored_all, stored_if_named, stored_of}
 use Rattle.imap_changes.proofs.StoreFitting.{marks_known}
 use Rattle.imap_changes.proofs.ToldLeft.{rows_after}
+use Rattle.imap_targets.specs.UnchangedSince.{is_skipped, unskipped, was_changed}
 
 both_false : (a b : Bool) → (a || b) ≡ false → (a ≡ false) × (b ≡ false)
 both_false true b e = absurd (cc e)

@@ -28,10 +28,12 @@ use Rattle.imap_world.specs.declared.effect.Effect.{Effect}
 use Rattle.imap_targets.specs.declared.message_numbers.Numbered.{Numbered}
 use Rattle.imap_targets.specs.Left.{events_left}
 use Rattle.imap_targets.specs.MessageNumbers.{has_known_numbers, is_by_uid, is_refused, is_saved}
+use Rattle.imap_targets.specs.NewFlags.{storing_rights}
 use Rattle.imap_targets.proofs.Possible.{known_more, may_change, rows_rise}
 use Rattle.imap_changes.specs.declared.store_outcome.StoreOutcome.{StoreOutcome}
 use Rattle.imap_targets.specs.Effects.{marking_effect}
-use Rattle.imap_changes.specs.Store.{StoreArguments, are_many, enabled_by, event_count, flag_changes, full_line, lacks_changes, lacks_right, line_of, lines_from, marks_of, message_after, messages_of, modified_code, number_with, short_line, skipped_numbers, store_answer, store_events, store_if_readable, store_if_selected, store_unskipped, stored_all, stored_if_named, stored_of, storing_rights, tells_mod_seq, unskipped}
+use Rattle.imap_changes.specs.Store.{StoreArguments, are_many, enabled_by, event_count, flag_changes, full_line, lacks_changes, lacks_right, line_of, lines_from, marks_of, message_after, messages_of, modified_code, number_with, short_line, store_answer, store_events, store_if_readable, store_if_selected, store_unskipped, stored_all, stored_if_named, stored_of, tells_mod_seq}
+use Rattle.imap_targets.specs.UnchangedSince.{skipped_numbers, unskipped}
 
 -- ---- marks of messages
 

@@ -20,8 +20,8 @@ use Rattle.imap_targets.specs.Left.{events_left}
 use Rattle.imap_targets.specs.MessageNumbers.{last_of, row_with}
 use Rattle.imap_view.specs.declared.readable.Readable.{Readable}
 use Rattle.imap_changes.specs.Expunge.{expunged_uids, is_wanted}
-use Rattle.imap_changes.specs.Store.{full_line, is_skipped, lines_from, marks_of, number_with, seen_changes, stored_all}
-use Rattle.imap_changes.specs.Store.{unskipped}
+use Rattle.imap_changes.specs.Store.{full_line, lines_from, marks_of, number_with, seen_changes, stored_all}
+use Rattle.imap_targets.specs.UnchangedSince.{is_skipped, unskipped}
 
 -- ---- EXPUNGE
 

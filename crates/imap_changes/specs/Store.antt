@@ -1,6 +1,6 @@
 -- STORE and UID STORE (RFC 9051, sections 6.4.6 and 6.4.9; RFC 4314, section 4; RFC 7162, section 3.1.3).
 use Rattle.std.specs.Prelude.{ℕ, ◌+◌, ◌==◌, nat_lt, Bool, true, false, not, ◌&&◌, ◌||◌, List, [], ◌∷◌, ◌++◌}
-use Rattle.std.specs.Prelude.{filter, length, map, Option, Some, None, is_some, option_map, if◌then◌else◌}
+use Rattle.std.specs.Prelude.{length, map, Option, Some, None, is_some, option_map, if◌then◌else◌}
 use Rattle.std.specs.List.{list_any}
 use Rattle.imap_answer.specs.Answer.{Answer, carried_out, enabling, refusal, telling}
 use Rattle.imap_batch.specs.declared.batch.FlagUpdate.{FlagUpdate}
@@ -21,7 +21,7 @@ use Rattle.imap_print.specs.declared.response.Refusal.TheVariants.{Cannot, Expun
 use Rattle.imap_print.specs.declared.response.Response.{Response}
 use Rattle.imap_print.specs.declared.response.Response.TheVariants as response
 use Rattle.imap_print.specs.Sets.{set_of}
-use Rattle.imap_rights.specs.Rights.{delete_messages, has_any, no_rights, seen, union, write}
+use Rattle.imap_rights.specs.Rights.{delete_messages, has_any, seen, union, write}
 use Rattle.imap_session.specs.Notices.{notice_items}
 use Rattle.imap_session.specs.State.{Selection, SessionState}
 use Rattle.imap_syntax.specs.declared.flag.Flag.{Flag}
@@ -30,13 +30,14 @@ use Rattle.imap_syntax.specs.declared.set.MessageSet.{MessageSet}
 use Rattle.imap_syntax.specs.declared.set.Numbering.{Numbering}
 use Rattle.imap_view.specs.declared.readable.Readable.{Readable}
 use Rattle.imap_view.specs.Readable.{readable_in}
-use Rattle.imap_view.specs.View.{View, rights_in}
+use Rattle.imap_view.specs.View.{View}
 use Rattle.imap_targets.specs.Effects.{marking_effect}
 use Rattle.imap_targets.specs.Left.{lacks_events}
 use Rattle.imap_changes.specs.declared.store_outcome.StoreOutcome.{StoreOutcome}
 use Rattle.imap_targets.specs.declared.message_numbers.Numbered.{Numbered}
-use Rattle.imap_targets.specs.MessageNumbers.{has_known_numbers, is_by_uid, is_refused, is_saved, messages_named, number_by, ranges_of, row_with}
-use Rattle.imap_targets.specs.NewFlags.{is_seen, right_for, with_permitted}
+use Rattle.imap_targets.specs.MessageNumbers.{has_known_numbers, is_by_uid, is_refused, is_saved, messages_named, ranges_of}
+use Rattle.imap_targets.specs.NewFlags.{is_seen, right_for, storing_rights, with_permitted}
+use Rattle.imap_targets.specs.UnchangedSince.{skipped_numbers, unskipped}
 
 -- the arguments of STORE
 pub record StoreArguments : Type 0 where
@@ -45,10 +46,6 @@ pub record StoreArguments : Type 0 where
   pub spec : StoreSpec
 
 -- ---- rights: `s` is needed for \Seen, `t` for \Deleted, and `w` for all others
-
--- those on the selected mailbox. None is held in one that is examined
-abbrev pub storing_rights : View → Selection → ℕ
-storing_rights view s = if s.read_only then no_rights else rights_in view s.name
 
 abbrev pub may_store : (rights : ℕ) → Bool
 may_store rights = has_any rights (union seen (union delete_messages write))
@@ -104,27 +101,6 @@ seen_if_permitted rights change flags is =
     if has_any rights seen then seen_changed change (list_any is_seen flags) is else is
 
 -- ---- UNCHANGEDSINCE (RFC 7162, section 3.1.3)
-
--- the message is there, and its mod-sequence is greater than the number
-abbrev pub is_later : (since : ℕ) → Option Row → Bool
-is_later since None = false
-is_later since (Some row) = nat_lt since row.number
-
-abbrev pub was_changed : (since : Option ℕ) → Option Row → Bool
-was_changed None row = false
-was_changed (Some since) row = is_later since row
-
--- the message is left as it is
-abbrev pub is_skipped : (since : Option ℕ) → List Row → Numbered → Bool
-is_skipped since rows m = was_changed since (row_with m.uid rows)
-
--- the numbers of the messages that are left as they are, or their UIDs
-abbrev pub skipped_numbers : Numbering → (since : Option ℕ) → List Row → List Numbered → List ℕ
-skipped_numbers by since rows messages = map (number_by by) (filter (is_skipped since rows) messages)
-
--- the other messages, which alone are stored
-abbrev pub unskipped : (since : Option ℕ) → List Row → List Numbered → List Numbered
-unskipped since rows messages = filter (λ m. not (is_skipped since rows m)) messages
 
 -- MODIFIED tells which messages are skipped, if any are
 abbrev pub modified_code : (skipped : List ℕ) → Option Code

@@ -18,8 +18,7 @@ use crate::store_lines::store_lines;
 use crate::store_outcome::{
     StoreOutcome, flag_changes, marks_of, seen_changes, stored_all, uids_of,
 };
-use crate::unchanged_since::{enabled_by, modified_code, remove_skipped, skipped_numbers};
-use bitflags::Flags;
+use crate::unchanged_since::{enabled_by, modified_code};
 use imap_answer::{Answer, CommandContext};
 use imap_grammar::StoreSpec;
 use imap_modseq::MAX_EVENTS;
@@ -29,10 +28,10 @@ use imap_session::{Selected, Session};
 use imap_syntax::{MessageSet, Numbering};
 use imap_targets::{
     Numbered, has_known_numbers, is_refused, is_saved, known_count, lacks_events, marking_effect,
-    messages_named,
+    messages_named, remove_skipped, skipped_numbers, storing_rights,
 };
 use imap_values::beside;
-use imap_view::{Readable, View};
+use imap_view::Readable;
 use imap_world::Effect;
 use std::alloc::AllocError;
 use std::marker::Model;
@@ -112,16 +111,6 @@ fn store_selected(
         Some(mailbox) => store_readable(context, enabled, arguments, rights, selected, &mailbox),
         None => context.refuse(Refusal::NonExistent),
     }
-}
-
-/// The rights on the selected mailbox: none, if it is examined.
-fn storing_rights(view: &View<'_>, selected: &Selected) -> Rights
-    ensures { bits result ≡ specs.storing_rights view.now (selection_of selected.now) }
-{
-    if selected.read_only {
-        return Rights::empty();
-    }
-    view.rights(&selected.name.as_ref())
 }
 
 fn store_readable(

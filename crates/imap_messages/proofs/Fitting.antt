@@ -28,14 +28,14 @@ use Rattle.imap_view.specs.Readable.{readable_in}
 use Rattle.imap_view.specs.Seen.{Seen}
 use Rattle.imap_view.specs.View.{View, rights_in}
 use Rattle.imap_batch.specs.Batch.{adding}
-use Rattle.imap_messages.specs.Append.{AppendArguments, append_answer, append_code, append_message, append_to_name, append_to_seen, appends, is_full, message_of}
+use Rattle.imap_messages.specs.Append.{AppendArguments, append_answer, append_message, append_to_name, append_to_seen, appends, is_full, message_of}
 use Rattle.imap_messages.specs.Fetch.{FetchArguments, enabled_by, fetch_answer, fetch_changed, fetch_if_readable, fetch_if_selected, fetch_read, fetched_lines, fetched_uids, is_impossible, is_malformed, messages_of, sets_seen, wanted_by}
 use Rattle.imap_messages.specs.Changed.{changed_of, fetched_set, vanished_lines}
 use Rattle.imap_messages.specs.Fetched.{Wanted}
 use Rattle.imap_targets.specs.declared.message_numbers.Numbered.{Numbered}
 use Rattle.imap_targets.specs.MessageNumbers.{is_by_uid, is_refused, ranges_of, row_with}
 use Rattle.imap_messages.specs.Reading.{count_after, line_if_there, lines_from, read_effect}
-use Rattle.imap_targets.specs.Target.{holds_create_above, target_refusal}
+use Rattle.imap_targets.specs.Target.{append_code, holds_create_above, target_refusal}
 use Rattle.imap_messages.proofs.Possible.{possible}
 use Rattle.imap_messages.proofs.ReadPossible.{may_read}
 

@@ -7,3 +7,4 @@ pub mod Possible
 pub mod ReadPossible
 pub mod SameSections
 pub mod UpToDate
+pub use Rattle.imap_resync.proofs.Fitting as SelectFitting

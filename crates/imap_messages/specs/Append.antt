@@ -6,12 +6,9 @@ use Rattle.imap_answer.specs.Name.{if_named}
 use Rattle.imap_batch.specs.Batch.{adding}
 use Rattle.imap_batch.specs.declared.batch.NewMessage.{NewMessage}
 use Rattle.imap_mailbox.specs.Flags.{has_too_many}
-use Rattle.imap_mailbox.specs.Shown.{Content}
 use Rattle.imap_names.specs.Name.{Name}
-use Rattle.imap_print.specs.declared.response.Code.{Code}
-use Rattle.imap_print.specs.declared.response.Code.TheVariants as code
 use Rattle.imap_print.specs.declared.response.Refusal.TheVariants.{Cannot, Limit, OverQuota}
-use Rattle.imap_rights.specs.Rights.{has_any, insert, read}
+use Rattle.imap_rights.specs.Rights.{has_any, insert}
 use Rattle.imap_syntax.specs.declared.flag.Flag.{Flag}
 use Rattle.imap_syntax.specs.Lexical.{has_nul}
 use Rattle.imap_syntax.specs.Moments.{Moment}
@@ -20,7 +17,7 @@ use Rattle.imap_view.specs.View.{View}
 use Rattle.imap_world.specs.declared.effect.Effect.{Effect}
 use Rattle.imap_targets.specs.Effects.{batch_effect}
 use Rattle.imap_targets.specs.NewFlags.{is_new_seen, new_flags}
-use Rattle.imap_targets.specs.Target.{target_refusal}
+use Rattle.imap_targets.specs.Target.{append_code, target_refusal}
 
 -- the arguments of APPEND
 pub record AppendArguments : Type 0 where
@@ -49,16 +46,6 @@ message_of rights at arguments = record {
 
 abbrev pub appends : (user : List ℕ) → Name → NewMessage → Effect
 appends user name message = batch_effect name (adding user (message ∷ []))
-
--- ---- the response code APPENDUID
-
-abbrev pub uid_code : (validity : Option ℕ) → Option Content → Option Code
-uid_code (Some validity) (Some content) = Some (code.AppendUid validity content.next)
-uid_code _ _ = None
-
--- only one who may read is told the UID
-abbrev pub append_code : Seen → Option Code
-append_code seen = if has_any seen.rights read then uid_code seen.validity seen.messages.content else None
 
 -- ---- the answer. A message of text has no NUL (RFC 9051, section 4.3.1)
 

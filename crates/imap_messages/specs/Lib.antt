@@ -6,3 +6,5 @@ pub mod Fetch
 pub mod Fetched
 pub mod Found
 pub mod Reading
+-- what a machine says of SELECT
+pub use Rattle.imap_resync.specs.Select

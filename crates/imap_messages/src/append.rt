@@ -11,10 +11,10 @@ use imap_batch::{Batch, NewMessage};
 use imap_lex::Octets;
 use imap_mailbox::SharedFlags;
 use imap_names::{Name, UserName};
-use imap_print::{Code, Refusal};
+use imap_print::Refusal;
 use imap_rights::Rights;
 use imap_syntax::{DateTime, Flags, has_nul};
-use imap_targets::{batch_effect, is_new_seen, new_flags, target_refusal};
+use imap_targets::{append_code, batch_effect, is_new_seen, new_flags, target_refusal};
 use imap_values::{beside, pushed};
 use imap_view::Seen;
 use imap_world::Effect;
@@ -150,17 +150,4 @@ fn appends(
     let added = pushed(Vec::new(alloc), message)?;
     let batch = Batch::adding(alloc, user, added)?;
     batch_effect(name, batch)
-}
-
-/// The response code APPENDUID. `None` if the user may not read the mailbox.
-fn append_code(seen: &Seen<'_>) -> Option<Code>
-    ensures { result ≡ specs.append_code (shown seen.now) }
-{
-    if !seen.rights().has_any(Rights::READ) {
-        return None;
-    }
-    match (seen.validity(), seen.next_uid()) {
-        (Some(validity), Some(uid)) => Some(Code::AppendUid { validity, uid }),
-        _ => None,
-    }
 }

@@ -14,3 +14,4 @@ mod wanted;
 
 pub use append::{AppendArguments, append_answer};
 pub use fetch::{FetchArguments, fetch_answer};
+pub use imap_resync::{is_malformed, laws as select_laws, select_with_parameters};

@@ -3,7 +3,7 @@ use Rattle.std.proofs.Common.{◌≡◌, ℕ, ◌+◌, ◌≤◌, Bool, true, fa
 use Rattle.std.specs.Prelude.{nat_le, option_and_then}
 use Rattle.std.specs.FinMap as map
 use Rattle.std.proofs.lemmas.Bool.{and_from, and_parts, eq-eqb, le-leb}
-use Rattle.imap_answer.specs.Fit.{IsViewed}
+use Rattle.imap_session.specs.Fit.{IsViewed}
 use Rattle.imap_batch.specs.declared.batch.Batch.{Batch}
 use Rattle.imap_batch.specs.declared.batch.NewMessage.{NewMessage}
 use Rattle.imap_batch.specs.Batch.{are_known, event_count, has_few_keywords, mark_uids}

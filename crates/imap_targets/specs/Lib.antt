@@ -5,3 +5,4 @@ pub mod MessageNumbers
 pub mod NewFlags
 pub mod Spans
 pub mod Target
+pub mod UnchangedSince

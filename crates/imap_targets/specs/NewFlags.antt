@@ -4,9 +4,11 @@ use Rattle.std.specs.Prelude.{Option, Some, None, if◌then◌else◌}
 use Rattle.std.specs.List.{list_any}
 use Rattle.imap_mailbox.specs.declared.flags.SharedFlags.{SharedFlags}
 use Rattle.imap_mailbox.specs.Flags.{has_too_many, no_flags, with_flag}
-use Rattle.imap_rights.specs.Rights.{delete_messages, has_any, seen, write}
+use Rattle.imap_rights.specs.Rights.{delete_messages, has_any, no_rights, seen, write}
+use Rattle.imap_session.specs.State.{Selection}
 use Rattle.imap_syntax.specs.declared.flag.Flag.{Flag}
 use Rattle.imap_syntax.specs.declared.flag.Flag.TheVariants as flag
+use Rattle.imap_view.specs.View.{View, rights_in}
 
 -- the right that a flag needs
 abbrev pub right_for : Flag → ℕ
@@ -38,3 +40,7 @@ is_seen _ = false
 -- the user has seen a new message
 abbrev pub is_new_seen : (rights : ℕ) → List Flag → Bool
 is_new_seen rights flags = has_any rights seen && list_any is_seen flags
+
+-- the rights by which flags of messages in the selected mailbox are changed. None is held in one that is examined
+abbrev pub storing_rights : View → Selection → ℕ
+storing_rights view s = if s.read_only then no_rights else rights_in view s.name

@@ -5,10 +5,14 @@ ghost use Rattle.std.specs.List.{list_any};
 ghost use Rattle.imap_mailbox.specs.Flags.{has_too_many};
 ghost use Rattle.imap_targets.specs.NewFlags as specs;
 ghost use Rattle.imap_rights.specs.Rights.{bits};
+ghost use Rattle.imap_session.specs.State.{selection_of};
 
+use bitflags::Flags;
 use imap_mailbox::{MAX_KEYWORDS, SharedFlags};
 use imap_rights::Rights;
+use imap_session::Selected;
 use imap_syntax::Flag;
+use imap_view::View;
 use std::alloc::{AllocError, Global};
 
 /// The right that the flag needs.
@@ -96,4 +100,15 @@ pub fn has_seen(flags: &[Flag]) -> bool
             ensures { result ≡ specs.is_seen flag.now }
         { matches!(flag, Flag::Seen) },
     )
+}
+
+/// Returns the rights by which a user changes flags in the selected mailbox: those that the user has on it, and none if
+/// it is examined.
+pub fn storing_rights(view: &View<'_>, selected: &Selected) -> Rights
+    ensures { bits result ≡ specs.storing_rights view.now (selection_of selected.now) }
+{
+    if selected.read_only {
+        return Rights::empty();
+    }
+    view.rights(&selected.name.as_ref())
 }

@@ -2,11 +2,12 @@
 
 ghost use Rattle.std.specs.Prelude.{◌≡◌};
 ghost use Rattle.imap_targets.specs.Target as specs;
+ghost use Rattle.imap_view.specs.Seen.{shown};
 
 use imap_names::{Name, NameRef};
-use imap_print::Refusal;
+use imap_print::{Code, Refusal};
 use imap_rights::Rights;
-use imap_view::View;
+use imap_view::{Seen, View};
 
 /// Why nothing is put into the mailbox, on which the user lacks `i`.
 pub fn target_refusal(view: &View<'_>, name: &Name) -> Refusal
@@ -31,5 +32,18 @@ fn holds_create_above(view: &View<'_>, name: &NameRef<'_>) -> bool
             view.rights(&above).has_any(Rights::CREATE) || holds_create_above(view, &above)
         }
         None => view.owns_tree(name),
+    }
+}
+
+/// Returns the response code APPENDUID of the next message of the mailbox. `None` if the user may not read the mailbox.
+pub fn append_code(seen: &Seen<'_>) -> Option<Code>
+    ensures { result ≡ specs.append_code (shown seen.now) }
+{
+    if !seen.rights().has_any(Rights::READ) {
+        return None;
+    }
+    match (seen.validity(), seen.next_uid()) {
+        (Some(validity), Some(uid)) => Some(Code::AppendUid { validity, uid }),
+        _ => None,
     }
 }

@@ -1,6 +1,6 @@
 use Rattle.std.proofs.Common.{◌≡◌, ◌++◌, drop}
-use Rattle.imap_changes.specs.Store.{skipped_numbers}
-use Rattle.imap_changes.proofs.unchanged_since.skipped_numbers.Given as goal
+use Rattle.imap_targets.specs.UnchangedSince.{skipped_numbers}
+use Rattle.imap_targets.proofs.unchanged_since.skipped_numbers.Given as goal
 
 abbrev pub invariant-loop-message : goal.invariant-loop-message
 invariant-loop-message l =
