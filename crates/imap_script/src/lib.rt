@@ -2,6 +2,7 @@
 #![tactic(auto)]
 
 mod error;
+mod exit_status;
 mod head;
 mod input;
 mod line;
@@ -14,6 +15,7 @@ mod step;
 mod transcript;
 
 pub use error::ScriptError;
+pub use exit_status::report_script_error;
 use imap_keeper::ListKeeper;
 pub use input::read_input;
 pub use scenario::Scenario;

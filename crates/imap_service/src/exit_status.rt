@@ -2,7 +2,6 @@
 
 use crate::service_error::ServiceError;
 use imap_options::{CommandLineError, VERSION};
-use imap_script::ScriptError;
 use std::fmt::Display;
 use std::process::ExitCode;
 
@@ -37,18 +36,6 @@ pub fn report_misuse(rt: &impl Eprint, error: &CommandLineError) -> ExitCode {
 pub fn report_file_fault<E: Display>(rt: &impl Eprint, fault: &E) -> ExitCode {
     let _ = eprintln!(rt; "imapd: {fault}");
     ExitCode::from(BROKEN_STREAM)
-}
-
-/// Tells standard error, as far as it takes it, why the script didn't run to its end. Returns the exit status: 2 for
-/// a bad script, 3 for an input or output that failed, which standard error isn't told, and 4 for want of memory.
-pub fn report_script_error(rt: &impl Eprint, error: &ScriptError) -> ExitCode {
-    let status = match error {
-        ScriptError::Bad { .. } => MISUSED,
-        ScriptError::Io => return ExitCode::from(BROKEN_STREAM),
-        ScriptError::Memory => OUT_OF_MEMORY,
-    };
-    let _ = eprintln!(rt; "imapd: {error}");
-    ExitCode::from(status)
 }
 
 /// Tells standard error, as far as it takes it, why serving ended: in words after the line that each exit status has.

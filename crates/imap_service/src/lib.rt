@@ -4,8 +4,7 @@
 //! ([`Reception`]), and a worker for each seat takes one after the other ([`PortDoor`], [`ClientDoor`]). A client that
 //! is to log in does so before its session begins. A worker whose session idles waits for its connection and for its waker ([`WakeableStream`],
 //! [`IdleWakers`]), which wakes it when another session changed something. [`Report`] says on standard error what
-//! happens. [`report_misuse`], [`report_script_error`] and [`report_service_error`] return the exit statuses of the
-//! program.
+//! happens. [`report_misuse`] and [`report_service_error`] return exit statuses of the program.
 #![tactic(auto)]
 
 mod accept_faults;
@@ -40,9 +39,7 @@ pub use accept_faults::AcceptFaults;
 pub use client_door::ClientDoor;
 pub use connection::Connection;
 pub use descriptors::{needed, read_limit};
-pub use exit_status::{
-    report_file_fault, report_misuse, report_script_error, report_service_error, report_version,
-};
+pub use exit_status::{report_file_fault, report_misuse, report_service_error, report_version};
 pub use guarded_stream::GuardedStream;
 pub use http_request::RequestLine;
 pub use idle_ticks::{IdleTicks, TICKS_PER_SECOND};
