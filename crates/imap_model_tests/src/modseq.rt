@@ -1,7 +1,8 @@
 //! Tests of mod-sequences.
 
+use crate::owned::push_text;
 use crate::wanted::expect_text;
-use imap_modseq::{Clocks, ClocksError, count_before, laws};
+use imap_modseq::{Clocks, ClocksError, count_before};
 use std::alloc::{AllocError, Global};
 
 /// Four shared events. bob makes an own change after the second and after the fourth, and then ann does.
@@ -15,11 +16,6 @@ fn make_events(alloc: Global, clocks: &mut Clocks) -> Result<(), ClocksError> {
     clocks.own_event(alloc, "ann")
 }
 
-fn push(text: &mut String, piece: Result<String, AllocError>) -> Result<(), AllocError> {
-    let piece = piece?;
-    text.push_str(piece.as_str())
-}
-
 /// The mod-sequences for a user of all shared events, then those of the user's own changes, and the highest.
 fn push_numbers(
     alloc: Global,
@@ -28,40 +24,37 @@ fn push_numbers(
     user: &str,
 ) -> Result<(), AllocError> {
     for place in 0..clocks.shared_len() {
-        push(
+        push_text(
             text,
             format!(in alloc; "{} ", clocks.number_of(user, place)),
         )?;
     }
-    push(text, String::from_str(alloc, "| "))?;
+    push_text(text, String::from_str(alloc, "| "))?;
     for place in 0..clocks.own_len(user) {
-        push(
+        push_text(
             text,
             format!(in alloc; "{} ", clocks.own_number(user, place)),
         )?;
     }
-    push(text, format!(in alloc; "| {}", clocks.highest(user)))
-}
-
-fn numbers(alloc: Global, clocks: &Clocks, user: &str) -> Result<String, AllocError> {
-    let mut text = String::new(alloc);
-    push_numbers(alloc, &mut text, clocks, user)?;
-    Ok(text)
+    push_text(text, format!(in alloc; "| {}", clocks.highest(user)))
 }
 
 /// The numbers of a copy.
-fn numbers_for(alloc: Global, user: &str) -> Result<String, ClocksError> {
-    let mut clocks = Clocks::new(alloc);
-    let numbers = numbers_after(alloc, &mut clocks, user);
-    drop(clocks);
-    numbers
+fn numbers(alloc: Global, clocks: &Clocks, user: &str) -> Result<String, AllocError> {
+    let copy = clocks.try_copy(alloc)?;
+    let mut text = String::new(alloc);
+    let pushed = push_numbers(alloc, &mut text, &copy, user);
+    drop(copy);
+    pushed?;
+    Ok(text)
 }
 
-fn numbers_after(alloc: Global, clocks: &mut Clocks, user: &str) -> Result<String, ClocksError> {
-    make_events(alloc, clocks)?;
-    let copy = clocks.try_copy(alloc)?;
-    let numbers = numbers(alloc, &copy, user);
-    drop(copy);
+fn numbers_for(alloc: Global, user: &str) -> Result<String, ClocksError> {
+    let mut clocks = Clocks::new(alloc);
+    let made = make_events(alloc, &mut clocks);
+    let numbers = numbers(alloc, &clocks, user);
+    drop(clocks);
+    made?;
     Ok(numbers?)
 }
 
@@ -81,30 +74,4 @@ fn own_changes_stand_among_shared_events(rt: HostRuntime) {
         "| | 1",
     );
     assert!(rt; count_before(&[2_u64, 4], 3) == 1);
-}
-
-#[test]
-fn mod_sequence_laws() {
-    laws::numbers_are_places::<u64>();
-    laws::new_comes_last::<u64>();
-    laws::numbers_cover();
-    laws::numbers_rise();
-    laws::numbers_differ();
-    laws::numbers_stay();
-    laws::new_is_highest();
-    laws::own_changes_are_hidden();
-}
-
-#[test]
-fn errors_are_printed(rt: HostRuntime) {
-    const ROWS: &[(ClocksError, &str)] = &[
-        (
-            ClocksError::Exhausted,
-            "the mailbox has no further mod-sequence",
-        ),
-        (ClocksError::Memory, "out of memory"),
-    ];
-    for (error, wanted) in ROWS {
-        expect_text(&rt, error.to_string(rt.alloc()), wanted);
-    }
 }

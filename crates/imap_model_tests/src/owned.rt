@@ -22,3 +22,12 @@ pub(crate) fn push<T: Drop>(items: &mut Vec<T>, item: T) -> Result<(), AllocErro
     items.push(item)?;
     Ok(())
 }
+
+/// Appends a text that was made.
+pub(crate) fn push_text(
+    text: &mut String,
+    piece: Result<String, AllocError>,
+) -> Result<(), AllocError> {
+    let piece = piece?;
+    text.push_str(piece.as_str())
+}

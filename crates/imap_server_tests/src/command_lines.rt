@@ -5,10 +5,8 @@ use imap_keeper::RowFault;
 use imap_options::{
     CommandLineError, DialectName, LogLevel, SecretFault, SecretFiles, Service, Task, read_words,
 };
-use imap_script::ScriptError;
-use imap_service::{
-    ServiceError, StoreFault, StoreTable, report_misuse, report_script_error, report_service_error,
-};
+use imap_script::{ScriptError, report_script_error};
+use imap_service::{ServiceError, StoreFault, StoreTable, report_misuse, report_service_error};
 use std::alloc::{AllocError, Global};
 use std::io::ErrorKind;
 use std::process::{Abort, ExitCode};

@@ -133,7 +133,7 @@ pub(crate) fn seat<K: Keeper, L: Ledger>(
     }
 }
 
-fn act(alloc: Global, text: &[u8]) -> Result<Act, AllocError> {
+pub(crate) fn act(alloc: Global, text: &[u8]) -> Result<Act, AllocError> {
     let octets = Octets::from_slice(alloc, text)?;
     let request = parse(alloc, &octets);
     drop(octets);

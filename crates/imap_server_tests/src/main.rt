@@ -1,6 +1,6 @@
-//! Tests of what serves users: sessions over connections, sessions side by side, hosts that end with their seats,
-//! idling sessions that are woken, clients that log in, sessions in another dialect, and scripts, command lines and
-//! exit statuses of the program.
+//! Tests of what serves users: notices and limits of the machine, sessions over connections, sessions side by side,
+//! hosts that end with their seats, idling sessions that are woken, clients that log in, sessions in another dialect,
+//! and scripts, command lines and exit statuses of the program.
 //!
 //! They stand in a crate of their own, since a crate that has tests is proved twice: once without and
 //! once with them. It is a program, which does nothing, since no library of it is wanted.
@@ -35,6 +35,8 @@ mod leaving;
 #[cfg(test)]
 mod logins;
 #[cfg(test)]
+mod notices;
+#[cfg(test)]
 mod owned;
 #[cfg(test)]
 mod peers;
@@ -56,6 +58,8 @@ mod sockets;
 mod spoken_dialects;
 #[cfg(test)]
 mod store_refusals;
+#[cfg(test)]
+mod subscriptions;
 #[cfg(test)]
 mod wanted;
 

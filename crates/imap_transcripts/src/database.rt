@@ -37,7 +37,7 @@ pub(crate) enum Opened<K: Drop> {
 /// Saves these mailboxes into a new database.
 pub(crate) fn new_keeper<K: TestKeeper>(alloc: Global, world: &World) -> Result<K, KeepError> {
     match K::open(alloc, &Image::empty(alloc), ENDLESS)? {
-        Opened::Keeper(keeper) => filled(alloc, keeper, world),
+        Opened::Keeper(keeper) => filled(alloc, Ok(keeper), world),
         Opened::Refused(error, left) => {
             drop(left);
             Err(error)

@@ -12,12 +12,13 @@ use imap_rights::{Acl, Identifier, Rights, RightsChange};
 use imap_world::{Change, Effect, MailboxEntry, World, WorldError};
 use std::alloc::{AllocError, Global};
 
-/// Saves the mailboxes of `world`, which are without messages, into a keeper that has none, and returns it.
+/// Saves the mailboxes of `world`, which are without messages, into the keeper, which has none, and returns it.
 pub(crate) fn filled<K: Keeper + Drop>(
     alloc: Global,
-    mut keeper: K,
+    keeper: Result<K, KeepError>,
     world: &World,
 ) -> Result<K, KeepError> {
+    let mut keeper = keeper?;
     match fill(alloc, &mut keeper, world) {
         Ok(()) => Ok(keeper),
         Err(error) => {

@@ -35,11 +35,22 @@ pub(crate) fn run_compared<K: Keeper>(
     (keeper, found)
 }
 
-/// Saves the mailboxes at the start of the script into a keeper that has none, and runs it over this.
+/// Runs the script over a database without files.
+pub(crate) fn run_in_database(
+    alloc: Global,
+    scenario: &Scenario,
+    world: &World,
+) -> Result<Found, KeepError> {
+    let world = world.try_copy(alloc)?;
+    run_filled(alloc, scenario, open_in_memory(alloc), world)
+}
+
+/// Saves the mailboxes at the start of the script into the keeper, which has none, and runs it over this. The keeper
+/// comes as it was made: here it is any, and where it is made a proof that it is dropped is long.
 fn run_filled<K: Keeper + Drop>(
     alloc: Global,
     scenario: &Scenario,
-    keeper: K,
+    keeper: Result<K, KeepError>,
     world: World,
 ) -> Result<Found, KeepError> {
     match filled(alloc, keeper, &world) {
@@ -48,22 +59,6 @@ fn run_filled<K: Keeper + Drop>(
             drop(keeper);
             Ok(found)
         }
-        Err(error) => {
-            drop(world);
-            Err(error)
-        }
-    }
-}
-
-/// Runs the script over a database without files.
-pub(crate) fn run_in_database(
-    alloc: Global,
-    scenario: &Scenario,
-    world: &World,
-) -> Result<Found, KeepError> {
-    let world = world.try_copy(alloc)?;
-    match open_in_memory(alloc) {
-        Ok(keeper) => run_filled(alloc, scenario, keeper, world),
         Err(error) => {
             drop(world);
             Err(error)

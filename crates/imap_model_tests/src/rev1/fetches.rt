@@ -1,7 +1,7 @@
 //! Messages that are told as they were asked for (RFC 3501, sections 6.4.5 and 7.4.2).
 
 use crate::owned::{both, push};
-use crate::rev1::rows::expect_told;
+use crate::rev1::rows::{expect_told, session};
 use imap_lex::Octets;
 use imap_print::{FetchedItems, FetchedSection, LiteralParts, Response};
 use imap_query::Section;
@@ -156,7 +156,19 @@ const ROWS: &[(&[u8], &[Body], &[u8])] = &[
 #[test]
 fn sections_are_told_as_they_were_asked_for(rt: HostRuntime) {
     for &(command, bodies, wanted) in ROWS {
-        expect_told(&rt, false, command, message(rt.alloc(), bodies), wanted);
-        expect_told(&rt, true, command, message(rt.alloc(), bodies), wanted);
+        expect_told(
+            &rt,
+            &session(false),
+            command,
+            message(rt.alloc(), bodies),
+            wanted,
+        );
+        expect_told(
+            &rt,
+            &session(true),
+            command,
+            message(rt.alloc(), bodies),
+            wanted,
+        );
     }
 }

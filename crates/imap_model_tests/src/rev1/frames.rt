@@ -1,6 +1,6 @@
 //! Commands, and what the server sees in their place (RFC 3501, sections 6.3.9, 6.3.10, 6.4.1, 6.4.4 and 6.4.5).
 
-use crate::rev1::rows::seen;
+use crate::rev1::rows::{seen, session};
 use crate::wanted::expect;
 
 /// In IMAP4rev1.
@@ -193,7 +193,6 @@ const FETCHES: &[(&[u8], &[u8])] = &[
         b"T FETCH 1 (UID RFC822.SIZE)\r\n",
     ),
     (b"RFC822 FETCH 1 RFC822\r\n", b"RFC822 FETCH 1 BODY[]\r\n"),
-    (b"T FETCH 1 FAST\r\n", b"T FETCH 1 FAST\r\n"),
     (
         b"T FETCH 1 ALL\r\n",
         b"T FETCH 1 (FLAGS INTERNALDATE RFC822.SIZE BODY.PEEK[HEADER])\r\n",
@@ -238,24 +237,16 @@ const AFTER: &[(&[u8], &[u8])] = &[
 #[test]
 fn commands_are_rewritten(rt: HostRuntime) {
     for &(command, wanted) in BEFORE {
-        expect(&rt, seen(rt.alloc(), false, command), wanted);
+        expect(&rt, seen(rt.alloc(), &session(false), command), wanted);
     }
     for &(command, wanted) in AFTER {
-        expect(&rt, seen(rt.alloc(), true, command), wanted);
+        expect(&rt, seen(rt.alloc(), &session(true), command), wanted);
     }
-}
-
-#[test]
-fn labels_are_asked_as_sections(rt: HostRuntime) {
     for &(command, wanted) in FETCHES {
-        expect(&rt, seen(rt.alloc(), false, command), wanted);
-        expect(&rt, seen(rt.alloc(), true, command), wanted);
+        expect(&rt, seen(rt.alloc(), &session(false), command), wanted);
+        expect(&rt, seen(rt.alloc(), &session(true), command), wanted);
     }
-}
-
-#[test]
-fn other_lists_stay(rt: HostRuntime) {
     for &command in NO_FIELDS {
-        expect(&rt, seen(rt.alloc(), false, command), command);
+        expect(&rt, seen(rt.alloc(), &session(false), command), command);
     }
 }

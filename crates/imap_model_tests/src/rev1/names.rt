@@ -1,10 +1,10 @@
 //! Names in modified UTF-7, in commands and in replies (RFC 3501, section 5.1.3; RFC 6855, section 3).
 
-use crate::rev1::rows::{frame, joined};
+use crate::rev1::rows::{expect_told, frame, seen};
 use crate::wanted::expect;
 use imap_dialect::Dialect;
-use imap_lex::{Frame, Octets};
-use imap_print::{Children, EnabledCapabilities, ListAttributes, Pieces, Response, StatusValue};
+use imap_lex::Octets;
+use imap_print::{Children, EnabledCapabilities, ListAttributes, Response, StatusValue};
 use imap_query::StatusItem;
 use imap_rev1::Utf7Rev1;
 use imap_rights::Rights;
@@ -131,52 +131,6 @@ const ENABLES: &[(&[u8], EnabledCapabilities, &[u8], &[u8])] = &[
     ),
 ];
 
-/// What the server sees in place of a command.
-fn seen(alloc: Global, session: &Utf7Rev1, command: &[u8]) -> Result<Vec<u8>, AllocError> {
-    let own = frame(alloc, command)?;
-    match session.rewrite(alloc, &own)? {
-        Some(other) => {
-            let octets = octets_of(alloc, &other);
-            drop(other);
-            octets
-        }
-        None => Vec::from_slice(alloc, command),
-    }
-}
-
-fn octets_of(alloc: Global, other: &Frame) -> Result<Vec<u8>, AllocError> {
-    match other {
-        Frame::Whole(octets) => Vec::from_slice(alloc, octets.as_slice()),
-        _ => Ok(Vec::new(alloc)),
-    }
-}
-
-fn pieces(
-    alloc: Global,
-    session: &Utf7Rev1,
-    own: &Frame,
-    reply: &Response,
-) -> Result<Items<Octets>, AllocError> {
-    let rules = session.rule(alloc, Some(own))?;
-    let mut out = Pieces::new(alloc);
-    let told = Utf7Rev1::tell(&rules, reply, &mut out);
-    drop(rules);
-    told?;
-    out.into_pieces()
-}
-
-/// The octets in which a reply to a command is told.
-fn told(
-    alloc: Global,
-    session: &Utf7Rev1,
-    command: &[u8],
-    reply: &Response,
-) -> Result<Vec<u8>, AllocError> {
-    let own = frame(alloc, command)?;
-    let pieces = pieces(alloc, session, &own, reply)?;
-    joined(alloc, &pieces)
-}
-
 /// A session after a command and the reply to it.
 fn session_after(
     alloc: Global,
@@ -188,24 +142,6 @@ fn session_after(
     session.advance(&own, replies);
     drop(own);
     Ok(session)
-}
-
-/// Asserts that a reply, once it was made, is told in these octets.
-fn expect_told(
-    rt: &(impl Abort + AllocGlobal),
-    session: &Utf7Rev1,
-    command: &[u8],
-    reply: Result<Response, AllocError>,
-    wanted: &[u8],
-) {
-    match reply {
-        Ok(reply) => {
-            let told = told(rt.alloc(), session, command, &reply);
-            drop(reply);
-            expect(rt, told, wanted);
-        }
-        Err(error) => panic!(rt; "{error:?}"),
-    }
 }
 
 /// A reply with a name.

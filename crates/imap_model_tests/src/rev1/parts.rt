@@ -1,7 +1,7 @@
 //! Sections of parts, told from the message (RFC 9051, sections 6.4.5.1 and 7.5.2).
 
 use crate::rev1::fetches::{Body, message};
-use crate::rev1::rows::expect_told;
+use crate::rev1::rows::{expect_told, session};
 
 /// A message with the parts of the example of RFC 9051, section 6.4.5.1.
 const TREE: &[u8] = b"Subject: whole\r\n\
@@ -425,14 +425,22 @@ const OTHERS: &[(&[u8], &[u8], &[u8])] = &[
 fn parts_are_told_from_the_message(rt: HostRuntime) {
     for &(command, wanted) in ROWS {
         let whole = &[Body::Whole(None, TREE)];
-        expect_told(&rt, false, command, message(rt.alloc(), whole), wanted);
+        expect_told(
+            &rt,
+            &session(false),
+            command,
+            message(rt.alloc(), whole),
+            wanted,
+        );
     }
-}
-
-#[test]
-fn other_messages_have_parts(rt: HostRuntime) {
     for &(octets, command, wanted) in OTHERS {
         let whole = &[Body::Whole(None, octets)];
-        expect_told(&rt, true, command, message(rt.alloc(), whole), wanted);
+        expect_told(
+            &rt,
+            &session(true),
+            command,
+            message(rt.alloc(), whole),
+            wanted,
+        );
     }
 }

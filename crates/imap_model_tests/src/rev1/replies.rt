@@ -1,6 +1,6 @@
 //! Replies that are told in another way (RFC 3501, sections 6.1.1, 7.2.3 to 7.2.5, 7.3.1 and 7.3.2).
 
-use crate::rev1::rows::expect_told;
+use crate::rev1::rows::{expect_told, session};
 use imap_lex::{Octets, Tag};
 use imap_print::{Children, ListAttributes, NumberSet, Response, SearchResults, StatusValue};
 use imap_query::StatusItem;
@@ -87,19 +87,7 @@ const SEARCHES: &[Found] = &[
     ),
 ];
 
-#[test]
-fn searches_are_told(rt: HostRuntime) {
-    for &(command, rev2, numbers, mod_seq, wanted) in SEARCHES {
-        expect_told(
-            &rt,
-            rev2,
-            command,
-            search(rt.alloc(), numbers, mod_seq),
-            wanted,
-        );
-    }
-}
-
+/// A command, whether IMAP4rev2 was enabled, how many messages there are, and what is told. None is recent.
 const COUNTS: &[(&[u8], bool, u32, &[u8])] = &[
     (
         b"T SELECT x\r\n",
@@ -117,13 +105,7 @@ const COUNTS: &[(&[u8], bool, u32, &[u8])] = &[
     (b"T SELECT x\r\n", true, 23, b"* 23 EXISTS\r\n"),
 ];
 
-#[test]
-fn no_message_is_recent(rt: HostRuntime) {
-    for &(command, rev2, count, wanted) in COUNTS {
-        expect_told(&rt, rev2, command, Ok(Response::Exists(count)), wanted);
-    }
-}
-
+/// A command, whether IMAP4rev2 was enabled, a name that is subscribed, and what is told.
 const NAMES: &[(&[u8], bool, &[u8], &[u8])] = &[
     (b"T LSUB \"\" *\r\n", false, b"x", b"* LSUB () \"/\" x\r\n"),
     (
@@ -146,13 +128,6 @@ const NAMES: &[(&[u8], bool, &[u8], &[u8])] = &[
     ),
 ];
 
-#[test]
-fn subscribed_names_are_told(rt: HostRuntime) {
-    for &(command, rev2, name, wanted) in NAMES {
-        expect_told(&rt, rev2, command, list(rt.alloc(), name), wanted);
-    }
-}
-
 const MESSAGES: StatusValue = StatusValue {
     item: StatusItem::Messages,
     value: 231,
@@ -163,6 +138,7 @@ const UNSEEN: StatusValue = StatusValue {
     value: 4,
 };
 
+/// A command, values of a mailbox, and what is told.
 const STATUSES: &[(&[u8], &[StatusValue], &[u8])] = &[
     (
         b"T STATUS x (MESSAGES RECENT UNSEEN)\r\n",
@@ -187,8 +163,35 @@ const STATUSES: &[(&[u8], &[StatusValue], &[u8])] = &[
 ];
 
 #[test]
-fn statuses_are_told(rt: HostRuntime) {
+fn replies_are_told(rt: HostRuntime) {
+    for &(command, rev2, numbers, mod_seq, wanted) in SEARCHES {
+        expect_told(
+            &rt,
+            &session(rev2),
+            command,
+            search(rt.alloc(), numbers, mod_seq),
+            wanted,
+        );
+    }
+    for &(command, rev2, count, wanted) in COUNTS {
+        expect_told(
+            &rt,
+            &session(rev2),
+            command,
+            Ok(Response::Exists(count)),
+            wanted,
+        );
+    }
+    for &(command, rev2, name, wanted) in NAMES {
+        expect_told(&rt, &session(rev2), command, list(rt.alloc(), name), wanted);
+    }
     for &(command, values, wanted) in STATUSES {
-        expect_told(&rt, false, command, status(rt.alloc(), values), wanted);
+        expect_told(
+            &rt,
+            &session(false),
+            command,
+            status(rt.alloc(), values),
+            wanted,
+        );
     }
 }

@@ -4,7 +4,7 @@ use crate::wanted::expect;
 use imap_dialect::Dialect;
 use imap_lex::{Frame, Octets};
 use imap_print::{EnabledCapabilities, Pieces, Response};
-use imap_rev1::{Rev1, Rules};
+use imap_rev1::Rev1;
 use imap_syntax::Items;
 use std::alloc::{AllocError, Global};
 use std::process::Abort;
@@ -28,27 +28,20 @@ pub(crate) fn session(rev2: bool) -> Rev1 {
 }
 
 /// What the server sees in place of a command.
-pub(crate) fn seen(alloc: Global, rev2: bool, command: &[u8]) -> Result<Vec<u8>, AllocError> {
+pub(crate) fn seen<D: Dialect>(
+    alloc: Global,
+    session: &D,
+    command: &[u8],
+) -> Result<Vec<u8>, AllocError> {
     let own = frame(alloc, command)?;
-    match session(rev2).rewrite(alloc, &own)? {
+    match session.rewrite(alloc, &own)? {
         Some(Frame::Whole(other)) => Vec::from_slice(alloc, other.as_slice()),
         Some(_) => Ok(Vec::new(alloc)),
         None => Vec::from_slice(alloc, command),
     }
 }
 
-fn rules(alloc: Global, rev2: bool, command: &[u8]) -> Result<Rules, AllocError> {
-    let own = frame(alloc, command)?;
-    session(rev2).rule(alloc, Some(&own))
-}
-
-fn pieces(alloc: Global, rules: &Rules, reply: &Response) -> Result<Items<Octets>, AllocError> {
-    let mut out = Pieces::new(alloc);
-    Rev1::tell(rules, reply, &mut out)?;
-    out.into_pieces()
-}
-
-pub(crate) fn joined(alloc: Global, pieces: &Items<Octets>) -> Result<Vec<u8>, AllocError> {
+fn joined(alloc: Global, pieces: &Items<Octets>) -> Result<Vec<u8>, AllocError> {
     let mut octets = Vec::new(alloc);
     for piece in pieces.as_slice() {
         octets.extend_from_slice(piece.as_slice())?;
@@ -56,35 +49,42 @@ pub(crate) fn joined(alloc: Global, pieces: &Items<Octets>) -> Result<Vec<u8>, A
     Ok(octets)
 }
 
-fn told_by(alloc: Global, rules: &Rules, reply: &Response) -> Result<Vec<u8>, AllocError> {
-    let pieces = pieces(alloc, rules, reply)?;
+fn told_by<D: Dialect>(
+    alloc: Global,
+    rule: &D::Rule,
+    reply: &Response,
+) -> Result<Vec<u8>, AllocError> {
+    let mut out = Pieces::new(alloc);
+    D::tell(rule, reply, &mut out)?;
+    let pieces = out.into_pieces()?;
     joined(alloc, &pieces)
 }
 
 /// The octets in which a reply to a command is told.
-fn told(
+fn told<D: Dialect>(
     alloc: Global,
-    rev2: bool,
+    session: &D,
     command: &[u8],
     reply: &Response,
 ) -> Result<Vec<u8>, AllocError> {
-    let rules = rules(alloc, rev2, command)?;
-    let told = told_by(alloc, &rules, reply);
-    drop(rules);
+    let own = frame(alloc, command)?;
+    let rule = session.rule(alloc, Some(&own))?;
+    let told = told_by::<D>(alloc, &rule, reply);
+    drop(rule);
     told
 }
 
 /// Asserts that a reply, once it was made, is told in these octets.
-pub(crate) fn expect_told(
+pub(crate) fn expect_told<D: Dialect>(
     rt: &(impl Abort + AllocGlobal),
-    rev2: bool,
+    session: &D,
     command: &[u8],
     reply: Result<Response, AllocError>,
     wanted: &[u8],
 ) {
     match reply {
         Ok(reply) => {
-            let told = told(rt.alloc(), rev2, command, &reply);
+            let told = told(rt.alloc(), session, command, &reply);
             drop(reply);
             expect(rt, told, wanted);
         }

@@ -79,15 +79,11 @@ fn read(alloc: Global, octets: &[u8]) -> Result<Vec<u8>, AllocError> {
 }
 
 #[test]
-fn texts_are_spelt(rt: HostRuntime) {
+fn texts_are_spelt_and_read(rt: HostRuntime) {
     for &(text, spelling) in SPELLINGS {
         expect(&rt, spelt(rt.alloc(), text), spelling);
         expect(&rt, read(rt.alloc(), spelling), text.as_bytes());
     }
-}
-
-#[test]
-fn others_are_not_read(rt: HostRuntime) {
     for &octets in OTHERS {
         expect(&rt, read(rt.alloc(), octets), b"none");
     }

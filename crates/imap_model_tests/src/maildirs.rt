@@ -1,8 +1,7 @@
 //! Mailboxes as folders of messages.
 
-use crate::machine::both;
+use crate::owned::both;
 use crate::wanted::{expect, expect_text};
-use crate::world::{give, name, place, user};
 use imap_keeper::ListKeeper;
 use imap_lex::Octets;
 use imap_mailbox::{Row, SharedFlags};
@@ -11,7 +10,8 @@ use imap_maildir::{
     mailbox_folder, mailbox_name, message_file, message_flags, read_keywords, read_lists,
     with_line_ends,
 };
-use imap_names::{UserName, show_name};
+use imap_names::{Name, UserName, read_full, show_name};
+use imap_rights::{Acl, Identifier, read_rights};
 use imap_syntax::{Atom, DateTime, Keywords};
 use imap_world::{World, WorldError};
 use std::alloc::{AllocError, Global};
@@ -29,6 +29,17 @@ const FOLDERS: &[(&str, &str)] = &[
     ("Shared/50%/a.b/tmp", "to/Shared/50%25/a.b/%74mp"),
     ("Shared/\u{e9}", "to/Shared/\u{e9}"),
 ];
+
+fn user(alloc: Global, text: &str) -> Result<UserName, AllocError> {
+    UserName::read(alloc, text)?.ok_or(AllocError)
+}
+
+fn name(alloc: Global, text: &str) -> Result<Name, AllocError> {
+    match read_full(alloc, text.as_bytes()) {
+        Ok(name) => Ok(name),
+        Err(_) => Err(AllocError),
+    }
+}
 
 fn folder(alloc: Global, text: &str) -> Result<String, AllocError> {
     let name = name(alloc, text)?;
@@ -272,6 +283,22 @@ impl Progress for Quiet {
     fn done(&mut self, _messages: u64) {}
 }
 
+fn place(alloc: Global, world: &mut World, text: &str) -> Result<(), WorldError> {
+    let name = name(alloc, text)?;
+    world.place(alloc, name, Acl::new(alloc))
+}
+
+/// Gives bob `lr` on the mailbox.
+fn give(alloc: Global, world: &mut World, text: &str) -> Result<(), WorldError> {
+    let (Some(rights), Ok(bob)) = (read_rights(b"lr"), Identifier::read(alloc, b"bob")) else {
+        return Err(WorldError::Memory);
+    };
+    let (name, bob) = both(name(alloc, text), Ok(bob))?;
+    let given = world.set_acl(alloc, &name.as_ref(), bob, rights);
+    drop(name);
+    given
+}
+
 fn two_mailboxes(alloc: Global) -> Result<World, AllocError> {
     let mut world = World::new(alloc);
     match place_two(alloc, &mut world) {
@@ -286,7 +313,7 @@ fn two_mailboxes(alloc: Global) -> Result<World, AllocError> {
 fn place_two(alloc: Global, world: &mut World) -> Result<(), WorldError> {
     place(alloc, world, "Shared/A")?;
     place(alloc, world, "Shared/A/B")?;
-    give(alloc, world, "Shared/A/B", "bob", "lr")
+    give(alloc, world, "Shared/A/B")
 }
 
 /// A path at which there is nothing, in the folder for what may go.

@@ -1,10 +1,12 @@
 //! What sessions are told of their mailbox, beside what is found by comparing whole lists.
 
-use crate::machine::{both, command, machine, session};
-use crate::messages::choice::pick;
-use crate::talks::reply;
+use crate::hosts::act;
+use crate::owned::both;
+use crate::serving::{ann, session};
 use imap_core::{Act, Core, Moment, SessionId, Step};
+use imap_limits::DEFAULT_LIMITS;
 use imap_print::{Response, print};
+use imap_rights::Groups;
 use imap_session::{NoticeOptions, Selected, notices_plain};
 use imap_world::World;
 use std::alloc::{AllocError, Global};
@@ -33,11 +35,31 @@ const COMMANDS: &[&[u8]] = &[
     b"a NOOP\r\n",
 ];
 
-pub(crate) fn step(
-    alloc: Global,
-    number: u32,
-    act: Result<Act, AllocError>,
-) -> Result<Step, AllocError> {
+/// One of `many` numbers from 0 on. It looks random, and is the same in each run.
+fn pick(turn: u32, salt: u32, many: u32) -> usize {
+    let mixed = turn.wrapping_mul(0x9e37_79b1) ^ salt.wrapping_mul(0x85eb_ca6b);
+    let spread = (mixed ^ (mixed >> 15)).wrapping_mul(0xc2b2_ae35);
+    (spread >> 8).checked_rem(many).unwrap_or(0) as usize
+}
+
+/// A machine of ann alone, who is the administrator, over this world.
+pub(crate) fn machine(alloc: Global, world: World) -> Result<Core, AllocError> {
+    let (administrator, world) = both(ann(alloc), Ok(world))?;
+    let groups = Groups::new(alloc);
+    first(Core::open(alloc, world, administrator, &[], groups, DEFAULT_LIMITS))
+}
+
+fn first<A: Drop, B: Drop>(both: Result<(A, B), AllocError>) -> Result<A, AllocError> {
+    let (one, _other) = both?;
+    Ok(one)
+}
+
+fn alone<T: Drop>(alloc: Global, item: Result<T, AllocError>) -> Result<Vec<T>, AllocError> {
+    let item = item?;
+    Ok(vec![in alloc; item]?)
+}
+
+fn step(alloc: Global, number: u32, act: Result<Act, AllocError>) -> Result<Step, AllocError> {
     let (who, act) = both(session(alloc, number), act)?;
     Ok(Step {
         who,
@@ -46,8 +68,30 @@ pub(crate) fn step(
     })
 }
 
-fn send(alloc: Global, core: &mut Core, number: u32, octets: &[u8]) -> Result<Vec<u8>, AllocError> {
-    reply(alloc, core, number, command(alloc, octets))
+/// What the session with this number is answered.
+pub(crate) fn reply(
+    alloc: Global,
+    core: &mut Core,
+    number: u32,
+    act: Result<Act, AllocError>,
+) -> Result<Vec<u8>, AllocError> {
+    let steps = alone(alloc, step(alloc, number, act))?;
+    let said = core.run(alloc, &steps);
+    drop(steps);
+    printed(alloc, said)
+}
+
+fn printed(
+    alloc: Global,
+    said: Result<Vec<Vec<Response>>, AllocError>,
+) -> Result<Vec<u8>, AllocError> {
+    let said = said?;
+    let octets = match said.as_slice() {
+        [replies] => print(alloc, replies.as_slice()),
+        _ => Err(AllocError),
+    };
+    drop(said);
+    octets
 }
 
 fn begin(alloc: Global, core: &mut Core) -> Result<(), AllocError> {
@@ -55,16 +99,12 @@ fn begin(alloc: Global, core: &mut Core) -> Result<(), AllocError> {
         drop(reply(alloc, core, number, Ok(Act::Open))?);
     }
     for &(number, octets) in OPENING {
-        drop(send(alloc, core, number, octets)?);
+        drop(reply(alloc, core, number, act(alloc, octets))?);
     }
     Ok(())
 }
 
 // ---- by comparing whole lists
-
-fn found<T: Drop>(value: Result<Option<T>, AllocError>) -> Result<T, AllocError> {
-    value?.ok_or(AllocError)
-}
 
 fn plain_lines(
     alloc: Global,
@@ -76,7 +116,7 @@ fn plain_lines(
     match world.mailbox(&selected.name.as_ref()) {
         Some(entry) => {
             let rows = entry.messages.as_ref().rows(user);
-            found(notices_plain(alloc, &selected.known, &rows, options, selected.up_to))
+            notices_plain(alloc, &selected.known, &rows, options, selected.up_to)?.ok_or(AllocError)
         }
         None => Err(AllocError),
     }
@@ -103,93 +143,79 @@ fn session_lines(alloc: Global, core: &Core, who: &SessionId) -> Result<Vec<Resp
 }
 
 /// The lines as they are sent, and the end of a NOOP.
-fn sent(alloc: Global, lines: &[Response]) -> Result<Vec<u8>, AllocError> {
-    let mut octets = print(alloc, lines)?;
-    octets.extend_from_slice(b"a OK done\r\n|")?;
+fn sent(alloc: Global, lines: Result<Vec<Response>, AllocError>) -> Result<Vec<u8>, AllocError> {
+    let lines = lines?;
+    let octets = print(alloc, lines.as_slice());
+    drop(lines);
+    let mut octets = octets?;
+    octets.extend_from_slice(b"a OK done\r\n")?;
     Ok(octets)
 }
 
-/// The number of lines, and the lines as they are sent.
-fn counted(
-    alloc: Global,
-    lines: Result<Vec<Response>, AllocError>,
-) -> Result<(usize, Vec<u8>), AllocError> {
-    let lines = lines?;
-    let sent = sent(alloc, lines.as_slice());
-    let count = lines.len();
-    drop(lines);
-    Ok((count, sent?))
-}
-
-fn lines_now(alloc: Global, core: &Core, number: u32) -> Result<Vec<Response>, AllocError> {
+/// What a NOOP of the session is to be answered.
+fn wanted(alloc: Global, core: &Core, number: u32) -> Result<Vec<u8>, AllocError> {
     let who = session(alloc, number)?;
     let lines = session_lines(alloc, core, &who);
     drop(who);
-    lines
-}
-
-/// The number of these lines, if a copy of the machine answers a NOOP of the session with them.
-fn count_lines(alloc: Global, core: &Core, number: u32) -> Result<Option<usize>, AllocError> {
-    let wanted = counted(alloc, lines_now(alloc, core, number));
-    let (said, (count, wanted)) = both(answer_of_copy(alloc, core, number), wanted)?;
-    Ok((said.as_slice() == wanted.as_slice()).then_some(count))
+    sent(alloc, lines)
 }
 
 fn answer_of_copy(alloc: Global, core: &Core, number: u32) -> Result<Vec<u8>, AllocError> {
     let mut copy = core.try_copy(alloc)?;
-    let said = send(alloc, &mut copy, number, b"a NOOP\r\n");
+    let said = reply(alloc, &mut copy, number, act(alloc, b"a NOOP\r\n"));
     drop(copy);
     said
 }
 
 // ---- in turns
 
-/// Makes a step of a session, and returns how many lines all sessions would be told then, or None where one of
-/// them would be told other ones.
+/// Makes a step of a session. Returns how many octets all sessions are told by a NOOP of each then, or `None` where one
+/// of them is told other ones.
 fn turn(alloc: Global, core: &mut Core, turn: u32) -> Result<Option<usize>, AllocError> {
     let octets = COMMANDS.get(pick(turn, 1, 12)).ok_or(AllocError)?;
     let number = if pick(turn, 2, 2) == 0 { 1 } else { 2 };
-    drop(send(alloc, core, number, octets)?);
+    drop(reply(alloc, core, number, act(alloc, octets))?);
     let mut count: usize = 0;
     for number in 1..4 {
-        match count_lines(alloc, core, number)? {
-            Some(lines) => count = count.saturating_add(lines),
-            None => return Ok(None),
+        let (said, wanted) = both(
+            answer_of_copy(alloc, core, number),
+            wanted(alloc, core, number),
+        )?;
+        if said.as_slice() != wanted.as_slice() {
+            return Ok(None);
         }
+        count = count.saturating_add(said.len());
     }
     Ok(Some(count))
 }
 
-/// How many turns are as they should be, and how many lines are told in them.
+/// How many turns are as they should be, and how many octets are told in them.
 fn count_turns(alloc: Global, core: &mut Core) -> Result<(u32, usize), AllocError> {
     begin(alloc, core)?;
-    let mut turns: u32 = 0;
     let mut count: usize = 0;
     for number in 0..500 {
         match turn(alloc, core, number)? {
-            Some(lines) => {
-                turns = turns.saturating_add(1);
-                count = count.saturating_add(lines);
-            }
-            None => return Ok((turns, count)),
+            Some(octets) => count = count.saturating_add(octets),
+            None => return Ok((number, count)),
         }
     }
-    Ok((turns, count))
+    Ok((500, count))
 }
 
 fn counts(alloc: Global) -> Result<(u32, usize), AllocError> {
-    let mut core = machine(alloc, 0)?;
+    let mut core = machine(alloc, World::new(alloc))?;
     let counts = count_turns(alloc, &mut core);
     drop(core);
     counts
 }
 
-/// Three sessions of one user have selected one mailbox, of which the third does nothing.
+/// Three sessions of one user have selected one mailbox, of which the third does nothing. More than 500 lines are told:
+/// the ends of the commands alone are 16,500 octets.
 #[test]
 fn notices_are_found_by_comparing_lists(rt: HostRuntime) {
     let counts = counts(rt.alloc());
     assert!(rt;
-        matches!(counts, Ok((500, count)) if count > 500),
+        matches!(counts, Ok((500, count)) if count > 22_500),
         "{counts:?}"
     );
 }
