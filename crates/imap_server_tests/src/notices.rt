@@ -55,8 +55,9 @@ fn first<A: Drop, B: Drop>(both: Result<(A, B), AllocError>) -> Result<A, AllocE
 }
 
 fn alone<T: Drop>(alloc: Global, item: Result<T, AllocError>) -> Result<Vec<T>, AllocError> {
-    let item = item?;
-    Ok(vec![in alloc; item]?)
+    let mut items = Vec::with_capacity(alloc, 1)?;
+    items.push(item?)?;
+    Ok(items)
 }
 
 fn step(alloc: Global, number: u32, act: Result<Act, AllocError>) -> Result<Step, AllocError> {
