@@ -16,7 +16,7 @@ use Rattle.imap_hall.specs.Counts.{Counts, AreSameCounts, IsCounted, count_in, c
 use Rattle.imap_hall.specs.declared.error.HallError.{HallError}
 use Rattle.imap_hall.specs.declared.journal.Entry.{Entry}
 use Rattle.imap_hall.specs.declared.journal.Receipt.{Receipt}
-use Rattle.imap_hall.specs.Hall.{HallState, IsFresh, IsKept, IsUntouched, IsStepped, entry_of, hall_state, journal_entry}
+use Rattle.imap_hall.specs.Hall.{HallState, IsFresh, IsKept, IsTurnedOver, IsUntouched, IsStepped, entry_of, hall_state, journal_entry}
 use Rattle.imap_hall.specs.Journal.{Follows, IsMade, IsRefused, IsRun, IsSamePoint, JournalEntry, Point, max_entries, point}
 
 same_twice : (p q r : Point) → IsSamePoint p q → IsSamePoint q r → IsSamePoint p r
@@ -26,7 +26,7 @@ pub run_same : (p : Point) (es : List JournalEntry) (q r : Point) → IsRun p es
 run_same p [] q r run same = same_twice p q r run same
 run_same p (e ∷ es) q r run same = (run.0, run.1, run_same run.0 es q r run.2 same)
 
-counted_from : (who : SessionId) (old mid new : Counts) → AreSameCounts old mid → IsCounted who mid new → IsCounted who old new
+pub counted_from : (who : SessionId) (old mid new : Counts) → AreSameCounts old mid → IsCounted who mid new → IsCounted who old new
 counted_from who old mid new same counted = record {
   one = counted.one ∙ ap (λ n. n + 1) (same who.user who.number);
   others = λ user number other. counted.others user number other ∙ same user number;
@@ -141,6 +141,28 @@ untouched_result failures core after base counts raised base_counts before journ
   entries = ap (map journal_entry) err.2;
   failures = err.3;
 }
+
+module _ {K : Type 0} (core now base : Machine) where
+  -- another machine in the same state
+  pub alike_view : (counts base_counts : Counts) (before : ℕ) (journal : List Entry) (keeper : K) → now.state ≡ core.state
+      → hall_state now counts base base_counts before journal keeper ≡ hall_state core counts base base_counts before journal keeper
+  alike_view counts base_counts before journal keeper same = λ i. record {
+    now = point (same i) counts;
+    base = point base.state base_counts;
+    before = before;
+    entries = map journal_entry journal;
+    keeper = keeper;
+  }
+
+  pub turned : (base_after : Machine) (counts base_counts copied : Counts) (before n : ℕ) (journal cleared : List Entry) (keeper : K) → now.state ≡ core.state → base_after.state ≡ core.state → copied ≡ counts → n ≡ length journal → cleared ≡ []
+      → IsTurnedOver (hall_state core counts base base_counts before journal keeper) (hall_state now counts base_after copied (before + n) cleared keeper)
+  turned base_after counts base_counts copied before n journal cleared keeper unchanged state same many none = record {
+    now = λ i. point (unchanged i) counts;
+    base = λ i. point (state i) (same i);
+    before = ap (λ m. before + m) (many ∙ sym (length-map journal journal_entry));
+    entries = ap (map journal_entry) none;
+    keeper = refl;
+  }
 
 module _ {K : Type 0} (Content : K → World → Type 0) where
   pub kept_turned : (core now base turned : Machine) (counts base_counts copied : Counts) (before n : ℕ) (journal cleared : List Entry) (keeper : K) → IsKept Content (hall_state core counts base base_counts before journal keeper)

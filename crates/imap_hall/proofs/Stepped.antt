@@ -1,12 +1,13 @@
 -- What a step that was performed is as an entry.
-use Rattle.std.proofs.Common.{◌≡◌, ◌∙◌, ◌⊎◌, ◌↔◌, ◌+◌, inl, inr, sym, ap, ℕ, List, [], ◌∷◌, Ok, Err, Result, IfErr, IfOk, IsErrOf, OnErr, OnOk, length, length-append, arith}
+use Rattle.std.proofs.Common.{◌≡◌, ◌∙◌, ◌⊎◌, ◌↔◌, ◌+◌, inl, inr, refl, sym, ap, subst, ℕ, List, [], ◌∷◌, ◌++◌, Ok, Err, Result, IfErr, IfOk, IsErrOf, OnErr, OnOk, length, length-append, arith}
 use Rattle.imap_core.specs.declared.step.Step.{Step}
-use Rattle.imap_core.specs.Machine.{State, outcome}
+use Rattle.imap_core.specs.Machine.{State, next, outcome}
 use Rattle.imap_core.proofs.SessionsInStep.{one_is_apart}
 use Rattle.imap_core.proofs.Starting.{admission_apart}
 use Rattle.imap_core.specs.Opening.{admission}
 use Rattle.imap_answer.specs.Alike.{effects_of}
 use Rattle.imap_world.specs.declared.change.Write.{Write}
+use Rattle.imap_keeper.specs.Keeping.{LeavesOr}
 use Rattle.imap_world.specs.Effects.{writes_of}
 use Rattle.imap_world.specs.Ready.{IsCurrent}
 use Rattle.imap_world.specs.World.{World}
@@ -17,9 +18,10 @@ use Rattle.imap_hall.specs.declared.journal.Receipt.{Receipt}
 use Rattle.imap_hall.specs.declared.replies.Replies.{Replies}
 use Rattle.imap_hall.specs.Counts.{Counts}
 use Rattle.imap_hall.specs.Hall.{HallState, HasRefused, HasStepped, IsStepped, IsUnwritten, IsUntouched, entry_of}
-use Rattle.imap_hall.specs.Journal.{max_entries, point}
+use Rattle.imap_hall.specs.Journal.{JournalEntry, max_entries, point}
 use Rattle.imap_hall.specs.Performing.{Performs}
 use Rattle.imap_hall.specs.Receipts.{IsNewest}
+use Rattle.imap_hall.specs.Saving.{IsSaved}
 
 module _ (state : State) (step : Step) (change : List Write) (found : writes_of (effects_of (outcome state step).effect) state.world ≡ Ok change) where
   pub current : IsCurrent change state.world
@@ -49,6 +51,34 @@ module _ (old new : State) (before after : Counts) (failed fails : ℕ) (step : 
       by : Performs old failed step replies new fails → replies.second ≡ replies.receipt
       by (inl h) = h.0.second ∙ sym h.0.receipt
       by (inr h) = h.0.second ∙ sym h.0.receipt
+
+-- the newest entry has the step's copy, and the number and replies of the receipt
+pub entry_added : {old mid new : List JournalEntry} {copy : Step} {own : ℕ} {replies : List Response} (step : Step) (r : Receipt) → new ≡ mid ++ record { step = copy; own = own; replies = replies } ∷ []
+    → mid ≡ old → copy ≡ step → r.own ≡ own → replies ≡ r.replies → new ≡ old ++ entry_of step r ∷ []
+entry_added step r is same copied own replies = is ∙ λ i. same i ++ record { step = copied i; own = sym own i; replies = replies i } ∷ []
+
+pub on_err : {A E P : Type 0} (result : Result A E) → P → OnErr result P
+on_err (Ok value) p = tt
+on_err (Err error) p = p
+
+module _ {K Image : Type 0} (Content : K → World → Type 0) (IsHonest : K → Type 0) (Leaves : K → Image → Type 0) (Stands : Image → World → Type 0) (old mid : State) (step : Step) (before : K) (same : mid ≡ old) where
+  -- the keeper was not asked
+  pub saved_unasked : Content before old.world → IsSaved Content IsHonest Leaves Stands old before step mid before
+  saved_unasked stored = record {
+    stored = subst (λ (s : State). Content before s.world) (sym same) stored;
+    unwritten = λ _. refl;
+    honest = λ honest. honest;
+    crash = λ _ image left. inl left;
+  }
+
+  pub saved_by : (new : State) (after : K) (change : List Write) → Content after new.world → (IsUnwritten old step → change ≡ []) → (change ≡ [] → after ≡ before) → (IsHonest after → IsHonest before)
+      → (IsHonest after → LeavesOr (Leaves before) (Leaves after) (λ image. Stands image (next mid step).world)) → IsSaved Content IsHonest Leaves Stands old before step new after
+  saved_by new after change stored empty unwritten honest crash = record {
+    stored = stored;
+    unwritten = λ is. unwritten (empty is);
+    honest = honest;
+    crash = λ still image left. subst (λ (s : State). Leaves before image ⊎ Stands image (next s step).world) same (crash still image left);
+  }
 
 pub alone_as : {A B : Type 0} (rs ss ts : List Response) → rs ≡ ss → A ⊎ ((ss ≡ ts) × B) → A ⊎ ((rs ≡ ts) × B)
 alone_as rs ss ts is (inl h) = inl h

@@ -24,7 +24,6 @@ use std::alloc::Global;
 
 /// Makes a step, saves its change, and appends its entry to the journal. `count` is how many entries were made
 /// before. Returns the receipt of the entry, twice.
-#[tactic(auto, using(crate::proofs::Stepped::stepped, crate::proofs::Stepped::entry_is, crate::proofs::Stepped::second_is))]
 pub(crate) fn advance<K: Keeper>(
     core: &mut Core,
     counts: &mut UserMap<OwnCounts>,

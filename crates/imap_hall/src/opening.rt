@@ -29,7 +29,6 @@ pub(crate) struct Start {
 }
 
 /// Loads what is kept, starts a machine, and saves the INBOXes that were made.
-#[tactic(auto, using(crate::proofs::Opened::left_unread, crate::proofs::Opened::left_saved, crate::proofs::Opened::left_alone))]
 pub(crate) fn begin<K: Keeper>(
     keeper: &mut K,
     alloc: Global,

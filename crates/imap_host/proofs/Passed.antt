@@ -1,14 +1,20 @@
 -- Seats that are compared one after the other.
-use Rattle.std.proofs.Common.{◌≡◌, ◌↔◌, ℕ, ◌+◌, ◌-◌, ◌<◌, ◌≤◌, List, [], ◌∷◌, refl, subst, length, max, arith}
+use Rattle.std.proofs.Common.{◌≡◌, ◌∙◌, ◌↔◌, ℕ, ◌+◌, ◌-◌, ◌<◌, ◌≤◌, List, [], ◌∷◌, add-one, ap, refl, subst, suc, sym, drop, drop-cons, get_or, length, map, max, arith}
 use Rattle.std.proofs.lemmas.List.Sums.{sum_by-cons}
 use Rattle.imap_serve.specs.Journal.{JournalEntry}
-use Rattle.imap_host.specs.Settling.{AreEachSettled, AreSettled, IsSettled, SeatNotes, last_base, receipts_since, since}
+use Rattle.imap_host.specs.declared.seat.Seat.{Seat}
+use Rattle.imap_host.specs.Settling.{AreEachSettled, AreSettled, IsSettled, SeatNotes, last_base, notes_of, receipts_since, since}
 
 -- of all seats these are left: so many entries have no receipt yet, and this is the greatest base so far
 pub record IsPassed (before : ℕ) (journal : List JournalEntry) (all rest : List SeatNotes) (left base : ℕ) : Type 0 where
   pub number : receipts_since before all + left ≡ receipts_since before rest + length journal
   pub each : AreEachSettled before journal rest ↔ AreEachSettled before journal all
   pub last : max base (last_base rest) ≡ last_base all
+
+pub seat_left : {L : Type 0} (seats : List (Seat L)) (i : ℕ) (s : Seat L) → i < length seats → s ≡ get_or seats i s → map notes_of (drop i seats) ≡ notes_of s ∷ map notes_of (drop (i + 1) seats)
+seat_left seats i s less is =
+    let cut : drop i seats ≡ s ∷ drop (i + 1) seats = rw add-one (drop-cons seats i s less ∙ ap (λ x. x ∷ drop (suc i) seats) (sym is)) in
+    ap (map notes_of) cut
 
 module _ (before : ℕ) (journal : List JournalEntry) where
   pub passed_first : (all : List SeatNotes) → IsPassed before journal all all (length journal) 0

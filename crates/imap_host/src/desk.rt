@@ -32,7 +32,6 @@ impl<'a, K: Keeper, L: Ledger, R: Wait> Room for Desk<'a, K, L, R> {
     // What the host refuses lies under its lock.
     ghost refuses = { λ old step error new. new.seat.now.receipts.items ≡ old.seat.now.receipts.items };
 
-    #[tactic(auto, using(crate::proofs::LetGo::remembered_still, crate::proofs::LetGo::newest_still))]
     fn step(&mut self, alloc: Global, step: &Step) -> Result<Receipt, HallError> {
         // A desk refuses the steps of other sessions.
         let seat = &mut *self.seat;

@@ -19,3 +19,21 @@ returns-in-Ok-clause-crash g c world holds honest image left =
     subst (λ (w : World). g.K.Keeper.leaves c.args.keeper image ⊎ g.K.Keeper.stands image w)
     (ap (λ (s : State). s.world) (sym (c.in-Ok.ensures.known honest world holds)))
     (c.in-Ok.ensures.crash world holds honest image left)
+
+pub returns-in-Ok-clause-known : goal.returns-in-Ok-clause-known
+returns-in-Ok-clause-known g c = λ world holds honest. c.in-Ok.ensures.known honest world holds
+
+pub returns-in-Ok-clause-alone : goal.returns-in-Ok-clause-alone
+returns-in-Ok-clause-alone g c = c.in-Ok.ensures.alone
+
+pub returns-in-Err-clause-kept : goal.returns-in-Err-clause-kept
+returns-in-Err-clause-kept g c = c.in-Err.ensures.kept
+
+pub returns-in-Err-clause-store : goal.returns-in-Err-clause-store
+returns-in-Err-clause-store g c = c.in-Err.ensures.store
+
+pub returns-in-Err-clause-damaged : goal.returns-in-Err-clause-damaged
+returns-in-Err-clause-damaged g c = λ world holds honest. c.in-Err.ensures.damaged honest world holds
+
+pub returns-in-Err-clause-refused : goal.returns-in-Err-clause-refused
+returns-in-Err-clause-refused g c = c.in-Err.ensures.crash
