@@ -18,17 +18,27 @@ fn shared(alloc: Global, number: u32) -> Result<Name, AllocError> {
     }
 }
 
-fn subscription(alloc: Global, number: u32) -> Result<Vec<Effect>, AllocError> {
+fn subscription(alloc: Global, number: u32) -> Result<Effect, AllocError> {
     let (ann, name) = both(ann(alloc), shared(alloc, number))?;
-    Ok(vec![in alloc; Effect::Subscribe(ann, name)]?)
+    Ok(Effect::Subscribe(ann, name))
 }
 
 fn subscribe(alloc: Global, world: &mut World, number: u32) -> Result<(), WorldError> {
-    let effects = subscription(alloc, number)?;
+    let effect = subscription(alloc, number)?;
+    make(alloc, world, effect)
+}
+
+fn make(alloc: Global, world: &mut World, effect: Effect) -> Result<(), WorldError> {
+    let effects = vec![in alloc; effect]?;
     let change = world.prepare(alloc, &effects);
     drop(effects);
-    world.commit(change?);
-    Ok(())
+    match change {
+        Ok(change) => {
+            world.commit(change);
+            Ok(())
+        }
+        Err(error) => Err(error),
+    }
 }
 
 /// A world in which ann subscribed to this many names.
