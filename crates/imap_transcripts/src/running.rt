@@ -46,7 +46,7 @@ pub(crate) fn run_in_database(
 }
 
 /// Saves the mailboxes at the start of the script into the keeper, which has none, and runs it over this. The keeper
-/// comes as it was made: here it is any, and where it is made a proof that it is dropped is long.
+/// is taken with the refusal to make it, since a proof that a database is dropped is short for any keeper alone.
 fn run_filled<K: Keeper + Drop>(
     alloc: Global,
     scenario: &Scenario,
