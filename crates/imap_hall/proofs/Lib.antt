@@ -7,3 +7,4 @@ pub mod Stepped
 pub mod Users
 pub use Rattle.imap_core.proofs.machine.Core.TheSendSync as CoreSend
 pub use Rattle.imap_core.proofs.SessionIdSend
+pub use Rattle.imap_saving.proofs.shared_replies.SharedReplies.TheSendSync as SharedRepliesSend

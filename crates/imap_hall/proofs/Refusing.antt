@@ -4,7 +4,7 @@ use Rattle.std.proofs.lemmas.Bool.{cases_lt}
 use Rattle.imap_keeper.specs.Keeping.{count_after, max_failures}
 use Rattle.imap_keeper.specs.declared.error.KeepError.{KeepError}
 use Rattle.imap_keeper.specs.declared.error.KeepError.TheVariants as keep
-use Rattle.imap_hall.specs.Hall.{HasRisen}
+use Rattle.imap_saving.specs.Performing.{HasRisen}
 use Rattle.imap_hall.specs.Opening.{open_error}
 use Rattle.imap_hall.specs.declared.error.OpenError.TheVariants as error
 

@@ -1,11 +1,9 @@
 -- What a step that was performed is as an entry.
 use Rattle.std.proofs.Common.{◌≡◌, ◌∙◌, ◌⊎◌, ◌↔◌, ◌+◌, inl, inr, refl, sym, ap, subst, ℕ, List, [], ◌∷◌, ◌++◌, Ok, Err, Result, IfErr, IfOk, IsErrOf, OnErr, OnOk, length, length-append, arith}
 use Rattle.imap_core.specs.declared.step.Step.{Step}
-use Rattle.imap_core.specs.Machine.{State, next, outcome}
-use Rattle.imap_core.proofs.SessionsInStep.{one_is_apart}
+use Rattle.imap_core.specs.Machine.{State, next}
 use Rattle.imap_core.proofs.Starting.{admission_apart}
 use Rattle.imap_core.specs.Opening.{admission}
-use Rattle.imap_answer.specs.Alike.{effects_of}
 use Rattle.imap_world.specs.declared.change.Write.{Write}
 use Rattle.imap_keeper.specs.Keeping.{LeavesOr}
 use Rattle.imap_world.specs.Effects.{writes_of}
@@ -15,20 +13,13 @@ use Rattle.imap_print.specs.declared.response.Response.{Response}
 use Rattle.imap_hall.specs.declared.error.HallError.{HallError}
 use Rattle.imap_hall.specs.declared.error.HallError.TheVariants.{Exhausted}
 use Rattle.imap_hall.specs.declared.journal.Receipt.{Receipt}
-use Rattle.imap_hall.specs.declared.replies.Replies.{Replies}
 use Rattle.imap_hall.specs.Counts.{Counts}
-use Rattle.imap_hall.specs.Hall.{HallState, HasRefused, HasStepped, IsStepped, IsUnwritten, IsUntouched, entry_of}
+use Rattle.imap_hall.specs.Hall.{HallState, HasRefused, HasStepped, IsStepped, IsUntouched, entry_of}
 use Rattle.imap_hall.specs.Journal.{JournalEntry, max_entries, point}
-use Rattle.imap_hall.specs.Performing.{Performs}
 use Rattle.imap_hall.specs.Receipts.{IsNewest}
 use Rattle.imap_hall.specs.Saving.{IsSaved}
-
-module _ (state : State) (step : Step) (change : List Write) (found : writes_of (effects_of (outcome state step).effect) state.world ≡ Ok change) where
-  pub current : IsCurrent change state.world
-  current = (effects_of (outcome state step).effect, one_is_apart (outcome state step).effect, found)
-
-  pub unwritten : IsUnwritten state step ↔ (change ≡ [])
-  unwritten = (λ is. cc, λ is. found ∙ ap (λ c. Ok c) is)
+use Rattle.imap_saving.specs.declared.replies.Replies.{Replies}
+use Rattle.imap_saving.specs.Performing.{IsUnwritten, Performs}
 
 module _ (old new : State) (before after : Counts) (failed fails : ℕ) (step : Step) (replies : Replies) (done : Performs old failed step replies new fails) where
   pub stepped : (r : Receipt) → r.replies ≡ replies.receipt → IsStepped (point old before) failed (entry_of step r) (point new after) fails

@@ -1,12 +1,10 @@
 -- What contracts see of a hall.
-use Rattle.std.specs.Prelude.{◌≡◌, ◌⊎◌, ℕ, ◌+◌, ◌<◌, ◌≤◌, List, [], ◌∷◌, ◌++◌, length, map, refl, Ok}
+use Rattle.std.specs.Prelude.{◌≡◌, ◌⊎◌, ℕ, ◌+◌, ◌≤◌, List, [], ◌∷◌, ◌++◌, length, map, refl}
 use Rattle.std.specs.Coded.{Coded, coded×, coded_ℕ, coded_list, code_by}
-use Rattle.imap_answer.specs.Alike.{effects_of}
 use Rattle.imap_core.specs.declared.step.Step.{Step}
-use Rattle.imap_core.specs.Machine.{Machine, State, outcome}
-use Rattle.imap_keeper.specs.Keeping.{max_failures}
+use Rattle.imap_core.specs.Machine.{Machine}
 use Rattle.imap_print.specs.declared.response.Response.{Response}
-use Rattle.imap_world.specs.Effects.{writes_of}
+use Rattle.imap_saving.specs.Performing.{HasRisen}
 use Rattle.imap_world.specs.World.{World}
 use Rattle.imap_hall.specs.declared.error.HallError.{HallError}
 use Rattle.imap_hall.specs.declared.error.HallError.TheVariants.{Exhausted}
@@ -61,14 +59,6 @@ module _ {K : Type 0} where
     pub room : h.before + length h.entries ≤ max_entries
 
 -- ---- what calls leave
-
--- a step asks for nothing to be written
-abbrev pub IsUnwritten : State → Step → Type 0
-IsUnwritten state step = writes_of (effects_of (outcome state step).effect) state.world ≡ Ok []
-
--- a count of failures rose, or is at its greatest
-abbrev pub HasRisen : (old new : ℕ) → Type 0
-HasRisen old new = (old < new) ⊎ (new ≡ max_failures)
 
 -- the step was made; or the store refused its change, which its count of failures shows
 abbrev pub IsStepped : (old : Point) → (failed : ℕ) → JournalEntry → (new : Point) → (fails : ℕ) → Type 0

@@ -3,7 +3,6 @@ pub mod Counts
 pub mod Hall
 pub mod Journal
 pub mod Laws
-pub mod Performing
 pub mod Opening
 pub mod Receipts
 pub mod Saving

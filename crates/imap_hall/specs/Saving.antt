@@ -5,8 +5,8 @@ use Rattle.imap_core.specs.Machine.{State, next}
 use Rattle.imap_keeper.specs.Keeping.{LeavesOnly, LeavesOr}
 use Rattle.imap_print.specs.declared.response.Response.{Response}
 use Rattle.imap_world.specs.World.{World}
-use Rattle.imap_hall.specs.Hall.{HasRisen, IsUnwritten}
-use Rattle.imap_hall.specs.Journal.{unavailable}
+use Rattle.imap_saving.specs.Performing.{HasRisen, IsUnwritten}
+use Rattle.imap_saving.specs.Refusals.{unavailable}
 
 -- The keeper has the mailboxes of the machine after the step, and is as before if the step asks for nothing to be
 -- written. What a crash leaves it could leave before, or it is that of the mailboxes as the step makes them.

@@ -4,23 +4,21 @@ ghost use Rattle.std.specs.Prelude.{◌≡◌, ◌+◌, ◌<◌, ◌≤◌, ◌+
 ghost use Rattle.std.specs.Prelude.{IfErr, IfOk, OnErr, OnOk};
 ghost use Rattle.std.specs.Vec.{vec_capacity};
 ghost use Rattle.imap_hall.specs.declared.error.HallError.TheVariants as error;
-ghost use Rattle.imap_hall.specs.Counts.{AreSameCounts, IsCounted, count_of};
+ghost use Rattle.imap_hall.specs.Counts.{AreSameCounts, HasSession, IsCounted, count_of};
 ghost use Rattle.imap_hall.specs.Hall.{IsStepped, entry_of, journal_entry};
 ghost use Rattle.imap_hall.specs.Journal.{max_entries, point};
 ghost use Rattle.imap_hall.specs.Receipts.{IsSameReceipt};
 ghost use Rattle.imap_hall.specs.Saving.{IsAlone, IsSaved};
 
-use crate::counts::{count_of, raise_count};
+use crate::counts::{count_of, raise_count, reserve_count};
 use crate::error::HallError;
 use crate::journal::{Entry, Receipt};
 use crate::own_counts::OwnCounts;
-use crate::performing::perform;
-use crate::ready::{make_ready, make_room};
-use crate::replies::Replies;
 use imap_core::{Core, Step};
 use imap_keeper::Keeper;
+use imap_saving::{Replies, make_ready, perform};
 use imap_user_map::UserMap;
-use std::alloc::Global;
+use std::alloc::{AllocError, Global};
 
 /// Makes a step, saves its change, and appends its entry to the journal. `count` is how many entries were made
 /// before. Returns the receipt of the entry, twice.
@@ -64,9 +62,9 @@ pub(crate) fn advance<K: Keeper>(
                 raise_count(counts, &step.who);
                 Ok(append_entry(journal, copy, own, count + 1, replies))
             }
-            Err(error) => {
+            Err(_) => {
                 drop(copy);
-                Err(error)
+                Err(HallError::Memory)
             }
         },
         Err(_) => {
@@ -74,6 +72,22 @@ pub(crate) fn advance<K: Keeper>(
             Err(HallError::Memory)
         }
     }
+}
+
+/// Makes room for an entry of the session.
+fn make_room(
+    counts: &mut UserMap<OwnCounts>,
+    journal: &mut Vec<Entry>,
+    alloc: Global,
+    step: &Step,
+) -> Result<(), AllocError>
+    ensures same { AreSameCounts counts.old.map counts.new.map }
+    ensures items { journal.new.items ≡ journal.old.items }
+    ensures session { OnOk result (HasSession counts.new.map step.now.who) }
+    ensures room { OnOk result (vec_len journal.new < vec_capacity journal.new) }
+{
+    journal.reserve(1)?;
+    reserve_count(counts, alloc, &step.who)
 }
 
 /// Appends the entry of `step` to the journal. Returns its receipt, twice.

@@ -7,11 +7,12 @@ ghost use Rattle.imap_core.specs.Opening.{state_at_start};
 ghost use Rattle.imap_core.specs.Version.{version_in};
 ghost use Rattle.imap_world.specs.World.{World as Mailboxes};
 ghost use Rattle.imap_hall.specs.declared.error.OpenError.TheVariants as error;
-ghost use Rattle.imap_hall.specs.Hall.{HasRisen, HasStepped, IsFresh, IsKept, IsTurnedOver, IsUntouched};
+ghost use Rattle.imap_hall.specs.Hall.{HasStepped, IsFresh, IsKept, IsTurnedOver, IsUntouched};
 ghost use Rattle.imap_hall.specs.Hall.{IsBaseOf, journal_entry};
 ghost use Rattle.imap_hall.specs.Journal.{max_entries};
 ghost use Rattle.imap_hall.specs.Receipts.{IsSameReceipt};
 ghost use Rattle.imap_hall.specs.Saving.{IsAlone, IsOpened, IsOpenedAlone, IsSaved};
+ghost use Rattle.imap_saving.specs.Performing.{HasRisen};
 
 use crate::advancing::advance;
 use crate::error::{HallError, OpenError};

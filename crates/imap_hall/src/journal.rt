@@ -4,8 +4,8 @@
 //! no difference.
 
 use crate::own_counts::OwnCounts;
-use crate::shared_replies::SharedReplies;
 use imap_core::{Core, Step};
+use imap_saving::SharedReplies;
 use imap_user_map::UserMap;
 
 /// An entry of the journal.

@@ -13,17 +13,12 @@ pub mod laws;
 mod memory;
 mod opening;
 mod own_counts;
-mod performing;
-mod ready;
-mod replies;
 mod room;
-mod saving;
-mod shared_replies;
 
 pub use error::{HallError, OpenError};
 pub use hall::Hall;
 pub use imap_core::{Act, MailboxVersion, Moment, SessionId, SessionNumber, Step};
+pub use imap_saving::SharedReplies;
 pub use journal::{Entry, OldBase, Receipt};
 pub use memory::{entry_octets, reply_octets};
 pub use room::Room;
-pub use shared_replies::SharedReplies;

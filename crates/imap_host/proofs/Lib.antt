@@ -1,4 +1,4 @@
-pub mod Counted
+pub mod Agreed
 pub mod LetGo
 pub mod Passed
 pub mod Sending

@@ -3,7 +3,8 @@ use Rattle.std.proofs.Common.{◌≡◌, ◌∙◌, ◌↔◌, ℕ, ◌+◌, ◌
 use Rattle.std.proofs.lemmas.List.Sums.{sum_by-cons}
 use Rattle.imap_serve.specs.Journal.{JournalEntry}
 use Rattle.imap_host.specs.declared.seat.Seat.{Seat}
-use Rattle.imap_host.specs.Settling.{AreEachSettled, AreSettled, IsSettled, SeatNotes, last_base, notes_of, receipts_since, since}
+use Rattle.imap_host.specs.Seats.{notes_of}
+use Rattle.imap_receipts.specs.Settling.{AreEachSettled, AreSettled, IsSettled, SeatNotes, last_base, receipts_since, since}
 
 -- of all seats these are left: so many entries have no receipt yet, and this is the greatest base so far
 pub record IsPassed (before : ℕ) (journal : List JournalEntry) (all rest : List SeatNotes) (left base : ℕ) : Type 0 where

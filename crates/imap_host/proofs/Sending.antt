@@ -54,7 +54,7 @@ use Rattle.imap_serve.proofs.ReceiptSend.{the_send as receipt_send}
 use Rattle.imap_serve.proofs.SharedRepliesSend.{the_send as shared_replies_send}
 use Rattle.imap_host.specs.contracts.host_state.HostState.{the_row as host_state_row, the_type as host_state_type}
 use Rattle.imap_host.specs.contracts.host.Host.{the_row as host_row}
-use Rattle.imap_host.specs.contracts.seat.Kept.{the_row as kept_row, the_type as kept_type}
+use Rattle.imap_receipts.specs.contracts.kept.Kept.{the_row as kept_row, the_type as kept_type}
 use Rattle.imap_host.specs.contracts.seat.Seat.{the_row as seat_row, the_type as seat_type}
 use Rattle.std.specs.contracts.alloc.Global.{the_row as global_row}
 use Rattle.std.specs.declared.sync.ledger.Ledger as ledger

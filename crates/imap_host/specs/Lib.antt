@@ -1,5 +1,4 @@
--- Seats, what their receipts say, and how a host ends.
+-- Seats at a host.
 pub mod Seats
-pub mod Settling
 -- what those above say of halls
 pub use Rattle.imap_serve.specs.Hall

@@ -1,14 +1,13 @@
 //! Journals are compared with the receipts that seats keep.
 
-ghost use Rattle.std.specs.Prelude.{◌≡◌, ◌↔◌, ◌<◌, IfSome, IsNone, IsTrue, length, map};
+ghost use Rattle.std.specs.Prelude.{◌↔◌, IsTrue, map};
 ghost use Rattle.imap_serve.specs.Hall.{journal_entry};
-ghost use Rattle.imap_host.specs.Seats.{kept_entry};
-ghost use Rattle.imap_host.specs.Settling.{AreSettled, IsOfEntry, IsSettled, notes_of, since};
+ghost use Rattle.imap_receipts.specs.Settling.{AreSettled};
+ghost use Rattle.imap_host.specs.Seats.{notes_of};
 
-use crate::seat::{Kept, Seat};
-use imap_serve::{Entry, SessionId};
-use imap_syntax::are_same;
-use std::collections::VecDeque;
+use crate::seat::Seat;
+use imap_receipts::count_since;
+use imap_serve::Entry;
 use std::sync::ledger::Ledger;
 
 /// Whether the journal and the seats agree. Each entry since the base has one receipt, which has the entry's place,
@@ -27,57 +26,4 @@ pub(crate) fn are_settled<L: Ledger>(before: u64, entries: &[Entry], seats: &[Se
         base = base.max(seat.told_base);
     }
     left == 0 && base == before
-}
-
-/// Returns how many of the receipts are of entries since the base. Returns `None` if one of these isn't of the
-/// session's entry at its place, or if their places don't rise.
-fn count_since(
-    before: u64,
-    entries: &[Entry],
-    session: &SessionId,
-    receipts: &VecDeque<Kept>,
-) -> Option<u64>
-    ensures settled { IfSome result (λ n.
-        IsSettled before (map journal_entry entries.now) session.now receipts.now.items) }
-    ensures count { IfSome result (λ n. n ≡ length (since before receipts.now.items)) }
-    ensures unsettled { IsNone result
-        → IsSettled before (map journal_entry entries.now) session.now receipts.now.items → ⊥ }
-{
-    let mut last = before;
-    let mut count: u64 = 0;
-    for kept in receipts {
-        let place = kept.receipt.place;
-        if place <= before {
-            continue;
-        }
-        if place <= last {
-            return None;
-        }
-        if !is_of_entry(before, entries, session, kept) {
-            return None;
-        }
-        last = place;
-        count += 1;
-    }
-    Some(count)
-}
-
-/// Whether the receipt is of the session, and of the entry at its place.
-fn is_of_entry(before: u64, entries: &[Entry], session: &SessionId, kept: &Kept) -> bool
-    requires { before < kept.now.receipt.place }
-    ensures { IsTrue result ↔ IsOfEntry before (map journal_entry entries.now) session.now kept.now }
-{
-    match entries.get((kept.receipt.place - before - 1) as usize) {
-        Some(entry) => kept.step.who.is_same(session) && is_noted(entry, kept),
-        None => false,
-    }
-}
-
-/// Whether the receipt is of this entry.
-fn is_noted(entry: &Entry, kept: &Kept) -> bool
-    ensures { IsTrue result ↔ (journal_entry entry.now ≡ kept_entry kept.now) }
-{
-    entry.own == kept.receipt.own
-        && entry.step.is_same(&kept.step)
-        && are_same(entry.replies.as_slice(), kept.receipt.replies.as_slice())
 }

@@ -1,7 +1,7 @@
 //! Seats at a host, where their sessions make steps.
 
 ghost use Rattle.std.specs.Prelude.{◌≡◌};
-ghost use Rattle.imap_host.specs.Seats.{LetsGo};
+ghost use Rattle.imap_receipts.specs.Keeping.{LetsGo};
 
 use crate::host::Host;
 use crate::seat::Seat;
@@ -21,7 +21,7 @@ pub struct Desk<'a, K: Keeper, L: Ledger, R: Wait> {
 
 impl<'a, K: Keeper, L: Ledger, R: Wait> Room for Desk<'a, K, L, R> {
     ghost use Rattle.std.specs.Prelude.{◌≡◌, false, map};
-    ghost use Rattle.imap_host.specs.Seats.{kept_entry};
+    ghost use Rattle.imap_receipts.specs.Keeping.{kept_entry};
 
     ghost entries = { λ d. map kept_entry d.seat.now.receipts.items };
 

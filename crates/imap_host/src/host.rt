@@ -3,27 +3,24 @@
 //! The old base is dropped when the lock is free again. The entries are dropped under the lock, so that the
 //! journal keeps its room: with a new list for each turn every worker came to hold a list's two MB.
 
-ghost use Rattle.std.specs.Prelude.{◌≡◌, ◌+◌, ◌<◌, ◌++◌, ◌∷◌, [], IfOk, OnErr, OnOk};
+ghost use Rattle.std.specs.Prelude.{◌≡◌, ◌+◌, [], IfOk, OnErr, OnOk};
 ghost use Rattle.std.specs.FinMap as map;
-ghost use Rattle.std.specs.VecDeque.{deque_capacity, deque_len};
-ghost use Rattle.imap_host.specs.Seats.{Remembers, but_newest, from_base, last_of};
+ghost use Rattle.imap_host.specs.Seats.{last_of};
+ghost use Rattle.imap_receipts.specs.Keeping.{Remembers, but_newest};
 
 use crate::change_count::ChangeCount;
-use crate::host_state::{HostState, ReceiptPair};
+use crate::host_state::HostState;
 use crate::numbers::next_session;
-use crate::seat::{Kept, Seat, SeatError, let_go, let_go_but_newest};
+use crate::seat::{Seat, SeatError};
 use imap_keeper::Keeper;
 use imap_names::UserName;
+use imap_receipts::{ReceiptPair, keep, let_go_but_newest};
 use imap_serve::{Hall, HallError, MailboxVersion, Receipt, SessionId, Step, entry_octets};
 use imap_user_map::UserMap;
 use std::alloc::{AllocError, Global};
-use std::collections::VecDeque;
 use std::sync::atomic::{AtomicU64, Ordering};
 use std::sync::ledger::{Blank, Ledger};
 use std::sync::{Mutex, Wait};
-
-/// Into how many parts a ledger is cut.
-pub const PARTS: u64 = 1_048_576;
 
 /// After how many entries the journal begins anew.
 const MAX_ENTRIES: u64 = 10_000;
@@ -224,24 +221,4 @@ fn octets_with(octets: u64, more: u64, is_new_base: bool) -> u64 {
     } else {
         octets.saturating_add(more)
     }
-}
-
-/// Drops the receipts of entries before the base, appends the second receipt with its step, and returns the first.
-fn keep(receipts: &mut VecDeque<Kept>, step: Step, pair: ReceiptPair) -> Receipt
-    requires { deque_len receipts.old < deque_capacity receipts.old }
-    ensures first { result ≡ pair.first }
-    ensures kept { receipts.new.items ≡ from_base pair.base receipts.old.items
-        ++ record { step = step; receipt = pair.second } ∷ [] }
-{
-    let ReceiptPair {
-        first,
-        second,
-        base,
-    } = pair;
-    let_go(receipts, base);
-    receipts.push_back_reserved(Kept {
-        step,
-        receipt: second,
-    });
-    first
 }

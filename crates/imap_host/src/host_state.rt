@@ -4,8 +4,8 @@ ghost use Rattle.std.specs.Prelude.{◌≡◌, ◌+◌, ◌↔◌, ◌<◌, ◌�
 ghost use Rattle.imap_serve.specs.Hall.{HasStepped, IsBaseOf, IsTurnedOver, IsUntouched};
 ghost use Rattle.imap_serve.specs.Receipts.{IsSameReceipt};
 
-use crate::host::PARTS;
 use imap_keeper::Keeper;
+use imap_receipts::{PARTS, ReceiptPair};
 use imap_serve::{Hall, HallError, OldBase, Receipt, Step};
 use std::alloc::{AllocError, Global};
 use std::sync::ledger::{Blank, Book, Ledger, Share};
@@ -22,15 +22,6 @@ pub struct HostState<K: Keeper, L: Ledger> {
     ghost idle: { rest.amount ≡ 0 },
     ghost few: { left ≤ 1048576 },
     ghost counted: { book.total ≡ hall.before + length hall.entries },
-}
-
-/// The receipt of a step, twice, and where the journal's base is.
-#[derive(Debug, Drop)]
-pub struct ReceiptPair {
-    pub first: Receipt,
-    pub second: Receipt,
-    /// How many entries were made before the base.
-    pub base: u64,
 }
 
 impl<K: Keeper, L: Ledger> HostState<K, L> {

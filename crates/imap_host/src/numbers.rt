@@ -4,9 +4,9 @@ ghost use Rattle.std.specs.Prelude.{◌≡◌, ◌+◌, ◌<◌, ◌≤◌, ◌^
 ghost use Rattle.std.specs.FinMap as map;
 ghost use Rattle.imap_host.specs.Seats.{last_of};
 
-use crate::host::PARTS;
 use crate::seat::SeatError;
 use imap_names::UserName;
+use imap_receipts::PARTS;
 use imap_serve::{SessionId, SessionNumber};
 use imap_user_map::UserMap;
 use std::alloc::Global;

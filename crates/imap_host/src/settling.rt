@@ -1,28 +1,18 @@
 //! The end of a host.
 
 ghost use Rattle.std.specs.Prelude.{◌≡◌, ◌+◌, ◌<◌, ◌≤◌, IfErr, IfOk, OnOk, length, map, sum_by, vec_len};
-ghost use Rattle.imap_host.specs.Settling.{AreSettled, notes_of};
-ghost use Rattle.imap_host.specs.declared.settling.SettleError.TheVariants as error;
+ghost use Rattle.imap_host.specs.Seats.{notes_of};
+ghost use Rattle.imap_receipts.specs.Settling.{AreSettled};
+ghost use Rattle.imap_receipts.specs.declared.settling.SettleError.TheVariants as error;
 
 use crate::comparing::are_settled;
-use crate::host::{Host, OpenHost, PARTS};
+use crate::host::{Host, OpenHost};
 use crate::host_state::HostState;
 use crate::seat::Seat;
 use imap_keeper::Keeper;
+use imap_receipts::{SettleError, check_settled};
 use imap_serve::Hall;
 use std::sync::ledger::{Ledger, Share};
-use thiserror::Error;
-
-/// Why a host can't be ended with these seats.
-#[derive(Clone, Copy, Debug, Error, PartialEq, Eq)]
-pub enum SettleError {
-    /// A seat of the host is missing.
-    #[error("a seat is missing")]
-    Missing,
-    /// The journal and the receipts of the seats differ.
-    #[error("receipts differ from the journal")]
-    Mismatch,
-}
 
 /// Joins the shares of the seats with `rest`.
 fn join<L: Ledger>(rest: Share<L>, seats: Vec<Seat<L>>) -> Share<L>
@@ -58,11 +48,9 @@ impl<K: Keeper, L: Ledger> HostState<K, L> {
             × (AreSettled self.hall.before self.hall.entries (map notes_of seats.items) → ⊥)) }
         ensures kept { IfErr result (λ e. (e.1 ≡ self) × (e.2 ≡ seats)) }
     {
-        if (seats.len() as u64) < PARTS - self.left {
-            return Err((SettleError::Missing, self, seats));
-        }
-        if !are_settled(self.hall.before(), self.hall.entries(), seats.as_slice()) {
-            return Err((SettleError::Mismatch, self, seats));
+        let are_settled = are_settled(self.hall.before(), self.hall.entries(), seats.as_slice());
+        if let Err(error) = check_settled(self.left, seats.len() as u64, are_settled) {
+            return Err((error, self, seats));
         }
         let HostState {
             hall,

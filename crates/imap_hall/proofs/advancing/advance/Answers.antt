@@ -3,8 +3,8 @@ use Rattle.imap_core.specs.Machine.{State, answer, next}
 use Rattle.imap_core.specs.Planned.{change_of, state_after}
 use Rattle.imap_world.specs.Ready.{IsCurrent}
 use Rattle.imap_hall.specs.Hall.{journal_entry}
-use Rattle.imap_hall.specs.Journal.{unavailable}
-use Rattle.imap_hall.specs.Performing.{AreReplies, Performs}
+use Rattle.imap_saving.specs.Performing.{AreReplies, Performs}
+use Rattle.imap_saving.specs.Refusals.{unavailable}
 use Rattle.imap_hall.proofs.Kept.{counted_from}
 use Rattle.imap_hall.proofs.Stepped.{alone_as, entry_added, entry_is, on_err, saved_by, saved_unasked, second_is, stepped}
 use Rattle.imap_hall.proofs.advancing.advance.Goals as goal

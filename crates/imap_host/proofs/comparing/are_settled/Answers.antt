@@ -1,6 +1,6 @@
 use Rattle.std.proofs.Common.{◌+◌, arith, drop, map}
 use Rattle.imap_serve.specs.Hall.{journal_entry}
-use Rattle.imap_host.specs.Settling.{notes_of}
+use Rattle.imap_host.specs.Seats.{notes_of}
 use Rattle.imap_host.proofs.Passed.{passed_more, seat_left}
 use Rattle.imap_host.proofs.comparing.are_settled.Goals as goal
 

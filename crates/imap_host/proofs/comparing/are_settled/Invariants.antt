@@ -1,6 +1,6 @@
 use Rattle.std.proofs.Common.{drop, map}
 use Rattle.imap_serve.specs.Hall.{journal_entry}
-use Rattle.imap_host.specs.Settling.{notes_of}
+use Rattle.imap_host.specs.Seats.{notes_of}
 use Rattle.imap_host.proofs.Passed.{IsPassed}
 use Rattle.imap_host.proofs.comparing.are_settled.Given as goal
 

@@ -1,7 +1,7 @@
 use Rattle.std.proofs.Common.{rules, ◌∙◌, ap, sym, subst, [], ◌∷◌, ◌++◌}
-use Rattle.imap_host.specs.declared.seat.Kept.{Kept}
+use Rattle.imap_receipts.specs.declared.kept.Kept.{Kept}
 use Rattle.imap_serve.specs.Receipts.{IsSameReceipt}
-use Rattle.imap_host.specs.Seats.{from_base}
+use Rattle.imap_receipts.specs.Keeping.{from_base}
 use Rattle.imap_host.proofs.host.Host.call.Goals as goal
 
 pub returns-in-Ok-clause-kept : goal.returns-in-Ok-clause-kept
