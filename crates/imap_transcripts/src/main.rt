@@ -16,20 +16,7 @@
 //! octets are given. A line says what can be loaded then.
 #![tactic(auto)]
 
-mod comparing_keeper;
-mod database;
-mod faults;
-mod file;
-mod filling;
-mod owned;
-mod past_runs;
-mod running;
-mod script_row;
-mod stops;
-mod stored;
-mod transcripts;
-
-use crate::transcripts::write_transcripts;
+use imap_trials::write_transcripts;
 use std::process::ExitCode;
 
 const FAILED: u8 = 1;

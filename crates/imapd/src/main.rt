@@ -5,20 +5,11 @@
 //! the server's machine, and writes what each session was told to standard output.
 #![tactic(auto)]
 
-mod checking;
-mod dumping;
-mod loading;
-mod store;
-mod told_progress;
-
-use crate::checking::check;
-use crate::dumping::dump_store;
-use crate::loading::load_folder;
-use crate::store::FileKeeper;
 use imap_host::PARTS;
 use imap_options::{Task, read_command_line};
 use imap_script::{report_script_error, script};
 use imap_service::{report_misuse, report_service_error, report_version, run};
+use imap_store_file::{FileKeeper, check, dump_store, end, load_folder, open};
 use std::marker::Brand;
 use std::process::ExitCode;
 use std::sync::ledger::Blank;
@@ -41,17 +32,13 @@ fn main(rt: HostRuntime) -> ExitCode {
             Err(error) => report_script_error(&rt, &error),
         },
         Ok(Task::Version) => report_version(&rt),
-        Ok(Task::Serve { database, service }) => match store::open(
-            &rt,
-            database.as_str(),
-            service.log,
-        ) {
+        Ok(Task::Serve { database, service }) => match open(&rt, database.as_str(), service.log) {
             Ok(keeper) => {
                 let blank = Blank::new(PARTS);
                 let (keeper, error) = run::<FileKeeper, Brand, HostRuntime>(
                     &rt, keeper, service, since, blank,
                 );
-                report_service_error(&rt, store::end(&rt, keeper, error))
+                report_service_error(&rt, end(rt.alloc(), keeper, error))
             }
             Err(error) => report_service_error(&rt, error),
         },

@@ -3,34 +3,49 @@
 //! Pages of a new store end in a sum (SQLite's `cksumvfs`), so that a changed bit is found when the store is opened. A
 //! store without sums is taken as it is.
 
+ghost use Rattle.std.specs.Prelude.{IsTrue};
+
 use imap_options::LogLevel;
 use imap_service::{ServiceError, StoreFault, make_missing, make_private, report_unread};
 use imap_sql_keeper::SqlKeeper;
 use sqlite::{Connection, Error, ErrorCode, File, FileStore, Options, Unknown};
+use sqlite_disk::{Disk, Files};
 use sqlite_std_file::OpenError;
+use std::alloc::Global;
 use std::hash::{BuildHasher, RandomState};
 use std::io::ErrorKind;
+use std::random::RandomSource;
 
 /// How many pages that were read, and how many that were written, are kept in memory. The mailboxes are there besides, so
 /// that few pages are read again.
 const PAGES: usize = 500;
 
+/// A keeper over a database and its log. Functions that let it go take any files: the proof over those of the host is long.
+pub(crate) type DatabaseKeeper<D> = SqlKeeper<FileStore<D>>;
+
 /// A keeper in a file.
-pub(crate) type FileKeeper = SqlKeeper<FileStore<File>>;
+pub type FileKeeper = DatabaseKeeper<File>;
 
 /// Takes the database in the file over, which is made if it is missing. It and the files beside it can then be read
 /// and written by their owner alone. A log that an earlier run left is put back into the database.
-pub(crate) fn open(
-    rt: &HostRuntime,
-    path: &str,
-    level: LogLevel,
-) -> Result<FileKeeper, ServiceError> {
+pub fn open(rt: &HostRuntime, path: &str, level: LogLevel) -> Result<FileKeeper, ServiceError> {
     make_missing(rt, path)?;
     if report_unread(rt, level, path)? {
-        put_log_back(rt, path)?;
+        put_log_back(connect(rt, path)?)?;
     }
     let conn = connect(rt, path)?;
-    make_private(rt, path)?;
+    adopt(conn, make_private(rt, path))
+}
+
+/// Takes the database over if its files were made private.
+fn adopt<D: Disk + Drop>(
+    conn: Connection<FileStore<D>>,
+    made_private: Result<(), ServiceError>,
+) -> Result<DatabaseKeeper<D>, ServiceError> {
+    if let Err(error) = made_private {
+        drop(conn);
+        return Err(error);
+    }
     match SqlKeeper::adopt(conn) {
         Ok(keeper) => Ok(keeper),
         Err((conn, error)) => {
@@ -41,25 +56,26 @@ pub(crate) fn open(
 }
 
 /// Ends the keeper with which serving ended so. If its rows stand for no mailboxes, one of them is named.
-pub(crate) fn end(rt: &HostRuntime, keeper: FileKeeper, error: ServiceError) -> ServiceError {
+pub fn end<D: Disk + Drop>(
+    alloc: Global,
+    keeper: SqlKeeper<FileStore<D>>,
+    error: ServiceError,
+) -> ServiceError {
     if !error.is_damage() {
         drop(keeper);
         return error;
     }
-    error.with_row(keeper.into_damage(rt.alloc()))
+    error.with_row(keeper.into_damage(alloc))
 }
 
 /// Ends a keeper, and puts its log back into the database.
-pub(crate) fn close(keeper: FileKeeper) -> Result<(), ServiceError> {
-    match keeper.release().close() {
-        Ok(()) => Ok(()),
-        Err(error) => Err(fault(error)),
-    }
+pub(crate) fn close<D: Disk + Drop>(keeper: DatabaseKeeper<D>) -> Result<(), ServiceError> {
+    put_log_back(keeper.release())
 }
 
-/// Puts the log back into the database.
-fn put_log_back(rt: &HostRuntime, path: &str) -> Result<(), ServiceError> {
-    match connect(rt, path)?.close() {
+/// Puts the log back into the database, and closes it.
+fn put_log_back<D: Disk + Drop>(conn: Connection<FileStore<D>>) -> Result<(), ServiceError> {
+    match conn.close() {
         Ok(()) => Ok(()),
         Err(error) => Err(fault(error)),
     }
@@ -67,11 +83,21 @@ fn put_log_back(rt: &HostRuntime, path: &str) -> Result<(), ServiceError> {
 
 fn connect(rt: &HostRuntime, path: &str) -> Result<Connection<FileStore<File>>, ServiceError> {
     let options = options(rt)?;
-    let files = match sqlite_std_file::open(rt, path, Unknown) {
-        Ok(files) => files,
-        Err(error) => return Err(file_fault(error)),
-    };
-    match Connection::open_files_with(rt.alloc(), files, options, true) {
+    match sqlite_std_file::open(rt, path, Unknown) {
+        Ok(files) => connect_files(rt.alloc(), files, options),
+        Err(error) => Err(file_fault(error)),
+    }
+}
+
+fn connect_files<D: Disk + Drop>(
+    alloc: Global,
+    files: Files<D>,
+    options: Options,
+) -> Result<Connection<FileStore<D>>, ServiceError>
+    requires log { IsTrue (D.Disk.is_usable files.log) }
+    requires database { IsTrue (D.Disk.is_usable files.db) }
+{
+    match Connection::open_files_with(alloc, files, options, true) {
         Ok(conn) => Ok(conn),
         Err((error, left)) => {
             drop(left);
@@ -80,7 +106,7 @@ fn connect(rt: &HostRuntime, path: &str) -> Result<Connection<FileStore<File>>, 
     }
 }
 
-fn options(rt: &HostRuntime) -> Result<Options, ServiceError> {
+fn options(rt: &impl RandomSource) -> Result<Options, ServiceError> {
     let seed = match RandomState::new(rt) {
         Ok(state) => state.hash_one(&0u8),
         Err(_) => return Err(ServiceError::Store(StoreFault::CannotOpen)),

@@ -5,15 +5,18 @@ use std::io::IsTerminal;
 
 /// Tells standard error how far it is, if that is a terminal.
 #[derive(Drop)]
-pub(crate) struct ToldProgress<'a> {
-    rt: &'a HostRuntime,
+pub(crate) struct ToldProgress<'a, R: Eprint> {
+    rt: &'a R,
     is_terminal: bool,
 }
 
-impl<'a> ToldProgress<'a> {
-    pub(crate) fn new(rt: &'a HostRuntime) -> ToldProgress<'a> {
-        let is_terminal = rt.stderr().is_terminal();
-        ToldProgress { rt, is_terminal }
+impl<'a, R: Eprint> ToldProgress<'a, R> {
+    /// `stderr` is where `rt` tells its errors.
+    pub(crate) fn new(rt: &'a R, stderr: &impl IsTerminal) -> ToldProgress<'a, R> {
+        ToldProgress {
+            rt,
+            is_terminal: stderr.is_terminal(),
+        }
     }
 
     /// Ends the line.
@@ -24,7 +27,7 @@ impl<'a> ToldProgress<'a> {
     }
 }
 
-impl Progress for ToldProgress<'_> {
+impl<R: Eprint> Progress for ToldProgress<'_, R> {
     fn done(&mut self, messages: u64) {
         if self.is_terminal {
             let _said = eprint!(self.rt; "\rimapd: {messages} messages");

@@ -12,7 +12,7 @@ const MAX_READS: u32 = 65_536;
 
 /// Runs the scripts of `input`, each after a line `== NAME`, and writes to `output` each of these lines
 /// with the report of its script. What stands before the first of them is left out.
-pub(crate) fn write_transcripts<R: AllocGlobal, I: Read + Drop, O: Write + Drop>(
+pub fn write_transcripts<R: AllocGlobal, I: Read + Drop, O: Write + Drop>(
     rt: &R,
     input: I,
     mut output: O,

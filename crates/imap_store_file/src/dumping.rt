@@ -1,26 +1,43 @@
 //! The mailboxes of a store, written as folders of messages.
 
 use crate::checking::{load, report_fault};
+use crate::store::DatabaseKeeper;
 use crate::told_progress::ToldProgress;
-use imap_maildir::{Dumped, MaildirError, dump};
+use imap_maildir::{Dumped, KeptMailboxes, MaildirError, dump};
 use imap_service::{ServiceError, StoreFault, report_file_fault, report_service_error};
+use sqlite_disk::Disk;
 use std::process::ExitCode;
+use std::rt::Files;
 
 /// Writes the mailboxes of the store in the file as folders of messages below a folder, which is made, and prints how many
 /// there are. Returns the exit status: 0, 3 if a file or a folder can't be made or standard output failed, 4 for want of
 /// memory, and 5 if the store can't be used.
-pub(crate) fn dump_store(rt: &HostRuntime, path: &str, folder: &str) -> ExitCode {
-    let kept = match load(rt, path) {
-        Ok(kept) => kept,
-        Err(fault) => return report_fault(rt, fault),
-    };
-    let mut progress = ToldProgress::new(rt);
-    let ended = dump(rt, kept.world(), folder, &mut progress);
-    progress.end();
-    report_dump(rt, folder, ended)
+pub fn dump_store(rt: &HostRuntime, path: &str, folder: &str) -> ExitCode {
+    match load(rt, path) {
+        Ok(kept) => dump_kept(rt, kept, folder, ToldProgress::new(rt, &rt.stderr())),
+        Err(fault) => report_fault(rt, fault),
+    }
 }
 
-fn report_dump(rt: &HostRuntime, folder: &str, ended: Result<Dumped, MaildirError>) -> ExitCode {
+/// Writes the mailboxes of the store as folders, and ends it.
+fn dump_kept<R: Files + Print + Eprint + AllocGlobal, D: Disk + Drop>(
+    rt: &R,
+    kept: KeptMailboxes<DatabaseKeeper<D>>,
+    folder: &str,
+    mut progress: ToldProgress<'_, R>,
+) -> ExitCode {
+    let ended = dump(rt, kept.world(), folder, &mut progress);
+    progress.end();
+    let status = report_dump(rt, folder, ended);
+    drop(kept);
+    status
+}
+
+fn report_dump<R: Print + Eprint>(
+    rt: &R,
+    folder: &str,
+    ended: Result<Dumped, MaildirError>,
+) -> ExitCode {
     match ended {
         Ok(
             Dumped {
@@ -36,7 +53,7 @@ fn report_dump(rt: &HostRuntime, folder: &str, ended: Result<Dumped, MaildirErro
 }
 
 /// Tells standard error why mailboxes weren't written or read. Returns the exit status.
-pub(crate) fn report_maildir_error(rt: &HostRuntime, error: MaildirError) -> ExitCode {
+pub(crate) fn report_maildir_error(rt: &impl Eprint, error: MaildirError) -> ExitCode {
     match error {
         MaildirError::Memory => report_service_error(rt, ServiceError::Memory),
         MaildirError::Refused => report_service_error(rt, ServiceError::Store(StoreFault::Refused)),

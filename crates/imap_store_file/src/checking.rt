@@ -1,15 +1,17 @@
 //! A look at a store that nobody is served from.
 
-use crate::store::{FileKeeper, open};
+use crate::store::{DatabaseKeeper, FileKeeper, open};
 use imap_keeper::KeepError;
 use imap_maildir::KeptMailboxes;
 use imap_options::LogLevel;
 use imap_service::{ServiceError, StoreFault, count_messages, report_service_error};
 use imap_sql_keeper::Finding;
-use imap_world::World;
+use sqlite_disk::Disk;
+use std::alloc::Global;
 use std::fs;
 use std::io::ErrorKind;
 use std::process::ExitCode;
+use std::rt::Files;
 
 /// Why a store can't be used, and of what the row is that stands for nothing.
 pub(crate) type Fault = (ServiceError, Option<Finding>);
@@ -17,24 +19,31 @@ pub(crate) type Fault = (ServiceError, Option<Finding>);
 /// Prints how much the store in the file holds. If it can't be used, tells standard error why, as where it is to be served,
 /// and of what the row is that stands for nothing. Returns the exit status: 0, 3 if standard output failed, and else that of
 /// the fault.
-pub(crate) fn check(rt: &HostRuntime, path: &str) -> ExitCode {
+pub fn check(rt: &HostRuntime, path: &str) -> ExitCode {
     match load(rt, path) {
-        Ok(kept) => report_store(rt, path, kept.world()),
+        Ok(kept) => report_store(rt, path, kept),
         Err(fault) => report_fault(rt, fault),
     }
 }
 
-fn report_store(rt: &HostRuntime, path: &str, world: &World) -> ExitCode {
-    let mailboxes = world.mailboxes().len();
-    let messages = count_messages(world);
-    match println!(rt; "{path}: {mailboxes} mailboxes, {messages} messages") {
+/// Prints how much the store holds, and ends it.
+fn report_store<R: Print + Eprint, D: Disk + Drop>(
+    rt: &R,
+    path: &str,
+    kept: KeptMailboxes<DatabaseKeeper<D>>,
+) -> ExitCode {
+    let mailboxes = kept.world().mailboxes().len();
+    let messages = count_messages(kept.world());
+    let status = match println!(rt; "{path}: {mailboxes} mailboxes, {messages} messages") {
         Ok(()) => ExitCode::SUCCESS,
         Err(_) => report_service_error(rt, ServiceError::Output),
-    }
+    };
+    drop(kept);
+    status
 }
 
 /// Tells standard error why a store can't be used. Returns the exit status.
-pub(crate) fn report_fault(rt: &HostRuntime, fault: Fault) -> ExitCode {
+pub(crate) fn report_fault(rt: &impl Eprint, fault: Fault) -> ExitCode {
     let (error, found) = fault;
     let status = report_service_error(rt, error);
     if let Some(finding) = found {
@@ -57,13 +66,13 @@ pub(crate) fn load_or_make(
     path: &str,
 ) -> Result<KeptMailboxes<FileKeeper>, Fault> {
     match open(rt, path, LogLevel::Errors) {
-        Ok(keeper) => load_from(rt, keeper),
+        Ok(keeper) => load_from(rt.alloc(), keeper),
         Err(error) => Err((error, None)),
     }
 }
 
 /// Why a file isn't opened that isn't there: `open` would make it.
-fn missing(rt: &HostRuntime, path: &str) -> Option<ServiceError> {
+fn missing(rt: &impl Files, path: &str) -> Option<ServiceError> {
     match fs::metadata(rt, path) {
         Ok(_) => None,
         Err(error) => match error.kind() {
@@ -74,10 +83,13 @@ fn missing(rt: &HostRuntime, path: &str) -> Option<ServiceError> {
     }
 }
 
-fn load_from(rt: &HostRuntime, keeper: FileKeeper) -> Result<KeptMailboxes<FileKeeper>, Fault> {
-    match KeptMailboxes::load(rt.alloc(), keeper) {
+fn load_from<D: Disk + Drop>(
+    alloc: Global,
+    keeper: DatabaseKeeper<D>,
+) -> Result<KeptMailboxes<DatabaseKeeper<D>>, Fault> {
+    match KeptMailboxes::load(alloc, keeper) {
         Ok(kept) => Ok(kept),
-        Err((keeper, KeepError::Damaged)) => Err(with_row(keeper.into_finding(rt.alloc()))),
+        Err((keeper, KeepError::Damaged)) => Err(with_row(keeper.into_finding(alloc))),
         Err((keeper, error)) => {
             drop(keeper);
             Err((ServiceError::from(error), None))
