@@ -1,12 +1,13 @@
 //! A look at a store that nobody is served from.
 
-use crate::store::{DatabaseKeeper, FileKeeper, open};
+use crate::store::{FileKeeper, open};
 use imap_keeper::KeepError;
 use imap_maildir::KeptMailboxes;
 use imap_options::LogLevel;
 use imap_service::{ServiceError, StoreFault, count_messages, report_service_error};
-use imap_sql_keeper::Finding;
-use sqlite_disk::Disk;
+use imap_sql_keeper::{Finding, SqlKeeper};
+use imap_world::World;
+use sqlite::Alter;
 use std::alloc::Global;
 use std::fs;
 use std::io::ErrorKind;
@@ -20,26 +21,35 @@ pub(crate) type Fault = (ServiceError, Option<Finding>);
 /// and of what the row is that stands for nothing. Returns the exit status: 0, 3 if standard output failed, and else that of
 /// the fault.
 pub fn check(rt: &HostRuntime, path: &str) -> ExitCode {
-    match load(rt, path) {
-        Ok(kept) => report_store(rt, path, kept),
+    match open_present(rt, path) {
+        Ok(keeper) => check_keeper(rt, path, keeper),
+        Err(error) => report_service_error(rt, error),
+    }
+}
+
+/// Prints how much the keeper keeps, and ends it.
+fn check_keeper<R: AllocGlobal + Print + Eprint, S: Alter + Drop>(
+    rt: &R,
+    path: &str,
+    keeper: SqlKeeper<S>,
+) -> ExitCode {
+    match load(rt.alloc(), keeper) {
+        Ok(kept) => {
+            let status = report_store(rt, path, kept.world());
+            drop(kept);
+            status
+        }
         Err(fault) => report_fault(rt, fault),
     }
 }
 
-/// Prints how much the store holds, and ends it.
-fn report_store<R: Print + Eprint, D: Disk + Drop>(
-    rt: &R,
-    path: &str,
-    kept: KeptMailboxes<DatabaseKeeper<D>>,
-) -> ExitCode {
-    let mailboxes = kept.world().mailboxes().len();
-    let messages = count_messages(kept.world());
-    let status = match println!(rt; "{path}: {mailboxes} mailboxes, {messages} messages") {
+fn report_store<R: Print + Eprint>(rt: &R, path: &str, world: &World) -> ExitCode {
+    let mailboxes = world.mailboxes().len();
+    let messages = count_messages(world);
+    match println!(rt; "{path}: {mailboxes} mailboxes, {messages} messages") {
         Ok(()) => ExitCode::SUCCESS,
         Err(_) => report_service_error(rt, ServiceError::Output),
-    };
-    drop(kept);
-    status
+    }
 }
 
 /// Tells standard error why a store can't be used. Returns the exit status.
@@ -52,22 +62,11 @@ pub(crate) fn report_fault(rt: &impl Eprint, fault: Fault) -> ExitCode {
     status
 }
 
-/// Loads the mailboxes of the store in the file, which isn't made if it is missing.
-pub(crate) fn load(rt: &HostRuntime, path: &str) -> Result<KeptMailboxes<FileKeeper>, Fault> {
+/// Takes the database in the file over, which isn't made if it is missing.
+pub(crate) fn open_present(rt: &HostRuntime, path: &str) -> Result<FileKeeper, ServiceError> {
     match missing(rt, path) {
-        Some(error) => Err((error, None)),
-        None => load_or_make(rt, path),
-    }
-}
-
-/// Loads the mailboxes of the store in the file, which is made if it is missing.
-pub(crate) fn load_or_make(
-    rt: &HostRuntime,
-    path: &str,
-) -> Result<KeptMailboxes<FileKeeper>, Fault> {
-    match open(rt, path, LogLevel::Errors) {
-        Ok(keeper) => load_from(rt.alloc(), keeper),
-        Err(error) => Err((error, None)),
+        Some(error) => Err(error),
+        None => open(rt, path, LogLevel::Errors),
     }
 }
 
@@ -83,10 +82,11 @@ fn missing(rt: &impl Files, path: &str) -> Option<ServiceError> {
     }
 }
 
-fn load_from<D: Disk + Drop>(
+/// Loads the mailboxes that the keeper keeps.
+pub(crate) fn load<S: Alter + Drop>(
     alloc: Global,
-    keeper: DatabaseKeeper<D>,
-) -> Result<KeptMailboxes<DatabaseKeeper<D>>, Fault> {
+    keeper: SqlKeeper<S>,
+) -> Result<KeptMailboxes<SqlKeeper<S>>, Fault> {
     match KeptMailboxes::load(alloc, keeper) {
         Ok(kept) => Ok(kept),
         Err((keeper, KeepError::Damaged)) => Err(with_row(keeper.into_finding(alloc))),

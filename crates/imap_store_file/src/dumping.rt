@@ -1,11 +1,11 @@
 //! The mailboxes of a store, written as folders of messages.
 
-use crate::checking::{load, report_fault};
-use crate::store::DatabaseKeeper;
+use crate::checking::{load, open_present, report_fault};
 use crate::told_progress::ToldProgress;
-use imap_maildir::{Dumped, KeptMailboxes, MaildirError, dump};
+use imap_maildir::{Dumped, MaildirError, dump};
 use imap_service::{ServiceError, StoreFault, report_file_fault, report_service_error};
-use sqlite_disk::Disk;
+use imap_sql_keeper::SqlKeeper;
+use sqlite::Alter;
 use std::process::ExitCode;
 use std::rt::Files;
 
@@ -13,24 +13,29 @@ use std::rt::Files;
 /// there are. Returns the exit status: 0, 3 if a file or a folder can't be made or standard output failed, 4 for want of
 /// memory, and 5 if the store can't be used.
 pub fn dump_store(rt: &HostRuntime, path: &str, folder: &str) -> ExitCode {
-    match load(rt, path) {
-        Ok(kept) => dump_kept(rt, kept, folder, ToldProgress::new(rt, &rt.stderr())),
-        Err(fault) => report_fault(rt, fault),
+    match open_present(rt, path) {
+        Ok(keeper) => dump_keeper(rt, keeper, folder, ToldProgress::new(rt, &rt.stderr())),
+        Err(error) => report_service_error(rt, error),
     }
 }
 
-/// Writes the mailboxes of the store as folders, and ends it.
-fn dump_kept<R: Files + Print + Eprint + AllocGlobal, D: Disk + Drop>(
+/// Writes the mailboxes that the keeper keeps as folders, and ends it.
+fn dump_keeper<R: Files + Print + Eprint + AllocGlobal, S: Alter + Drop>(
     rt: &R,
-    kept: KeptMailboxes<DatabaseKeeper<D>>,
+    keeper: SqlKeeper<S>,
     folder: &str,
     mut progress: ToldProgress<'_, R>,
 ) -> ExitCode {
-    let ended = dump(rt, kept.world(), folder, &mut progress);
-    progress.end();
-    let status = report_dump(rt, folder, ended);
-    drop(kept);
-    status
+    match load(rt.alloc(), keeper) {
+        Ok(kept) => {
+            let ended = dump(rt, kept.world(), folder, &mut progress);
+            progress.end();
+            let status = report_dump(rt, folder, ended);
+            drop(kept);
+            status
+        }
+        Err(fault) => report_fault(rt, fault),
+    }
 }
 
 fn report_dump<R: Print + Eprint>(

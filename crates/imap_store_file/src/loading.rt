@@ -1,13 +1,15 @@
 //! Folders of messages, read into the mailboxes of a store.
 
-use crate::checking::{load_or_make, report_fault};
+use crate::checking::{Fault, load, report_fault};
 use crate::dumping::report_maildir_error;
-use crate::store::{DatabaseKeeper, close};
+use crate::store::{open, put_log_back};
 use crate::told_progress::ToldProgress;
-use imap_maildir::{KeptMailboxes, Loaded, load};
+use imap_maildir::{Loaded, MaildirError};
 use imap_names::UserName;
+use imap_options::LogLevel;
 use imap_service::{ServiceError, report_service_error};
-use sqlite_disk::Disk;
+use imap_sql_keeper::SqlKeeper;
+use sqlite::{Alter, Connection};
 use std::process::ExitCode;
 use std::rt::Files;
 
@@ -20,43 +22,49 @@ pub fn load_folder(
     folder: &str,
     administrator: &UserName,
 ) -> ExitCode {
-    match load_or_make(rt, path) {
-        Ok(kept) => {
-            let progress = ToldProgress::new(rt, &rt.stderr());
-            fill(rt, kept, folder, administrator, progress)
-        }
+    let keeper = match open(rt, path, LogLevel::Errors) {
+        Ok(keeper) => keeper,
+        Err(error) => return report_service_error(rt, error),
+    };
+    let progress = ToldProgress::new(rt, &rt.stderr());
+    match fill(rt, keeper, administrator, folder, progress) {
+        Ok((conn, ended)) => report_load(rt, folder, ended, put_log_back(conn)),
         Err(fault) => report_fault(rt, fault),
     }
 }
 
-/// Adds the messages in a folder to the mailboxes of the store, and closes it.
-fn fill<R: Files + Print + Eprint + AllocGlobal + Clone + Drop, D: Disk + Drop>(
+/// Adds the messages in a folder to the mailboxes that the keeper keeps. Returns its connection, and how the work ended.
+fn fill<R: Files + Eprint + AllocGlobal + Clone + Drop, S: Alter + Drop>(
     rt: &R,
-    mut kept: KeptMailboxes<DatabaseKeeper<D>>,
-    folder: &str,
+    keeper: SqlKeeper<S>,
     administrator: &UserName,
+    folder: &str,
     mut progress: ToldProgress<'_, R>,
-) -> ExitCode {
-    let ended = load(rt, &mut kept, administrator, folder, &mut progress);
-    progress.end();
-    let closed = close(kept.into_keeper());
-    match ended {
-        Ok(loaded) => report_load(rt, folder, loaded, closed),
-        Err(error) => report_maildir_error(rt, error),
+) -> Result<(Connection<S>, Result<Loaded, MaildirError>), Fault> {
+    match load(rt.alloc(), keeper) {
+        Ok(mut kept) => {
+            let ended = imap_maildir::load(rt, &mut kept, administrator, folder, &mut progress);
+            progress.end();
+            Ok((kept.into_keeper().release(), ended))
+        }
+        Err(fault) => Err(fault),
     }
 }
 
 fn report_load<R: Print + Eprint>(
     rt: &R,
     folder: &str,
-    loaded: Loaded,
+    ended: Result<Loaded, MaildirError>,
     closed: Result<(), ServiceError>,
 ) -> ExitCode {
     let Loaded {
         mailboxes,
         added,
         met,
-    } = loaded;
+    } = match ended {
+        Ok(loaded) => loaded,
+        Err(error) => return report_maildir_error(rt, error),
+    };
     if let Err(error) = closed {
         return report_service_error(rt, error);
     }

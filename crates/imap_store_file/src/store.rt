@@ -8,7 +8,7 @@ ghost use Rattle.std.specs.Prelude.{IsTrue};
 use imap_options::LogLevel;
 use imap_service::{ServiceError, StoreFault, make_missing, make_private, report_unread};
 use imap_sql_keeper::SqlKeeper;
-use sqlite::{Connection, Error, ErrorCode, File, FileStore, Options, Unknown};
+use sqlite::{Alter, Connection, Error, ErrorCode, File, FileStore, Options, Unknown};
 use sqlite_disk::{Disk, Files};
 use sqlite_std_file::OpenError;
 use std::alloc::Global;
@@ -20,11 +20,8 @@ use std::random::RandomSource;
 /// that few pages are read again.
 const PAGES: usize = 500;
 
-/// A keeper over a database and its log. Functions that let it go take any files: the proof over those of the host is long.
-pub(crate) type DatabaseKeeper<D> = SqlKeeper<FileStore<D>>;
-
-/// A keeper in a file.
-pub type FileKeeper = DatabaseKeeper<File>;
+/// A keeper in a file. Functions that let it go take a keeper over any store: the proof of one alone is long.
+pub type FileKeeper = SqlKeeper<FileStore<File>>;
 
 /// Takes the database in the file over, which is made if it is missing. It and the files beside it can then be read
 /// and written by their owner alone. A log that an earlier run left is put back into the database.
@@ -38,10 +35,10 @@ pub fn open(rt: &HostRuntime, path: &str, level: LogLevel) -> Result<FileKeeper,
 }
 
 /// Takes the database over if its files were made private.
-fn adopt<D: Disk + Drop>(
-    conn: Connection<FileStore<D>>,
+fn adopt<S: Alter + Drop>(
+    conn: Connection<S>,
     made_private: Result<(), ServiceError>,
-) -> Result<DatabaseKeeper<D>, ServiceError> {
+) -> Result<SqlKeeper<S>, ServiceError> {
     if let Err(error) = made_private {
         drop(conn);
         return Err(error);
@@ -56,9 +53,9 @@ fn adopt<D: Disk + Drop>(
 }
 
 /// Ends the keeper with which serving ended so. If its rows stand for no mailboxes, one of them is named.
-pub fn end<D: Disk + Drop>(
+pub fn end<S: Alter + Drop>(
     alloc: Global,
-    keeper: SqlKeeper<FileStore<D>>,
+    keeper: SqlKeeper<S>,
     error: ServiceError,
 ) -> ServiceError {
     if !error.is_damage() {
@@ -68,13 +65,10 @@ pub fn end<D: Disk + Drop>(
     error.with_row(keeper.into_damage(alloc))
 }
 
-/// Ends a keeper, and puts its log back into the database.
-pub(crate) fn close<D: Disk + Drop>(keeper: DatabaseKeeper<D>) -> Result<(), ServiceError> {
-    put_log_back(keeper.release())
-}
-
 /// Puts the log back into the database, and closes it.
-fn put_log_back<D: Disk + Drop>(conn: Connection<FileStore<D>>) -> Result<(), ServiceError> {
+pub(crate) fn put_log_back<D: Disk + Drop>(
+    conn: Connection<FileStore<D>>,
+) -> Result<(), ServiceError> {
     match conn.close() {
         Ok(()) => Ok(()),
         Err(error) => Err(fault(error)),
