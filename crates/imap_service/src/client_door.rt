@@ -7,6 +7,7 @@ use crate::connection::Connection;
 use crate::guarded_stream::GuardedStream;
 use crate::idle_waker::{IdleWaker, IdleWakers};
 use crate::logging_in::{LOGIN_SECONDS, log_in};
+use crate::owned::{beside, shared};
 use crate::reception::Reception;
 use crate::report::Report;
 use crate::shared_stream::SharedStream;
@@ -63,9 +64,19 @@ impl<'a, R: Net<Listener = TcpListener, Stream = TcpStream> + Wait + Clock + Epr
 
     /// Returns what is read of a client and what is written to it.
     fn connect(&self, client: Connection) -> io::Result<(GuardedStream<'a, R>, SharedStream)> {
+        let (_, client) = beside(self.prepare(&client), client)?;
+        let stream = shared(self.alloc, client)?;
+        let (guarded, stream) = beside(self.guarded(&stream), stream)?;
+        Ok((guarded, SharedStream::new(stream)))
+    }
+
+    fn prepare(&self, client: &Connection) -> io::Result<()> {
         client.set_nodelay()?;
-        client.set_write_timeout(self.write_timeout)?;
-        let stream = Arc::new(self.alloc, client)?;
+        client.set_write_timeout(self.write_timeout)
+    }
+
+    /// Returns what is read of a client.
+    fn guarded(&self, stream: &Arc<Connection>) -> io::Result<GuardedStream<'a, R>> {
         let input = WakeableStream::new(
             self.rt,
             self.alloc,
@@ -73,8 +84,19 @@ impl<'a, R: Net<Listener = TcpListener, Stream = TcpStream> + Wait + Clock + Epr
             self.waker,
             stream.clone()?,
         )?;
-        let guarded = GuardedStream::new(self.alloc, input, stream.clone()?);
-        Ok((guarded, SharedStream::new(stream)))
+        let (stream, input) = beside(stream.clone(), input)?;
+        Ok(GuardedStream::new(self.alloc, input, stream))
+    }
+
+    /// Returns what is read of a client and what is written to it, if the client may be served.
+    fn admitted(&self, client: Connection) -> Option<(GuardedStream<'a, R>, SharedStream)> {
+        let (mut input, mut output) = self.connect(client).ok()?;
+        self.report.opened(self.user, self.number);
+        let is_admitted = self.admits(&mut input, &mut output).unwrap_or(false);
+        if !is_admitted {
+            self.report.ended(self.user, self.number, "no login");
+        }
+        is_admitted.then_some((input, output))
     }
 
     /// Returns whether the client may be served: whether it has logged in, if it is to.
@@ -115,12 +137,8 @@ impl<'a, R: Net<Listener = TcpListener, Stream = TcpStream> + Wait + Clock + Epr
             self.let_go();
             let client = self.reception.take(self.rt)?;
             self.has_client = true;
-            if let Ok((mut input, mut output)) = self.connect(client) {
-                self.report.opened(self.user, self.number);
-                if self.admits(&mut input, &mut output).unwrap_or(false) {
-                    return Some((input, output));
-                }
-                self.report.ended(self.user, self.number, "no login");
+            if let Some(streams) = self.admitted(client) {
+                return Some(streams);
             }
         }
         None

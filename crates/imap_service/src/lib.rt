@@ -21,6 +21,7 @@ mod listening;
 mod log_tail;
 mod logging_in;
 mod notify_on_change;
+mod owned;
 mod port_door;
 mod private_files;
 mod reception;

@@ -2,6 +2,7 @@
 
 use crate::descriptors::{allowed, needed};
 use crate::listener::Listener;
+use crate::owned::{beside, push};
 use crate::reception::Reception;
 use crate::service_error::ServiceError;
 use crate::socket_file::listen_at_file;
@@ -22,14 +23,30 @@ pub(crate) fn listen<
         }
     }
     let mut receptions = Vec::new(rt.alloc());
+    let opened = open_all(rt, ports, &mut receptions);
+    let (_, receptions) = beside(opened, receptions)?;
+    let (_, receptions) = beside(print_all(rt, ports), receptions)?;
+    Ok(receptions)
+}
+
+/// Appends a reception for each port.
+fn open_all<R: Net<Listener = TcpListener, Stream = TcpStream> + Files + AllocGlobal>(
+    rt: &R,
+    ports: &[Port],
+    receptions: &mut Vec<Reception>,
+) -> Result<(), ServiceError> {
     for port in ports {
         let listener = listener(rt, &port.address)?;
-        receptions.push(Reception::new(rt.alloc(), listener)?)?;
+        push(receptions, Reception::new(rt.alloc(), listener))?;
     }
+    Ok(())
+}
+
+fn print_all<R: Print>(rt: &R, ports: &[Port]) -> Result<(), ServiceError> {
     for port in ports {
         print_port(rt, port)?;
     }
-    Ok(receptions)
+    Ok(())
 }
 
 fn listener<R: Net<Listener = TcpListener, Stream = TcpStream> + Files>(

@@ -38,21 +38,37 @@ pub(crate) fn log_in<R: Net<Listener = TcpListener, Stream = TcpStream> + Wait +
     output: &mut SharedStream,
 ) -> io::Result<bool> {
     let since = Instant::now(rt)?;
-    let mut login = Login::new(alloc, capabilities_in(dialect));
     greet(alloc, dialect, output)?;
+    let mut login = Login::new(alloc, capabilities_in(dialect));
+    let has_entered = answer(rt, alloc, credentials, since, &mut login, input, output);
+    drop(login);
+    let has_entered = has_entered?;
+    if has_entered {
+        leave_out_greeting(alloc, dialect, output)?;
+    }
+    Ok(has_entered)
+}
+
+/// Answers a client that came at `since` until its login ends. Returns whether it has logged in.
+fn answer<R: Net<Listener = TcpListener, Stream = TcpStream> + Wait + Clock>(
+    rt: &R,
+    alloc: Global,
+    credentials: &Credentials,
+    since: Instant,
+    login: &mut Login,
+    input: &mut GuardedStream<'_, R>,
+    output: &mut SharedStream,
+) -> io::Result<bool> {
     for _ in rt.forever() {
         if since.elapsed(rt)? >= Duration::from_secs(LOGIN_SECONDS) {
             output.write_all(farewell())?;
             return Ok(false);
         }
-        take_piece(alloc, credentials, &mut login, input, output)?;
+        take_piece(alloc, credentials, login, input, output)?;
         match login.stage() {
             Stage::Waiting => {}
             Stage::Closed => return Ok(false),
-            Stage::Entered => {
-                leave_out_greeting(alloc, dialect, output)?;
-                return Ok(true);
-            }
+            Stage::Entered => return Ok(true),
         }
     }
     unreachable!()

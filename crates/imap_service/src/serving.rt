@@ -108,6 +108,8 @@ fn open<K: Keeper>(
     ensures fresh { IfOk result IsFresh }
 {
     let Ok(users) = users(alloc, ports) else {
+        drop(groups);
+        drop(administrator);
         return Err((ServiceError::Memory, keeper));
     };
     let opened = Hall::open(
@@ -198,6 +200,7 @@ fn serve_host<
         + Sync,
 >(setting: &Setting<'_, R>, mut host: Host<K, L>, receptions: Vec<Reception>) -> (K, ServiceError) {
     let ended = serve_wakeable(setting, &mut host, receptions.as_slice());
+    drop(receptions);
     (host.into_hall().into_keeper(), ended)
 }
 
@@ -215,25 +218,17 @@ fn serve_wakeable<
 >(setting: &Setting<'_, R>, host: &mut Host<K, L>, receptions: &[Reception]) -> ServiceError {
     let count = setting.ports.len().saturating_mul(SEATS);
     match IdleWakers::new(setting.rt.alloc(), count) {
-        Ok(wakers) => match posts(
-            setting.rt,
-            setting.report,
-            host,
-            setting.ports,
-            receptions,
-            &wakers,
-            setting.dialect,
-        ) {
-            Ok(posts) => serve_posts(setting, host, &wakers, posts),
-            Err(error) => error,
-        },
+        Ok(wakers) => {
+            let ended = serve_posts(setting, host, receptions, &wakers);
+            drop(wakers);
+            ended
+        }
         Err(error) => ServiceError::from(error),
     }
 }
 
-/// Runs a thread for each post, until no connection comes any more.
+/// The same by the workers of these wakers: runs a thread for each post, until no connection comes any more.
 fn serve_posts<
-    'a,
     K: Keeper + Send,
     L: Ledger + Send + Sync,
     R: Net<Listener = TcpListener, Stream = TcpStream>
@@ -244,21 +239,35 @@ fn serve_posts<
         + AllocGlobal
         + Sync,
 >(
-    setting: &'a Setting<'a, R>,
-    host: &Host<K, L>,
-    wakers: &'a IdleWakers,
-    mut posts: Vec<(Seat<L>, PortDoor<'a, R>)>,
+    setting: &Setting<'_, R>,
+    host: &mut Host<K, L>,
+    receptions: &[Reception],
+    wakers: &IdleWakers,
 ) -> ServiceError {
-    serve_in(
+    match posts(
         setting.rt,
+        setting.report,
         host,
+        setting.ports,
+        receptions,
         wakers,
-        posts.as_mut_slice(),
         setting.dialect,
-        setting.max_octets,
-    );
-    // Whether all threads ran or not, no connection comes any more.
-    ServiceError::NoConnection
+    ) {
+        Ok(mut posts) => {
+            serve_in(
+                setting.rt,
+                host,
+                wakers,
+                posts.as_mut_slice(),
+                setting.dialect,
+                setting.max_octets,
+            );
+            drop(posts);
+            // Whether all threads ran or not, no connection comes any more.
+            ServiceError::NoConnection
+        }
+        Err(error) => error,
+    }
 }
 
 /// Runs a thread for each post, whose clients are spoken to in the dialect of this name and may send this many octets

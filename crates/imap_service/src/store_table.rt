@@ -1,35 +1,47 @@
 //! The tables of a store that have a row which stands for nothing.
 
-use thiserror::Error;
+use std::error::Error;
+use std::fmt::{self, Display, Formatter};
 
 /// A table of the store. A value of its own, and no text: an error goes through functions over a borrowed
 /// keeper, of which no type may name `'static`.
-#[derive(Clone, Copy, Debug, Error, PartialEq, Eq)]
+#[derive(Clone, Copy, Debug, PartialEq, Eq)]
 pub enum StoreTable {
-    #[error("acl")]
     Acl,
-    #[error("body")]
     Body,
-    #[error("epoch")]
     Epoch,
-    #[error("gone")]
     Gone,
-    #[error("keyword")]
     Keyword,
-    #[error("mailbox")]
     Mailbox,
-    #[error("mark")]
     Mark,
-    #[error("message")]
     Message,
     /// What is said of a message, beside its octets and keywords.
-    #[error("message2")]
     MessageHead,
-    #[error("meta")]
     Meta,
-    #[error("sub")]
     Subscription,
 }
+
+impl Display for StoreTable {
+    /// Writes the table's name in SQL.
+    fn fmt<W: fmt::Write>(&self, f: &mut Formatter<W>) -> fmt::Result {
+        let name = match self {
+            StoreTable::Acl => "acl",
+            StoreTable::Body => "body",
+            StoreTable::Epoch => "epoch",
+            StoreTable::Gone => "gone",
+            StoreTable::Keyword => "keyword",
+            StoreTable::Mailbox => "mailbox",
+            StoreTable::Mark => "mark",
+            StoreTable::Message => "message",
+            StoreTable::MessageHead => "message2",
+            StoreTable::Meta => "meta",
+            StoreTable::Subscription => "sub",
+        };
+        f.write_str(name)
+    }
+}
+
+impl Error for StoreTable {}
 
 impl StoreTable {
     /// The table of this name in SQL.

@@ -10,6 +10,7 @@ ghost use Rattle.std.specs.Prelude.{IfOk};
 use crate::connection::Connection;
 use crate::idle_ticks::IdleTicks;
 use crate::idle_waker::{CONNECTION, IdleWaker, IdleWakers};
+use crate::owned::beside;
 use mio::unix::SourceFd;
 use mio::{Events, Interest, Poll};
 use std::alloc::Global;
@@ -65,19 +66,14 @@ impl<'a, R: Net<Listener = TcpListener, Stream = TcpStream> + Wait + Clock> Wake
         waker: &'a IdleWaker,
         stream: Arc<Connection>,
     ) -> io::Result<WakeableStream<'a, R>> {
-        stream.set_read_timeout(Duration::from_millis(PAUSE_MILLIS))?;
-        let poll = Poll::new(rt)?;
-        let descriptor = stream.descriptor();
-        let registry = poll.registry();
-        registry.register(&mut SourceFd(&descriptor), CONNECTION, Interest::READABLE)?;
-        waker.attach(rt, &poll)?;
+        let ((poll, events), stream) = beside(watch(rt, alloc, waker, &stream), stream)?;
         Ok(WakeableStream {
             rt,
             wakers,
             waker,
             stream,
             poll,
-            events: Events::with_capacity(alloc, 2)?,
+            events,
             is_sending: false,
             ticks: IdleTicks::new(),
             until: None,
@@ -129,6 +125,33 @@ impl<'a, R: Net<Listener = TcpListener, Stream = TcpStream> + Wait + Clock> Wake
         self.until = None;
         Ok(count)
     }
+}
+
+/// Returns where the worker of `waker` waits for its connection and its waker, and room for what is ready there.
+fn watch<R: Net + Wait>(
+    rt: &R,
+    alloc: Global,
+    waker: &IdleWaker,
+    stream: &Connection,
+) -> io::Result<(Poll, Events)> {
+    stream.set_read_timeout(Duration::from_millis(PAUSE_MILLIS))?;
+    let poll = Poll::new(rt)?;
+    let (_, poll) = beside(register(rt, waker, stream, &poll), poll)?;
+    let (events, poll) = beside(Events::with_capacity(alloc, 2), poll)?;
+    Ok((poll, events))
+}
+
+/// Lets waits of `poll` end when the connection is ready, or the worker is woken.
+fn register<R: Wait>(
+    rt: &R,
+    waker: &IdleWaker,
+    stream: &Connection,
+    poll: &Poll,
+) -> io::Result<()> {
+    let descriptor = stream.descriptor();
+    let registry = poll.registry();
+    registry.register(&mut SourceFd(&descriptor), CONNECTION, Interest::READABLE)?;
+    waker.attach(rt, poll)
 }
 
 /// Whether the connection is ready.
