@@ -1,9 +1,8 @@
 //! Streams that are cut, and readers and writers that fail.
 
 use crate::connection::{Behaviour, OCTETS, WHOLE};
-use crate::serving::{Served, expect_after_greeting, serve_anew, shown};
+use crate::serving::{expect_after_greeting, serve_anew, shown};
 use imap_serve::{End, ServeError};
-use std::alloc::AllocError;
 use std::sync::Wait;
 
 const SENT: &[u8] = b"a1 APPEND INBOX {16+}\r\nSubject: x\r\n\r\nhi\r\n\
@@ -28,13 +27,16 @@ a3 OK done\r\n\
 * 1 FETCH (BODY[HEADER.FIELDS (subject)] {14}\r\nSubject: x\r\n\r\n)\r\n\
 a4 OK done\r\n";
 
-/// Whether the session ends so and writes a beginning of the text, the whole of it if `is_whole`.
-fn is_beginning(
-    served: Result<Served, AllocError>,
+/// Whether the session over this text ends so and writes a beginning of what is to be written, the whole of it if
+/// `is_whole`.
+fn is_beginning<W: Wait + AllocGlobal>(
+    rt: &W,
+    text: &[u8],
+    behaviour: Behaviour,
     end: Result<End, ServeError>,
     is_whole: bool,
 ) -> bool {
-    match served {
+    match serve_anew(rt, text, behaviour) {
         Ok(served) => {
             let written = served.written.as_slice();
             WRITTEN.starts_with(written)
@@ -45,76 +47,62 @@ fn is_beginning(
     }
 }
 
-fn cut<W: Wait + AllocGlobal>(rt: &W, first: usize) -> bool {
-    let behaviour = Behaviour { first, ..WHOLE };
-    is_beginning(serve_anew(rt, SENT, behaviour), Ok(End::InputEnded), true)
-}
-
-fn stopped<W: Wait + AllocGlobal>(rt: &W, length: usize) -> bool {
-    let text = SENT.get(..length).unwrap_or(SENT);
-    let is_whole = length == SENT.len();
-    is_beginning(serve_anew(rt, text, WHOLE), Ok(End::InputEnded), is_whole)
-}
-
-/// The last read finds the end.
-fn reader_fails<W: Wait + AllocGlobal>(rt: &W, reads: u32) -> bool {
-    let behaviour = Behaviour { reads, ..OCTETS };
-    let reads = reads as usize;
-    let end = if reads <= SENT.len() {
-        Err(ServeError::Read)
-    } else {
-        Ok(End::InputEnded)
-    };
-    is_beginning(serve_anew(rt, SENT, behaviour), end, reads >= SENT.len())
-}
-
-fn writer_fails<W: Wait + AllocGlobal>(rt: &W, writes: u32, takes_nothing: bool) -> bool {
-    let behaviour = Behaviour {
-        writes,
-        takes_nothing,
-        ..OCTETS
-    };
-    let is_whole = writes as usize >= WRITTEN.len();
-    let end = if is_whole {
-        Ok(End::InputEnded)
-    } else {
-        Err(ServeError::Write)
-    };
-    is_beginning(serve_anew(rt, SENT, behaviour), end, is_whole)
-}
+const ENDED: Result<End, ServeError> = Ok(End::InputEnded);
 
 #[test]
 fn the_cut_makes_no_difference(rt: HostRuntime) {
     for first in 1..SENT.len() {
-        assert!(rt; cut(&rt, first), "cut after {first}");
+        let behaviour = Behaviour { first, ..WHOLE };
+        let is_cut = is_beginning(&rt, SENT, behaviour, ENDED, true);
+        assert!(rt; is_cut, "cut after {first}");
     }
 }
 
 #[test]
 fn a_beginning_is_served(rt: HostRuntime) {
     for length in 0..SENT.len() + 1 {
-        assert!(rt; stopped(&rt, length), "{length} octets");
+        let text = SENT.get(..length).unwrap_or(SENT);
+        let is_served = is_beginning(&rt, text, WHOLE, ENDED, length == SENT.len());
+        assert!(rt; is_served, "{length} octets");
     }
 }
 
+/// The last read finds the end.
 #[test]
 fn a_reader_fails(rt: HostRuntime) {
     for reads in 0..SENT.len() as u32 + 2 {
-        assert!(rt; reader_fails(&rt, reads), "read {reads}");
+        let behaviour = Behaviour { reads, ..OCTETS };
+        let reads = reads as usize;
+        let end = if reads <= SENT.len() {
+            Err(ServeError::Read)
+        } else {
+            ENDED
+        };
+        let is_right = is_beginning(&rt, SENT, behaviour, end, reads >= SENT.len());
+        assert!(rt; is_right, "read {reads}");
     }
 }
 
+/// A write fails, or takes nothing.
 #[test]
 fn a_writer_fails(rt: HostRuntime) {
+    const TROUBLES: &[bool] = &[false, true];
     for writes in 0..WRITTEN.len() as u32 + 1 {
-        assert!(rt; writer_fails(&rt, writes, false), "write {writes}");
-    }
-}
-
-#[test]
-fn a_writer_takes_nothing(rt: HostRuntime) {
-    for writes in 0..WRITTEN.len() as u32 + 1 {
-        assert!(rt; writer_fails(&rt, writes, true), "write {writes}");
+        let is_whole = writes as usize >= WRITTEN.len();
+        let end = if is_whole {
+            ENDED
+        } else {
+            Err(ServeError::Write)
+        };
+        for &takes_nothing in TROUBLES {
+            let behaviour = Behaviour {
+                writes,
+                takes_nothing,
+                ..OCTETS
+            };
+            let is_right = is_beginning(&rt, SENT, behaviour, end, is_whole);
+            assert!(rt; is_right, "write {writes}, {takes_nothing}");
+        }
     }
 }
 
@@ -133,33 +121,22 @@ fn a_session_ends_before_a_read_fails(rt: HostRuntime) {
     }
 }
 
-/// Interrupts each read and each write this often in a row. Returns whether the session ends so,
-/// and writes the whole text exactly if it ends well.
-fn interrupted<W: Wait + AllocGlobal>(
-    rt: &W,
-    interrupted_reads: u32,
-    interrupted_writes: u32,
-    end: Result<End, ServeError>,
-) -> bool {
-    let behaviour = Behaviour {
-        interrupted_reads,
-        interrupted_writes,
-        ..WHOLE
-    };
-    let is_whole = end.is_ok();
-    is_beginning(serve_anew(rt, SENT, behaviour), end, is_whole)
-}
-
-/// A read is made again up to 1,000 times.
+/// A read is made again up to 1,000 times, and so is a write.
 #[test]
-fn reads_are_interrupted(rt: HostRuntime) {
-    assert!(rt; interrupted(&rt, 1000, 0, Ok(End::InputEnded)));
-    assert!(rt; interrupted(&rt, 1001, 0, Err(ServeError::Read)));
-}
-
-/// A write is made again up to 1,000 times.
-#[test]
-fn writes_are_interrupted(rt: HostRuntime) {
-    assert!(rt; interrupted(&rt, 0, 1000, Ok(End::InputEnded)));
-    assert!(rt; interrupted(&rt, 0, 1001, Err(ServeError::Write)));
+fn reads_and_writes_are_interrupted(rt: HostRuntime) {
+    const ROWS: &[(u32, u32, Result<End, ServeError>)] = &[
+        (1000, 0, ENDED),
+        (1001, 0, Err(ServeError::Read)),
+        (0, 1000, ENDED),
+        (0, 1001, Err(ServeError::Write)),
+    ];
+    for &(interrupted_reads, interrupted_writes, end) in ROWS {
+        let behaviour = Behaviour {
+            interrupted_reads,
+            interrupted_writes,
+            ..WHOLE
+        };
+        let is_right = is_beginning(&rt, SENT, behaviour, end, end.is_ok());
+        assert!(rt; is_right, "{interrupted_reads} {interrupted_writes}");
+    }
 }

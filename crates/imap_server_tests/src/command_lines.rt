@@ -38,7 +38,7 @@ impl SecretFiles for Kept {
 }
 
 /// What these words ask for.
-fn task(alloc: Global, texts: &[&str]) -> Result<Task, CommandLineError> {
+pub(crate) fn task(alloc: Global, texts: &[&str]) -> Result<Task, CommandLineError> {
     match words(alloc, texts) {
         Ok(words) => read_words(alloc, &Kept { alloc }, &words),
         Err(_) => Err(CommandLineError::Memory),

@@ -16,7 +16,7 @@ fn told<W: Wait + AllocGlobal>(
     behaviour: Behaviour,
 ) -> Result<Vec<u8>, AllocError> {
     let alloc = rt.alloc();
-    let who = session(alloc, 1)?;
+    let who = session(alloc, "ann")?;
     let mut hall = new_hall(alloc)?;
     let mut input = Watched::new(Source::new(text, behaviour));
     let mut output = Watched::new(Sink::new(alloc, behaviour));
@@ -180,13 +180,10 @@ d2 OK done\r\n\
 d3 OK done\r\n";
 
 #[test]
-fn messages_are_told_under_the_asked_labels(rt: HostRuntime) {
-    expect(&rt, told(&rt, FETCHED, WHOLE), LABELLED);
-    expect(&rt, told(&rt, FETCHED, OCTETS), LABELLED);
-}
-
-#[test]
 fn clients_of_rev1_are_told(rt: HostRuntime) {
-    expect(&rt, told(&rt, SENT, WHOLE), TOLD);
-    expect(&rt, told(&rt, SENT, OCTETS), TOLD);
+    const ROWS: &[(&[u8], &[u8])] = &[(SENT, TOLD), (FETCHED, LABELLED)];
+    for &(sent, wanted) in ROWS {
+        expect(&rt, told(&rt, sent, WHOLE), wanted);
+        expect(&rt, told(&rt, sent, OCTETS), wanted);
+    }
 }

@@ -2,22 +2,7 @@
 
 use imap_host::Door;
 use imap_serve::{End, ServeError};
-use std::io::{self, Read, Write};
-
-/// What a client sends.
-#[derive(Drop)]
-pub(crate) struct Source {
-    text: &'static [u8],
-}
-
-impl Read for Source {
-    fn read(&mut self, buf: &mut [u8]) -> io::Result<usize> {
-        let count = self.text.len().min(buf.len());
-        buf[..count].copy_from_slice(&self.text[..count]);
-        self.text = &self.text[count..];
-        Ok(count)
-    }
-}
+use std::io::{self, Write};
 
 /// Takes what is written.
 #[derive(Drop)]
@@ -41,16 +26,16 @@ pub(crate) struct Clients {
 }
 
 impl Door for Clients {
-    type In = Source;
+    type In = &'static [u8];
 
     type Out = Sink;
 
-    fn next(&mut self) -> Option<(Source, Sink)> {
+    fn next(&mut self) -> Option<(&'static [u8], Sink)> {
         if self.left == 0 {
             return None;
         }
         self.left -= 1;
-        Some((Source { text: self.text }, Sink))
+        Some((self.text, Sink))
     }
 
     fn ended(&mut self, _end: Result<End, ServeError>) {}

@@ -1,83 +1,28 @@
 //! Hosts and seats.
 
-ghost use Rattle.std.specs.Prelude.{◌≡◌, [], IfOk};
+ghost use Rattle.std.specs.Prelude.{◌≡◌, IfOk};
 ghost use Rattle.imap_hall.specs.Hall.{IsFresh};
 
 use crate::doors::Clients;
-use crate::owned::{both, push, push_beside};
+use crate::owned::{both, push, push_beside, second};
 use imap_core::{Act, Moment, Step};
 use imap_grammar::parse;
 use imap_hall::{Hall, Receipt, Room};
-use imap_host::{Desk, Host, Seat, SettleError};
+use imap_host::{Desk, Host, Seat};
 use imap_keeper::{Keeper, ListKeeper};
 use imap_lex::Octets;
 use imap_limits::DEFAULT_LIMITS;
-use imap_names::{UserName, read_full};
+use imap_names::UserName;
 use imap_print::print;
-use imap_rights::{Acl, Groups, Identifier, read_rights};
-use imap_world::{World, WorldError};
+use imap_rights::Groups;
+use imap_script::Scenario;
+use imap_world::World;
 use std::alloc::{AllocError, Global};
 use std::sync::Wait;
 use std::sync::ledger::{Blank, Ledger};
 
 pub(crate) fn user(alloc: Global, text: &str) -> Result<UserName, AllocError> {
     UserName::read(alloc, text)?.ok_or(AllocError)
-}
-
-fn give(alloc: Global, acl: &mut Acl, identifier: &str, letters: &str) -> Result<(), AllocError> {
-    let Ok(identifier) = Identifier::read(alloc, identifier.as_bytes()) else {
-        return Err(AllocError);
-    };
-    let Some(change) = read_rights(letters.as_bytes()) else {
-        return Err(AllocError);
-    };
-    let rights = change.applied(acl.rights_of(&identifier));
-    match acl.set(identifier, rights) {
-        Ok(()) => Ok(()),
-        Err(_) => Err(AllocError),
-    }
-}
-
-fn place(alloc: Global, world: &mut World, acl: Acl) -> Result<(), WorldError> {
-    let Ok(name) = read_full(alloc, b"Shared/News") else {
-        return Err(WorldError::Memory);
-    };
-    world.place(alloc, name, acl)
-}
-
-/// The list by which bob has `lr` and root all rights.
-fn acl(alloc: Global) -> Result<Acl, AllocError> {
-    let mut acl = Acl::new(alloc);
-    let given = both(
-        give(alloc, &mut acl, "bob", "lr"),
-        give(alloc, &mut acl, "root", "lrswipkxtea"),
-    );
-    let (_, acl) = both(given, Ok(acl))?;
-    Ok(acl)
-}
-
-/// A world with Shared/News and that list.
-fn world(alloc: Global) -> Result<World, AllocError> {
-    let acl = acl(alloc)?;
-    let mut world = World::new(alloc);
-    match place(alloc, &mut world, acl) {
-        Ok(()) => Ok(world),
-        Err(_) => {
-            drop(world);
-            Err(AllocError)
-        }
-    }
-}
-
-/// A hall over that world, of ann, bob and cat, and of root, who is the administrator.
-pub(crate) fn hall(alloc: Global) -> Result<Hall<ListKeeper>, AllocError>
-    ensures fresh { IfOk result IsFresh }
-{
-    let users = users(alloc, &["ann", "bob", "cat"]);
-    let (users, (root, world)) = both(users, both(user(alloc, "root"), world(alloc)))?;
-    let hall = opened(alloc, world, root, users.as_slice());
-    drop(users);
-    hall
 }
 
 fn users(alloc: Global, texts: &[&str]) -> Result<Vec<UserName>, AllocError> {
@@ -88,22 +33,41 @@ fn users(alloc: Global, texts: &[&str]) -> Result<Vec<UserName>, AllocError> {
     Ok(users)
 }
 
-fn opened(
+/// Shared/News, on which bob has `lr` and root all rights.
+const MAILBOXES: &[u8] = b"admin root\nmailbox Shared/News\nacl bob lr\nacl root lrswipkxtea\n";
+
+/// A world with that mailbox.
+fn world(alloc: Global) -> Result<World, AllocError> {
+    match Scenario::read(alloc, MAILBOXES) {
+        Ok(read) => Ok(second(read)),
+        Err(_) => Err(AllocError),
+    }
+}
+
+/// A hall over that world, of ann, bob and cat, and of root, who is the administrator.
+pub(crate) fn hall(alloc: Global) -> Result<Hall<ListKeeper>, AllocError>
+    ensures fresh { IfOk result IsFresh }
+{
+    let users = users(alloc, &["ann", "bob", "cat"]);
+    let (users, world) = both(users, world(alloc))?;
+    let hall = opened(alloc, world, "root", users.as_slice());
+    drop(users);
+    hall
+}
+
+/// A hall over this world, of these users and of the administrator.
+pub(crate) fn opened(
     alloc: Global,
     world: World,
-    administrator: UserName,
+    administrator: &str,
     users: &[UserName],
 ) -> Result<Hall<ListKeeper>, AllocError>
     ensures fresh { IfOk result IsFresh }
 {
-    match Hall::open(
-        alloc,
-        ListKeeper::new(world),
-        administrator,
-        users,
-        Groups::new(alloc),
-        DEFAULT_LIMITS,
-    ) {
+    let (administrator, world) = both(user(alloc, administrator), Ok(world))?;
+    let keeper = ListKeeper::new(world);
+    let groups = Groups::new(alloc);
+    match Hall::open(alloc, keeper, administrator, users, groups, DEFAULT_LIMITS) {
         Ok(hall) => Ok(hall),
         Err(refused) => {
             drop(refused);
@@ -112,13 +76,18 @@ fn opened(
     }
 }
 
-/// A host over that hall.
-pub(crate) fn host<K: Keeper, L: Ledger>(alloc: Global, hall: Hall<K>, blank: Blank) -> Host<K, L>
+/// A host over the hall of ann, bob, cat and root.
+pub(crate) fn new_host<L: Ledger>(
+    alloc: Global,
+    blank: Blank,
+) -> Result<Host<ListKeeper, L>, AllocError>
     requires name { blank.name ≡ L.name }
     requires parts { (blank.parts ≡ L.parts) × (blank.parts ≡ 1048576) }
-    requires fresh { IsFresh hall }
 {
-    Host::new(alloc, hall, blank)
+    match hall(alloc) {
+        Ok(hall) => Ok(Host::new(alloc, hall, blank)),
+        Err(error) => Err(error),
+    }
 }
 
 pub(crate) fn seat<K: Keeper, L: Ledger>(
@@ -141,57 +110,38 @@ pub(crate) fn act(alloc: Global, text: &[u8]) -> Result<Act, AllocError> {
 }
 
 /// A step of the seat's session.
-fn step_of<L: Ledger>(seat: &Seat<L>, act: Act) -> Result<Step, AllocError> {
-    match seat.who.try_copy() {
-        Ok(who) => Ok(Step {
-            who,
-            at: Moment::epoch(),
-            act,
-        }),
-        Err(error) => {
-            drop(act);
-            Err(error)
-        }
-    }
+fn step_of<L: Ledger>(seat: &Seat<L>, act: Result<Act, AllocError>) -> Result<Step, AllocError> {
+    let (who, act) = both(seat.who.try_copy(), act)?;
+    Ok(Step {
+        who,
+        at: Moment::epoch(),
+        act,
+    })
 }
 
-/// Makes an act of the seat's session. Returns its receipt, or `None` if it wasn't made.
+/// Makes an act of the seat's session. Returns the text of the replies, or `None` if it wasn't made.
 pub(crate) fn make<K: Keeper, L: Ledger, R: Wait + AllocGlobal>(
     rt: &R,
     host: &Host<K, L>,
     seat: &mut Seat<L>,
-    act: Act,
-) -> Option<Receipt> {
+    act: Result<Act, AllocError>,
+) -> Option<Vec<u8>> {
     match step_of(seat, act) {
         Ok(step) => {
             let mut desk = Desk { rt, host, seat };
             let made = desk.step(rt.alloc(), &step);
             drop(step);
-            made.ok()
+            told(rt.alloc(), made.ok())
         }
         Err(_) => None,
     }
 }
 
-/// Has the seat's session send a line. Returns the text of the replies, or `None` if it wasn't
-/// answered.
-pub(crate) fn ask<K: Keeper, L: Ledger, R: Wait + AllocGlobal>(
-    rt: &R,
-    host: &Host<K, L>,
-    seat: &mut Seat<L>,
-    text: &[u8],
-) -> Option<Vec<u8>> {
-    match act(rt.alloc(), text) {
-        Ok(act) => match make(rt, host, seat, act) {
-            Some(receipt) => {
-                let text = print(rt.alloc(), receipt.replies.as_slice());
-                drop(receipt);
-                text.ok()
-            }
-            None => None,
-        },
-        Err(_) => None,
-    }
+fn told(alloc: Global, receipt: Option<Receipt>) -> Option<Vec<u8>> {
+    let receipt = receipt?;
+    let text = print(alloc, receipt.replies.as_slice());
+    drop(receipt);
+    text.ok()
 }
 
 /// A user, how many seats the user has, how many clients come through the door of each, and what these send.
@@ -223,19 +173,15 @@ fn push_posts<K: Keeper, L: Ledger>(
     Ok(())
 }
 
-/// Ends the host with these seats, and returns its hall.
-pub(crate) fn settled<K: Keeper + Drop, L: Ledger>(
-    host: Host<K, L>,
-    seats: Vec<Seat<L>>,
-) -> Result<Hall<K>, SettleError>
-    requires { L.parts ≡ 1048576 }
-{
-    match host.settle(seats) {
-        Ok(hall) => Ok(hall),
-        Err((error, host, seats)) => {
-            drop(host);
-            drop(seats);
-            Err(error)
-        }
-    }
+/// A seat of the user with this door.
+pub(crate) fn post<K: Keeper, L: Ledger, D: Drop>(
+    alloc: Global,
+    host: &mut Host<K, L>,
+    text: &str,
+    door: D,
+) -> Result<Vec<(Seat<L>, D)>, AllocError> {
+    let mut posts = Vec::new(alloc);
+    let pushed = push_beside(&mut posts, seat(alloc, host, text), door);
+    let (_, posts) = both(pushed, Ok(posts))?;
+    Ok(posts)
 }

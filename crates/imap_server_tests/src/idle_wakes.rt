@@ -1,6 +1,7 @@
 //! Reads that bring nothing, and wakes.
 
 use crate::owned::both;
+use crate::peers::{connection, listener};
 use imap_service::{
     Connection, IDLE_TICKS, IdleTicks, IdleWakers, TICKS_PER_SECOND, WakeableStream,
 };
@@ -40,16 +41,6 @@ fn wakes_end_no_session_sooner(rt: HostRuntime) {
         let seconds = seconds_until_end(wakes);
         assert!(rt; seconds == 1800, "{wakes}: {seconds}");
     }
-}
-
-/// A connection to itself: what is read, and what writes to it.
-fn connection<R: Net<Listener = TcpListener, Stream = TcpStream>>(
-    rt: &R,
-) -> io::Result<(TcpStream, TcpStream)> {
-    let listener = TcpListener::bind(rt, "127.0.0.1:0")?;
-    let client = TcpStream::connect(rt, listener.local_addr()?);
-    let (client, (input, _)) = both(client, listener.accept())?;
-    Ok((input, client))
 }
 
 /// How many milliseconds `reads` reads take that bring nothing. The workers are woken before each.
@@ -126,7 +117,9 @@ fn waited<R: Net<Listener = TcpListener, Stream = TcpStream> + Wait + Clock + Al
     let [waker, ..] = wakers.as_slice() else {
         return Err(io::Error::from(ErrorKind::InvalidData));
     };
-    let (input, client) = connection(rt)?;
+    let listener = listener(rt)?;
+    let (client, input) = connection(rt, &listener)?;
+    drop(listener);
     let (input, mut client) = both(shared(rt.alloc(), Connection::from(input)), Ok(client))?;
     match WakeableStream::new(rt, rt.alloc(), wakers, waker, input) {
         Ok(mut input) => times_of(rt, wakers, &mut input, &mut client),

@@ -2,16 +2,14 @@
 
 ghost use Rattle.std.specs.Prelude.{◌≡◌};
 
-use crate::hosts::{ask, hall, host, make, seat};
+use crate::connection::WHOLE;
+use crate::hosts::{act, make, new_host, seat};
 use crate::owned::both;
-use crate::serving::{IDLE_TICKS, Standing};
-use imap_core::{Act, SessionId};
-use imap_hall::Room;
+use crate::serving::{serve_over, session};
+use imap_core::Act;
 use imap_host::{Desk, Host, PARTS, Seat};
-use imap_keeper::{Keeper, ListKeeper};
-use imap_limits::DEFAULT_LIMITS;
-use imap_serve::{End, OpenGate, ServeError, Watched, serve};
-use std::alloc::{AllocError, Global};
+use imap_keeper::Keeper;
+use imap_serve::{End, OpenGate};
 use std::io::{self, ErrorKind, Read};
 use std::marker::Brand;
 use std::sync::Wait;
@@ -29,7 +27,7 @@ const WRITTEN: &[u8] = b"+ idling\r\n* BYE selected mailbox is no longer availab
 struct Taking<'a, K: Keeper, L: Ledger, R: Wait + AllocGlobal> {
     rt: &'a R,
     host: &'a Host<K, L>,
-    root: Seat<L>,
+    root: &'a mut Seat<L>,
     text: &'a [u8],
     quiet: u32,
 }
@@ -38,8 +36,9 @@ impl<'a, K: Keeper, L: Ledger, R: Wait + AllocGlobal> Read for Taking<'a, K, L, 
     fn read(&mut self, buf: &mut [u8]) -> io::Result<usize> {
         if self.text.is_empty() {
             if self.quiet == 0 {
-                drop(make(self.rt, self.host, &mut self.root, Act::Open));
-                drop(ask(self.rt, self.host, &mut self.root, TAKEN));
+                drop(make(self.rt, self.host, self.root, Ok(Act::Open)));
+                let taken = act(self.rt.alloc(), TAKEN);
+                drop(make(self.rt, self.host, self.root, taken));
             }
             self.quiet = self.quiet.saturating_sub(1);
             return Err(io::Error::from(ErrorKind::WouldBlock));
@@ -51,80 +50,41 @@ impl<'a, K: Keeper, L: Ledger, R: Wait + AllocGlobal> Read for Taking<'a, K, L, 
     }
 }
 
-/// The seats of root and of bob.
-fn seats<K: Keeper, L: Ledger>(
-    alloc: Global,
-    host: &mut Host<K, L>,
-) -> Result<(Seat<L>, Seat<L>), AllocError> {
-    let root = seat(alloc, host, "root");
-    both(root, seat(alloc, host, "bob"))
-}
-
-/// Serves the session of this room with what root does. How it ends.
-fn served<R: Room, I: Read, W: Wait + AllocGlobal>(
-    rt: &W,
-    room: &mut R,
-    who: &SessionId,
-    input: &mut Watched<I>,
-    output: &mut Watched<Vec<u8>>,
-) -> Result<End, ServeError> {
-    serve(
-        rt,
-        rt.alloc(),
-        room,
-        who,
-        &Standing,
-        &OpenGate,
-        DEFAULT_LIMITS.max_octets,
-        IDLE_TICKS,
-        input,
-        output,
-    )
-}
-
 /// Serves bob while root takes his right away. Whether he is told so, and his session is closed.
-fn tells_seat<K: Keeper, L: Ledger, R: Wait + AllocGlobal>(
+fn tells_bob<K: Keeper, L: Ledger, R: Wait + AllocGlobal>(
     rt: &R,
     host: &Host<K, L>,
-    root: Seat<L>,
-    bob: &mut Seat<L>,
+    root: &mut Seat<L>,
+    seat: &mut Seat<L>,
     quiet: u32,
 ) -> bool {
-    let Ok(who) = session_of(bob) else {
-        drop(root);
+    let Ok(who) = session(rt.alloc(), "bob") else {
         return false;
     };
-    let mut input = Watched::new(Taking {
+    let input = Taking {
         rt,
         host,
         root,
         text: SENT,
         quiet,
-    });
-    let mut output = Watched::new(Vec::new(rt.alloc()));
-    let mut desk = Desk {
-        rt,
-        host,
-        seat: bob,
     };
-    let end = served(rt, &mut desk, &who, &mut input, &mut output);
-    drop(input);
+    let mut desk = Desk { rt, host, seat };
+    let served = serve_over(rt, &mut desk, &who, &OpenGate, input, WHOLE);
     drop(who);
-    end == Ok(End::Closed) && output.into_inner().ends_with(WRITTEN)
+    served.end == Ok(End::Closed) && served.written.ends_with(WRITTEN)
 }
 
-fn session_of<L: Ledger>(seat: &Seat<L>) -> Result<SessionId, AllocError> {
-    seat.who.try_copy()
-}
-
-fn tells_bob<K: Keeper, L: Ledger, R: Wait + AllocGlobal>(
+/// The same with new seats.
+fn tells_new_seat<K: Keeper, L: Ledger, R: Wait + AllocGlobal>(
     rt: &R,
     host: &mut Host<K, L>,
     quiet: u32,
 ) -> bool {
-    match seats(rt.alloc(), host) {
-        Ok((root, mut bob)) => {
-            let told = tells_seat(rt, host, root, &mut bob, quiet);
+    let root = seat(rt.alloc(), host, "root");
+    match both(root, seat(rt.alloc(), host, "bob")) {
+        Ok((mut root, mut bob)) => {
+            let told = tells_bob(rt, host, &mut root, &mut bob, quiet);
+            drop(root);
             drop(bob);
             told
         }
@@ -137,10 +97,9 @@ fn told<L: Ledger, R: Wait + AllocGlobal>(rt: &R, blank: Blank, quiet: u32) -> b
     requires name { blank.name ≡ L.name }
     requires parts { (blank.parts ≡ L.parts) × (blank.parts ≡ 1048576) }
 {
-    match hall(rt.alloc()) {
-        Ok(hall) => {
-            let mut host = host::<ListKeeper, L>(rt.alloc(), hall, blank);
-            let told = tells_bob(rt, &mut host, quiet);
+    match new_host::<L>(rt.alloc(), blank) {
+        Ok(mut host) => {
+            let told = tells_new_seat(rt, &mut host, quiet);
             drop(host);
             told
         }

@@ -2,10 +2,10 @@
 
 ghost use Rattle.std.specs.Prelude.{◌≡◌};
 
-use crate::hosts::{hall, host, make, seat};
+use crate::hosts::{make, new_host, seat};
 use imap_core::Act;
 use imap_host::{Host, PARTS};
-use imap_keeper::{Keeper, ListKeeper};
+use imap_keeper::Keeper;
 use std::marker::Brand;
 use std::sync::Wait;
 use std::sync::ledger::{Blank, Ledger};
@@ -19,7 +19,7 @@ fn most_kept<K: Keeper, L: Ledger, R: Wait + AllocGlobal>(rt: &R, host: &mut Hos
     };
     let mut most = 0;
     for _ in 0..CALLS {
-        drop(make(rt, host, &mut seat, Act::Poll));
+        drop(make(rt, host, &mut seat, Ok(Act::Poll)));
         most = most.max(seat.receipts.len());
     }
     drop(seat);
@@ -31,21 +31,16 @@ fn kept<L: Ledger, R: Wait + AllocGlobal>(rt: &R, blank: Blank) -> (usize, u64, 
     requires name { blank.name ≡ L.name }
     requires parts { (blank.parts ≡ L.parts) × (blank.parts ≡ 1048576) }
 {
-    match hall(rt.alloc()) {
-        Ok(hall) => {
-            let mut host = host::<ListKeeper, L>(rt.alloc(), hall, blank);
+    match new_host::<L>(rt.alloc(), blank) {
+        Ok(mut host) => {
             let most = most_kept(rt, &mut host);
-            counted(most, host)
+            let hall = host.into_hall();
+            let counts = (most, hall.count(), hall.entries().len());
+            drop(hall);
+            counts
         }
         Err(_) => (0, 0, 0),
     }
-}
-
-fn counted<K: Keeper + Drop, L: Ledger>(most: usize, host: Host<K, L>) -> (usize, u64, usize) {
-    let hall = host.into_hall();
-    let counts = (most, hall.count(), hall.entries().len());
-    drop(hall);
-    counts
 }
 
 /// The journal begins anew after 10,000 entries at the latest, and the seat lets go of receipts with it.

@@ -1,11 +1,9 @@
-//! Rooms that refuse a step, and users with too many sessions. The session leaves all the same.
+//! Rooms that refuse a step. The session leaves all the same.
 
 use crate::connection::{Behaviour, WHOLE};
 use crate::faulty_room::FaultyRoom;
-use crate::owned::both;
 use crate::serving::{
-    ends_with_leave, expect_after_greeting, new_hall, open_first, serve_as, serve_in, shown,
-    with_entries,
+    ends_with_leave, expect_after_greeting, new_hall, serve_in, shown, with_entries,
 };
 use crate::wanted::expect;
 use imap_hall::HallError;
@@ -27,7 +25,7 @@ fn told<W: Wait + AllocGlobal>(
     let served = serve_in(rt, &mut room, &OpenGate, text, behaviour);
     let hall = room.into_inner();
     let count = hall.count();
-    let has_left = ends_with_leave(&hall, 1);
+    let has_left = ends_with_leave(&hall);
     drop(hall);
     with_entries(rt.alloc(), shown(rt.alloc(), served), count, has_left)
 }
@@ -75,46 +73,15 @@ const ROWS: &[(Behaviour, &[u8], u32, HallError, &[u8])] = &[
     ),
 ];
 
+/// A session that wasn't opened has no greeting. It leaves all the same.
 #[test]
 fn a_room_refuses_a_step(rt: HostRuntime) {
     for &(behaviour, text, refused, error, wanted) in ROWS {
         let made = told(&rt, behaviour, text, refused, error);
         expect_after_greeting(&rt, made, wanted);
     }
-}
-
-/// A session that wasn't opened has no greeting. It leaves all the same.
-#[test]
-fn a_room_refuses_an_open(rt: HostRuntime) {
     let memory = told(&rt, WHOLE, SENT, 1, HallError::Memory);
     expect(&rt, memory, b"Err(Memory) 1 true");
     let exhausted = told(&rt, WHOLE, SENT, 1, HallError::Exhausted);
     expect(&rt, exhausted, b"Err(Exhausted) 1 true");
-}
-
-/// Serves ann's next session while `open` others are open. Returns the same as `told`.
-fn told_beside<W: Wait + AllocGlobal>(rt: &W, open: u32) -> Result<Vec<u8>, AllocError> {
-    let mut hall = new_hall(rt.alloc())?;
-    let opened = open_first(rt.alloc(), &mut hall, open);
-    let number = open.saturating_add(1);
-    let served = serve_as(rt, &mut hall, &OpenGate, number, SENT, WHOLE);
-    let count = hall.count();
-    let has_left = ends_with_leave(&hall, number);
-    drop(hall);
-    let ((), served) = both(opened, served)?;
-    with_entries(rt.alloc(), shown(rt.alloc(), Ok(served)), count, has_left)
-}
-
-/// A user may have 16 sessions open. The journal has an entry of each Open, refused or not.
-#[test]
-fn sessions_have_a_limit(rt: HostRuntime) {
-    let sixteenth = told_beside(&rt, 15);
-    let wanted = b"a1 OK done\r\na2 OK done\r\nOk(InputEnded) 19 true";
-    expect_after_greeting(&rt, sixteenth, wanted);
-    let seventeenth = told_beside(&rt, 16);
-    expect(
-        &rt,
-        seventeenth,
-        b"* BYE limit reached\r\nOk(Closed) 18 true",
-    );
 }

@@ -2,11 +2,10 @@
 
 ghost use Rattle.std.specs.Prelude.{◌<◌};
 
-use crate::peers::{Deed, done};
 use crate::wanted::expect;
 use imap_login::{Capabilities, Credentials, Login, Stage};
 use std::alloc::{AllocError, Global};
-use std::io::{self, Read, Write};
+use std::process::Abort;
 
 /// Returns what a client is answered, `|`, and the octets that are left once it has entered or is to leave, after a `+`
 /// or `-`. The octets come in pieces of this size.
@@ -49,7 +48,14 @@ fn shown(stage: Stage) -> &'static [u8] {
     }
 }
 
-/// What is sent, and what it is answered: whole, and octet by octet.
+/// Asserts that what is sent is answered so: whole, and octet by octet.
+fn expect_answers(rt: &(impl Abort + AllocGlobal), rows: &[(&[u8], &[u8])]) {
+    for &(sent, wanted) in rows {
+        expect(rt, answered(rt.alloc(), sent, 8192), wanted);
+        expect(rt, answered(rt.alloc(), sent, 1), wanted);
+    }
+}
+
 #[test]
 fn strangers_are_answered(rt: HostRuntime) {
     const ROWS: &[(&[u8], &[u8])] = &[
@@ -71,10 +77,7 @@ fn strangers_are_answered(rt: HostRuntime) {
         (b"a NOOP {9000}\r\n", b"* BYE limit reached\r\n|-"),
         (b"a NOOP {5000+}\r\n", b"* BYE limit reached\r\n|-"),
     ];
-    for &(sent, wanted) in ROWS {
-        expect(&rt, answered(rt.alloc(), sent, 8192), wanted);
-        expect(&rt, answered(rt.alloc(), sent, 1), wanted);
-    }
+    expect_answers(&rt, ROWS);
 }
 
 /// LOGIN (RFC 9051, section 6.2.3).
@@ -110,10 +113,7 @@ fn clients_log_in(rt: HostRuntime) {
             d OK [CAPABILITY IMAP4rev2 ACL RIGHTS=texk CONDSTORE ENABLE IDLE QRESYNC] done\r\n|+",
         ),
     ];
-    for &(sent, wanted) in ROWS {
-        expect(&rt, answered(rt.alloc(), sent, 8192), wanted);
-        expect(&rt, answered(rt.alloc(), sent, 1), wanted);
-    }
+    expect_answers(&rt, ROWS);
 }
 
 /// AUTHENTICATE PLAIN (RFC 9051, section 6.2.2; RFC 4616; RFC 4959).
@@ -148,10 +148,7 @@ fn clients_authenticate(rt: HostRuntime) {
             c NO [AUTHENTICATIONFAILED] name or secret is wrong\r\n* BYE limit reached\r\n|-",
         ),
     ];
-    for &(sent, wanted) in ROWS {
-        expect(&rt, answered(rt.alloc(), sent, 8192), wanted);
-        expect(&rt, answered(rt.alloc(), sent, 1), wanted);
-    }
+    expect_answers(&rt, ROWS);
 }
 
 /// What a line is answered with so many octets before its CRLF.
@@ -172,46 +169,4 @@ fn a_line_has_a_bound(rt: HostRuntime) {
         long_line(rt.alloc(), 8191),
         b"* BYE limit reached\r\n|-",
     );
-}
-
-/// A client logs in, and is served by the session's room from what it sends then on.
-struct Entering;
-
-impl Deed for Entering {
-    fn first(&self) -> &'static [u8] {
-        b"a1 LOGIN ann s3cret\r\na2 NOOP\r\n"
-    }
-
-    fn credentials(&self, alloc: Global) -> io::Result<Option<Credentials>> {
-        Ok(Some(Credentials::new(alloc, b"ann", b"s3cret")?))
-    }
-
-    fn is_done<C: Read + Write, I: Read, O: Write>(
-        &self,
-        alloc: Global,
-        client: &mut C,
-        input: &mut I,
-        output: &mut O,
-    ) -> io::Result<bool> {
-        const WANTED: &[u8] =
-            b"* OK [CAPABILITY IMAP4rev2 ACL RIGHTS=texk CONDSTORE ENABLE IDLE QRESYNC AUTH=PLAIN \
-            SASL-IR] shared mailbox profile ready\r\n\
-a1 OK [CAPABILITY IMAP4rev2 ACL RIGHTS=texk CONDSTORE ENABLE IDLE QRESYNC] done\r\na2 OK done\r\n";
-        output.write_all(
-            b"* PREAUTH [CAPABILITY IMAP4rev2 ACL RIGHTS=texk CONDSTORE ENABLE IDLE QRESYNC] shared \
-            mailbox profile ready\r\n",
-        )?;
-        output.write_all(b"a2 OK done\r\n")?;
-        let mut sent = [0u8; 9];
-        input.read_exact(&mut sent)?;
-        let mut told = Vec::new(alloc);
-        told.resize(WANTED.len(), 0)?;
-        client.read_exact(told.as_mut_slice())?;
-        Ok(sent == *b"a2 NOOP\r\n" && told.as_slice() == WANTED)
-    }
-}
-
-#[test]
-fn a_client_enters(rt: HostRuntime) {
-    assert!(rt; matches!(done(&rt, &Entering), Ok(true)));
 }

@@ -1,9 +1,8 @@
 //! What sessions are told of their mailbox, beside what is found by comparing whole lists.
 
-use crate::hosts::act;
+use crate::hosts::{act, user};
 use crate::owned::both;
-use crate::serving::{ann, session};
-use imap_core::{Act, Core, Moment, SessionId, Step};
+use imap_core::{Act, Core, Moment, SessionId, SessionNumber, Step};
 use imap_limits::DEFAULT_LIMITS;
 use imap_print::{Response, print};
 use imap_rights::Groups;
@@ -42,11 +41,18 @@ fn pick(turn: u32, salt: u32, many: u32) -> usize {
     (spread >> 8).checked_rem(many).unwrap_or(0) as usize
 }
 
-/// A machine of ann alone, who is the administrator, over this world.
-pub(crate) fn machine(alloc: Global, world: World) -> Result<Core, AllocError> {
-    let (administrator, world) = both(ann(alloc), Ok(world))?;
+/// A machine of ann alone, who is the administrator, without mailboxes but her INBOX.
+fn machine(alloc: Global) -> Result<Core, AllocError> {
+    let administrator = user(alloc, "ann")?;
     let groups = Groups::new(alloc);
-    first(Core::open(alloc, world, administrator, &[], groups, DEFAULT_LIMITS))
+    first(Core::open(
+        alloc,
+        World::new(alloc),
+        administrator,
+        &[],
+        groups,
+        DEFAULT_LIMITS,
+    ))
 }
 
 fn first<A: Drop, B: Drop>(both: Result<(A, B), AllocError>) -> Result<A, AllocError> {
@@ -60,6 +66,14 @@ fn alone<T: Drop>(alloc: Global, item: Result<T, AllocError>) -> Result<Vec<T>, 
     Ok(items)
 }
 
+fn session(alloc: Global, number: u32) -> Result<SessionId, AllocError> {
+    let number = SessionNumber::new(number).ok_or(AllocError)?;
+    Ok(SessionId {
+        user: user(alloc, "ann")?,
+        number,
+    })
+}
+
 fn step(alloc: Global, number: u32, act: Result<Act, AllocError>) -> Result<Step, AllocError> {
     let (who, act) = both(session(alloc, number), act)?;
     Ok(Step {
@@ -70,7 +84,7 @@ fn step(alloc: Global, number: u32, act: Result<Act, AllocError>) -> Result<Step
 }
 
 /// What the session with this number is answered.
-pub(crate) fn reply(
+fn reply(
     alloc: Global,
     core: &mut Core,
     number: u32,
@@ -204,7 +218,7 @@ fn count_turns(alloc: Global, core: &mut Core) -> Result<(u32, usize), AllocErro
 }
 
 fn counts(alloc: Global) -> Result<(u32, usize), AllocError> {
-    let mut core = machine(alloc, World::new(alloc))?;
+    let mut core = machine(alloc)?;
     let counts = count_turns(alloc, &mut core);
     drop(core);
     counts

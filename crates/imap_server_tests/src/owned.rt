@@ -48,3 +48,9 @@ pub(crate) fn firsts<A: Drop, B: Drop>(
     }
     Ok(firsts)
 }
+
+/// The second of a pair.
+pub(crate) fn second<A: Drop, B: Drop>(pair: (A, B)) -> B {
+    let (_, second) = pair;
+    second
+}

@@ -2,16 +2,17 @@
 
 ghost use Rattle.std.specs.Prelude.{◌≡◌};
 
-use crate::hosts::{hall, host, user};
+use crate::command_lines::task;
+use crate::hosts::{new_host, user};
 use crate::owned::{both, push};
 use imap_host::{Door, Host, PARTS, Seat};
-use imap_keeper::{Keeper, ListKeeper};
+use imap_keeper::Keeper;
 use imap_login::Credentials;
 use imap_names::UserName;
-use imap_options::{Address, DialectName, LogLevel, Port};
+use imap_options::{DialectName, LogLevel, Port, Task};
 use imap_service::{
-    ClientDoor, Connection, IdleWakers, Listener, PortDoor, Reception, Receptionist, Report, SEATS,
-    listen_at, posts,
+    ClientDoor, Connection, IdleWakers, Listener, PortDoor, Reception, Report, SEATS, listen_at,
+    posts,
 };
 use std::alloc::{AllocError, Global};
 use std::io::{self, Read, Write};
@@ -44,14 +45,6 @@ pub(crate) fn connection<R: Net<Listener = TcpListener, Stream = TcpStream>>(
     Ok((client, stream))
 }
 
-pub(crate) fn named(alloc: Global, text: &str) -> io::Result<UserName> {
-    Ok(user(alloc, text)?)
-}
-
-pub(crate) fn reception(alloc: Global, listener: Listener) -> io::Result<Reception> {
-    Ok(Reception::new(alloc, listener)?)
-}
-
 /// What a client is told until the connection ends.
 pub(crate) fn told(alloc: Global, client: &mut TcpStream) -> io::Result<Vec<u8>> {
     let mut text = Vec::new(alloc);
@@ -59,82 +52,111 @@ pub(crate) fn told(alloc: Global, client: &mut TcpStream) -> io::Result<Vec<u8>>
     Ok(text)
 }
 
-/// As many connections of a listener, and the clients.
-fn connections<R: Net<Listener = TcpListener, Stream = TcpStream> + AllocGlobal>(
-    rt: &R,
-    listener: &TcpListener,
-    count: usize,
-) -> io::Result<(Vec<TcpStream>, Vec<TcpStream>)> {
-    let mut clients = Vec::new(rt.alloc());
-    let mut streams = Vec::new(rt.alloc());
-    let connected = connect_all(rt, listener, count, &mut clients, &mut streams);
-    let (_, both) = both(connected, Ok((clients, streams)))?;
-    Ok(both)
+/// What stands between ann's clients and their one worker.
+#[derive(Drop)]
+pub(crate) struct Place {
+    pub(crate) reception: Reception,
+    pub(crate) user: UserName,
+    credentials: Option<Credentials>,
+    pub(crate) wakers: IdleWakers,
 }
 
-fn connect_all<R: Net<Listener = TcpListener, Stream = TcpStream>>(
-    rt: &R,
-    listener: &TcpListener,
-    count: usize,
-    clients: &mut Vec<TcpStream>,
-    streams: &mut Vec<TcpStream>,
-) -> io::Result<()> {
-    for _ in 0..count {
-        push_both(clients, streams, connection(rt, listener))?;
+impl Place {
+    /// Clients come in by this listener, and log in if they are asked.
+    pub(crate) fn new(
+        alloc: Global,
+        listener: Listener,
+        is_asked: bool,
+    ) -> Result<Place, AllocError> {
+        let received = both(Reception::new(alloc, listener), user(alloc, "ann"));
+        let known = both(credentials(alloc, is_asked), IdleWakers::new(alloc, 1));
+        let ((reception, user), (credentials, wakers)) = both(received, known)?;
+        Ok(Place {
+            reception,
+            user,
+            credentials,
+            wakers,
+        })
+    }
+
+    /// Lets a connection in.
+    pub(crate) fn admit<R: Wait + Eprint>(&self, rt: &R, stream: Connection) {
+        let report = Report::new(rt, LogLevel::Off);
+        self.reception.admit(rt, &self.user, &report, stream);
+    }
+
+    /// The worker's door, or `None` if there is no waker. A client may keep a reply from being written for 100
+    /// milliseconds.
+    pub(crate) fn door<
+        'a,
+        R: Net<Listener = TcpListener, Stream = TcpStream> + Wait + Clock + Eprint + AllocGlobal,
+    >(
+        &'a self,
+        rt: &'a R,
+        report: &'a Report<'a, R>,
+        dialect: DialectName,
+    ) -> Option<ClientDoor<'a, R>> {
+        let waker = self.wakers.as_slice().first()?;
+        Some(ClientDoor {
+            rt,
+            alloc: rt.alloc(),
+            reception: &self.reception,
+            wakers: &self.wakers,
+            waker,
+            report,
+            user: &self.user,
+            credentials: &self.credentials,
+            dialect,
+            number: 1,
+            write_timeout: Duration::from_millis(100),
+            has_client: false,
+        })
+    }
+}
+
+/// What ann logs in with, if she is asked.
+fn credentials(alloc: Global, is_asked: bool) -> Result<Option<Credentials>, AllocError> {
+    if is_asked {
+        Ok(Some(Credentials::new(alloc, b"ann", b"s3cret")?))
+    } else {
+        Ok(None)
+    }
+}
+
+/// Lets one connection in seventeen times.
+fn admit_seventeen<R: Wait + Eprint>(rt: &R, place: &Place, stream: &TcpStream) -> io::Result<()> {
+    for _ in 0..SEATS + 1 {
+        place.admit(rt, Connection::from(stream.try_clone()?));
     }
     Ok(())
 }
 
-fn push_both<A: Drop, B: Drop>(
-    ones: &mut Vec<A>,
-    others: &mut Vec<B>,
-    pair: io::Result<(A, B)>,
-) -> io::Result<()> {
-    let (one, other) = pair?;
-    ones.push(one)?;
-    others.push(other)?;
-    Ok(())
-}
-
-/// Lets all connections in as those of ann's clients.
-fn admit_all<R: Net<Listener = TcpListener, Stream = TcpStream> + Wait + Eprint + AllocGlobal>(
-    rt: &R,
-    reception: &Reception,
-    streams: Vec<TcpStream>,
-) -> io::Result<()> {
-    let (user, streams) = both(named(rt.alloc(), "ann"), Ok(streams))?;
-    let report = Report::new(rt, LogLevel::Off);
-    for stream in streams {
-        reception.admit(rt, &user, &report, Connection::from(stream));
-    }
-    Ok(())
-}
-
-/// What the last of seventeen clients is told.
-fn last_of_seventeen<
+/// What the client of seventeen connections is told.
+fn told_by_seventeen<
     R: Net<Listener = TcpListener, Stream = TcpStream> + Wait + Eprint + AllocGlobal,
 >(rt: &R) -> io::Result<Vec<u8>> {
     let listener = listener(rt)?;
-    let connected = connections(rt, &listener, SEATS + 1);
-    let received = reception(rt.alloc(), Listener::from(listener));
-    let (reception, (clients, streams)) = both(received, connected)?;
-    let admitted = admit_all(rt, &reception, streams);
-    drop(reception);
-    let (_, clients) = both(admitted, Ok(clients))?;
-    told_last(rt.alloc(), clients)
-}
-
-fn told_last(alloc: Global, mut clients: Vec<TcpStream>) -> io::Result<Vec<u8>> {
-    match clients.last_mut() {
-        Some(client) => told(alloc, client),
-        None => Err(io::Error::from(io::ErrorKind::NotFound)),
+    let (mut client, stream) = connection(rt, &listener)?;
+    let admitted = match Place::new(rt.alloc(), Listener::from(listener), false) {
+        Ok(place) => {
+            let admitted = admit_seventeen(rt, &place, &stream);
+            drop(place);
+            admitted
+        }
+        Err(error) => Err(io::Error::from(error)),
+    };
+    drop(stream);
+    match admitted {
+        Ok(()) => told(rt.alloc(), &mut client),
+        Err(error) => Err(error),
     }
 }
 
-/// The library's own threads aren't needed to refuse a client.
+/// Sixteen connections wait, and the next one is told that it isn't served. The library's own threads aren't needed
+/// to refuse it.
 #[test]
 fn a_seventeenth_client_is_refused(rt: HostRuntime) {
-    match last_of_seventeen(&rt) {
+    match told_by_seventeen(&rt) {
         Ok(text) => assert!(rt; text.as_slice() == GOODBYE),
         Err(error) => panic!(rt; "{error:?}"),
     }
@@ -142,21 +164,6 @@ fn a_seventeenth_client_is_refused(rt: HostRuntime) {
 
 /// What is done with the connection of one client.
 pub(crate) trait Deed {
-    /// What the client sends before its session begins.
-    fn first(&self) -> &'static [u8] {
-        b""
-    }
-
-    /// What the client logs in with.
-    fn credentials(&self, _alloc: Global) -> io::Result<Option<Credentials>> {
-        Ok(None)
-    }
-
-    /// What the client is spoken to in.
-    fn dialect(&self) -> DialectName {
-        DialectName::Rev2
-    }
-
     /// Whether it came out as it should.
     fn is_done<C: Read + Write, I: Read, O: Write>(
         &self,
@@ -211,95 +218,40 @@ impl Deed for Unread {
 }
 
 /// Does it with one client over TCP.
-pub(crate) fn done<
+fn done<
     D: Deed,
     R: Net<Listener = TcpListener, Stream = TcpStream> + Wait + Clock + Eprint + Sync + AllocGlobal,
 >(rt: &R, deed: &D) -> io::Result<bool> {
     let listener = listener(rt)?;
     let (client, stream) = connection(rt, &listener)?;
-    done_with(
-        rt,
-        deed,
-        Listener::from(listener),
-        client,
-        Connection::from(stream),
-    )
+    let stream = Connection::from(stream);
+    done_with(rt, deed, Listener::from(listener), client, stream)
 }
 
-/// Does it with the client of a listener, who may keep a reply from being written for 100 milliseconds.
+/// Does it with the client of a listener.
 pub(crate) fn done_with<
     D: Deed,
     C: Read + Write + Drop,
     R: Net<Listener = TcpListener, Stream = TcpStream> + Wait + Clock + Eprint + Sync + AllocGlobal,
->(rt: &R, deed: &D, listener: Listener, mut client: C, stream: Connection) -> io::Result<bool> {
-    let made = both(reception(rt.alloc(), listener), named(rt.alloc(), "ann"));
-    let (reception, user) = made?;
-    reception.admit(rt, &user, &Report::new(rt, LogLevel::Off), stream);
-    let done = match deed.credentials(rt.alloc()) {
-        Ok(credentials) => {
-            let done = done_at(rt, deed, &reception, &user, &credentials, &mut client);
-            drop(credentials);
-            done
-        }
-        Err(error) => Err(error),
-    };
-    drop(reception);
-    drop(user);
+>(rt: &R, deed: &D, listener: Listener, client: C, stream: Connection) -> io::Result<bool> {
+    let place = Place::new(rt.alloc(), listener, false);
+    let (place, (mut client, stream)) = both(place, Ok((client, stream)))?;
+    place.admit(rt, stream);
+    let done = done_at(rt, deed, &place, &mut client);
+    drop(place);
     drop(client);
     done
 }
 
-/// Does it with the client who was admitted.
+/// Does it with the client who was let in.
 fn done_at<
     D: Deed,
     C: Read + Write,
     R: Net<Listener = TcpListener, Stream = TcpStream> + Wait + Clock + Eprint + Sync + AllocGlobal,
->(
-    rt: &R,
-    deed: &D,
-    reception: &Reception,
-    user: &UserName,
-    credentials: &Option<Credentials>,
-    client: &mut C,
-) -> io::Result<bool> {
-    client.write_all(deed.first())?;
-    let wakers = IdleWakers::new(rt.alloc(), 1)?;
-    let done = done_by(rt, deed, reception, user, credentials, client, &wakers);
-    drop(wakers);
-    done
-}
-
-/// The same by the worker of the first of these wakers.
-fn done_by<
-    D: Deed,
-    C: Read + Write,
-    R: Net<Listener = TcpListener, Stream = TcpStream> + Wait + Clock + Eprint + Sync + AllocGlobal,
->(
-    rt: &R,
-    deed: &D,
-    reception: &Reception,
-    user: &UserName,
-    credentials: &Option<Credentials>,
-    client: &mut C,
-    wakers: &IdleWakers,
-) -> io::Result<bool> {
+>(rt: &R, deed: &D, place: &Place, client: &mut C) -> io::Result<bool> {
     let report = Report::new(rt, LogLevel::Off);
-    let [waker, ..] = wakers.as_slice() else {
+    let Some(mut door) = place.door(rt, &report, DialectName::Rev2) else {
         return Ok(false);
-    };
-    let mut door = ClientDoor {
-        rt,
-        alloc: rt.alloc(),
-        reception,
-        wakers,
-        waker,
-        report: &report,
-        user,
-        credentials,
-        dialect: deed.dialect(),
-        number: 1,
-        write_timeout: Duration::from_millis(100),
-        has_client: false,
     };
     match door.next() {
         Some((mut input, mut output)) => {
@@ -313,12 +265,8 @@ fn done_by<
 }
 
 #[test]
-fn a_web_page_is_refused(rt: HostRuntime) {
+fn clients_are_refused_or_let_go(rt: HostRuntime) {
     assert!(rt; matches!(done(&rt, &Web), Ok(true)));
-}
-
-#[test]
-fn a_client_that_reads_nothing_is_let_go(rt: HostRuntime) {
     assert!(rt; matches!(done(&rt, &Unread), Ok(true)));
 }
 
@@ -337,25 +285,17 @@ fn listens_at_this_machine_alone(rt: HostRuntime) {
     }
 }
 
-/// The ports of ann and of bob.
-fn ports(alloc: Global) -> Result<Vec<Port>, AllocError> {
-    let mut ports = Vec::new(alloc);
-    push(&mut ports, port(alloc, "ann", 1143))?;
-    push(&mut ports, port(alloc, "bob", 1144))?;
-    Ok(ports)
-}
+/// The words by which ann and bob are served.
+const TWO_PORTS: &[&str] = &[
+    "imapd",
+    "serve",
+    "--db=x",
+    "--admin=root",
+    "--listen=ann=1143",
+    "--listen=bob=1144",
+];
 
-fn port(alloc: Global, text: &str, number: u16) -> Result<Port, AllocError> {
-    let user = user(alloc, text)?;
-    let address = Address::Tcp(number);
-    Ok(Port {
-        user,
-        address,
-        credentials: None,
-    })
-}
-
-/// Two receptions, and their ports.
+/// Two receptions.
 fn receptions<R: Net<Listener = TcpListener, Stream = TcpStream> + AllocGlobal>(
     rt: &R,
 ) -> io::Result<Vec<Reception>> {
@@ -367,29 +307,23 @@ fn receptions<R: Net<Listener = TcpListener, Stream = TcpStream> + AllocGlobal>(
     Ok(receptions)
 }
 
-/// Whether the reception is that of a port.
-fn is_at(reception: &Reception, wanted: Option<&Reception>) -> bool {
-    match wanted {
-        Some(wanted) => reception.descriptor() == wanted.descriptor(),
-        None => false,
-    }
-}
-
 /// Whether the first sixteen seats are ann's, at her port, and the other sixteen bob's.
 fn are_seated<
     K: Keeper,
     L: Ledger,
     R: Net<Listener = TcpListener, Stream = TcpStream> + Wait + Clock + Eprint + AllocGlobal,
->(rt: &R, host: &mut Host<K, L>) -> io::Result<bool> {
-    let (ports, receptions) = both(two_ports(rt.alloc()), receptions(rt))?;
-    let are_seated = are_seated_at(rt, host, &ports, &receptions);
-    drop(ports);
+>(rt: &R, host: &mut Host<K, L>) -> bool {
+    let Ok(receptions) = receptions(rt) else {
+        return false;
+    };
+    let task = task(rt.alloc(), TWO_PORTS);
+    let are_seated = match &task {
+        Ok(Task::Serve { service, .. }) => are_seated_at(rt, host, &service.ports, &receptions),
+        _ => false,
+    };
+    drop(task);
     drop(receptions);
     are_seated
-}
-
-fn two_ports(alloc: Global) -> io::Result<Vec<Port>> {
-    Ok(ports(alloc)?)
 }
 
 /// The same at these ports.
@@ -397,24 +331,19 @@ fn are_seated_at<
     K: Keeper,
     L: Ledger,
     R: Net<Listener = TcpListener, Stream = TcpStream> + Wait + Clock + Eprint + AllocGlobal,
->(rt: &R, host: &mut Host<K, L>, ports: &[Port], receptions: &[Reception]) -> io::Result<bool> {
-    let wakers = IdleWakers::new(rt.alloc(), 2 * SEATS)?;
+>(rt: &R, host: &mut Host<K, L>, ports: &[Port], receptions: &[Reception]) -> bool {
+    let Ok(wakers) = IdleWakers::new(rt.alloc(), 2 * SEATS) else {
+        return false;
+    };
     let report = Report::new(rt, LogLevel::Off);
-    match posts(
-        rt,
-        &report,
-        host,
-        ports,
-        receptions,
-        &wakers,
-        DialectName::Rev2,
-    ) {
+    let dialect = DialectName::Rev2;
+    match posts(rt, &report, host, ports, receptions, &wakers, dialect) {
         Ok(posts) => {
             let are_seated = are_posts(posts.as_slice(), receptions);
             drop(posts);
-            Ok(are_seated)
+            are_seated
         }
-        Err(_) => Ok(false),
+        Err(_) => false,
     }
 }
 
@@ -423,51 +352,40 @@ fn are_posts<L: Ledger, R: Net<Listener = TcpListener, Stream = TcpStream> + Wai
     posts: &[(Seat<L>, PortDoor<'_, R>)],
     receptions: &[Reception],
 ) -> bool {
-    let mut count: usize = 0;
-    for (seat, door) in posts {
-        let name = seat.who.user.as_str();
-        let is_seated = match door {
-            PortDoor::Serving(door) => is_served(door, name, count, receptions),
-            PortDoor::Receiving(door) => is_received(door, name, count, receptions),
+    for (index, (seat, door)) in posts.iter().enumerate() {
+        let (user, reception, number) = match door {
+            PortDoor::Serving(door) => (door.user, door.reception, door.number),
+            PortDoor::Receiving(door) => (door.user, door.reception, 0),
         };
-        if !is_seated {
+        let is_own = user.as_str() == seat.who.user.as_str();
+        if !is_own || !is_post(index, user, reception, number, receptions) {
             return false;
         }
-        count = count.saturating_add(1);
     }
-    count == 2 * SEATS + 2
+    posts.len() == 2 * SEATS + 2
 }
 
-/// Whether the seat at this index is of the user whose it should be, and its door at the user's port.
-fn is_served<R: Net<Listener = TcpListener, Stream = TcpStream> + Wait + Clock + Eprint>(
-    door: &ClientDoor<'_, R>,
-    name: &str,
+/// Whether the post at this index is of this user, with a door of this number to this reception. A door that receives
+/// clients has the number 0.
+fn is_post(
     index: usize,
+    user: &UserName,
+    reception: &Reception,
+    number: usize,
     receptions: &[Reception],
 ) -> bool {
-    let port = index / SEATS;
-    is_name(name, port)
-        && is_name(door.user.as_str(), port)
-        && is_at(door.reception, receptions.get(port))
-        && door.number == index % SEATS + 1
-}
-
-/// Whether the clients of the port after the seats are received for its user.
-fn is_received<R: Wait + Clock + Eprint>(
-    door: &Receptionist<'_, R>,
-    name: &str,
-    index: usize,
-    receptions: &[Reception],
-) -> bool {
-    let port = index.saturating_sub(2 * SEATS);
-    is_name(name, port)
-        && is_name(door.user.as_str(), port)
-        && is_at(door.reception, receptions.get(port))
-}
-
-/// Whether it is the name of the user of the port at this index.
-fn is_name(name: &str, port: usize) -> bool {
-    name == (if port == 0 { "ann" } else { "bob" })
+    let (port, wanted) = if index < 2 * SEATS {
+        (index / SEATS, index % SEATS + 1)
+    } else {
+        (index.saturating_sub(2 * SEATS), 0)
+    };
+    let name = if port == 0 { "ann" } else { "bob" };
+    match receptions.get(port) {
+        Some(at) => {
+            user.as_str() == name && reception.descriptor() == at.descriptor() && number == wanted
+        }
+        None => false,
+    }
 }
 
 /// The same in a new host.
@@ -478,10 +396,9 @@ fn are_seated_anew<
     requires name { blank.name ≡ L.name }
     requires parts { (blank.parts ≡ L.parts) × (blank.parts ≡ 1048576) }
 {
-    match hall(rt.alloc()) {
-        Ok(hall) => {
-            let mut host = host::<ListKeeper, L>(rt.alloc(), hall, blank);
-            let are_seated = matches!(are_seated(rt, &mut host), Ok(true));
+    match new_host::<L>(rt.alloc(), blank) {
+        Ok(mut host) => {
+            let are_seated = are_seated(rt, &mut host);
             drop(host);
             are_seated
         }

@@ -1,16 +1,16 @@
 //! What a session writes, and how it ends.
 
 use crate::connection::{Behaviour, OCTETS, Sink, Source, WHOLE};
+use crate::hosts::{opened, user};
 use crate::wanted::expect;
-use imap_core::{Act, Moment, SessionId, SessionNumber, Step};
+use imap_core::{Act, Moment, SessionId, SessionNumber};
 use imap_hall::{Entry, Hall, Room};
 use imap_keeper::{Keeper, ListKeeper};
 use imap_limits::DEFAULT_LIMITS;
-use imap_names::UserName;
-use imap_rights::Groups;
 use imap_serve::{End, Gate, Moments, OpenGate, ServeError, Watched, serve};
 use imap_world::World;
 use std::alloc::{AllocError, Global};
+use std::io::Read;
 use std::process::Abort;
 use std::sync::Wait;
 
@@ -27,15 +27,11 @@ impl Moments for Standing {
     }
 }
 
-pub(crate) fn ann(alloc: Global) -> Result<UserName, AllocError> {
-    UserName::read(alloc, "ann")?.ok_or(AllocError)
-}
-
-/// ann's session of this number.
-pub(crate) fn session(alloc: Global, number: u32) -> Result<SessionId, AllocError> {
-    let number = SessionNumber::new(number).ok_or(AllocError)?;
+/// The first session of the user.
+pub(crate) fn session(alloc: Global, text: &str) -> Result<SessionId, AllocError> {
+    let number = SessionNumber::new(1).ok_or(AllocError)?;
     Ok(SessionId {
-        user: ann(alloc)?,
+        user: user(alloc, text)?,
         number,
     })
 }
@@ -47,24 +43,22 @@ pub(crate) struct Served {
     pub(crate) end: Result<End, ServeError>,
 }
 
-/// Serves ann's session of this number over this text.
-pub(crate) fn serve_as<W: Wait + AllocGlobal, R: Room, G: Gate>(
+/// Serves the session over this input. The behaviour is that of the output.
+pub(crate) fn serve_over<W: Wait + AllocGlobal, R: Room, G: Gate, I: Read + Drop>(
     rt: &W,
     room: &mut R,
+    who: &SessionId,
     gate: &G,
-    number: u32,
-    text: &[u8],
+    input: I,
     behaviour: Behaviour,
-) -> Result<Served, AllocError> {
-    let alloc = rt.alloc();
-    let who = session(alloc, number)?;
-    let mut input = Watched::new(Source::new(text, behaviour));
-    let mut output = Watched::new(Sink::new(alloc, behaviour));
+) -> Served {
+    let mut input = Watched::new(input);
+    let mut output = Watched::new(Sink::new(rt.alloc(), behaviour));
     let end = serve(
         rt,
-        alloc,
+        rt.alloc(),
         room,
-        &who,
+        who,
         &Standing,
         gate,
         DEFAULT_LIMITS.max_octets,
@@ -72,12 +66,11 @@ pub(crate) fn serve_as<W: Wait + AllocGlobal, R: Room, G: Gate>(
         &mut input,
         &mut output,
     );
-    drop(who);
     let Sink { taken, .. } = output.into_inner();
-    Ok(Served {
+    Served {
         written: taken,
         end,
-    })
+    }
 }
 
 /// Serves ann's first session over this text.
@@ -88,24 +81,19 @@ pub(crate) fn serve_in<W: Wait + AllocGlobal, R: Room, G: Gate>(
     text: &[u8],
     behaviour: Behaviour,
 ) -> Result<Served, AllocError> {
-    serve_as(rt, room, gate, 1, text, behaviour)
+    let who = session(rt.alloc(), "ann")?;
+    let input = Source::new(text, behaviour);
+    let served = serve_over(rt, room, &who, gate, input, behaviour);
+    drop(who);
+    Ok(served)
 }
 
-/// A new host whose administrator is ann, kept in memory.
+/// A new hall whose administrator is ann, kept in memory.
 pub(crate) fn new_hall(alloc: Global) -> Result<Hall<ListKeeper>, AllocError> {
-    let administrator = ann(alloc)?;
-    let keeper = ListKeeper::new(World::new(alloc));
-    let groups = Groups::new(alloc);
-    match Hall::open(alloc, keeper, administrator, &[], groups, DEFAULT_LIMITS) {
-        Ok(hall) => Ok(hall),
-        Err(refused) => {
-            drop(refused);
-            Err(AllocError)
-        }
-    }
+    opened(alloc, World::new(alloc), "ann", &[])
 }
 
-/// The same in a new host. The session must have left.
+/// The same in a new hall. The session must have left.
 pub(crate) fn serve_anew<W: Wait + AllocGlobal>(
     rt: &W,
     text: &[u8],
@@ -113,7 +101,7 @@ pub(crate) fn serve_anew<W: Wait + AllocGlobal>(
 ) -> Result<Served, AllocError> {
     let mut hall = new_hall(rt.alloc())?;
     let served = serve_in(rt, &mut hall, &OpenGate, text, behaviour);
-    let has_left = ends_with_leave(&hall, 1);
+    let has_left = ends_with_leave(&hall);
     drop(hall);
     kept_if(has_left, served)
 }
@@ -122,35 +110,10 @@ fn kept_if<T: Drop>(is_kept: bool, value: Result<T, AllocError>) -> Result<T, Al
     if is_kept { value } else { Err(AllocError) }
 }
 
-/// Opens ann's first `count` sessions.
-pub(crate) fn open_first<R: Room>(
-    alloc: Global,
-    room: &mut R,
-    count: u32,
-) -> Result<(), AllocError> {
-    for number in 1..count.saturating_add(1) {
-        open_session(alloc, room, number)?;
-    }
-    Ok(())
-}
-
-fn open_session<R: Room>(alloc: Global, room: &mut R, number: u32) -> Result<(), AllocError> {
-    let step = Step {
-        who: session(alloc, number)?,
-        at: Moment::epoch(),
-        act: Act::Open,
-    };
-    let made = room.step(alloc, &step).is_ok();
-    drop(step);
-    if made { Ok(()) } else { Err(AllocError) }
-}
-
-/// Whether the last entry is the Leave of ann's session of this number.
-pub(crate) fn ends_with_leave<K: Keeper>(hall: &Hall<K>, number: u32) -> bool {
+/// Whether the last entry is a Leave.
+pub(crate) fn ends_with_leave<K: Keeper>(hall: &Hall<K>) -> bool {
     match hall.entries().last() {
-        Some(Entry { step, .. }) => {
-            matches!(step.act, Act::Leave) && step.who.number.get() == number
-        }
+        Some(Entry { step, .. }) => matches!(step.act, Act::Leave),
         None => false,
     }
 }

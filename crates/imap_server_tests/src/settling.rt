@@ -2,13 +2,13 @@
 
 ghost use Rattle.std.specs.Prelude.{◌≡◌};
 
-use crate::hosts::{Posts, ask, hall, host, make, posts, settled};
+use crate::hosts::{Posts, act, hall, make, new_host, posts};
 use crate::owned::firsts;
 use crate::serving::{IDLE_TICKS, Standing};
 use imap_core::Act;
 use imap_hall::Hall;
 use imap_host::{Host, PARTS, Seat, SettleError, crew};
-use imap_keeper::{Keeper, ListKeeper};
+use imap_keeper::Keeper;
 use imap_limits::DEFAULT_LIMITS;
 use imap_names::read_full;
 use imap_serve::OpenGate;
@@ -65,12 +65,27 @@ const POSTS: &[Posts] = &[
     ("bob", 1, 5, SENT),
 ];
 
+/// Twenty requests.
+const TWENTY: &[u8] = b"n NOOP\r\nn NOOP\r\nn NOOP\r\nn NOOP\r\nn NOOP\r\nn NOOP\r\nn NOOP\r\n\
+n NOOP\r\nn NOOP\r\nn NOOP\r\nn NOOP\r\nn NOOP\r\nn NOOP\r\nn NOOP\r\n\
+n NOOP\r\nn NOOP\r\nn NOOP\r\nn NOOP\r\nn NOOP\r\nn NOOP\r\n";
+
+/// Four users with 16 seats each, as many as may be open at once, through whose doors one client
+/// each comes.
+const MANY_POSTS: &[Posts] = &[
+    ("ann", 16, 1, TWENTY),
+    ("bob", 16, 1, TWENTY),
+    ("cat", 16, 1, TWENTY),
+    ("root", 16, 1, TWENTY),
+];
+
 /// The seats after their clients were served.
 fn served<K: Keeper + Send, L: Ledger + Send + Sync, R: Threads + Wait + AllocGlobal + Sync>(
     rt: &R,
     host: &mut Host<K, L>,
+    rows: &[Posts],
 ) -> Result<Vec<Seat<L>>, AllocError> {
-    let mut posts = posts(rt.alloc(), host, POSTS)?;
+    let mut posts = posts(rt.alloc(), host, rows)?;
     let slice = posts.as_mut_slice();
     let _ran = crew(
         rt,
@@ -110,8 +125,8 @@ fn lists<K: Keeper, L: Ledger, R: Wait + AllocGlobal>(
     host: &Host<K, L>,
     seat: &mut Seat<L>,
 ) -> bool {
-    drop(make(rt, host, seat, Act::Open));
-    match ask(rt, host, seat, b"l LIST \"\" *\r\n") {
+    drop(make(rt, host, seat, Ok(Act::Open)));
+    match make(rt, host, seat, act(rt.alloc(), b"l LIST \"\" *\r\n")) {
         Some(text) => text.as_slice() == LISTED,
         None => false,
     }
@@ -159,36 +174,46 @@ fn mine_in(alloc: Global, world: &World) -> u32 {
     count
 }
 
-/// A copy of the world of the journal's base.
-fn base_of<K: Keeper>(alloc: Global, hall: &Hall<K>) -> Result<World, AllocError> {
-    hall.base().world().try_copy(alloc)
+/// Whether it is the world with which a hall is opened.
+fn is_opening(alloc: Global, world: &World) -> bool {
+    match hall(alloc) {
+        Ok(hall) => {
+            let is_opening = world.same(hall.base().world());
+            drop(hall);
+            is_opening
+        }
+        Err(_) => false,
+    }
 }
 
-/// How the host ends with these seats. `opening` is the world with which its hall was opened.
+/// How the host ends with these seats.
 fn end<K: Keeper + Drop, L: Ledger>(
     alloc: Global,
     host: Host<K, L>,
     seats: Vec<Seat<L>>,
-    opening: &World,
 ) -> Result<Ending, SettleError>
     requires { L.parts ≡ 1048576 }
 {
-    match settled(host, seats) {
+    match host.settle(seats) {
         Ok(hall) => {
-            let ending = ended_hall(alloc, &hall, opening);
+            let ending = ended_hall(alloc, &hall);
             drop(hall);
             Ok(ending)
         }
-        Err(error) => Err(error),
+        Err((error, host, seats)) => {
+            drop(host);
+            drop(seats);
+            Err(error)
+        }
     }
 }
 
-fn ended_hall<K: Keeper>(alloc: Global, hall: &Hall<K>, opening: &World) -> Ending {
+fn ended_hall<K: Keeper>(alloc: Global, hall: &Hall<K>) -> Ending {
     let base = hall.base().world();
     Ending {
         entries: hall.entries().len(),
         before: hall.before(),
-        is_opening: base.same(opening),
+        is_opening: is_opening(alloc, base),
         mine: mine_in(alloc, base),
     }
 }
@@ -198,26 +223,18 @@ fn ended_hall<K: Keeper>(alloc: Global, hall: &Hall<K>, opening: &World) -> Endi
 fn ended<L: Ledger + Send + Sync, R: Threads + Wait + AllocGlobal + Sync>(
     rt: &R,
     blank: Blank,
+    rows: &[Posts],
     turns: bool,
     fault: Fault,
 ) -> Option<(u32, Result<Ending, SettleError>)>
     requires name { blank.name ≡ L.name }
     requires parts { (blank.parts ≡ L.parts) × (blank.parts ≡ 1048576) }
 {
-    match hall(rt.alloc()) {
-        Ok(hall) => match base_of(rt.alloc(), &hall) {
-            Ok(opening) => {
-                let mut host = host::<ListKeeper, L>(rt.alloc(), hall, blank);
-                let seats = served(rt, &mut host);
-                let ended = ended_of(rt, host, seats, turns, fault, &opening);
-                drop(opening);
-                ended
-            }
-            Err(_) => {
-                drop(hall);
-                None
-            }
-        },
+    match new_host::<L>(rt.alloc(), blank) {
+        Ok(mut host) => {
+            let seats = served(rt, &mut host, rows);
+            ended_of(rt, host, seats, turns, fault)
+        }
         Err(_) => None,
     }
 }
@@ -228,7 +245,6 @@ fn ended_of<K: Keeper + Drop, L: Ledger, R: Wait + AllocGlobal>(
     seats: Result<Vec<Seat<L>>, AllocError>,
     turns: bool,
     fault: Fault,
-    opening: &World,
 ) -> Option<(u32, Result<Ending, SettleError>)>
     requires { L.parts ≡ 1048576 }
 {
@@ -239,7 +255,7 @@ fn ended_of<K: Keeper + Drop, L: Ledger, R: Wait + AllocGlobal>(
                 listed = go_on(rt, &host, seats.as_mut_slice());
             }
             spoil(&mut seats, fault);
-            Some((listed, end(rt.alloc(), host, seats, opening)))
+            Some((listed, end(rt.alloc(), host, seats)))
         }
         Err(_) => {
             drop(host);
@@ -250,7 +266,8 @@ fn ended_of<K: Keeper + Drop, L: Ledger, R: Wait + AllocGlobal>(
 
 /// Four seats of fifty calls each: with all of them the host ends, else it tells why not. After the
 /// journal began anew each seat asks LIST once, and is answered with the mailbox that its user
-/// created. Until then the base has the world of the opening, and later these mailboxes too.
+/// created. Until then the base has the world of the opening, and later these mailboxes too. 64
+/// sessions that are served side by side each open, ask twenty times and leave.
 #[test]
 fn a_host_ends_with_its_seats(rt: HostRuntime) {
     const FIRST: Ending = Ending {
@@ -265,17 +282,22 @@ fn a_host_ends_with_its_seats(rt: HostRuntime) {
         is_opening: false,
         mine: 2,
     };
-    const ROWS: &[(bool, Fault, u32, Result<Ending, SettleError>)] = &[
-        (false, Fault::None, 0, Ok(FIRST)),
-        (true, Fault::None, 4, Ok(LATER)),
-        (false, Fault::Seat, 0, Err(SettleError::Missing)),
-        (true, Fault::Seat, 4, Err(SettleError::Missing)),
-        (true, Fault::Receipt, 4, Err(SettleError::Mismatch)),
-        (true, Fault::Number, 4, Err(SettleError::Mismatch)),
-        (true, Fault::Base, 4, Err(SettleError::Mismatch)),
+    const MANY: Ending = Ending {
+        entries: 1408,
+        ..FIRST
+    };
+    const ROWS: &[(&[Posts], bool, Fault, u32, Result<Ending, SettleError>)] = &[
+        (POSTS, false, Fault::None, 0, Ok(FIRST)),
+        (POSTS, true, Fault::None, 4, Ok(LATER)),
+        (POSTS, false, Fault::Seat, 0, Err(SettleError::Missing)),
+        (POSTS, true, Fault::Seat, 4, Err(SettleError::Missing)),
+        (POSTS, true, Fault::Receipt, 4, Err(SettleError::Mismatch)),
+        (POSTS, true, Fault::Number, 4, Err(SettleError::Mismatch)),
+        (POSTS, true, Fault::Base, 4, Err(SettleError::Mismatch)),
+        (MANY_POSTS, false, Fault::None, 0, Ok(MANY)),
     ];
-    for &(turns, fault, listed, wanted) in ROWS {
-        let ended = ended::<Brand, HostRuntime>(&rt, Blank::new(PARTS), turns, fault);
+    for &(posts, turns, fault, listed, wanted) in ROWS {
+        let ended = ended::<Brand, HostRuntime>(&rt, Blank::new(PARTS), posts, turns, fault);
         assert!(rt;
             ended == Some((listed, wanted)),
             "{turns} {fault:?}: {ended:?}"

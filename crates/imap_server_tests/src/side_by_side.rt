@@ -2,15 +2,14 @@
 
 ghost use Rattle.std.specs.Prelude.{◌≡◌};
 
-use crate::hosts::{Posts, hall, host, posts, settled};
-use crate::owned::firsts;
+use crate::hosts::{Posts, new_host, posts};
 use crate::serving::{IDLE_TICKS, Standing};
 use imap_core::SessionId;
 use imap_hall::Entry;
-use imap_host::{Host, PARTS, Seat, SettleError, crew};
-use imap_keeper::{Keeper, ListKeeper};
+use imap_host::{Host, PARTS, crew};
+use imap_keeper::Keeper;
 use imap_limits::DEFAULT_LIMITS;
-use imap_serve::{Gate, OpenGate};
+use imap_serve::Gate;
 use std::marker::Brand;
 use std::rt::Clock;
 use std::sync::Wait;
@@ -122,9 +121,8 @@ fn waited<L: Ledger + Send + Sync, R: Threads + Wait + Clock + AllocGlobal + Syn
     requires name { blank.name ≡ L.name }
     requires parts { (blank.parts ≡ L.parts) × (blank.parts ≡ 1048576) }
 {
-    match hall(rt.alloc()) {
-        Ok(hall) => {
-            let mut host = host::<ListKeeper, L>(rt.alloc(), hall, blank);
+    match new_host::<L>(rt.alloc(), blank) {
+        Ok(mut host) => {
             let waits = waits(rt, &mut host);
             let hall = host.into_hall();
             let (is_in_order, count) = (is_in_order(hall.entries()), hall.count());
@@ -140,92 +138,4 @@ fn waited<L: Ledger + Send + Sync, R: Threads + Wait + Clock + AllocGlobal + Syn
 fn sessions_run_side_by_side(rt: HostRuntime) {
     let waited = waited::<Brand, HostRuntime>(&rt, Blank::new(PARTS));
     assert!(rt; waited == (true, true, 7), "{waited:?}");
-}
-
-/// Twenty requests.
-const TWENTY: &[u8] = b"n NOOP\r\nn NOOP\r\nn NOOP\r\nn NOOP\r\nn NOOP\r\nn NOOP\r\nn NOOP\r\n\
-n NOOP\r\nn NOOP\r\nn NOOP\r\nn NOOP\r\nn NOOP\r\nn NOOP\r\nn NOOP\r\n\
-n NOOP\r\nn NOOP\r\nn NOOP\r\nn NOOP\r\nn NOOP\r\nn NOOP\r\n";
-
-/// Four users with 16 seats each, as many as may be open at once, through whose doors one client
-/// each comes.
-const MANY_POSTS: &[Posts] = &[
-    ("ann", 16, 1, TWENTY),
-    ("bob", 16, 1, TWENTY),
-    ("cat", 16, 1, TWENTY),
-    ("root", 16, 1, TWENTY),
-];
-
-/// The seats after their clients were served, or `None` if not all workers ran.
-fn serves<K: Keeper + Send, L: Ledger + Send + Sync, R: Threads + Wait + AllocGlobal + Sync>(
-    rt: &R,
-    host: &mut Host<K, L>,
-) -> Option<Vec<Seat<L>>> {
-    let Ok(mut posts) = posts(rt.alloc(), host, MANY_POSTS) else {
-        return None;
-    };
-    let slice = posts.as_mut_slice();
-    let ran = crew(
-        rt,
-        rt.alloc(),
-        host,
-        slice,
-        &Standing,
-        &OpenGate,
-        DEFAULT_LIMITS.max_octets,
-        IDLE_TICKS,
-    );
-    if ran.is_err() {
-        return None;
-    }
-    firsts(rt.alloc(), posts).ok()
-}
-
-/// Ends the host with these seats, and returns how many steps were made.
-fn count_of<K: Keeper + Drop, L: Ledger>(
-    host: Host<K, L>,
-    seats: Vec<Seat<L>>,
-) -> Result<u64, SettleError>
-    requires { L.parts ≡ 1048576 }
-{
-    match settled(host, seats) {
-        Ok(hall) => {
-            let count = hall.count();
-            drop(hall);
-            Ok(count)
-        }
-        Err(error) => Err(error),
-    }
-}
-
-/// The same for a new host, after its clients were served.
-fn served<L: Ledger + Send + Sync, R: Threads + Wait + AllocGlobal + Sync>(
-    rt: &R,
-    blank: Blank,
-) -> Option<Result<u64, SettleError>>
-    requires name { blank.name ≡ L.name }
-    requires parts { (blank.parts ≡ L.parts) × (blank.parts ≡ 1048576) }
-{
-    match hall(rt.alloc()) {
-        Ok(hall) => {
-            let mut host = host::<ListKeeper, L>(rt.alloc(), hall, blank);
-            match serves(rt, &mut host) {
-                Some(seats) => Some(count_of(host, seats)),
-                None => {
-                    drop(host);
-                    None
-                }
-            }
-        }
-        Err(_) => None,
-    }
-}
-
-/// 64 sessions are served side by side, each over one connection, and the host ends with their
-/// seats. Each session opens, asks twenty times and leaves.
-#[test]
-fn all_clients_are_served(rt: HostRuntime) {
-    const WANTED: Option<Result<u64, SettleError>> = Some(Ok(1408));
-    let served = served::<Brand, HostRuntime>(&rt, Blank::new(PARTS));
-    assert!(rt; served == WANTED, "{served:?}");
 }

@@ -147,11 +147,7 @@ fn done<
 }
 
 #[test]
-fn a_web_page_is_refused_at_a_socket_file(rt: HostRuntime) {
+fn clients_of_a_socket_file_are_refused_or_let_go(rt: HostRuntime) {
     assert!(rt; matches!(done(&rt, &Web), Ok(true)));
-}
-
-#[test]
-fn a_client_of_a_socket_file_that_reads_nothing_is_let_go(rt: HostRuntime) {
     assert!(rt; matches!(done(&rt, &Unread), Ok(true)));
 }

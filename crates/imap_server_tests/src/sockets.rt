@@ -2,13 +2,13 @@
 
 ghost use Rattle.std.specs.Prelude.{◌≡◌};
 
-use crate::hosts::{hall, host, seat};
+use crate::hosts::{new_host, post};
 use crate::serving::{IDLE_TICKS, Standing};
-use imap_host::{Door, Host, PARTS, Seat, crew};
-use imap_keeper::{Keeper, ListKeeper};
+use imap_host::{Door, Host, PARTS, crew};
+use imap_keeper::Keeper;
 use imap_limits::DEFAULT_LIMITS;
 use imap_serve::{End, OpenGate, ServeError};
-use std::alloc::{AllocError, Global};
+use std::alloc::Global;
 use std::io::{self, Read, Write};
 use std::marker::Brand;
 use std::net::{Net, SocketAddr, TcpListener, TcpStream};
@@ -56,21 +56,6 @@ fn asked<R: Net<Stream = TcpStream>>(
     Ok(text)
 }
 
-/// A seat of root with this door.
-fn posts<K: Keeper, L: Ledger>(
-    alloc: Global,
-    host: &mut Host<K, L>,
-    listener: TcpListener,
-) -> Result<Vec<(Seat<L>, Once)>, AllocError> {
-    let seat = seat(alloc, host, "root")?;
-    let door = Once {
-        listener: Some(listener),
-    };
-    let mut posts = Vec::new(alloc);
-    posts.push((seat, door))?;
-    Ok(posts)
-}
-
 /// What a client gets from a crew of one.
 fn told<
     K: Keeper + Send,
@@ -79,7 +64,10 @@ fn told<
 >(rt: &R, host: &mut Host<K, L>) -> io::Result<Vec<u8>> {
     let listener = TcpListener::bind(rt, "127.0.0.1:0")?;
     let addr = listener.local_addr()?;
-    let mut posts = posts(rt.alloc(), host, listener)?;
+    let door = Once {
+        listener: Some(listener),
+    };
+    let mut posts = post(rt.alloc(), host, "root", door)?;
     let posts = posts.as_mut_slice();
     let alloc = rt.alloc();
     let host = &*host;
@@ -109,9 +97,8 @@ fn told_anew<
     requires name { blank.name ≡ L.name }
     requires parts { (blank.parts ≡ L.parts) × (blank.parts ≡ 1048576) }
 {
-    match hall(rt.alloc()) {
-        Ok(hall) => {
-            let mut host = host::<ListKeeper, L>(rt.alloc(), hall, blank);
+    match new_host::<L>(rt.alloc(), blank) {
+        Ok(mut host) => {
             let told = told(rt, &mut host);
             drop(host);
             told

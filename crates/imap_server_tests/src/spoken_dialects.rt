@@ -2,27 +2,21 @@
 
 ghost use Rattle.std.specs.Prelude.{◌≡◌};
 
-use crate::hosts::{hall, host, seat};
-use crate::peers::{connection, listener, named, reception, told};
+use crate::hosts::{new_host, post};
+use crate::peers::{Place, connection, listener, told};
 use crate::wanted::expect;
-use imap_host::{Host, PARTS, Seat};
-use imap_keeper::{Keeper, ListKeeper};
+use imap_host::{Host, PARTS};
+use imap_keeper::Keeper;
 use imap_limits::DEFAULT_LIMITS;
-use imap_login::Credentials;
-use imap_names::UserName;
 use imap_options::{DialectName, LogLevel};
-use imap_service::{
-    ClientDoor, Connection, IdleWakers, Listener, PortDoor, Reception, Report, serve_in,
-};
-use std::alloc::{AllocError, Global};
-use std::io::{self, Write};
+use imap_service::{Connection, Listener, PortDoor, Report, serve_in};
+use std::io::{self, ErrorKind, Write};
 use std::marker::Brand;
 use std::net::{Net, TcpListener, TcpStream};
 use std::rt::Clock;
 use std::sync::Wait;
 use std::sync::ledger::{Blank, Ledger};
 use std::thread::Threads;
-use std::time::Duration;
 
 /// What a port is told to do, what its one client sends, and what it is told.
 #[derive(Clone, Copy)]
@@ -68,29 +62,8 @@ a2 BAD malformed command\r\n* BYE logging out\r\na3 OK done\r\n",
     },
 ];
 
-/// What ann logs in with, if she is asked.
-fn credentials(alloc: Global, is_asked: bool) -> io::Result<Option<Credentials>> {
-    if is_asked {
-        Ok(Some(Credentials::new(alloc, b"ann", b"s3cret")?))
-    } else {
-        Ok(None)
-    }
-}
-
-/// A seat of ann with this door.
-fn posts<K: Keeper, L: Ledger, D: Drop>(
-    alloc: Global,
-    host: &mut Host<K, L>,
-    door: D,
-) -> Result<Vec<(Seat<L>, D)>, AllocError> {
-    let seat = seat(alloc, host, "ann")?;
-    let mut posts = Vec::new(alloc);
-    posts.push((seat, door))?;
-    Ok(posts)
-}
-
-/// Serves the clients of ann's port.
-fn serve<
+/// Serves the client who was let in, by a seat of ann. Returns whether there was one.
+fn is_served<
     K: Keeper + Send,
     L: Ledger + Send + Sync,
     R: Net<Listener = TcpListener, Stream = TcpStream>
@@ -100,109 +73,27 @@ fn serve<
         + Eprint
         + Sync
         + AllocGlobal,
->(
-    rt: &R,
-    host: &mut Host<K, L>,
-    reception: &Reception,
-    user: &UserName,
-    credentials: &Option<Credentials>,
-    dialect: DialectName,
-) -> io::Result<()> {
-    let wakers = IdleWakers::new(rt.alloc(), 1)?;
-    let served = serve_by(rt, host, reception, user, credentials, dialect, &wakers);
-    drop(wakers);
-    Ok(served?)
-}
-
-/// The same by the worker of the first of these wakers.
-fn serve_by<
-    K: Keeper + Send,
-    L: Ledger + Send + Sync,
-    R: Net<Listener = TcpListener, Stream = TcpStream>
-        + Threads
-        + Wait
-        + Clock
-        + Eprint
-        + Sync
-        + AllocGlobal,
->(
-    rt: &R,
-    host: &mut Host<K, L>,
-    reception: &Reception,
-    user: &UserName,
-    credentials: &Option<Credentials>,
-    dialect: DialectName,
-    wakers: &IdleWakers,
-) -> Result<(), AllocError> {
+>(rt: &R, host: &mut Host<K, L>, place: &Place, dialect: DialectName) -> bool {
     let report = Report::new(rt, LogLevel::Off);
-    let [waker, ..] = wakers.as_slice() else {
-        return Ok(());
+    let Some(door) = place.door(rt, &report, dialect) else {
+        return false;
     };
-    let door = PortDoor::Serving(ClientDoor {
+    let Ok(mut posts) = post(rt.alloc(), host, "ann", PortDoor::Serving(door)) else {
+        return false;
+    };
+    serve_in(
         rt,
-        alloc: rt.alloc(),
-        reception,
-        wakers,
-        waker,
-        report: &report,
-        user,
-        credentials,
+        host,
+        &place.wakers,
+        posts.as_mut_slice(),
         dialect,
-        number: 1,
-        write_timeout: Duration::from_secs(10),
-        has_client: false,
-    });
-    let mut posts = posts(rt.alloc(), host, door)?;
-    let each = posts.as_mut_slice();
-    serve_in(rt, &*host, wakers, each, dialect, DEFAULT_LIMITS.max_octets);
-    drop(posts);
-    Ok(())
-}
-
-/// What the client is told who comes to ann's port at this reception.
-fn told_at<
-    K: Keeper + Send,
-    L: Ledger + Send + Sync,
-    R: Net<Listener = TcpListener, Stream = TcpStream>
-        + Threads
-        + Wait
-        + Clock
-        + Eprint
-        + Sync
-        + AllocGlobal,
->(
-    rt: &R,
-    host: &mut Host<K, L>,
-    reception: &Reception,
-    visit: Visit,
-    mut client: TcpStream,
-    stream: TcpStream,
-) -> io::Result<Vec<u8>> {
-    client.write_all(visit.sent)?;
-    let user = named(rt.alloc(), "ann")?;
-    reception.admit(
-        rt,
-        &user,
-        &Report::new(rt, LogLevel::Off),
-        Connection::from(stream),
+        DEFAULT_LIMITS.max_octets,
     );
-    reception.close(rt);
-    let served = match credentials(rt.alloc(), visit.is_asked) {
-        Ok(credentials) => {
-            let served = serve(rt, host, reception, &user, &credentials, visit.dialect);
-            drop(credentials);
-            served
-        }
-        Err(error) => Err(error),
-    };
-    drop(user);
-    match served {
-        Ok(()) => told(rt.alloc(), &mut client),
-        Err(error) => Err(error),
-    }
+    drop(posts);
+    true
 }
 
-/// The same over TCP.
+/// What the client is told who comes to ann's port.
 fn told_over<
     K: Keeper + Send,
     L: Ledger + Send + Sync,
@@ -215,19 +106,25 @@ fn told_over<
         + AllocGlobal,
 >(rt: &R, host: &mut Host<K, L>, visit: Visit) -> io::Result<Vec<u8>> {
     let listener = listener(rt)?;
-    let (client, stream) = connection(rt, &listener)?;
-    match reception(rt.alloc(), Listener::from(listener)) {
-        Ok(reception) => {
-            let told = told_at(rt, host, &reception, visit, client, stream);
-            drop(reception);
-            told
+    let (mut client, stream) = connection(rt, &listener)?;
+    let sent = client.write_all(visit.sent);
+    let is_served = match Place::new(rt.alloc(), Listener::from(listener), visit.is_asked) {
+        Ok(place) => {
+            place.admit(rt, Connection::from(stream));
+            place.reception.close(rt);
+            let is_served = is_served(rt, host, &place, visit.dialect);
+            drop(place);
+            is_served
         }
-        Err(error) => {
-            drop(client);
+        Err(_) => {
             drop(stream);
-            Err(error)
+            false
         }
+    };
+    if sent.is_err() || !is_served {
+        return Err(io::Error::from(ErrorKind::Other));
     }
+    told(rt.alloc(), &mut client)
 }
 
 /// The same in a new host.
@@ -240,21 +137,17 @@ fn told_anew<
         + Eprint
         + Sync
         + AllocGlobal,
->(rt: &R, blank: Blank, visit: Visit) -> Result<Vec<u8>, AllocError>
+>(rt: &R, blank: Blank, visit: Visit) -> io::Result<Vec<u8>>
     requires name { blank.name ≡ L.name }
     requires parts { (blank.parts ≡ L.parts) × (blank.parts ≡ 1048576) }
 {
-    match hall(rt.alloc()) {
-        Ok(hall) => {
-            let mut host = host::<ListKeeper, L>(rt.alloc(), hall, blank);
+    match new_host::<L>(rt.alloc(), blank) {
+        Ok(mut host) => {
             let told = told_over(rt, &mut host, visit);
             drop(host);
-            match told {
-                Ok(text) => Ok(text),
-                Err(_) => Err(AllocError),
-            }
+            told
         }
-        Err(error) => Err(error),
+        Err(_) => Err(io::Error::from(ErrorKind::OutOfMemory)),
     }
 }
 

@@ -1,7 +1,8 @@
 //! A store that refuses.
 
 use crate::connection::WHOLE;
-use crate::serving::{ann, ends_with_leave, expect_after_greeting, serve_in, shown, with_entries};
+use crate::hosts::user;
+use crate::serving::{ends_with_leave, expect_after_greeting, serve_in, shown, with_entries};
 use imap_hall::{Hall, OpenError};
 use imap_keeper::{Keeper, ListKeeper, Refuser};
 use imap_limits::DEFAULT_LIMITS;
@@ -13,7 +14,7 @@ use std::sync::Wait;
 
 /// A new host whose store passes on this many saves.
 fn hall(alloc: Global, saves: u64) -> Result<Hall<Refuser<ListKeeper>>, OpenError> {
-    let administrator = ann(alloc)?;
+    let administrator = user(alloc, "ann")?;
     let keeper = Refuser::new(ListKeeper::new(World::new(alloc)), saves);
     let groups = Groups::new(alloc);
     match Hall::open(alloc, keeper, administrator, &[], groups, DEFAULT_LIMITS) {
@@ -43,7 +44,7 @@ fn told<W: Wait + AllocGlobal>(rt: &W, text: &[u8]) -> Result<Vec<u8>, AllocErro
     };
     let served = serve_in(rt, &mut hall, &OpenGate, text, WHOLE);
     let count = hall.count();
-    let has_left = ends_with_leave(&hall, 1);
+    let has_left = ends_with_leave(&hall);
     drop(hall.into_keeper().release());
     with_entries(rt.alloc(), shown(rt.alloc(), served), count, has_left)
 }

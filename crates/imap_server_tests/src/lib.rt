@@ -1,9 +1,9 @@
-//! Tests of what serves users: notices and limits of the machine, sessions over connections, sessions side by side,
-//! hosts that end with their seats, idling sessions that are woken, clients that log in, sessions in another dialect,
-//! and scripts, command lines and exit statuses of the program.
+//! Tests of what serves users: notices of the machine, sessions over connections, sessions side by side, hosts that end
+//! with their seats, idling sessions that are woken, clients that log in, sessions in another dialect, and scripts,
+//! command lines and exit statuses of the program.
 //!
 //! They stand in a crate of their own, since a crate that has tests is proved twice: once without and
-//! once with them. It is a program, which does nothing, since no library of it is wanted.
+//! once with them. Without them it is a library that has nothing.
 #![tactic(auto)]
 
 #[cfg(test)]
@@ -59,8 +59,4 @@ mod spoken_dialects;
 #[cfg(test)]
 mod store_refusals;
 #[cfg(test)]
-mod subscriptions;
-#[cfg(test)]
 mod wanted;
-
-fn main() {}
