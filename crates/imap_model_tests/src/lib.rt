@@ -3,7 +3,7 @@
 //! are written, calls that no command makes, the texts of errors, IMAP4rev1, and mailboxes as folders of messages.
 //!
 //! They stand in a crate of their own, since a crate that has tests is proved twice: once without and
-//! once with them. It is a program, which does nothing, since no library of it is wanted.
+//! once with them. Without them it is a library that has nothing.
 #![tactic(auto)]
 
 #[cfg(test)]
@@ -30,5 +30,3 @@ mod rev1;
 mod texts;
 #[cfg(test)]
 mod wanted;
-
-fn main() {}
