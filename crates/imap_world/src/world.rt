@@ -49,6 +49,7 @@ use imap_name_map::numbers::{next_number, number_of};
 use imap_names::{Name, NameRef};
 use imap_rights::{Acl, Identifier, RightsChange};
 use imap_user_map::UserMap;
+use imap_values::beside;
 use std::alloc::{AllocError, Global};
 use std::collections::VecDeque;
 use std::marker::Model;
@@ -144,11 +145,18 @@ impl World {
     pub fn try_copy(&self, alloc: Global) -> Result<World, AllocError>
         ensures { IfOk result (λ copy. world_of copy ≡ world_of self.now) }
     {
+        let mailboxes = copy_mailboxes(alloc, &self.mailboxes)?;
+        let front = beside(self.epochs.try_copy(alloc), mailboxes)?;
+        let front = beside(self.subscriptions.try_copy(alloc), front)?;
+        let (index, (subscriptions, (epochs, mailboxes))) = beside(
+            self.index.try_copy(alloc),
+            front,
+        )?;
         Ok(World {
-            mailboxes: copy_mailboxes(alloc, &self.mailboxes)?,
-            epochs: self.epochs.try_copy(alloc)?,
-            subscriptions: self.subscriptions.try_copy(alloc)?,
-            index: self.index.try_copy(alloc)?,
+            mailboxes,
+            epochs,
+            subscriptions,
+            index,
         })
     }
 
@@ -381,7 +389,8 @@ impl World {
         ensures err { OnErr result (world_of self.new ≡ world_of self.old) }
     {
         let copy = change.try_copy(alloc)?;
-        self.make_room(alloc, &copy)?;
+        let ready = self.make_room(alloc, &copy);
+        let ((), copy) = beside(ready, copy)?;
         self.commit(copy);
         Ok(())
     }
