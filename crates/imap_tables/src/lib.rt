@@ -4,6 +4,7 @@
 //! Each statement is a function of its own, within a transaction.
 #![tactic(auto)]
 
+mod cells;
 mod changes;
 mod columns;
 mod deletes;

@@ -2,7 +2,8 @@
 
 ghost use Rattle.imap_tables.specs.Stored.{IsBody, IsHead, IsKeyword, ShowsBody, ShowsHead, ShowsKeyword};
 
-use crate::stored::{FromRow, octets_at};
+use crate::cells::{four_at, three_at};
+use crate::stored::FromRow;
 use imap_lex::Octets;
 use sqlite::{Error, Row};
 
@@ -47,17 +48,9 @@ impl FromRow for StoredHead {
         self.rowid
     }
 
-    #[tactic(auto, using(crate::proofs::Utf8::text_is_utf8))]
     fn read(row: &Row) -> Result<StoredHead, Error> {
-        if row.column_count() != 6 {
-            return Err(Error::InvalidColumnIndex(6));
-        }
-        let rowid = row.get(0)?;
-        let mailbox = row.get(1)?;
-        let uid = row.get(2)?;
-        let flags = row.get(4)?;
-        let place = row.get(5)?;
-        let date = row.get(3)?;
+        let (rowid, mailbox, uid) = three_at(row, 6, 0)?;
+        let (date, flags, place) = three_at(row, 6, 3)?;
         Ok(StoredHead {
             rowid,
             mailbox,
@@ -81,13 +74,7 @@ impl FromRow for StoredBody {
     }
 
     fn read(row: &Row) -> Result<StoredBody, Error> {
-        if row.column_count() != 4 {
-            return Err(Error::InvalidColumnIndex(4));
-        }
-        let rowid = row.get(0)?;
-        let mailbox = row.get(1)?;
-        let uid = row.get(2)?;
-        let octets = octets_at(row, 3)?;
+        let (rowid, mailbox, uid, octets) = four_at(row, 4, 0)?;
         Ok(StoredBody {
             rowid,
             mailbox,
@@ -108,15 +95,8 @@ impl FromRow for StoredKeyword {
         self.rowid
     }
 
-    #[tactic(auto, using(crate::proofs::Utf8::text_is_utf8))]
     fn read(row: &Row) -> Result<StoredKeyword, Error> {
-        if row.column_count() != 4 {
-            return Err(Error::InvalidColumnIndex(4));
-        }
-        let rowid = row.get(0)?;
-        let mailbox = row.get(1)?;
-        let uid = row.get(2)?;
-        let word = row.get(3)?;
+        let (rowid, mailbox, uid, word) = four_at(row, 4, 0)?;
         Ok(StoredKeyword {
             rowid,
             mailbox,
