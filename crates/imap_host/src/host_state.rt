@@ -117,9 +117,11 @@ impl<K: Keeper, L: Ledger> HostState<K, L> {
         let HostState {
             hall,
             left: _,
-            book: _,
-            rest: _,
+            book,
+            rest,
         } = self;
+        drop(book);
+        drop(rest);
         hall
     }
 }

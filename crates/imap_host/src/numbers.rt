@@ -23,18 +23,35 @@ pub(crate) fn next_session(
     ensures noted { IfOk result (λ who. numbers.new.map ≡ map.insert numbers.old.map user who.number) }
     ensures err { OnErr result (numbers.new.map ≡ numbers.old.map) }
 {
-    let last = last_of(numbers, &user);
+    match next_number(numbers, alloc, &user) {
+        Ok(number) => Ok(SessionId { user, number }),
+        Err(error) => {
+            drop(user);
+            Err(error)
+        }
+    }
+}
+
+/// Returns the number of the next session of a user, and notes it. Fails as [`next_session`].
+fn next_number(
+    numbers: &mut UserMap<u64>,
+    alloc: Global,
+    user: &UserName,
+) -> Result<SessionNumber, SeatError>
+    ensures number { IfOk result (λ number. number ≡ last_of numbers.old.map user.now + 1) }
+    ensures noted { IfOk result
+        (λ number. numbers.new.map ≡ map.insert numbers.old.map user.now number) }
+    ensures err { OnErr result (numbers.new.map ≡ numbers.old.map) }
+{
+    let last = last_of(numbers, user);
     if last >= PARTS {
         return Err(SeatError::Full);
     }
     let number = last + 1;
-    let key = String::from_str(alloc, user.as_str())?;
     numbers.reserve(1)?;
+    let key = String::from_str(alloc, user.as_str())?;
     numbers.insert_reserved(key, number);
-    Ok(SessionId {
-        user,
-        number: session_number(number),
-    })
+    Ok(session_number(number))
 }
 
 /// Returns the number of the user's last seat, 0 if the user has none.

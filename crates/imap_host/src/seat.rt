@@ -53,13 +53,15 @@ impl<L: Ledger> Seat<L> {
         ensures amount { result.amount ≡ self.share.amount }
     {
         let Seat {
-            who: _,
+            who,
             base: _,
             told_base: _,
-            receipts: _,
+            receipts,
             share,
             octets: _,
         } = self;
+        drop(who);
+        drop(receipts);
         share
     }
 }
