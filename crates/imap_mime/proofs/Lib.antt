@@ -1,2 +1,4 @@
+mod Ascii
+mod Reading
 pub mod Texts
 pub mod Words

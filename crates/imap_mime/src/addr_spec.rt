@@ -31,11 +31,10 @@ impl AddrSpec {
         ensures { OnOk result (self.new ≡ spec_with octet self.old) }
     {
         if self.has_domain {
-            self.domain.push(octet)?;
+            self.domain.push(octet)
         } else {
-            self.local.push(octet)?;
+            self.local.push(octet)
         }
-        Ok(())
     }
 
     /// Appends `@`.

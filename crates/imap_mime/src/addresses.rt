@@ -94,10 +94,11 @@ impl AddressReader {
         ensures state { OnOk result (self.new ≡ without_group self.old) }
         ensures done { OnOk result (done.new.items ≡ done.old.items ++ group_ends self.old.in_group) }
     {
-        if self.in_group {
+        let in_group = self.in_group;
+        self.in_group = false;
+        if in_group {
             done.push(group_end())?;
         }
-        self.in_group = false;
         Ok(())
     }
 
@@ -107,8 +108,7 @@ impl AddressReader {
         ensures done { OnOk result (done.new.items ≡ done.old.items ++ last_addresses self.old) }
     {
         self.end_address(done)?;
-        self.end_group(done)?;
-        Ok(())
+        self.end_group(done)
     }
 
     /// Goes on after a divider outside angle brackets.
@@ -117,12 +117,11 @@ impl AddressReader {
         ensures done { OnOk result (done.new.items ≡ done.old.items ++ divider_addresses octet self.old) }
     {
         match octet {
-            b',' => self.end_address(done)?,
-            b';' => self.end(done)?,
-            b':' if !self.in_group => self.begin_group(done)?,
-            _ => self.parts.push(Sign::Divider(octet))?,
+            b',' => self.end_address(done),
+            b';' => self.end(done),
+            b':' if !self.in_group => self.begin_group(done),
+            _ => self.parts.push(Sign::Divider(octet)),
         }
-        Ok(())
     }
 
     fn push_sign(&mut self, sign: Sign, done: &mut Vec<Address>) -> Result<(), AllocError>
@@ -130,10 +129,9 @@ impl AddressReader {
         ensures done { OnOk result (done.new.items ≡ done.old.items ++ sign_addresses sign self.old) }
     {
         match sign {
-            Sign::Divider(octet) if !self.parts.is_within() => self.push_divider(octet, done)?,
-            _ => self.parts.push(sign)?,
+            Sign::Divider(octet) if !self.parts.is_within() => self.push_divider(octet, done),
+            _ => self.parts.push(sign),
         }
-        Ok(())
     }
 
     fn push(&mut self, octet: u8, done: &mut Vec<Address>) -> Result<(), AllocError>
@@ -142,8 +140,17 @@ impl AddressReader {
     {
         let read = self.lexical.read(octet);
         self.lexical = read.next;
-        self.push_sign(read.sign, done)?;
-        Ok(())
+        self.push_sign(read.sign, done)
+    }
+
+    /// Goes on over all of a value, to its end.
+    fn push_all(&mut self, value: &[u8], done: &mut Vec<Address>) -> Result<(), AllocError>
+        ensures { OnOk result (done.new.items ≡ done.old.items ++ addresses_from self.old value.now) }
+    {
+        for octet in value {
+            self.push(*octet, done)?;
+        }
+        self.end(done)
     }
 }
 
@@ -157,9 +164,5 @@ pub fn push_addresses_in(
     ensures { OnOk result (done.new.items ≡ done.old.items ++ addresses_in value.now) }
 {
     let mut reader = AddressReader::start(alloc);
-    for octet in value {
-        reader.push(*octet, done)?;
-    }
-    reader.end(done)?;
-    Ok(())
+    reader.push_all(value, done)
 }

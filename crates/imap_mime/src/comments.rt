@@ -47,9 +47,10 @@ impl Comments {
         ensures { OnOk result (self.new ≡ comments_with octet self.old) }
     {
         if matches!(self.count, CommentCount::One) {
-            self.first.push(octet)?;
+            self.first.push(octet)
+        } else {
+            Ok(())
         }
-        Ok(())
     }
 
     /// Returns the first comment and leaves none.

@@ -37,8 +37,7 @@ pub fn push_further_value(
         ≡ out.old.items ++ 32 ∷ nstring_text (first_value name.now header.now)) }
 {
     out.push(b' ')?;
-    push_value(alloc, out, header, name)?;
-    Ok(())
+    push_value(alloc, out, header, name)
 }
 
 fn addresses_or<'a>(others: &'a [Address], addresses: &'a [Address]) -> &'a [Address]
@@ -54,8 +53,7 @@ fn push_further_addresses(out: &mut Vec<u8>, addresses: &[Address]) -> Result<()
     ensures { OnOk result (out.new.items ≡ out.old.items ++ 32 ∷ addresses_text addresses.now) }
 {
     out.push(b' ')?;
-    push_addresses(out, addresses)?;
-    Ok(())
+    push_addresses(out, addresses)
 }
 
 /// Appends a space and the addresses in the first field of this name, or `from` if there are none.
@@ -81,8 +79,7 @@ fn push_senders(alloc: Global, out: &mut Vec<u8>, header: &[u8]) -> Result<(), A
     let from = first_addresses(alloc, header, b"From")?;
     push_further_addresses(out, from.as_slice())?;
     push_or_from(alloc, out, header, from.as_slice(), b"Sender")?;
-    push_or_from(alloc, out, header, from.as_slice(), b"Reply-To")?;
-    Ok(())
+    push_or_from(alloc, out, header, from.as_slice(), b"Reply-To")
 }
 
 /// Appends a space and the addresses in all fields of this name.
@@ -101,8 +98,7 @@ fn push_recipients(alloc: Global, out: &mut Vec<u8>, header: &[u8]) -> Result<()
 {
     push_all(alloc, out, header, b"To")?;
     push_all(alloc, out, header, b"Cc")?;
-    push_all(alloc, out, header, b"Bcc")?;
-    Ok(())
+    push_all(alloc, out, header, b"Bcc")
 }
 
 /// Appends all words but the date, each after a space.
@@ -125,6 +121,5 @@ pub fn push_envelope(alloc: Global, out: &mut Vec<u8>, header: &[u8]) -> Result<
     out.push(b'(')?;
     push_value(alloc, out, header, b"Date")?;
     push_further_words(alloc, out, header)?;
-    out.push(b')')?;
-    Ok(())
+    out.extend_from_slice(b")")
 }

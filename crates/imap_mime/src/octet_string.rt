@@ -55,8 +55,7 @@ impl OctetString {
         ensures all { OnOk result (self.new ≡ self.old ++ other.old) }
         ensures left { OnOk result (other.new ≡ []) }
     {
-        self.octets.append(&mut other.octets)?;
-        Ok(())
+        self.octets.append(&mut other.octets)
     }
 
     /// Returns the octets.

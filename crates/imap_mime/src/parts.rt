@@ -78,8 +78,7 @@ impl Parts {
             return Ok(());
         }
         self.phrase.push(octet)?;
-        self.spec.push(octet)?;
-        Ok(())
+        self.spec.push(octet)
     }
 
     fn push_at(&mut self) -> Result<(), AllocError>
@@ -89,8 +88,7 @@ impl Parts {
             return Ok(());
         }
         self.phrase.push(b'@')?;
-        self.spec.push_at()?;
-        Ok(())
+        self.spec.push_at()
     }
 
     /// Begins the address in angle brackets. What stands before it is the display name.
@@ -114,23 +112,30 @@ impl Parts {
         ensures { OnOk result (self.new ≡ divider_before octet self.old) }
     {
         match octet {
-            b'<' => self.begin_address(),
-            b'@' => self.push_at()?,
-            _ => self.push_octet(octet)?,
+            b'<' => {
+                self.begin_address();
+                Ok(())
+            }
+            b'@' => self.push_at(),
+            _ => self.push_octet(octet),
         }
-        Ok(())
     }
 
     fn push_divider_within(&mut self, octet: u8) -> Result<(), AllocError>
         ensures { OnOk result (self.new ≡ divider_within octet self.old) }
     {
         match octet {
-            b'>' => self.place = Place::After,
-            b':' if self.route.is_none() => self.end_route(),
-            b'@' => self.push_at()?,
-            _ => self.push_octet(octet)?,
+            b'>' => {
+                self.place = Place::After;
+                Ok(())
+            }
+            b':' if self.route.is_none() => {
+                self.end_route();
+                Ok(())
+            }
+            b'@' => self.push_at(),
+            _ => self.push_octet(octet),
         }
-        Ok(())
     }
 
     fn push_divider(&mut self, octet: u8) -> Result<(), AllocError>
@@ -148,15 +153,20 @@ impl Parts {
         ensures { OnOk result (self.new ≡ parts_after sign self.old) }
     {
         match sign {
-            Sign::Word(octet) => self.push_octet(octet)?,
-            Sign::QuoteBegins => self.phrase.begin_word()?,
-            Sign::Space => self.phrase.end_word(),
-            Sign::CommentBegins => self.comments.begin(),
-            Sign::Comment(octet) => self.comments.push(octet)?,
-            Sign::Divider(octet) => self.push_divider(octet)?,
-            Sign::Nothing => {}
+            Sign::Word(octet) => self.push_octet(octet),
+            Sign::QuoteBegins => self.phrase.begin_word(),
+            Sign::Space => {
+                self.phrase.end_word();
+                Ok(())
+            }
+            Sign::CommentBegins => {
+                self.comments.begin();
+                Ok(())
+            }
+            Sign::Comment(octet) => self.comments.push(octet),
+            Sign::Divider(octet) => self.push_divider(octet),
+            Sign::Nothing => Ok(()),
         }
-        Ok(())
     }
 
     /// Returns the words so far and leaves nothing.

@@ -30,10 +30,11 @@ impl Phrase {
         ensures { OnOk result (self.new ≡ with_word_begun self.old) }
     {
         if self.gap {
-            self.text.push(b' ')?;
             self.gap = false;
+            self.text.push(b' ')
+        } else {
+            Ok(())
         }
-        Ok(())
     }
 
     /// Appends an octet of a word.
@@ -41,8 +42,7 @@ impl Phrase {
         ensures { OnOk result (self.new ≡ phrase_with octet self.old) }
     {
         self.begin_word()?;
-        self.text.push(octet)?;
-        Ok(())
+        self.text.push(octet)
     }
 
     /// Ends the last word.

@@ -10,16 +10,10 @@ use crate::octet_string::OctetString;
 use imap_syntax::{is_quotable, push_literal, push_quoted};
 use std::alloc::AllocError;
 
-fn is_ascii(octet: u8) -> bool
-    ensures { result ≡ is_ascii octet }
-{
-    octet < 128
-}
-
 fn are_ascii(octets: &[u8]) -> bool
     ensures { result ≡ list_all is_ascii octets.now }
 {
-    octets.iter().all(|octet| is_ascii(*octet))
+    octets.is_ascii()
 }
 
 fn is_quoted(octets: &[u8]) -> bool
@@ -60,8 +54,7 @@ pub fn push_further(out: &mut Vec<u8>, octets: &Option<OctetString>) -> Result<(
     ensures { OnOk result (out.new.items ≡ out.old.items ++ 32 ∷ nstring_text octets.now) }
 {
     out.push(b' ')?;
-    push_nstring(out, octets)?;
-    Ok(())
+    push_nstring(out, octets)
 }
 
 fn push_address(out: &mut Vec<u8>, address: &Address) -> Result<(), AllocError>
@@ -72,8 +65,7 @@ fn push_address(out: &mut Vec<u8>, address: &Address) -> Result<(), AllocError>
     push_further(out, &address.route)?;
     push_further(out, &address.mailbox)?;
     push_further(out, &address.host)?;
-    out.push(b')')?;
-    Ok(())
+    out.extend_from_slice(b")")
 }
 
 fn push_each(out: &mut Vec<u8>, addresses: &[Address]) -> Result<(), AllocError>
@@ -94,6 +86,5 @@ pub fn push_addresses(out: &mut Vec<u8>, addresses: &[Address]) -> Result<(), Al
     }
     out.push(b'(')?;
     push_each(out, addresses)?;
-    out.push(b')')?;
-    Ok(())
+    out.extend_from_slice(b")")
 }
