@@ -1,5 +1,5 @@
 -- Structures to a depth, and messages in parts.
-use Rattle.std.proofs.Common.{◌≡◌, ◌∙◌, ap, sym, refl, ℕ, zero, suc, ◌-◌, ◌<◌, Bool, List, [], ◌∷◌, ◌++◌, append_assoc, arith}
+use Rattle.std.proofs.Common.{◌≡◌, ◌∙◌, ap, sym, refl, ℕ, zero, suc, ◌-◌, ◌<◌, Bool, List, ◌++◌, append_assoc, arith}
 use Rattle.imap_structure.specs.Media.{media_of}
 use Rattle.imap_structure.specs.Structure.{limit_text, entity_text, structure_text}
 
@@ -18,9 +18,6 @@ structure_below extended in_digest octets (suc depth) some =
 
 -- ---- the words of a message
 
-after_space : (out a new word : List ℕ) → a ≡ out ++ 32 ∷ [] → new ≡ a ++ word → new ≡ out ++ 32 ∷ word
-after_space out a new word e f = f ∙ ap (λ (l : List ℕ). l ++ word) e ∙ append_assoc out (32 ∷ []) word
-
 all_after : (out f e s l n : List ℕ) → ((((out ++ f) ++ e) ++ s) ++ l) ++ n ≡ out ++ ((((f ++ e) ++ s) ++ l) ++ n)
 all_after out f e s l n =
     ap (λ (x : List ℕ). ((x ++ s) ++ l) ++ n) (append_assoc out f e)
@@ -28,13 +25,13 @@ all_after out f e s l n =
     ∙ ap (λ (x : List ℕ). x ++ n) (append_assoc out ((f ++ e) ++ s) l)
     ∙ append_assoc out (((f ++ e) ++ s) ++ l) n
 
-pub message_told : (out front envelope structure lines end a b c d e g new : List ℕ)
-    → a ≡ out ++ front → b ≡ a ++ 32 ∷ [] → c ≡ b ++ envelope → d ≡ c ++ 32 ∷ [] → e ≡ d ++ structure → g ≡ e ++ 32 ∷ lines → new ≡ g ++ end
-    → new ≡ out ++ ((((front ++ 32 ∷ envelope) ++ 32 ∷ structure) ++ 32 ∷ lines) ++ end)
-message_told out front envelope structure lines end a b c d e g new ea eb ec ed ee eg en =
+pub message_told : (out front envelope structure lines end a b c d new : List ℕ)
+    → a ≡ out ++ front → b ≡ a ++ envelope → c ≡ b ++ structure → d ≡ c ++ lines → new ≡ d ++ end
+    → new ≡ out ++ ((((front ++ envelope) ++ structure) ++ lines) ++ end)
+message_told out front envelope structure lines end a b c d new ea eb ec ed en =
     en
-    ∙ ap (λ (l : List ℕ). l ++ end) eg
-    ∙ ap (λ (l : List ℕ). (l ++ 32 ∷ lines) ++ end) (after_space c d e structure ed ee)
-    ∙ ap (λ (l : List ℕ). ((l ++ 32 ∷ structure) ++ 32 ∷ lines) ++ end) (after_space a b c envelope eb ec)
-    ∙ ap (λ (l : List ℕ). (((l ++ 32 ∷ envelope) ++ 32 ∷ structure) ++ 32 ∷ lines) ++ end) ea
-    ∙ all_after out front (32 ∷ envelope) (32 ∷ structure) (32 ∷ lines) end
+    ∙ ap (λ (l : List ℕ). l ++ end) ed
+    ∙ ap (λ (l : List ℕ). (l ++ lines) ++ end) ec
+    ∙ ap (λ (l : List ℕ). ((l ++ structure) ++ lines) ++ end) eb
+    ∙ ap (λ (l : List ℕ). (((l ++ envelope) ++ structure) ++ lines) ++ end) ea
+    ∙ all_after out front envelope structure lines end

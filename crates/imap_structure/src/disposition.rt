@@ -20,8 +20,7 @@ fn push_read(out: &mut Vec<u8>, media: &MediaType) -> Result<(), AllocError>
     push_string(out, media.kind.as_slice())?;
     out.push(b' ')?;
     push_params(out, media.params.as_slice())?;
-    out.push(b')')?;
-    Ok(())
+    out.extend_from_slice(b")")
 }
 
 fn push_value(alloc: Global, out: &mut Vec<u8>, value: &[u8]) -> Result<(), AllocError>
@@ -48,6 +47,5 @@ pub(crate) fn push_place(alloc: Global, out: &mut Vec<u8>, octets: &[u8]) -> Res
     out.push(b' ')?;
     push_disposition(alloc, out, octets)?;
     push_further_value(alloc, out, octets, b"Content-Language")?;
-    push_further_value(alloc, out, octets, b"Content-Location")?;
-    Ok(())
+    push_further_value(alloc, out, octets, b"Content-Location")
 }

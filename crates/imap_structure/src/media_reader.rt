@@ -63,14 +63,19 @@ impl MediaReader {
         ensures { OnOk result (self.new ≡ with_octet self.old.place octet self.old) }
     {
         match self.place {
-            MediaPlace::Kind if octet == b'/' => self.place = MediaPlace::Subtype,
-            MediaPlace::Kind => self.kind.push(octet)?,
-            MediaPlace::Subtype => self.subtype.push(octet)?,
-            MediaPlace::Name if octet == b'=' => self.place = MediaPlace::Value,
-            MediaPlace::Name => self.name.push(octet)?,
-            MediaPlace::Value => self.value.push(octet)?,
+            MediaPlace::Kind if octet == b'/' => {
+                self.place = MediaPlace::Subtype;
+                Ok(())
+            }
+            MediaPlace::Kind => self.kind.push(octet),
+            MediaPlace::Subtype => self.subtype.push(octet),
+            MediaPlace::Name if octet == b'=' => {
+                self.place = MediaPlace::Value;
+                Ok(())
+            }
+            MediaPlace::Name => self.name.push(octet),
+            MediaPlace::Value => self.value.push(octet),
         }
-        Ok(())
     }
 
     /// Ends the parameter that has begun, if it has a name and a value.
@@ -92,11 +97,10 @@ impl MediaReader {
         ensures params { OnOk result (params.new.items ≡ params.old.items ++ sign_params sign self.old) }
     {
         match sign {
-            Sign::Divider(b';') => self.end_param(params)?,
-            Sign::Word(octet) | Sign::Divider(octet) => self.push_octet(octet)?,
-            _ => {}
+            Sign::Divider(b';') => self.end_param(params),
+            Sign::Word(octet) | Sign::Divider(octet) => self.push_octet(octet),
+            _ => Ok(()),
         }
-        Ok(())
     }
 
     fn push(&mut self, octet: u8, params: &mut Vec<Param>) -> Result<(), AllocError>
@@ -105,8 +109,7 @@ impl MediaReader {
     {
         let read = self.lexical.read(octet);
         self.lexical = read.next;
-        self.push_sign(read.sign, params)?;
-        Ok(())
+        self.push_sign(read.sign, params)
     }
 
     fn push_all(&mut self, value: &[u8], params: &mut Vec<Param>) -> Result<(), AllocError>
@@ -116,8 +119,7 @@ impl MediaReader {
         for octet in value {
             self.push(*octet, params)?;
         }
-        self.end_param(params)?;
-        Ok(())
+        self.end_param(params)
     }
 }
 

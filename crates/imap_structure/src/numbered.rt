@@ -1,6 +1,6 @@
 //! Parts by their numbers (RFC 9051, section 6.4.5.1).
 
-ghost use Rattle.std.specs.Prelude.{◌≡◌, IfOk, map, option_copied};
+ghost use Rattle.std.specs.Prelude.{◌≡◌, ◌∷◌, IfOk, map, option_copied};
 ghost use Rattle.imap_structure.specs.Numbered.{entered, entity_at, further, further_at, kind_at, media_at};
 ghost use Rattle.imap_structure.specs.Numbered.{message_at, message_in, message_of, nth, numbered, part_at, part_in};
 ghost use Rattle.imap_structure.specs.Numbered.{parts_in, whole};
@@ -188,6 +188,21 @@ fn further_at<'a>(
     Ok(Some(place))
 }
 
+/// Returns the part of these further numbers in the one of the number `first`.
+fn entity_from<'a>(
+    alloc: Global,
+    message: &'a [u8],
+    first: u32,
+    further: &[u32],
+) -> Result<Option<Place<'a>>, AllocError>
+    ensures { IfOk result (λ found. found ≡ entity_at (first ∷ further.now) message.now) }
+{
+    match Place::whole(message).numbered(alloc, first)? {
+        Some(part) => further_at(alloc, part, further),
+        None => Ok(None),
+    }
+}
+
 fn entity_at<'a>(
     alloc: Global,
     message: &'a [u8],
@@ -195,11 +210,8 @@ fn entity_at<'a>(
 ) -> Result<Option<Place<'a>>, AllocError>
     ensures { IfOk result (λ found. found ≡ entity_at numbers.now message.now) }
 {
-    let Some((first, later)) = numbers.split_first() else {
-        return Ok(None);
-    };
-    match Place::whole(message).numbered(alloc, *first)? {
-        Some(part) => further_at(alloc, part, later),
+    match numbers.split_first() {
+        Some((first, further)) => entity_from(alloc, message, *first, further),
         None => Ok(None),
     }
 }

@@ -13,8 +13,7 @@ fn push_param(out: &mut Vec<u8>, param: &Param) -> Result<(), AllocError>
 {
     push_string(out, param.name.as_slice())?;
     out.push(b' ')?;
-    push_string(out, param.value.as_slice())?;
-    Ok(())
+    push_string(out, param.value.as_slice())
 }
 
 fn push_further(out: &mut Vec<u8>, params: &[Param]) -> Result<(), AllocError>
@@ -36,8 +35,7 @@ pub(crate) fn push_params(out: &mut Vec<u8>, params: &[Param]) -> Result<(), All
             out.push(b'(')?;
             push_param(out, first)?;
             push_further(out, further)?;
-            out.push(b')')?;
-            Ok(())
+            out.extend_from_slice(b")")
         }
         [] => out.extend_from_slice(b"NIL"),
     }

@@ -1,12 +1,14 @@
 //! A part that is no multipart (RFC 9051, section 9, `body-type-1part`).
 
-ghost use Rattle.std.specs.Prelude.{◌≡◌, ◌++◌, ◌∷◌, [], OnOk, decimal};
+ghost use Rattle.std.specs.Prelude.{◌≡◌, ◌++◌, ◌∷◌, [], OnOk, decimal, length};
 ghost use Rattle.imap_mime.specs.Values.{first_value};
 ghost use Rattle.imap_print.specs.Words.{before_each};
+ghost use Rattle.imap_text.specs.Sections.{text};
 ghost use Rattle.imap_structure.specs.Single.{encoding_of, encoding_or, field_words, media_text, single_end};
 ghost use Rattle.imap_structure.specs.Single.{single_front};
 
 use crate::disposition::push_place;
+use crate::header::text;
 use crate::media::MediaType;
 use crate::params::push_params;
 use imap_mime::{OctetString, first_value, push_further_value, push_string};
@@ -20,8 +22,7 @@ fn push_media(out: &mut Vec<u8>, media: &MediaType) -> Result<(), AllocError>
     out.push(b' ')?;
     push_string(out, media.subtype.as_slice())?;
     out.push(b' ')?;
-    push_params(out, media.params.as_slice())?;
-    Ok(())
+    push_params(out, media.params.as_slice())
 }
 
 /// Returns the encoding, or the default (RFC 2045, section 6.1).
@@ -48,8 +49,7 @@ fn push_fields(alloc: Global, out: &mut Vec<u8>, octets: &[u8]) -> Result<(), Al
     push_further_value(alloc, out, octets, b"Content-ID")?;
     push_further_value(alloc, out, octets, b"Content-Description")?;
     out.push(b' ')?;
-    push_encoding(alloc, out, octets)?;
-    Ok(())
+    push_encoding(alloc, out, octets)
 }
 
 /// Appends a space and a number.
@@ -57,8 +57,7 @@ pub(crate) fn push_further_number(out: &mut Vec<u8>, number: u64) -> Result<(), 
     ensures { OnOk result (out.new.items ≡ out.old.items ++ 32 ∷ decimal number) }
 {
     out.push(b' ')?;
-    push_number(out, number)?;
-    Ok(())
+    push_number(out, number)
 }
 
 /// Appends what is told of each part: its type, its fields and the size of its body.
@@ -67,15 +66,14 @@ pub(crate) fn push_front(
     out: &mut Vec<u8>,
     media: &MediaType,
     octets: &[u8],
-    size: u64,
 ) -> Result<(), AllocError>
-    ensures { OnOk result (out.new.items ≡ out.old.items ++ single_front media.now octets.now size) }
+    ensures { let size = length (text octets.now) in OnOk result (out.new.items
+        ≡ out.old.items ++ single_front media.now octets.now size) }
 {
     out.push(b'(')?;
     push_media(out, media)?;
     push_fields(alloc, out, octets)?;
-    push_further_number(out, size)?;
-    Ok(())
+    push_further_number(out, text(octets).len() as u64)
 }
 
 /// Appends what is told of each part in BODYSTRUCTURE alone, and the end.
@@ -91,6 +89,5 @@ pub(crate) fn push_end(
         push_further_value(alloc, out, octets, b"Content-MD5")?;
         push_place(alloc, out, octets)?;
     }
-    out.push(b')')?;
-    Ok(())
+    out.extend_from_slice(b")")
 }

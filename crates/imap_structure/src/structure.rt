@@ -1,10 +1,11 @@
 //! Structures (RFC 9051, section 7.5.2).
 
-ghost use Rattle.std.specs.Prelude.{◌≡◌, ◌<◌, ◌++◌, ◌∷◌, OnOk, decimal, flat_map, map};
+ghost use Rattle.std.specs.Prelude.{◌≡◌, ◌<◌, ◌++◌, ◌∷◌, OnOk, false, flat_map, map};
 ghost use Rattle.imap_mime.specs.Envelope.{envelope_of, envelope_text};
+ghost use Rattle.imap_text.specs.Sections.{text};
 ghost use Rattle.imap_structure.specs.Structure.{entity_by, entity_text, limit_text, lines_text, message_text};
-ghost use Rattle.imap_structure.specs.Structure.{multipart_end, multipart_text, other_text, plain_text};
-ghost use Rattle.imap_structure.specs.Structure.{structure_of, structure_text};
+ghost use Rattle.imap_structure.specs.Structure.{multipart_end, multipart_extended, multipart_text, other_text};
+ghost use Rattle.imap_structure.specs.Structure.{plain_text, structure_of, structure_text};
 
 use crate::disposition::push_place;
 use crate::header::text;
@@ -29,9 +30,15 @@ fn push_other(
 ) -> Result<(), AllocError>
     ensures { OnOk result (out.new.items ≡ out.old.items ++ other_text extended media.now octets.now) }
 {
-    push_front(alloc, out, media, octets, text(octets).len() as u64)?;
-    push_end(alloc, out, extended, octets)?;
-    Ok(())
+    push_front(alloc, out, media, octets)?;
+    push_end(alloc, out, extended, octets)
+}
+
+/// Appends a space and the number of lines in the body.
+fn push_lines(out: &mut Vec<u8>, octets: &[u8]) -> Result<(), AllocError>
+    ensures { OnOk result (out.new.items ≡ out.old.items ++ 32 ∷ lines_text (text octets.now)) }
+{
+    push_further_number(out, line_count(text(octets)))
 }
 
 /// Appends a part of text, which is told with the number of its lines.
@@ -44,11 +51,9 @@ fn push_plain(
 ) -> Result<(), AllocError>
     ensures { OnOk result (out.new.items ≡ out.old.items ++ plain_text extended media.now octets.now) }
 {
-    let body = text(octets);
-    push_front(alloc, out, media, octets, body.len() as u64)?;
-    push_further_number(out, line_count(body))?;
-    push_end(alloc, out, extended, octets)?;
-    Ok(())
+    push_front(alloc, out, media, octets)?;
+    push_lines(out, octets)?;
+    push_end(alloc, out, extended, octets)
 }
 
 /// Appends a part that stands too deep to be read.
@@ -65,6 +70,25 @@ fn push_limit(
     Ok(())
 }
 
+/// Appends what is told of a multipart in BODYSTRUCTURE alone.
+fn push_multipart_extended(
+    alloc: Global,
+    out: &mut Vec<u8>,
+    extended: bool,
+    media: &MediaType,
+    octets: &[u8],
+) -> Result<(), AllocError>
+    ensures { OnOk result (out.new.items
+        ≡ out.old.items ++ multipart_extended extended media.now octets.now) }
+{
+    if !extended {
+        return Ok(());
+    }
+    out.push(b' ')?;
+    push_params(out, media.params.as_slice())?;
+    push_place(alloc, out, octets)
+}
+
 /// Appends what is told of a multipart after its parts.
 fn push_multipart_end(
     alloc: Global,
@@ -77,13 +101,8 @@ fn push_multipart_end(
 {
     out.push(b' ')?;
     push_string(out, media.subtype.as_slice())?;
-    if extended {
-        out.push(b' ')?;
-        push_params(out, media.params.as_slice())?;
-        push_place(alloc, out, octets)?;
-    }
-    out.push(b')')?;
-    Ok(())
+    push_multipart_extended(alloc, out, extended, media, octets)?;
+    out.extend_from_slice(b")")
 }
 
 /// Appends the parts of a multipart.
@@ -131,6 +150,31 @@ fn push_multipart(
     Ok(())
 }
 
+/// Appends a space and the envelope of the message that is the body.
+fn push_inner_envelope(alloc: Global, out: &mut Vec<u8>, octets: &[u8]) -> Result<(), AllocError>
+    ensures { OnOk result (out.new.items
+        ≡ out.old.items ++ 32 ∷ envelope_text (envelope_of (text octets.now))) }
+{
+    out.push(b' ')?;
+    push_envelope(alloc, out, text(octets))
+}
+
+/// Appends a space and the structure of the message that is the body.
+#[cycle(structures)]
+fn push_inner_structure(
+    alloc: Global,
+    out: &mut Vec<u8>,
+    extended: bool,
+    depth: u32,
+    octets: &[u8],
+) -> Result<(), AllocError>
+    ensures { OnOk result (out.new.items
+        ≡ out.old.items ++ 32 ∷ structure_text extended depth false (text octets.now)) }
+{
+    out.push(b' ')?;
+    push_part(alloc, out, extended, false, depth, text(octets))
+}
+
 /// Appends a part that is a message, which is told with its envelope, its structure and the number of its lines.
 #[cycle(structures)]
 fn push_message(
@@ -144,13 +188,10 @@ fn push_message(
     ensures { OnOk result (out.new.items ≡ out.old.items
         ++ message_text extended (structure_text extended depth) media.now octets.now) }
 {
-    let body = text(octets);
-    push_front(alloc, out, media, octets, body.len() as u64)?;
-    out.push(b' ')?;
-    push_envelope(alloc, out, body)?;
-    out.push(b' ')?;
-    push_part(alloc, out, extended, false, depth, body)?;
-    push_further_number(out, line_count(body))?;
+    push_front(alloc, out, media, octets)?;
+    push_inner_envelope(alloc, out, octets)?;
+    push_inner_structure(alloc, out, extended, depth, octets)?;
+    push_lines(out, octets)?;
     push_end(alloc, out, extended, octets)?;
     Ok(())
 }

@@ -1,6 +1,7 @@
-use Rattle.std.proofs.Common.{◌≡◌, ◌∙◌, ap, sym, ℕ, ◌-◌, ◌<◌, false, List, ◌∷◌, ◌++◌, length, arith, decimal}
+use Rattle.std.proofs.Common.{◌≡◌, ◌∙◌, ap, sym, ℕ, ◌-◌, ◌<◌, false, List, ◌∷◌, ◌++◌, length, arith}
 use Rattle.std.proofs.lemmas.Bool.Decides.{nat_tests}
 use Rattle.imap_mime.specs.Envelope.{envelope_of, envelope_text}
+use Rattle.imap_text.specs.Sections.{text}
 use Rattle.imap_structure.specs.declared.media.MediaType.{MediaType}
 use Rattle.imap_structure.specs.Single.{single_end, single_front}
 use Rattle.imap_structure.specs.Structure.{entity_text, lines_text, structure_text}
@@ -10,15 +11,11 @@ use Rattle.imap_structure.proofs.structure.+structures.Goals as goal
 pub push_message-returns : goal.push_message-returns
 push_message-returns t c =
     let octets = c.args.octets.now in
-    let m = c.args.media.now in
-    let body = c.text-body.result.now in
-    let told : c.push_end.new.out.items ≡ c.args.out.now.items ++ ((((single_front m octets (length body) ++ 32 ∷ envelope_text (envelope_of body)) ++ 32 ∷ structure_text c.args.extended c.args.depth false body) ++ 32 ∷ decimal c.line_count.result) ++ single_end c.args.extended octets) =
-    message_told c.args.out.now.items (single_front m octets (length body)) (envelope_text (envelope_of body)) (structure_text c.args.extended c.args.depth false body) (decimal c.line_count.result) (single_end c.args.extended octets)
-    c.push_front.new.out.items c.push.new.self.items c.push_envelope.new.out.items c.push-2.new.self.items c.push_part.new.out.items c.push_further_number.new.out.items c.push_end.new.out.items
-    c.in_ok-push_front.ensures c.in_ok-push.ensures.items c.in_ok-push_envelope.ensures c.in_ok-push-2.ensures.items c.in_ok-push_part.ensures c.in_ok-push_further_number.ensures c.in_ok-push_end.ensures in
-    told
-    ∙ ap (λ (n : ℕ). c.args.out.now.items ++ ((((single_front m octets (length body) ++ 32 ∷ envelope_text (envelope_of body)) ++ 32 ∷ structure_text c.args.extended c.args.depth false body) ++ 32 ∷ decimal n) ++ single_end c.args.extended octets)) c.line_count.ensures
-    ∙ ap (λ (b : List ℕ). c.args.out.now.items ++ ((((single_front m octets (length b) ++ 32 ∷ envelope_text (envelope_of b)) ++ 32 ∷ structure_text c.args.extended c.args.depth false b) ++ 32 ∷ lines_text b) ++ single_end c.args.extended octets)) c.text-body.ensures
+    let body = text octets in
+    message_told c.args.out.now.items (single_front c.args.media.now octets (length body)) (32 ∷ envelope_text (envelope_of body))
+    (32 ∷ structure_text c.args.extended c.args.depth false body) (32 ∷ lines_text body) (single_end c.args.extended octets)
+    c.push_front.new.out.items c.push_inner_envelope.new.out.items c.push_inner_structure.new.out.items c.push_lines.new.out.items c.push_end.new.out.items
+    c.in_ok-push_front.ensures c.in_ok-push_inner_envelope.ensures c.in_ok-push_inner_structure.ensures c.in_ok-push_lines.ensures c.in_ok-push_end.ensures
 
 pub push_part-returns-then-depth-eq0 : goal.push_part-returns-then-depth-eq0
 push_part-returns-then-depth-eq0 t c =

@@ -8,6 +8,9 @@ decreases-push_part l = 4 * l.depth
 abbrev pub decreases-push_parts : goal.decreases-push_parts
 decreases-push_parts l = 4 * l.depth + 1
 
+abbrev pub decreases-push_inner_structure : goal.decreases-push_inner_structure
+decreases-push_inner_structure l = 4 * l.depth + 1
+
 abbrev pub decreases-push_multipart : goal.decreases-push_multipart
 decreases-push_multipart l = 4 * l.depth + 2
 
