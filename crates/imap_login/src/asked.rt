@@ -11,7 +11,7 @@ use imap_syntax::{AtomChar, Cursor, ReadError};
 use std::alloc::{AllocError, Global};
 
 /// A request (RFC 9051, sections 6.1 and 6.2).
-#[derive(Debug, Drop)]
+#[derive(Drop)]
 pub(crate) enum Asked {
     Capability,
     Noop,

@@ -7,7 +7,7 @@ use std::marker::Model;
 
 /// The words that say what the server can do once a client has logged in, with a space between two of them (RFC 9051,
 /// section 7.2.2).
-#[derive(Debug, Drop)]
+#[derive(Drop)]
 pub struct Capabilities {
     words: &'static str,
 }

@@ -39,8 +39,8 @@ impl Credentials {
         let message = plain_message(alloc, b"", name, password)?;
         let acting_message = plain_message(alloc, name, name, password)?;
         Ok(Credentials {
-            name: copy(alloc, name)?,
-            password: copy(alloc, password)?,
+            name: Vec::from_slice(alloc, name)?,
+            password: Vec::from_slice(alloc, password)?,
             message,
             acting_message,
         })
@@ -75,18 +75,10 @@ fn plain_message(
     ensures { IfOk result (λ made.
         made.items ≡ plain_message authorized.now (known_by name.now password.now)) }
 {
-    let mut message = copy(alloc, authorized)?;
+    let mut message = Vec::from_slice(alloc, authorized)?;
     message.push(0)?;
     message.extend_from_slice(name)?;
     message.push(0)?;
     message.extend_from_slice(password)?;
     Ok(message)
-}
-
-fn copy(alloc: Global, octets: &[u8]) -> Result<Vec<u8>, AllocError>
-    ensures { IfOk result (λ made. made.items ≡ octets.now) }
-{
-    let mut made = Vec::new(alloc);
-    made.extend_from_slice(octets)?;
-    Ok(made)
 }

@@ -11,7 +11,7 @@ use std::alloc::{AllocError, Global};
 use std::marker::Model;
 
 /// A login: what has come of the client's octets.
-#[derive(Debug, Drop)]
+#[derive(Drop)]
 pub struct Login {
     framer: Framer,
     progress: Progress,

@@ -26,7 +26,7 @@ use std::mem;
 const MAX_FAILURES: u32 = 3;
 
 /// Where a login stands.
-#[derive(Clone, Copy, Debug, PartialEq, Eq)]
+#[derive(Clone, Copy)]
 pub enum Stage {
     /// The client has not logged in.
     Waiting,
@@ -46,7 +46,7 @@ impl Stage {
 }
 
 /// How far a login has come.
-#[derive(Debug, Drop)]
+#[derive(Drop)]
 pub(crate) struct Progress {
     pub(crate) stage: Stage,
     /// After how many wrong logins the connection is closed.
@@ -288,7 +288,7 @@ fn line_message(alloc: Global, line: &[u8]) -> Result<Option<Octets>, AllocError
 }
 
 /// Returns the octets for which base64 stands, or `None` if these aren't base64 (RFC 4648, section 4).
-#[tactic(auto, using(crate::proofs::Decoded::is_decoded, crate::proofs::Decoded::is_no_base64))]
+#[tactic(auto, using(crate::proofs::Decoded::is_no_base64))]
 fn decode(alloc: Global, text: &[u8]) -> Result<Option<Octets>, AllocError>
     ensures { IfOk result (λ octets. octets ≡ decoded_of standard text.now) }
 {

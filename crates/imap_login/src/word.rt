@@ -4,7 +4,7 @@ use imap_lex::AstringChar;
 use imap_syntax::Keyword;
 
 /// The first word of a command.
-#[derive(Clone, Copy, Debug)]
+#[derive(Clone, Copy)]
 pub(crate) enum Word {
     Authenticate,
     Capability,
