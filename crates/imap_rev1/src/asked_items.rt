@@ -7,7 +7,7 @@ use std::alloc::Global;
 use std::marker::Model;
 
 /// What the items of a command ask for, in their order, and where what is told of them takes its memory.
-#[derive(Debug, Drop)]
+#[derive(Drop)]
 pub(crate) struct AskedItems {
     alloc: Global,
     items: Vec<Asked>,

@@ -29,8 +29,7 @@ fn push_full(alloc: Global, out: &mut Vec<u8>, octets: &[u8]) -> Result<(), Allo
 {
     push_envelope(alloc, out, octets)?;
     out.extend_from_slice(b" BODY ")?;
-    push_structure(alloc, out, false, octets)?;
-    Ok(())
+    push_structure(alloc, out, false, octets)
 }
 
 /// Appends what is told of a section with these octets.

@@ -69,11 +69,13 @@ fn push_further_numbers(out: &mut Pieces, numbers: &[u32]) -> Result<(), AllocEr
 fn push_numbers(out: &mut Pieces, numbers: &[u32]) -> Result<(), AllocError>
     ensures { OnOk result (octets_of out.new ≡ octets_of out.old ++ numbers_text numbers.now) }
 {
-    if let Some((first, further)) = numbers.split_first() {
-        out.push_number(u64::from(*first))?;
-        push_further_numbers(out, further)?;
+    match numbers.split_first() {
+        Some((first, further)) => {
+            out.push_number(u64::from(*first))?;
+            push_further_numbers(out, further)
+        }
+        None => Ok(()),
     }
-    Ok(())
 }
 
 /// Appends the names of header fields, each after a space.
@@ -97,8 +99,7 @@ fn push_names(out: &mut Pieces, names: &[FieldName]) -> Result<(), AllocError>
         out.push_name(first.as_slice())?;
         push_further_names(out, further)?;
     }
-    out.push_octets(b")")?;
-    Ok(())
+    out.push_octets(b")")
 }
 
 /// Appends the name of what a section has of a part, after a dot.
@@ -125,12 +126,14 @@ fn push_text_name(out: &mut Pieces, text: &PartText) -> Result<(), AllocError>
 fn push_origin(out: &mut Pieces, range: Option<Partial>) -> Result<(), AllocError>
     ensures { OnOk result (octets_of out.new ≡ octets_of out.old ++ origin_text (origin_of range)) }
 {
-    if let Some(range) = range {
-        out.push_octets(b"<")?;
-        out.push_number(range.offset)?;
-        out.push_octets(b">")?;
+    match range {
+        Some(range) => {
+            out.push_octets(b"<")?;
+            out.push_number(range.offset)?;
+            out.push_octets(b">")
+        }
+        None => Ok(()),
     }
-    Ok(())
 }
 
 /// Appends the name of the section.
@@ -141,8 +144,7 @@ fn push_name(out: &mut Pieces, section: &PartSection) -> Result<(), AllocError>
     push_numbers(out, section.numbers.as_slice())?;
     push_text_name(out, &section.text)?;
     out.push_octets(b"]")?;
-    push_origin(out, section.partial)?;
-    Ok(())
+    push_origin(out, section.partial)
 }
 
 /// Appends the octets as a literal.
@@ -152,8 +154,7 @@ fn push_literal(out: &mut Pieces, octets: &[u8]) -> Result<(), AllocError>
     out.push_octets(b"{")?;
     out.push_number(octets.len() as u64)?;
     out.push_octets(b"}\r\n")?;
-    out.push_octets(octets)?;
-    Ok(())
+    out.push_octets(octets)
 }
 
 /// Appends the octets in the range as a literal.
@@ -238,8 +239,7 @@ fn push_section_of(
     push_name(out, section)?;
     out.push_octets(b" ")?;
     let octets = octets_at(alloc, section, message)?;
-    push_found(alloc, out, section, octets)?;
-    Ok(())
+    push_found(alloc, out, section, octets)
 }
 
 /// Appends the section of a part of the message, whose pieces are copied if there are several.

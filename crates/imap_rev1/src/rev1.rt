@@ -17,7 +17,7 @@ use imap_rev1_frames::{Asked, Named, asked_by, named_by, rewritten_frame};
 use std::alloc::{AllocError, Global};
 
 /// IMAP4rev1 (RFC 3501), until the client enables IMAP4rev2.
-#[derive(Clone, Copy, Debug, PartialEq, Eq)]
+#[derive(Clone, Copy)]
 pub struct Rev1 {
     rev2: bool,
 }
@@ -32,7 +32,7 @@ impl Rev1 {
 }
 
 /// How the replies to a frame are told.
-#[derive(Debug, Drop)]
+#[derive(Drop)]
 pub struct Rules {
     /// The command in the frame.
     named: Named,

@@ -81,8 +81,7 @@ pub(crate) fn push_search(out: &mut Pieces, results: &SearchResults) -> Result<(
     out.push_octets(b"* SEARCH")?;
     push_set(out, &results.all)?;
     push_mod_seq(out, results.mod_seq)?;
-    out.push_octets(b"\r\n")?;
-    Ok(())
+    out.push_octets(b"\r\n")
 }
 
 pub(crate) fn push_recent(out: &mut Pieces) -> Result<(), AllocError>
@@ -168,6 +167,5 @@ pub(crate) fn push_status(
     out.push_name(mailbox)?;
     out.push_octets(b" ")?;
     push_items(out, asked, values)?;
-    out.push_octets(b"\r\n")?;
-    Ok(())
+    out.push_octets(b"\r\n")
 }

@@ -21,7 +21,7 @@ use std::alloc::{AllocError, Global};
 
 /// IMAP4rev1 (RFC 3501) with names of mailboxes in modified UTF-7 (section 5.1.3), until the client enables
 /// IMAP4rev2 or UTF8=ACCEPT (RFC 6855, section 3).
-#[derive(Clone, Copy, Debug, PartialEq, Eq)]
+#[derive(Clone, Copy)]
 pub struct Utf7Rev1 {
     rev1: Rev1,
     /// Names are in UTF-8.
@@ -42,7 +42,7 @@ impl Utf7Rev1 {
 }
 
 /// How the replies to a frame are told.
-#[derive(Debug, Drop)]
+#[derive(Drop)]
 pub struct NamedRules {
     rules: Rules,
     alloc: Global,
@@ -83,9 +83,10 @@ fn push_given(out: &mut Pieces, is_given: bool, word: &[u8]) -> Result<(), Alloc
 {
     if is_given {
         out.push_octets(b" ")?;
-        out.push_octets(word)?;
+        out.push_octets(word)
+    } else {
+        Ok(())
     }
-    Ok(())
 }
 
 /// Appends the line that says that the capabilities and UTF8=ACCEPT are enabled (RFC 5161, section 3.2).

@@ -13,7 +13,7 @@ use crate::part::{PartSection, part_for, part_in};
 use std::alloc::{AllocError, Global};
 
 /// A name under which a section, or what stands in it, is told in place of its own (RFC 3501, section 6.4.5).
-#[derive(Clone, Copy, Debug, PartialEq, Eq)]
+#[derive(Clone, Copy)]
 pub enum Label {
     /// RFC822, which is BODY[].
     Message,
@@ -32,7 +32,7 @@ pub enum Label {
 }
 
 /// An item that a command asks for.
-#[derive(Debug, Drop)]
+#[derive(Drop)]
 pub enum Asked {
     /// RECENT in STATUS, for which MESSAGES is asked.
     Recent,

@@ -83,10 +83,7 @@ fn read_fields(alloc: Global, octets: &Octets) -> Result<Option<Fields>, AllocEr
 fn section_of_message(alloc: Global, rest: &[u8]) -> Result<Octets, AllocError>
     ensures { IfOk result (λ octets. octets ≡ codes "BODY[" ++ rest.now) }
 {
-    let mut octets = Vec::new(alloc);
-    octets.extend_from_slice(b"BODY[")?;
-    octets.extend_from_slice(rest)?;
-    Octets::from_vec(octets)
+    Octets::from_vec(joined(alloc, b"BODY[", rest)?)
 }
 
 /// Returns the header fields of the part with these numbers for which the octets after them ask.

@@ -8,7 +8,7 @@ ghost use Rattle.imap_rev1_frames.specs.Named.{is_rewritten, has_items};
 use imap_lex::{Frame, TagChar, leading};
 
 /// A command that IMAP4rev1 has in another form.
-#[derive(Clone, Copy, Debug, PartialEq, Eq)]
+#[derive(Clone, Copy)]
 pub enum Named {
     /// RFC 3501, section 6.4.1.
     Check,

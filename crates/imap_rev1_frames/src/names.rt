@@ -2,7 +2,7 @@
 
 ghost use Rattle.std.specs.Prelude.{◌≡◌, ◌++◌, ◌∷◌, ◌||◌, [], IfOk, OnOk, map, option_map};
 ghost use Rattle.std.specs.List.{list_any};
-ghost use Rattle.imap_rev1_frames.specs.Names.{has_names, has_other, is_ampersand, name_for};
+ghost use Rattle.imap_rev1_frames.specs.Names.{has_names, has_other, name_for};
 ghost use Rattle.imap_rev1_frames.specs.Names.{other_command, other_name, pattern_names, patterns_for, renamed};
 ghost use Rattle.imap_rev1_frames.specs.Names.{renamed_frame, renamed_octets, request_has_names, request_renamed};
 ghost use Rattle.imap_rev1_frames.specs.Names.{single_name, single_renamed};
@@ -15,17 +15,11 @@ use imap_syntax::Items;
 use imap_utf7::decode;
 use std::alloc::{AllocError, Global};
 
-fn has_ampersand(name: &[u8]) -> bool
-    ensures { result ≡ list_any is_ampersand name.now }
-{
-    name.iter().any(|octet| *octet == b'&')
-}
-
 /// Returns the text of a name, if this is its spelling and another one than the text.
 fn other_name(alloc: Global, name: &[u8]) -> Result<Option<Octets>, AllocError>
     ensures { IfOk result (λ other. other ≡ other_name name.now) }
 {
-    if !has_ampersand(name) {
+    if !name.contains(&b'&') {
         return Ok(None);
     }
     match decode(alloc, name)? {

@@ -2,8 +2,8 @@
 
 ghost use Rattle.std.specs.Prelude.{◌≡◌, ◌++◌, IfOk, OnOk, None, bytes_eq, drop, option_copied, take};
 ghost use Rattle.std.specs.Cmp.Lexicographic.{pointwise};
-ghost use Rattle.std.specs.List.{list_all, prefix_len};
-ghost use Rattle.std.specs.Char.{is_ascii_alphabetic, is_ascii_digit};
+ghost use Rattle.std.specs.List.{prefix_len};
+ghost use Rattle.std.specs.Char.{is_ascii_alphabetic};
 ghost use Rattle.imap_rev1_frames.specs.Part.{after_bracket, are_numbers, count_in, end_in, ended, is_ended};
 ghost use Rattle.imap_rev1_frames.specs.Part.{is_number_octet, is_same_part, is_same_range, is_same_text, message_for};
 ghost use Rattle.imap_rev1_frames.specs.Part.{number_in, number_step, numbers_from, part_for, part_in, part_words};
@@ -14,13 +14,13 @@ use crate::fields::fields_in;
 use crate::named::{begins, is_word};
 use imap_lex::{OctetClass, leading};
 use imap_query::Partial;
-use imap_syntax::{Digit, FieldName, Items, NzNumber64, decimal};
+use imap_syntax::{Digit, FieldName, Items, NzNumber64, decimal, is_bare};
 use imap_values::Same;
 use std::alloc::{AllocError, Global};
 use std::marker::Model;
 
 /// What a section has of a part.
-#[derive(Debug, Drop)]
+#[derive(Drop)]
 pub enum PartText {
     /// The body of the part.
     Body,
@@ -37,7 +37,7 @@ pub enum PartText {
 }
 
 /// A section of a part of a message.
-#[derive(Debug, Drop)]
+#[derive(Drop)]
 pub struct PartSection {
     /// The numbers of the part, from the outermost on.
     pub numbers: Items<u32>,
@@ -195,17 +195,11 @@ fn text_in(dotted: bool, word: &[u8]) -> Option<PartText>
     }
 }
 
-fn are_digits(octets: &[u8]) -> bool
-    ensures { result ≡ list_all is_ascii_digit octets.now }
-{
-    octets.iter().all(|octet| octet.is_ascii_digit())
-}
-
 /// Returns the number that the octets are, if they are digits and it is below 2^63.
 fn number_in(digits: &[u8]) -> Option<u64>
     ensures { result ≡ number_in digits.now }
 {
-    if digits.is_empty() || !are_digits(digits) {
+    if !is_bare::<Digit>(digits) {
         return None;
     }
     match decimal(digits) {

@@ -14,7 +14,7 @@ use crate::named::{Named, is_word};
 use std::alloc::{AllocError, Global};
 
 /// How many parentheses are open.
-#[derive(Clone, Copy, Debug, PartialEq, Eq)]
+#[derive(Clone, Copy)]
 pub enum Depth {
     None,
     One,
@@ -23,7 +23,7 @@ pub enum Depth {
 }
 
 /// Where an octet stands (RFC 3501, section 9, `quoted`).
-#[derive(Clone, Copy, Debug, PartialEq, Eq)]
+#[derive(Clone, Copy)]
 pub enum Quoting {
     Outside,
     Inside,
@@ -32,7 +32,7 @@ pub enum Quoting {
 }
 
 /// A place in a command.
-#[derive(Clone, Copy, Debug, PartialEq, Eq)]
+#[derive(Clone, Copy)]
 pub struct Scan {
     named: Named,
     /// So many words or strings that follow are a tag or arguments, and stay.
