@@ -5,7 +5,7 @@ use crate::filling::filled;
 use imap_keeper::{KeepError, Keeper};
 use imap_sql_keeper::SqlKeeper;
 use imap_world::World;
-use sqlite::{Connection, Error, ErrorCode, FileStore, MemStore, Options};
+use sqlite::{Connection, Error, ErrorCode, FileStore, Options};
 use sqlite_disk::Files;
 use std::alloc::Global;
 
@@ -37,7 +37,7 @@ pub(crate) enum Opened<K: Drop> {
 /// Saves these mailboxes into a new database.
 pub(crate) fn new_keeper<K: TestKeeper>(alloc: Global, world: &World) -> Result<K, KeepError> {
     match K::open(alloc, &Image::empty(alloc), ENDLESS)? {
-        Opened::Keeper(keeper) => filled(alloc, Ok(keeper), world),
+        Opened::Keeper(keeper) => filled(alloc, keeper, world),
         Opened::Refused(error, left) => {
             drop(left);
             Err(error)
@@ -76,18 +76,6 @@ fn beside<A: Drop>(loaded: A, left: Result<Left, KeepError>) -> Result<(A, Left)
     match left {
         Ok(left) => Ok((loaded, left)),
         Err(error) => Err(error),
-    }
-}
-
-/// Makes a new database without files.
-pub(crate) fn open_in_memory(alloc: Global) -> Result<SqlKeeper<MemStore>, KeepError> {
-    let conn = Connection::open_in_memory(alloc)?;
-    match SqlKeeper::adopt(conn) {
-        Ok(keeper) => Ok(keeper),
-        Err((conn, error)) => {
-            drop(conn);
-            Err(error)
-        }
     }
 }
 

@@ -15,10 +15,9 @@ use std::alloc::{AllocError, Global};
 /// Saves the mailboxes of `world`, which are without messages, into the keeper, which has none, and returns it.
 pub(crate) fn filled<K: Keeper + Drop>(
     alloc: Global,
-    keeper: Result<K, KeepError>,
+    mut keeper: K,
     world: &World,
 ) -> Result<K, KeepError> {
-    let mut keeper = keeper?;
     match fill(alloc, &mut keeper, world) {
         Ok(()) => Ok(keeper),
         Err(error) => {

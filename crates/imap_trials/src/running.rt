@@ -1,13 +1,12 @@
 //! Scripts over databases.
 
 use crate::comparing_keeper::{ComparingKeeper, Comparison};
-use crate::database::{TestKeeper, new_keeper, open_in_memory};
+use crate::database::{TestKeeper, new_keeper};
 use crate::file::{Image, Left};
-use crate::filling::filled;
 use imap_keeper::{KeepError, Keeper};
 use imap_script::{Scenario, ScriptError};
 use imap_world::World;
-use std::alloc::Global;
+use std::alloc::{AllocError, Global};
 
 /// The transcript of a script over a keeper, how it ended, and what the comparisons found.
 #[derive(Drop)]
@@ -18,7 +17,7 @@ pub(crate) struct Found {
 }
 
 /// Runs the script over a keeper of the mailboxes at its start, which are `world`.
-pub(crate) fn run_compared<K: Keeper>(
+fn run_compared<K: Keeper>(
     alloc: Global,
     scenario: &Scenario,
     keeper: K,
@@ -35,33 +34,30 @@ pub(crate) fn run_compared<K: Keeper>(
     (keeper, found)
 }
 
-/// Runs the script over a database without files.
-pub(crate) fn run_in_database(
+/// Runs the script over a new database.
+pub(crate) fn run_in_database<K: TestKeeper>(
     alloc: Global,
     scenario: &Scenario,
     world: &World,
 ) -> Result<Found, KeepError> {
-    let world = world.try_copy(alloc)?;
-    run_filled(alloc, scenario, open_in_memory(alloc), world)
+    let keeper = new_keeper::<K>(alloc, world)?;
+    let (keeper, found) = run_copied(alloc, scenario, keeper, world.try_copy(alloc))?;
+    drop(keeper);
+    Ok(found)
 }
 
-/// Saves the mailboxes at the start of the script into the keeper, which has none, and runs it over this. The keeper
-/// is taken with the refusal to make it, since a proof that a database is dropped is short for any keeper alone.
-fn run_filled<K: Keeper + Drop>(
+/// Runs the script over the keeper of these mailboxes. Returns it, and what was found.
+pub(crate) fn run_copied<K: Keeper + Drop>(
     alloc: Global,
     scenario: &Scenario,
-    keeper: Result<K, KeepError>,
-    world: World,
-) -> Result<Found, KeepError> {
-    match filled(alloc, keeper, &world) {
-        Ok(keeper) => {
-            let (keeper, found) = run_compared(alloc, scenario, keeper, world);
+    keeper: K,
+    world: Result<World, AllocError>,
+) -> Result<(K, Found), KeepError> {
+    match world {
+        Ok(world) => Ok(run_compared(alloc, scenario, keeper, world)),
+        Err(_) => {
             drop(keeper);
-            Ok(found)
-        }
-        Err(error) => {
-            drop(world);
-            Err(error)
+            Err(KeepError::Memory)
         }
     }
 }
@@ -73,8 +69,8 @@ pub(crate) fn image_after<K: TestKeeper>(
     world: &World,
 ) -> Result<Image, KeepError> {
     let keeper = new_keeper::<K>(alloc, world)?;
-    let mut transcript = Vec::new(alloc);
-    let (keeper, _ended) = scenario.run(alloc, keeper, &mut transcript);
+    let (keeper, found) = run_copied(alloc, scenario, keeper, world.try_copy(alloc))?;
+    drop(found);
     image_of(keeper.close(alloc))
 }
 

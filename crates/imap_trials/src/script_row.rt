@@ -77,7 +77,7 @@ impl ScriptRow {
         let mut report = Vec::new(alloc);
         match Scenario::read(alloc, self.script.as_slice()) {
             Ok((scenario, world)) => {
-                let pushed = self.push_runs(alloc, &mut report, &scenario, &world);
+                let pushed = self.push_runs::<Fuse<Memory>>(alloc, &mut report, &scenario, &world);
                 drop(scenario);
                 drop(world);
                 pushed?;
@@ -87,8 +87,9 @@ impl ScriptRow {
         Ok(report)
     }
 
-    /// Appends the transcript, and the reports of all runs.
-    fn push_runs(
+    /// Appends the transcript, and the reports of all runs. The databases have files of the kind `F`: a proof over
+    /// `Fuse<Memory>` itself is long.
+    fn push_runs<F: TestFile>(
         &self,
         alloc: Global,
         report: &mut Vec<u8>,
@@ -96,13 +97,13 @@ impl ScriptRow {
         world: &World,
     ) -> Result<(), ScriptError> {
         if !self.stored.is_empty() {
-            return self.push_stored_by_file::<Fuse<Memory>>(alloc, report, scenario);
+            return self.push_stored::<DatabaseKeeper<F>>(alloc, report, scenario);
         }
         let transcript = run_in_memory(alloc, scenario, world)?;
         report.extend_from_slice(transcript.as_slice())?;
-        let found = run_in_database(alloc, scenario, world);
+        let found = run_in_database::<DatabaseKeeper<F>>(alloc, scenario, world);
         push_difference(alloc, report, found, transcript.as_slice())?;
-        self.push_reports_by_file::<Fuse<Memory>>(alloc, report, scenario, world)
+        self.push_reports::<DatabaseKeeper<F>>(alloc, report, scenario, world)
     }
 
     /// Appends the transcript over the database whose octets are given, and the reports of all runs over it.
@@ -148,16 +149,6 @@ impl ScriptRow {
         Ok(())
     }
 
-    /// Appends the same, over files of a kind.
-    fn push_stored_by_file<F: TestFile>(
-        &self,
-        alloc: Global,
-        report: &mut Vec<u8>,
-        scenario: &Scenario,
-    ) -> Result<(), ScriptError> {
-        self.push_stored::<DatabaseKeeper<F>>(alloc, report, scenario)
-    }
-
     /// Appends the reports of changes by SQL and of calls that failed.
     fn push_reports<K: TestKeeper>(
         &self,
@@ -177,17 +168,6 @@ impl ScriptRow {
             push_line(report, first_stop_report::<K>(alloc, scenario, world))?;
         }
         Ok(())
-    }
-
-    /// Appends the same, over files of a kind. Proofs over `Fuse<Memory>` itself are long.
-    fn push_reports_by_file<F: TestFile>(
-        &self,
-        alloc: Global,
-        report: &mut Vec<u8>,
-        scenario: &Scenario,
-        world: &World,
-    ) -> Result<(), ScriptError> {
-        self.push_reports::<DatabaseKeeper<F>>(alloc, report, scenario, world)
     }
 }
 

@@ -3,7 +3,7 @@
 use crate::database::{Opened, TestKeeper, load, load_world, new_keeper};
 use crate::file::{Calls, Image, Left};
 use crate::owned::both;
-use crate::running::{Found, image_after, image_of, run_compared};
+use crate::running::{Found, image_after, image_of, run_copied};
 use imap_keeper::KeepError;
 use imap_script::Scenario;
 use imap_world::World;
@@ -162,11 +162,7 @@ fn run_stopped<K: TestKeeper>(
     keeper: K,
     world: Result<World, AllocError>,
 ) -> Result<Outcome, KeepError> {
-    let Ok(world) = world else {
-        drop(keeper);
-        return Err(KeepError::Memory);
-    };
-    let (keeper, found) = run_compared(alloc, scenario, keeper, world);
+    let (keeper, found) = run_copied(alloc, scenario, keeper, world)?;
     let outcome = match keeper.close(alloc) {
         Ok(left) => {
             let outcome = outcome_of_run::<K>(alloc, &left, &found);

@@ -2,11 +2,11 @@
 
 use crate::database::{Opened, TestKeeper};
 use crate::file::{ENDLESS, Image};
-use crate::running::{Found, run_compared};
+use crate::running::{Found, run_copied};
 use imap_keeper::KeepError;
 use imap_script::{Scenario, ScriptError};
 use imap_world::World;
-use std::alloc::{AllocError, Global};
+use std::alloc::Global;
 
 /// Appends the octets of the line `octets HEX`, without its first word.
 pub(crate) fn push_digits(
@@ -39,26 +39,14 @@ pub(crate) fn run_stored<K: TestKeeper>(
     world: &World,
 ) -> Result<Found, KeepError> {
     match K::open(alloc, image, ENDLESS)? {
-        Opened::Keeper(keeper) => run_kept(alloc, scenario, keeper, world.try_copy(alloc)),
+        Opened::Keeper(keeper) => {
+            let (keeper, found) = run_copied(alloc, scenario, keeper, world.try_copy(alloc))?;
+            drop(keeper);
+            Ok(found)
+        }
         Opened::Refused(error, left) => {
             drop(left);
             Err(error)
         }
     }
-}
-
-/// Runs the script over the keeper of these mailboxes.
-fn run_kept<K: TestKeeper>(
-    alloc: Global,
-    scenario: &Scenario,
-    keeper: K,
-    world: Result<World, AllocError>,
-) -> Result<Found, KeepError> {
-    let Ok(world) = world else {
-        drop(keeper);
-        return Err(KeepError::Memory);
-    };
-    let (keeper, found) = run_compared(alloc, scenario, keeper, world);
-    drop(keeper);
-    Ok(found)
 }
