@@ -1,49 +1,19 @@
-//! A look at a store that nobody is served from.
+//! What a store holds, or why it can't be used.
 
-use crate::store::{FileKeeper, open};
 use imap_keeper::KeepError;
 use imap_maildir::KeptMailboxes;
-use imap_options::LogLevel;
 use imap_service::{ServiceError, StoreFault, count_messages, report_service_error};
 use imap_sql_keeper::{Finding, SqlKeeper};
 use imap_world::World;
 use sqlite::Alter;
 use std::alloc::Global;
-use std::fs;
-use std::io::ErrorKind;
 use std::process::ExitCode;
-use std::rt::Files;
 
 /// Why a store can't be used, and of what the row is that stands for nothing.
 pub(crate) type Fault = (ServiceError, Option<Finding>);
 
-/// Prints how much the store in the file holds. If it can't be used, tells standard error why, as where it is to be served,
-/// and of what the row is that stands for nothing. Returns the exit status: 0, 3 if standard output failed, and else that of
-/// the fault.
-pub fn check(rt: &HostRuntime, path: &str) -> ExitCode {
-    match open_present(rt, path) {
-        Ok(keeper) => check_keeper(rt, path, keeper),
-        Err(error) => report_service_error(rt, error),
-    }
-}
-
-/// Prints how much the keeper keeps, and ends it.
-fn check_keeper<R: AllocGlobal + Print + Eprint, S: Alter + Drop>(
-    rt: &R,
-    path: &str,
-    keeper: SqlKeeper<S>,
-) -> ExitCode {
-    match load(rt.alloc(), keeper) {
-        Ok(kept) => {
-            let status = report_store(rt, path, kept.world());
-            drop(kept);
-            status
-        }
-        Err(fault) => report_fault(rt, fault),
-    }
-}
-
-fn report_store<R: Print + Eprint>(rt: &R, path: &str, world: &World) -> ExitCode {
+/// Prints how much the store in the file holds.
+pub(crate) fn report_store<R: Print + Eprint>(rt: &R, path: &str, world: &World) -> ExitCode {
     let mailboxes = world.mailboxes().len();
     let messages = count_messages(world);
     match println!(rt; "{path}: {mailboxes} mailboxes, {messages} messages") {
@@ -60,26 +30,6 @@ pub(crate) fn report_fault(rt: &impl Eprint, fault: Fault) -> ExitCode {
         report_finding(rt, &finding);
     }
     status
-}
-
-/// Takes the database in the file over, which isn't made if it is missing.
-pub(crate) fn open_present(rt: &HostRuntime, path: &str) -> Result<FileKeeper, ServiceError> {
-    match missing(rt, path) {
-        Some(error) => Err(error),
-        None => open(rt, path, LogLevel::Errors),
-    }
-}
-
-/// Why a file isn't opened that isn't there: `open` would make it.
-fn missing(rt: &impl Files, path: &str) -> Option<ServiceError> {
-    match fs::metadata(rt, path) {
-        Ok(_) => None,
-        Err(error) => match error.kind() {
-            ErrorKind::NotFound => Some(ServiceError::Store(StoreFault::Missing)),
-            ErrorKind::OutOfMemory => Some(ServiceError::Memory),
-            _ => Some(ServiceError::Store(StoreFault::CannotOpen)),
-        },
-    }
 }
 
 /// Loads the mailboxes that the keeper keeps.

@@ -21,11 +21,15 @@ use std::random::RandomSource;
 const PAGES: usize = 500;
 
 /// A keeper in a file. Functions that let it go take a keeper over any store: the proof of one alone is long.
-pub type FileKeeper = SqlKeeper<FileStore<File>>;
+pub(crate) type FileKeeper = SqlKeeper<FileStore<File>>;
 
 /// Takes the database in the file over, which is made if it is missing. It and the files beside it can then be read
 /// and written by their owner alone. A log that an earlier run left is put back into the database.
-pub fn open(rt: &HostRuntime, path: &str, level: LogLevel) -> Result<FileKeeper, ServiceError> {
+pub(crate) fn open(
+    rt: &HostRuntime,
+    path: &str,
+    level: LogLevel,
+) -> Result<FileKeeper, ServiceError> {
     make_missing(rt, path)?;
     if report_unread(rt, level, path)? {
         put_log_back(connect(rt, path)?)?;
@@ -53,7 +57,7 @@ fn adopt<S: Alter + Drop>(
 }
 
 /// Ends the keeper with which serving ended so. If its rows stand for no mailboxes, one of them is named.
-pub fn end<S: Alter + Drop>(
+pub(crate) fn end<S: Alter + Drop>(
     alloc: Global,
     keeper: SqlKeeper<S>,
     error: ServiceError,

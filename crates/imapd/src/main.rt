@@ -8,8 +8,8 @@
 use imap_host::PARTS;
 use imap_options::{Task, read_command_line};
 use imap_script::{report_script_error, script};
-use imap_service::{report_misuse, report_service_error, report_version, run};
-use imap_store_file::{FileKeeper, check, dump_store, end, load_folder, open};
+use imap_service::{report_misuse, report_version};
+use imap_store_file::{StoreTask, perform, serve};
 use std::marker::Brand;
 use std::process::ExitCode;
 use std::sync::ledger::Blank;
@@ -18,30 +18,30 @@ use std::time::Instant;
 fn main(rt: HostRuntime) -> ExitCode {
     let since = Instant::now(&rt).ok();
     match read_command_line(&rt) {
-        Ok(Task::Check(database)) => check(&rt, database.as_str()),
-        Ok(Task::Dump { database, folder }) => dump_store(&rt, database.as_str(), folder.as_str()),
+        Ok(Task::Check(database)) => perform(&rt, database.as_str(), StoreTask::Check),
+        Ok(Task::Dump { database, folder }) => {
+            perform(&rt, database.as_str(), StoreTask::Dump(folder.as_str()))
+        }
         Ok(
             Task::Load {
                 database,
                 folder,
                 administrator,
             },
-        ) => load_folder(&rt, database.as_str(), folder.as_str(), &administrator),
+        ) => perform(
+            &rt,
+            database.as_str(),
+            StoreTask::Load(folder.as_str(), &administrator),
+        ),
         Ok(Task::Script) => match script(&rt, rt.stdin(), rt.stdout()) {
             Ok(()) => ExitCode::SUCCESS,
             Err(error) => report_script_error(&rt, &error),
         },
         Ok(Task::Version) => report_version(&rt),
-        Ok(Task::Serve { database, service }) => match open(&rt, database.as_str(), service.log) {
-            Ok(keeper) => {
-                let blank = Blank::new(PARTS);
-                let (keeper, error) = run::<FileKeeper, Brand, HostRuntime>(
-                    &rt, keeper, service, since, blank,
-                );
-                report_service_error(&rt, end(rt.alloc(), keeper, error))
-            }
-            Err(error) => report_service_error(&rt, error),
-        },
+        Ok(Task::Serve { database, service }) => {
+            let blank = Blank::new(PARTS);
+            serve::<Brand, HostRuntime>(&rt, &rt, &database, service, since, blank)
+        }
         Err(error) => report_misuse(&rt, &error),
     }
 }

@@ -1,4 +1,4 @@
 use Rattle.imapd.proofs.main.Given as goal
 
-abbrev pub ghosts-run : goal.ghosts-run
-ghosts-run g a = record { name = a.blank.name; parts = a.blank.parts }
+abbrev pub ghosts-serve : goal.ghosts-serve
+ghosts-serve g a = record { name = a.blank.name; parts = a.blank.parts }

@@ -1,0 +1,102 @@
+//! Tasks over a store that nobody is served from.
+
+use crate::checking::{load, report_fault, report_store};
+use crate::dumping::report_dump;
+use crate::loading::report_load;
+use crate::store::{FileKeeper, open, put_log_back};
+use crate::told_progress::ToldProgress;
+use imap_maildir::dump;
+use imap_names::UserName;
+use imap_options::LogLevel;
+use imap_service::{ServiceError, StoreFault, report_service_error};
+use imap_sql_keeper::SqlKeeper;
+use sqlite::FileStore;
+use sqlite_disk::Disk;
+use std::fs;
+use std::io::ErrorKind;
+use std::process::ExitCode;
+use std::rt::Files;
+
+/// A task of the program over a store that nobody is served from.
+#[derive(Clone, Copy)]
+pub enum StoreTask<'a> {
+    /// Prints how much the store holds.
+    Check,
+    /// Writes its mailboxes as folders of messages below this folder, which is made. Prints how many there are.
+    Dump(&'a str),
+    /// Adds the messages in a folder to its mailboxes, as this administrator. Prints how many there are. What was added
+    /// stays if the task fails later.
+    Load(&'a str, &'a UserName),
+}
+
+/// Does the task over the store in the file, which `Load` alone makes if it is missing. If the store can't be used, tells
+/// standard error why, as where it is to be served, and of what the row is that stands for nothing. Returns the exit
+/// status: 0, 3 if a file or a folder can't be made or read or standard output failed, 4 for want of memory, and 5 if the
+/// store can't be used.
+pub fn perform(rt: &HostRuntime, path: &str, task: StoreTask<'_>) -> ExitCode {
+    let progress = ToldProgress::new(rt, &rt.stderr());
+    match open_for(rt, path, task) {
+        Ok(keeper) => perform_over(rt, path, keeper, task, progress),
+        Err(error) => report_service_error(rt, error),
+    }
+}
+
+/// Takes the database in the file over.
+fn open_for(rt: &HostRuntime, path: &str, task: StoreTask<'_>) -> Result<FileKeeper, ServiceError> {
+    match task {
+        StoreTask::Check | StoreTask::Dump(_) => present(rt, path)?,
+        StoreTask::Load(..) => {}
+    }
+    open(rt, path, LogLevel::Errors)
+}
+
+/// Fails if the file isn't there: `open` would make it.
+fn present(rt: &impl Files, path: &str) -> Result<(), ServiceError> {
+    match fs::metadata(rt, path) {
+        Ok(_) => Ok(()),
+        Err(error) => Err(match error.kind() {
+            ErrorKind::NotFound => ServiceError::Store(StoreFault::Missing),
+            ErrorKind::OutOfMemory => ServiceError::Memory,
+            _ => ServiceError::Store(StoreFault::CannotOpen),
+        }),
+    }
+}
+
+/// Does the task over what the keeper keeps, and ends it. It takes any file, since the proof that a keeper in a file of
+/// the system is dropped is long.
+fn perform_over<R: Files + Print + Eprint + AllocGlobal + Clone + Drop, D: Disk + Drop>(
+    rt: &R,
+    path: &str,
+    keeper: SqlKeeper<FileStore<D>>,
+    task: StoreTask<'_>,
+    mut progress: ToldProgress<'_, R>,
+) -> ExitCode {
+    let mut kept = match load(rt.alloc(), keeper) {
+        Ok(kept) => kept,
+        Err(fault) => return report_fault(rt, fault),
+    };
+    match task {
+        StoreTask::Check => {
+            let status = report_store(rt, path, kept.world());
+            drop(kept);
+            status
+        }
+        StoreTask::Dump(folder) => {
+            let ended = dump(rt, kept.world(), folder, &mut progress);
+            progress.end();
+            let status = report_dump(rt, folder, ended);
+            drop(kept);
+            status
+        }
+        StoreTask::Load(folder, administrator) => {
+            let ended = imap_maildir::load(rt, &mut kept, administrator, folder, &mut progress);
+            progress.end();
+            report_load(
+                rt,
+                folder,
+                ended,
+                put_log_back(kept.into_keeper().release()),
+            )
+        }
+    }
+}
