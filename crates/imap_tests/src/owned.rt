@@ -54,3 +54,12 @@ pub(crate) fn second<A: Drop, B: Drop>(pair: (A, B)) -> B {
     let (_, second) = pair;
     second
 }
+
+/// Appends a text that was made.
+pub(crate) fn push_text(
+    text: &mut String,
+    piece: Result<String, AllocError>,
+) -> Result<(), AllocError> {
+    let piece = piece?;
+    text.push_str(piece.as_str())
+}

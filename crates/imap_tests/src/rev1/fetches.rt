@@ -55,8 +55,7 @@ fn push_sections(
     bodies: &[Body],
 ) -> Result<(), AllocError> {
     for body in bodies {
-        let section = fetched(alloc, *body)?;
-        push(sections, section)?;
+        push(sections, fetched(alloc, *body))?;
     }
     Ok(())
 }
