@@ -1,6 +1,6 @@
 //! A command that is to be answered.
 
-ghost use Rattle.std.specs.Prelude.{◌≡◌, IfOk};
+ghost use Rattle.std.specs.Prelude.{◌≡◌, ◌∷◌, [], IfOk};
 ghost use Rattle.std.specs.List.{AllByRecursion};
 ghost use Rattle.imap_names.specs.Showing.{shown};
 ghost use Rattle.imap_print.specs.Lines.{IsPlain, IsPrintable};
@@ -121,6 +121,14 @@ impl<'a> CommandContext<'a> {
         ensures { IfOk result (λ answer. answer ≡ specs.done_after untagged.items self.now.tag) }
     {
         self.carried_out(untagged, None, None)
+    }
+
+    /// The command was carried out, after this response.
+    pub fn done_after_line(&self, line: Response) -> Result<Answer, AllocError>
+        requires { IsPrintable line }
+        ensures { IfOk result (λ answer. answer ≡ specs.done_after (line ∷ []) self.now.tag) }
+    {
+        self.done_after(vec![in self.alloc; line]?)
     }
 
     /// The command is carried out by the effect and has no other response.

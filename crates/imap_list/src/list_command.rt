@@ -28,7 +28,7 @@ pub fn list_answer(
         return context.refuse(Refusal::Cannot);
     }
     if arguments.asks_for_root() {
-        return context.done_after(vec![in context.alloc(); Response::ListRoot]?);
+        return context.done_after_line(Response::ListRoot);
     }
     let items = arguments.status_items(context.alloc())?;
     listing_answer(context, arguments, items.as_slice())
@@ -172,5 +172,5 @@ fn status_of_text(
 pub fn namespace_answer(context: &CommandContext<'_>) -> Result<Answer, AllocError>
     ensures { IfOk result (λ answer. answer ≡ specs.namespace_answer context.now.tag) }
 {
-    context.done_after(vec![in context.alloc(); Response::Namespace]?)
+    context.done_after_line(Response::Namespace)
 }

@@ -39,7 +39,7 @@ fn status_of_name(
 {
     match status_line(context, name, items)? {
         Some(line) => {
-            let answer = context.done_after(vec![in context.alloc(); line]?)?;
+            let answer = context.done_after_line(line)?;
             Ok(answer.enabling(enabled_by(items)))
         }
         None => context.refuse(missing_right_refusal(context.view().rights(&name.as_ref()))),

@@ -162,7 +162,7 @@ fn search_readable(
         known_count(known),
     )?;
     let line = search_line(context, is_by_uid(arguments.numbering), results)?;
-    let answer = context.done_after(vec![in context.alloc(); line]?)?;
+    let answer = context.done_after_line(line)?;
     Ok(answer.enabling(EnabledCapabilities {
         condstore: uses_mod_seq,
         imap4rev2: false,

@@ -30,7 +30,7 @@ fn get_acl_of_name(context: &CommandContext<'_>, name: &Name) -> Result<Answer, 
         answer ≡ specs.get_acl_of_name context.now.view context.now.tag name.now) }
 {
     match context.view().acl(&name.as_ref()) {
-        Some(acl) => context.done_after(vec![in context.alloc(); acl_line(context, name, acl)?]?),
+        Some(acl) => context.done_after_line(acl_line(context, name, acl)?),
         None => context.refuse(missing_right_refusal(context.view().rights(&name.as_ref()))),
     }
 }

@@ -43,7 +43,7 @@ fn list_rights_of_name(
     match read_identifier(context.alloc(), text)? {
         Some(identifier) => {
             let line = list_rights_line(context, name, &identifier)?;
-            context.done_after(vec![in context.alloc(); line]?)
+            context.done_after_line(line)
         }
         None => context.refuse(Refusal::Cannot),
     }

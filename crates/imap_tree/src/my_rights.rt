@@ -33,7 +33,7 @@ fn my_rights_of_name(context: &CommandContext<'_>, name: &Name) -> Result<Answer
                 mailbox: context.shown(name)?,
                 rights: seen.rights(),
             };
-            context.done_after(vec![in context.alloc(); line]?)
+            context.done_after_line(line)
         }
         None => context.refuse(Refusal::NonExistent),
     }

@@ -12,13 +12,13 @@ use std::alloc::AllocError;
 pub(super) fn capability_answer(context: &CommandContext<'_>) -> Result<Answer, AllocError>
     ensures { IfOk result (λ answer. answer ≡ specs.capability_answer context.now.tag) }
 {
-    context.done_after(vec![in context.alloc(); Response::Capability]?)
+    context.done_after_line(Response::Capability)
 }
 
 pub(super) fn logout_answer(context: &CommandContext<'_>) -> Result<Answer, AllocError>
     ensures { IfOk result (λ answer. answer ≡ specs.logout_answer context.now.tag) }
 {
-    context.done_after(vec![in context.alloc(); Response::Bye(Farewell::LoggingOut)]?)
+    context.done_after_line(Response::Bye(Farewell::LoggingOut))
 }
 
 /// Answers ENABLE of words (RFC 9051, section 6.3.1) in a session with these capabilities enabled.
@@ -31,7 +31,7 @@ pub(super) fn enable_answer(
 {
     let named = named_by(words);
     let line = Response::Enabled(newly_enabled(named, enabled));
-    let answer = context.done_after(vec![in context.alloc(); line]?)?;
+    let answer = context.done_after_line(line)?;
     Ok(answer.enabling(EnabledCapabilities {
         condstore: named.condstore || named.qresync,
         imap4rev2: named.imap4rev2,
