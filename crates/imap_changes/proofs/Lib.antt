@@ -7,3 +7,9 @@ pub mod Taken
 pub mod Told
 pub mod ToldLeft
 pub mod Skipped
+pub mod Appended
+pub mod Asking
+pub mod CopiesTold
+pub mod Found
+pub mod Possible
+pub mod TransferFitting

@@ -2,9 +2,11 @@
 
 ghost use Rattle.std.specs.Prelude.{ℕ, List, Option};
 ghost use Rattle.imap_answer.specs.Alike.{AnswersAlike};
+ghost use Rattle.imap_changes.specs.CopyLaws.{CopiesAreAppended, MovesAddFirst};
 ghost use Rattle.imap_changes.specs.Expunge.{close_answer, expunge_answer};
 ghost use Rattle.imap_changes.specs.Laws.{ExpungesAll, ExpungesDeleted, SkippedMessagesStay, StoreTellsWhatItLeaves};
 ghost use Rattle.imap_changes.specs.Store.{StoreArguments, store_answer};
+ghost use Rattle.imap_changes.specs.Transfer.{TransferArguments, transfer_answer};
 ghost use Rattle.imap_session.specs.State.{SessionState};
 ghost use Rattle.imap_syntax.specs.declared.set.MessageSet.{MessageSet};
 
@@ -17,6 +19,8 @@ pub fn commands_are_alike()
         → AnswersAlike (λ view. store_answer view own tag arguments) }
     ensures close { (own : SessionState) (tag : List ℕ)
         → AnswersAlike (λ view. close_answer view own tag) }
+    ensures transfer { (own : SessionState) (tag : List ℕ) (arguments : TransferArguments)
+        → AnswersAlike (λ view. transfer_answer view own tag arguments) }
 {}
 
 /// EXPUNGE and UID EXPUNGE take messages with `\Deleted` that the session knows, and that the set names if there
@@ -35,4 +39,17 @@ pub fn stored_messages_are_told()
 /// A message with a mod-sequence greater than the number of UNCHANGEDSINCE is after STORE as it was before.
 pub fn skipped_messages_stay()
     ensures { SkippedMessagesStay }
+{}
+
+/// Copies stand after the messages that were there, in the order of the messages that are copied. They have the
+/// octets and internal dates of these, and the UIDs from UIDNEXT on. Octets, dates and UIDs of the messages that
+/// were there stay.
+pub fn copies_are_appended()
+    ensures { CopiesAreAppended }
+{}
+
+/// MOVE adds all copies before it expunges a message, also within one mailbox. Between two mailboxes it is one
+/// change of both.
+pub fn moves_add_first()
+    ensures { MovesAddFirst }
 {}

@@ -17,8 +17,8 @@ use Rattle.imap_commands.specs.declared.command.Command.TheVariants as command
 use Rattle.imap_changes.specs.Expunge.{close_answer, close_if_selected}
 use Rattle.imap_changes.proofs.Fitting as changes
 use Rattle.imap_changes.proofs.StoreFitting as storing
-use Rattle.imap_copies.proofs.Fitting as copies
-use Rattle.imap_copies.specs.declared.kind.TransferKind.TheVariants as transfer
+use Rattle.imap_changes.proofs.TransferFitting as copies
+use Rattle.imap_changes.specs.declared.transfer_kind.TransferKind.TheVariants as transfer
 use Rattle.imap_list.proofs.Fitting as list
 use Rattle.imap_messages.proofs.Fitting as messages
 use Rattle.imap_search.proofs.Fitting.{search_fits}

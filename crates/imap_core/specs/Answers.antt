@@ -11,9 +11,9 @@ use Rattle.imap_syntax.specs.declared.set.Numbering.{Numbering}
 use Rattle.imap_syntax.specs.Moments.{Moment}
 use Rattle.imap_changes.specs.Expunge.{expunge_answer}
 use Rattle.imap_changes.specs.Store.{store_answer}
-use Rattle.imap_copies.specs.declared.kind.TransferKind.{TransferKind}
-use Rattle.imap_copies.specs.declared.kind.TransferKind.TheVariants as kind
-use Rattle.imap_copies.specs.Transfer.{transfer_answer}
+use Rattle.imap_changes.specs.declared.transfer_kind.TransferKind.{TransferKind}
+use Rattle.imap_changes.specs.declared.transfer_kind.TransferKind.TheVariants as kind
+use Rattle.imap_changes.specs.Transfer.{transfer_answer}
 use Rattle.imap_messages.specs.Append.{append_answer}
 use Rattle.imap_messages.specs.Fetch.{fetch_answer}
 use Rattle.imap_print.specs.declared.response.Refusal.TheVariants.{Cannot}

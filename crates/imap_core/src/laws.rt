@@ -80,7 +80,6 @@ pub fn steps_are_alike()
     ensures { StepsAreAlike }
 {
     imap_changes::laws::commands_are_alike();
-    imap_copies::laws::commands_are_alike();
     imap_list::laws::commands_are_alike();
     imap_messages::laws::commands_are_alike();
     imap_messages::select_laws::commands_are_alike();

@@ -6,8 +6,10 @@ ghost use Rattle.imap_session.specs.State.{state_of};
 
 use super::session::{capability_answer, enable_answer};
 use imap_answer::{Answer, CommandContext};
-use imap_changes::{StoreArguments, expunge_answer, store_answer, uid_expunge_answer};
-use imap_copies::{TransferArguments, TransferKind, transfer_answer};
+use imap_changes::{
+    StoreArguments, TransferArguments, TransferKind, expunge_answer, store_answer, transfer_answer,
+    uid_expunge_answer,
+};
 use imap_grammar::Command;
 use imap_lex::Octets;
 use imap_list::{

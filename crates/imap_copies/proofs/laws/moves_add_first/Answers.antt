@@ -1,5 +1,0 @@
-use Rattle.imap_copies.proofs.Appended.{moves_first}
-use Rattle.imap_copies.proofs.laws.moves_add_first.Goals as goal
-
-pub returns : goal.returns
-returns c = moves_first

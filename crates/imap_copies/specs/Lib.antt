@@ -1,6 +1,0 @@
--- COPY and MOVE.
-pub mod Copies
-pub mod CopiedUids
-pub mod Finding
-pub mod Laws
-pub mod Transfer
