@@ -3,11 +3,9 @@
 use crate::commands::list::{ListReturn, Patterns, Selection};
 use crate::commands::select::SelectParameters;
 use crate::commands::store::StoreSpec;
-use crate::verb::verb_of;
 use imap_lex::Octets;
 use imap_query::{FetchItem, SearchKeys, SearchReturn, StatusItem};
 use imap_syntax::{Atom, DateTime, Flags, Items, MessageSet, Numbering, OneOrMore};
-use std::fmt;
 
 /// A command without its tag. Names of mailboxes, identifiers and rights are as the client sent them, without
 /// their quotes and escapes.
@@ -147,13 +145,4 @@ pub enum Command {
         messages: MessageSet,
         mailbox: Octets,
     },
-}
-
-/// Shows the name of the command alone, since its arguments may have a message of many megabytes.
-impl fmt::Debug for Command {
-    fn fmt<W: fmt::Write>(&self, f: &mut fmt::Formatter<W>) -> fmt::Result {
-        f.debug_struct("Command")
-            .field("verb", &verb_of(self))
-            .finish_non_exhaustive()
-    }
 }

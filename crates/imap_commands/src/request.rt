@@ -8,7 +8,7 @@ use imap_values::{Same, TryCopy, copy_two, same_two};
 use std::alloc::{AllocError, Global};
 
 /// The request that a frame of the stream makes.
-#[derive(Debug, Drop)]
+#[derive(Drop)]
 pub enum Request {
     Command { tag: Tag, body: Command },
     /// The frame is no command. `tag` is the tag with which the frame begins, a space or CRLF after it.

@@ -9,7 +9,7 @@ use imap_syntax::{Keyword, Numbering};
 use std::alloc::AllocError;
 
 /// The first word of a command.
-#[derive(Clone, Copy, Debug)]
+#[derive(Clone, Copy)]
 pub enum Verb {
     Append,
     Authenticate,

@@ -9,7 +9,7 @@ use imap_values::{Same, TryCopy};
 use std::alloc::{AllocError, Global};
 
 /// What a session does in one step.
-#[derive(Debug, Drop)]
+#[derive(Drop)]
 pub enum Act {
     /// The connection is made.
     Open,
@@ -49,7 +49,7 @@ impl Same for Act {
 }
 
 /// One act of one session.
-#[derive(Debug, Drop)]
+#[derive(Drop)]
 pub struct Step {
     pub who: SessionId,
     pub at: Moment,

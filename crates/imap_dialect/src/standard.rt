@@ -9,7 +9,7 @@ use imap_print::{Pieces, Response, print_line};
 use std::alloc::{AllocError, Global};
 
 /// Hands every frame on, and prints every reply.
-#[derive(Clone, Copy, Debug, PartialEq, Eq)]
+#[derive(Clone, Copy, PartialEq, Eq)]
 pub struct Standard;
 
 impl Dialect for Standard {

@@ -9,7 +9,7 @@ use imap_saving::SharedReplies;
 use imap_user_map::UserMap;
 
 /// An entry of the journal.
-#[derive(Debug, Drop)]
+#[derive(Drop)]
 pub struct Entry {
     pub step: Step,
     /// The number of the step among those of its session, from 1.
@@ -18,7 +18,7 @@ pub struct Entry {
 }
 
 /// What the session of a step is given of its entry.
-#[derive(Debug, Drop)]
+#[derive(Drop)]
 pub struct Receipt {
     /// The place of the entry in the journal, from 1. Entries before the base count.
     pub place: u64,

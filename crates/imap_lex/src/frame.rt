@@ -9,7 +9,7 @@ use std::alloc::{AllocError, Global};
 use std::mem;
 
 /// A part of the stream, or what it asks for. A framer returns them in the order of the stream.
-#[derive(Debug, Drop)]
+#[derive(Drop)]
 pub enum Frame {
     /// A command, with its literals and the CRLF that ends it.
     Whole(Octets),

@@ -14,7 +14,7 @@ use std::marker::Model;
 /// Cuts a stream into commands, in whatever pieces it comes.
 ///
 /// In contracts a framer is `awaiting` the rest of a command, of which some octets have come, or `hung_up`.
-#[derive(Debug, Drop)]
+#[derive(Drop)]
 pub struct Framer {
     max_octets: u64,
     held: Vec<u8>,

@@ -5,7 +5,7 @@ ghost use Rattle.imap_lex.specs.Mark.{LineTail, with_octet, with_octets, line_ma
 ghost use Rattle.imap_lex.specs.Held.{held_tail, held_mark};
 
 /// A literal that is to follow (RFC 9051, section 4.3; RFC 7888).
-#[derive(Clone, Copy, Debug)]
+#[derive(Clone, Copy)]
 pub struct LiteralMark {
     /// The number of octets that it announces. For a larger number it is `u128::MAX`,
     /// which is over any limit too.

@@ -10,7 +10,7 @@ use std::marker::Model;
 /// Octets of any number and any value, as in a string (RFC 9051, section 4.3).
 ///
 /// A copy or a part shares them.
-#[derive(Debug, Drop)]
+#[derive(Drop)]
 pub struct Octets(Bytes);
 
 impl Model for Octets {

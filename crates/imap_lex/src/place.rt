@@ -20,7 +20,7 @@ pub const MAX_COMMAND_OCTETS: usize = 8192;
 pub const MAX_UNASKED_OCTETS: u64 = 4096;
 
 /// The part of a command that comes next.
-#[derive(Clone, Copy, Debug)]
+#[derive(Clone, Copy)]
 pub(crate) enum Part {
     Line,
     /// A literal, with the number of its octets that are still to come: at least one.
@@ -42,7 +42,7 @@ impl Part {
 }
 
 /// The place in a command up to which it has come.
-#[derive(Clone, Copy, Debug)]
+#[derive(Clone, Copy)]
 pub(crate) struct Place {
     part: Part,
     /// The number of octets that have come outside literals.

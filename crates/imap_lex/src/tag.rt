@@ -15,7 +15,7 @@ use std::marker::Model;
 /// `tag`): one tag character or more.
 ///
 /// A copy shares the octets.
-#[derive(Debug, Drop)]
+#[derive(Drop)]
 pub struct Tag(Octets);
 
 impl Model for Tag {

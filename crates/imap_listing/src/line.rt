@@ -10,7 +10,7 @@ use imap_print::{Children, ListAttributes, Response};
 use std::alloc::AllocError;
 
 /// What a listing says of one name.
-#[derive(Debug, Drop)]
+#[derive(Drop)]
 pub struct Line {
     pub name: ShownName,
     /// Whether the user holds `l` on a mailbox of this name. If not, the line has `\NonExistent`.

@@ -15,7 +15,7 @@ use std::cmp::Ordering;
 use std::marker::Model;
 
 /// The text by which a user names a mailbox, or a level of the hierarchy. It has neither CR nor LF.
-#[derive(Debug, Drop)]
+#[derive(Drop)]
 pub struct ShownName(String);
 
 impl Model for ShownName {

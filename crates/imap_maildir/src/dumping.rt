@@ -20,7 +20,7 @@ const STRIDE: u64 = 1_000;
 const PARTS: &[&str] = &["cur", "new", "tmp"];
 
 /// How much was written.
-#[derive(Clone, Copy, Debug, PartialEq, Eq)]
+#[derive(Clone, Copy, PartialEq, Eq)]
 pub struct Dumped {
     pub mailboxes: usize,
     pub messages: u64,

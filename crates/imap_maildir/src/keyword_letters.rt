@@ -63,7 +63,7 @@ impl KeywordLetters {
 }
 
 /// A keyword and its letter.
-#[derive(Debug, Drop)]
+#[derive(Drop)]
 pub struct LetteredKeyword {
     pub letter: u8,
     pub word: Atom,

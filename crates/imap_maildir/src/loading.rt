@@ -18,7 +18,7 @@ use std::alloc::{AllocError, Global};
 use std::rt::Files;
 
 /// How much was read.
-#[derive(Clone, Copy, Debug, PartialEq, Eq)]
+#[derive(Clone, Copy, PartialEq, Eq)]
 pub struct Loaded {
     pub mailboxes: usize,
     /// How many messages were added.

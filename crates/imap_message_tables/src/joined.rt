@@ -4,7 +4,7 @@ use imap_lex::Octets;
 use imap_tables::StoredHead;
 
 /// A message with all that stands of it in the three tables.
-#[derive(Debug, Drop)]
+#[derive(Drop)]
 pub struct JoinedMessage {
     pub head: StoredHead,
     pub octets: Octets,

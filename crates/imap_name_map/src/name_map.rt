@@ -28,7 +28,7 @@ use std::marker::Model;
 /// A map from names. A look-up takes as many comparisons as the logarithm of its length.
 ///
 /// Contracts see the map, and as `spare` the number of names for which it has room.
-#[derive(Debug, Drop)]
+#[derive(Drop)]
 pub struct NameMap<V> {
     // In the order of the names.
     entries: Vec<(Name, V)>,

@@ -17,7 +17,7 @@ pub const MAX_PATH_OCTETS: usize = 255;
 pub const MAX_DEPTH: usize = 16;
 
 /// The tree that a name lies in.
-#[derive(Debug, Drop)]
+#[derive(Drop)]
 pub enum Tree {
     User(UserName),
     Shared,
@@ -72,7 +72,7 @@ impl Tree {
 /// NFC text without control characters. A first component that spells INBOX is in upper case, and in a
 /// user's tree it is neither `Other Users` nor `Shared`. Contracts see the list of its components, the
 /// deepest first, and last the root of its tree: the owner's name, or no octets. A copy shares the text.
-#[derive(Debug, Drop)]
+#[derive(Drop)]
 pub struct Name {
     pub(crate) tree: Tree,
     pub(crate) path: ArcStr,

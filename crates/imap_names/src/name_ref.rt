@@ -18,7 +18,7 @@ use std::sync::ArcStr;
 /// Names are in the order of their trees (the tree that all share first, then by owner), and in a tree in
 /// that of their components from the root, each by its octets. In this order a name and all names below it
 /// stand together.
-#[derive(Debug, Drop)]
+#[derive(Drop)]
 pub struct NameRef<'a> {
     root: &'a str,
     path: &'a str,

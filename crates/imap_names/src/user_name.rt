@@ -17,7 +17,7 @@ pub const MAX_USER_NAME_OCTETS: usize = 64;
 /// It has at least one octet and at most [`MAX_USER_NAME_OCTETS`]. `anyone`, and a text that begins with
 /// `-` or `group:`, is no user name: these mean other things in an ACL (RFC 4314). Contracts see its
 /// octets. A copy shares them.
-#[derive(Debug, Drop)]
+#[derive(Drop)]
 pub struct UserName {
     text: ArcStr,
 }

@@ -18,7 +18,7 @@ const OPTIONS: &[(&str, bool)] = &[
 ];
 
 /// A line that gives an option its value.
-#[derive(Clone, Copy, Debug)]
+#[derive(Clone, Copy)]
 struct ConfigLine<'a> {
     /// The first line of the file is line 1.
     number: usize,

@@ -1,7 +1,7 @@
 //! The dialects that clients are spoken to in.
 
 /// The dialect that clients are spoken to in.
-#[derive(Clone, Copy, Debug, PartialEq, Eq)]
+#[derive(Clone, Copy, PartialEq, Eq)]
 pub enum DialectName {
     /// The server's own, IMAP4rev2 (RFC 9051).
     Rev2,

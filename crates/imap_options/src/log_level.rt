@@ -1,7 +1,7 @@
 //! Which lines standard error is told.
 
 /// Which lines are said.
-#[derive(Clone, Copy, Debug, PartialEq, Eq)]
+#[derive(Clone, Copy, PartialEq, Eq)]
 pub enum LogLevel {
     Off,
     /// The start, saves that the store refuses, and the first that it takes again.

@@ -6,7 +6,7 @@ use imap_values::{Same, TryCopy};
 use std::alloc::{AllocError, Global};
 
 /// An identifier and its rights (RFC 4314, section 3.6).
-#[derive(Debug, Drop)]
+#[derive(Drop)]
 pub struct AclEntry {
     pub identifier: Octets,
     pub rights: Rights,

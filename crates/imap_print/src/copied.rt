@@ -5,7 +5,7 @@ use imap_values::{Same, TryCopy, copy_two};
 use std::alloc::{AllocError, Global};
 
 /// The UIDs of messages that were copied or moved (RFC 9051, section 7.1, of COPYUID).
-#[derive(Debug, Drop)]
+#[derive(Drop)]
 pub struct CopiedUids {
     /// The UIDVALIDITY of the target.
     pub validity: u32,

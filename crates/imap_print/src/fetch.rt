@@ -8,7 +8,7 @@ use imap_values::{Same, TryCopy, copy_two, same_five};
 use std::alloc::{AllocError, Global};
 
 /// The octets of a part of a message.
-#[derive(Debug, Drop)]
+#[derive(Drop)]
 pub struct FetchedSection {
     pub section: Section,
     /// The offset of the first octet in the section, if a part of it was requested.
@@ -17,7 +17,7 @@ pub struct FetchedSection {
 }
 
 /// The items of a message that are sent (RFC 9051, section 7.5.2).
-#[derive(Debug, Drop)]
+#[derive(Drop)]
 pub struct FetchedItems {
     pub uid: Option<u32>,
     pub flags: Option<FlagSet>,

@@ -5,7 +5,7 @@ use imap_values::{Same, TryCopy, same_five};
 use std::alloc::{AllocError, Global};
 
 /// Flags of RFC 9051, section 2.3.2, and keywords.
-#[derive(Debug, Drop)]
+#[derive(Drop)]
 pub struct FlagSet {
     pub answered: bool,
     pub deleted: bool,

@@ -3,7 +3,7 @@
 use imap_values::Same;
 
 /// Whether there are names below a name.
-#[derive(Clone, Copy, Debug, PartialEq, Eq)]
+#[derive(Clone, Copy, PartialEq, Eq)]
 pub enum Children {
     /// The attribute is left out.
     Omitted,
@@ -12,7 +12,7 @@ pub enum Children {
 }
 
 /// The attributes of a mailbox name (RFC 9051, section 7.3.1).
-#[derive(Clone, Copy, Debug, PartialEq, Eq)]
+#[derive(Clone, Copy, PartialEq, Eq)]
 pub struct ListAttributes {
     pub non_existent: bool,
     pub children: Children,

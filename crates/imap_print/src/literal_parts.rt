@@ -13,7 +13,7 @@ use std::marker::Model;
 /// The octets of a literal (RFC 9051, section 4.3) in parts, one after another: fewer than 2^64 together.
 ///
 /// A copy shares the octets.
-#[derive(Debug, Drop)]
+#[derive(Drop)]
 pub struct LiteralParts {
     parts: Items<Octets>,
     len: u64,

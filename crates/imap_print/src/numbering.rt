@@ -11,7 +11,7 @@ use std::marker::Model;
 ///
 /// It is not empty. Its numbers begin at 1 or above, and each is greater than the one before. Contracts see
 /// their list.
-#[derive(Debug, Drop)]
+#[derive(Drop)]
 pub struct NumberSet {
     numbers: Vec<u32>,
 }

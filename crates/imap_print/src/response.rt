@@ -14,7 +14,7 @@ use imap_rights::Rights;
 use imap_syntax::{Items, Keywords};
 
 /// One line to a client (RFC 9051, section 7). A mailbox is named as the client's user sees it.
-#[derive(Debug, Drop)]
+#[derive(Drop)]
 pub enum Response {
     /// The first line of a session, whose user is known from the connection (section 7.1.4).
     Greeting,
@@ -115,7 +115,7 @@ pub enum Response {
 }
 
 /// The response code of a command that was carried out (RFC 9051, section 7.1, and RFC 7162).
-#[derive(Debug, Drop)]
+#[derive(Drop)]
 pub enum Code {
     /// The mailbox is selected, and may be changed.
     ReadWrite,
@@ -132,7 +132,7 @@ pub enum Code {
 }
 
 /// Why a session ends.
-#[derive(Clone, Copy, Debug, PartialEq, Eq)]
+#[derive(Clone, Copy, PartialEq, Eq)]
 pub enum Farewell {
     /// The client logs out.
     LoggingOut,
@@ -145,7 +145,7 @@ pub enum Farewell {
 }
 
 /// Why a command is not carried out, by the response codes of RFC 5530.
-#[derive(Clone, Copy, Debug, PartialEq, Eq)]
+#[derive(Clone, Copy, PartialEq, Eq)]
 pub enum Refusal {
     /// The user sees no such mailbox.
     NonExistent,

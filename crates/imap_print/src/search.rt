@@ -5,7 +5,7 @@ use imap_values::{Same, TryCopy, same_five};
 use std::alloc::{AllocError, Global};
 
 /// `search-return-data` of RFC 9051, section 9, and MODSEQ of RFC 7162, section 3.1.5.
-#[derive(Debug, Drop)]
+#[derive(Drop)]
 pub struct SearchResults {
     /// The lowest number that was found.
     pub min: Option<u32>,

@@ -5,7 +5,7 @@ use imap_values::{Same, TryCopy};
 use std::alloc::{AllocError, Global};
 
 /// `status-att-val` of RFC 9051, section 9.
-#[derive(Clone, Copy, Debug, PartialEq, Eq)]
+#[derive(Clone, Copy, PartialEq, Eq)]
 pub struct StatusValue {
     pub item: StatusItem,
     pub value: u64,

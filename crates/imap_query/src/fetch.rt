@@ -5,14 +5,14 @@ use imap_values::{Same, TryCopy};
 use std::alloc::{AllocError, Global};
 
 /// A range of octets: at most `count` octets from `offset`.
-#[derive(Clone, Copy, Debug, PartialEq, Eq)]
+#[derive(Clone, Copy, PartialEq, Eq)]
 pub struct Partial {
     pub offset: u64,
     pub count: NzNumber64,
 }
 
 /// A part of the message (RFC 9051, section 9, `section-msgtext`).
-#[derive(Debug, Drop)]
+#[derive(Drop)]
 pub enum Section {
     Whole,
     Header,
@@ -24,7 +24,7 @@ pub enum Section {
 }
 
 /// A section of the message, or a range of its octets (RFC 9051, section 6.4.5.1).
-#[derive(Debug, Drop)]
+#[derive(Drop)]
 pub struct BodySection {
     /// Whether `\Seen` is left as it is.
     pub peek: bool,
@@ -33,7 +33,7 @@ pub struct BodySection {
 }
 
 /// An item of FETCH (RFC 9051, section 6.4.5).
-#[derive(Debug, Drop)]
+#[derive(Drop)]
 pub enum FetchItem {
     Uid,
     Flags,

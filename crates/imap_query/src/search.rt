@@ -10,7 +10,7 @@ use std::alloc::{AllocError, Global};
 use std::marker::Model;
 
 /// A result option: what the response says of the messages found.
-#[derive(Clone, Copy, Debug, PartialEq, Eq)]
+#[derive(Clone, Copy, PartialEq, Eq)]
 pub enum SearchReturn {
     Min,
     Max,
@@ -20,7 +20,7 @@ pub enum SearchReturn {
 }
 
 /// The part of a message that is searched for a text.
-#[derive(Clone, Copy, Debug, PartialEq, Eq)]
+#[derive(Clone, Copy, PartialEq, Eq)]
 pub enum SearchIn {
     Bcc,
     Body,
@@ -32,7 +32,7 @@ pub enum SearchIn {
 }
 
 /// The relation of the internal date to the date of the key.
-#[derive(Clone, Copy, Debug, PartialEq, Eq)]
+#[derive(Clone, Copy, PartialEq, Eq)]
 pub enum SearchDate {
     Before,
     On,
@@ -64,7 +64,7 @@ impl Same for SearchDate {
 }
 
 /// A key of SEARCH (RFC 9051, section 6.4.4).
-#[derive(Debug, Drop)]
+#[derive(Drop)]
 pub enum SearchKey {
     All,
     /// Whether the flag has to be set, or not set.
@@ -123,7 +123,7 @@ impl Keyword for SearchReturn {
 /// One key or more, each of which has to match.
 ///
 /// In contracts the keys are their tokens, each operator before its operands.
-#[derive(Debug, Drop)]
+#[derive(Drop)]
 pub struct SearchKeys(Vec<SearchKey>);
 
 impl Model for SearchKeys {

@@ -6,7 +6,7 @@ use imap_values::{Same, TryCopy};
 use std::alloc::{AllocError, Global};
 
 /// An item of STATUS.
-#[derive(Clone, Copy, Debug, PartialEq, Eq)]
+#[derive(Clone, Copy, PartialEq, Eq)]
 pub enum StatusItem {
     Messages,
     UidNext,

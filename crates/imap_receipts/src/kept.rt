@@ -8,7 +8,7 @@ use imap_hall::{Receipt, Step};
 use std::collections::VecDeque;
 
 /// A receipt with its step.
-#[derive(Debug, Drop)]
+#[derive(Drop)]
 pub struct Kept {
     pub step: Step,
     pub receipt: Receipt,

@@ -9,7 +9,7 @@ use imap_hall::{Receipt, Step};
 use std::collections::VecDeque;
 
 /// The receipt of a step, twice, and where the journal's base is.
-#[derive(Debug, Drop)]
+#[derive(Drop)]
 pub struct ReceiptPair {
     pub first: Receipt,
     pub second: Receipt,

@@ -29,14 +29,14 @@ pub const MAX_ENTRIES: usize = 128;
 ///
 /// It has at most [`MAX_ENTRIES`] entries, each with one of the eleven rights or more.
 /// Contracts see a finite map from the octets of identifiers to sets of rights.
-#[derive(Drop, Debug)]
+#[derive(Drop)]
 pub struct Acl {
     // In the order of their identifiers. Each look-up walks through them, since they are few.
     entries: Vec<Entry>,
 }
 
 /// An identifier with its rights.
-#[derive(Drop, Debug)]
+#[derive(Drop)]
 pub struct Entry {
     pub identifier: Identifier,
     pub rights: Rights,

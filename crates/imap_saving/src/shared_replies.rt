@@ -9,7 +9,7 @@ use std::marker::Model;
 use std::sync::Arc;
 
 /// The replies to one step. A copy shares them.
-#[derive(Debug, Drop)]
+#[derive(Drop)]
 pub struct SharedReplies(Arc<Items<Response>>);
 
 impl Model for SharedReplies {

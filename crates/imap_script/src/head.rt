@@ -16,7 +16,7 @@ use std::alloc::{AllocError, Global};
 use std::collections::HashSet;
 
 /// The first word of a head line.
-#[derive(Clone, Copy, Debug, PartialEq, Eq)]
+#[derive(Clone, Copy, PartialEq, Eq)]
 pub(crate) enum HeadWord {
     Admin,
     User,

@@ -8,7 +8,7 @@ use imap_values::beside;
 use std::alloc::{AllocError, Global};
 
 /// What happens to a session.
-#[derive(Debug, Drop)]
+#[derive(Drop)]
 pub(crate) enum Event {
     Open,
     Poll,
@@ -18,7 +18,7 @@ pub(crate) enum Event {
 }
 
 /// A step line.
-#[derive(Debug, Drop)]
+#[derive(Drop)]
 pub(crate) struct ScriptStep {
     pub(crate) who: SessionId,
     /// The session as the transcript names it, as `ann.1`.

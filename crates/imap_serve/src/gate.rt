@@ -19,7 +19,7 @@ pub trait Gate {
 }
 
 /// Holds nothing back.
-#[derive(Clone, Copy, Debug)]
+#[derive(Clone, Copy)]
 pub struct OpenGate;
 
 impl Gate for OpenGate {

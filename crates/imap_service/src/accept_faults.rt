@@ -14,7 +14,7 @@ const PAUSES: (u64, u64) = (10, 1000);
 const WANTS: [i32; 3] = [23, 24, 105];
 
 /// Accepts that failed in a row.
-#[derive(Clone, Copy, Debug)]
+#[derive(Clone, Copy)]
 pub struct AcceptFaults {
     count: u32,
     millis: u64,

@@ -7,7 +7,7 @@
 const VERSION: &[u8] = b" HTTP/1.";
 
 /// Where the first line of a connection stands.
-#[derive(Clone, Copy, Debug, PartialEq, Eq)]
+#[derive(Clone, Copy, PartialEq, Eq)]
 enum Place {
     /// In the method: capitals, of which there was at least one if the flag is set.
     Method(bool),
@@ -21,7 +21,7 @@ enum Place {
 
 /// Looks whether the first line of a connection is an HTTP request line (RFC 9112, section 3): a method in capitals,
 /// a path or `*`, and ` HTTP/1.`, with single spaces between them.
-#[derive(Clone, Copy, Debug, PartialEq, Eq)]
+#[derive(Clone, Copy, PartialEq, Eq)]
 pub struct RequestLine {
     place: Place,
 }

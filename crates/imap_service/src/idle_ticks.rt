@@ -9,7 +9,7 @@ pub const TICKS_PER_SECOND: u64 = 32;
 /// Counts the reads that bring nothing, which are the ticks of an idling session. Each second has the same number
 /// of them, however often the session's worker is woken: a wake ends a read at once and is a tick, the end of the
 /// second is one, and the rest follow at once after it.
-#[derive(Debug, Drop)]
+#[derive(Drop)]
 pub struct IdleTicks {
     /// How many wakes may still be ticks of this second.
     spare: u64,

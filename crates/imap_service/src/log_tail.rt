@@ -26,14 +26,14 @@ const MAGIC: (u32, u32) = (0x377f_0682, 0x377f_0683);
 const PAGES: (u32, u32) = (512, 65_536);
 
 /// The running checksum of a log.
-#[derive(Clone, Copy, Debug, PartialEq, Eq)]
+#[derive(Clone, Copy, PartialEq, Eq)]
 struct Sum {
     first: u32,
     second: u32,
 }
 
 /// What the header of a log says.
-#[derive(Clone, Copy, Debug)]
+#[derive(Clone, Copy)]
 struct Log {
     is_big_endian: bool,
     page: u32,
@@ -42,7 +42,7 @@ struct Log {
 }
 
 /// How far a log was looked at, in octets.
-#[derive(Clone, Copy, Debug)]
+#[derive(Clone, Copy)]
 struct Walk {
     /// All before this.
     at: u64,
@@ -81,7 +81,7 @@ pub fn report_unread<R: Files + Eprint + AllocGlobal>(
 }
 
 /// What a log holds, in octets.
-#[derive(Clone, Copy, Debug, PartialEq, Eq)]
+#[derive(Clone, Copy, PartialEq, Eq)]
 pub struct LogLook {
     pub length: u64,
     /// Those of frames that aren't read when the database is opened.

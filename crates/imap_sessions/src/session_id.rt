@@ -7,7 +7,7 @@ use std::alloc::AllocError;
 use std::marker::Model;
 
 /// The number of a session, from 1. Each user's sessions have numbers of their own.
-#[derive(Clone, Copy, Debug, PartialEq, Eq)]
+#[derive(Clone, Copy, PartialEq, Eq)]
 pub struct SessionNumber {
     number: u32,
 }
@@ -45,7 +45,7 @@ impl SessionNumber {
 }
 
 /// A session of a user.
-#[derive(Debug, Drop)]
+#[derive(Drop)]
 pub struct SessionId {
     pub user: UserName,
     pub number: SessionNumber,

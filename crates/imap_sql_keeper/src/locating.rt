@@ -7,7 +7,7 @@ use sqlite::{Alter, Connection, params};
 use std::alloc::Global;
 
 /// A row that stands for nothing, and of what it is, as far as its store says so.
-#[derive(Debug, Drop)]
+#[derive(Drop)]
 pub struct Finding {
     pub damage: Damage,
     /// The tree and the path of its mailbox, as the tables have them.

@@ -20,7 +20,7 @@ use std::marker::Model;
 /// A word of atom characters, one or more (RFC 9051, section 9, `atom`), as of a keyword.
 ///
 /// A copy shares the octets.
-#[derive(Debug, Drop)]
+#[derive(Drop)]
 pub struct Atom(Octets);
 
 impl Model for Atom {

@@ -21,7 +21,7 @@ const SECONDS_IN_A_DAY: u64 = 86_400;
 const MAX_DAY: u64 = 2_932_896;
 
 /// A day of the calendar, in a year of at most four digits.
-#[derive(Clone, Copy, Debug, PartialEq, Eq)]
+#[derive(Clone, Copy, PartialEq, Eq)]
 pub struct Date {
     pub(crate) year: u16,
     pub(crate) month: Month,
@@ -120,7 +120,7 @@ impl Same for Date {
 }
 
 /// How far local time is from UTC: less than a day.
-#[derive(Clone, Copy, Debug, PartialEq, Eq)]
+#[derive(Clone, Copy, PartialEq, Eq)]
 pub struct Zone {
     pub(crate) west: bool,
     pub(crate) hours: u8,
@@ -182,7 +182,7 @@ impl Zone {
 }
 
 /// A moment as a client writes it.
-#[derive(Clone, Copy, Debug, PartialEq, Eq)]
+#[derive(Clone, Copy, PartialEq, Eq)]
 pub struct DateTime {
     pub(crate) date: Date,
     pub(crate) hour: u8,

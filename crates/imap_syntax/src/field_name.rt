@@ -17,7 +17,7 @@ use std::marker::Model;
 /// section 9, `header-fld-name`).
 ///
 /// A copy shares the octets.
-#[derive(Debug, Drop)]
+#[derive(Drop)]
 pub struct FieldName(Octets);
 
 impl Model for FieldName {

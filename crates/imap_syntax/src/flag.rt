@@ -15,7 +15,7 @@ use imap_values::{Same, TryCopy};
 use std::alloc::{AllocError, Global};
 
 /// A flag of a command. The five of RFC 9051, section 2.3.2 are read in any case.
-#[derive(Debug, Drop)]
+#[derive(Drop)]
 pub enum Flag {
     Answered,
     Deleted,

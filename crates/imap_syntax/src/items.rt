@@ -7,7 +7,7 @@ use std::alloc::{AllocError, Global};
 use std::marker::Model;
 
 /// Values in the order of the command.
-#[derive(Debug, Drop)]
+#[derive(Drop)]
 pub struct Items<T>(Vec<T>);
 
 impl<T> Model for Items<T> {

@@ -18,7 +18,7 @@ use std::sync::Arc;
 /// A set of keywords (RFC 9051, section 2.3.2), in the order of their octets.
 ///
 /// Keywords are compared without ASCII case, and kept in lower case. A copy shares them and takes no memory.
-#[derive(Debug, Drop)]
+#[derive(Drop)]
 pub struct Keywords(Option<Arc<Vec<Atom>>>);
 
 impl Model for Keywords {

@@ -7,7 +7,7 @@ use crate::cursor::Keyword;
 use crate::lexical::WordChar;
 
 /// A month of the year.
-#[derive(Clone, Copy, Debug, PartialEq, Eq)]
+#[derive(Clone, Copy, PartialEq, Eq)]
 pub enum Month {
     Jan,
     Feb,

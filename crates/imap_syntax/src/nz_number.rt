@@ -7,7 +7,7 @@ use crate::write_values::mod_sequence_fits;
 use std::marker::Model;
 
 /// A number from 1 to 2^32 - 1 (RFC 9051, section 9, `nz-number`), as that of a message.
-#[derive(Clone, Copy, Debug, PartialEq, Eq)]
+#[derive(Clone, Copy, PartialEq, Eq)]
 pub struct NzNumber {
     number: u32,
 }
@@ -54,7 +54,7 @@ impl NzNumber {
 }
 
 /// A number from 1 to 2^63 - 1 (RFC 9051, section 9, `nz-number64`).
-#[derive(Clone, Copy, Debug, PartialEq, Eq)]
+#[derive(Clone, Copy, PartialEq, Eq)]
 pub struct NzNumber64 {
     number: u64,
 }

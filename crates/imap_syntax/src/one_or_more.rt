@@ -8,7 +8,7 @@ use std::alloc::{AllocError, Global};
 use std::marker::Model;
 
 /// One value or more, in the order of the command.
-#[derive(Debug, Drop)]
+#[derive(Drop)]
 pub struct OneOrMore<T>(Items<T>);
 
 impl<T> Model for OneOrMore<T> {

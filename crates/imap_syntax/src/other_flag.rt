@@ -13,7 +13,7 @@ use std::marker::Model;
 /// in any ASCII case.
 ///
 /// A copy shares the octets.
-#[derive(Debug, Drop)]
+#[derive(Drop)]
 pub struct OtherFlag(Atom);
 
 impl Model for OtherFlag {

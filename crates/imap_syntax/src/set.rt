@@ -12,14 +12,14 @@ use imap_values::{Same, TryCopy};
 use std::alloc::{AllocError, Global};
 
 /// The number or UID of a message, or `*` for the greatest in the mailbox.
-#[derive(Clone, Copy, Debug, PartialEq, Eq)]
+#[derive(Clone, Copy, PartialEq, Eq)]
 pub enum SeqNumber {
     Number(NzNumber),
     Last,
 }
 
 /// The two ends of a range, in the order of the command. A single number is both ends.
-#[derive(Clone, Copy, Debug, PartialEq, Eq)]
+#[derive(Clone, Copy, PartialEq, Eq)]
 pub struct SeqRange {
     pub first: SeqNumber,
     pub last: SeqNumber,
@@ -29,7 +29,7 @@ pub struct SeqRange {
 pub type SeqSet = OneOrMore<SeqRange>;
 
 /// The messages of a command.
-#[derive(Debug, Drop)]
+#[derive(Drop)]
 pub enum MessageSet {
     /// `$`: the result that a SEARCH has saved.
     Saved,
@@ -37,7 +37,7 @@ pub enum MessageSet {
 }
 
 /// Whether the numbers of a set are message numbers or UIDs.
-#[derive(Clone, Copy, Debug, PartialEq, Eq)]
+#[derive(Clone, Copy, PartialEq, Eq)]
 pub enum Numbering {
     Sequence,
     Uid,

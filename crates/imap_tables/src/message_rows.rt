@@ -8,7 +8,7 @@ use imap_lex::Octets;
 use sqlite::{Error, Row};
 
 /// A message that is there, without its octets and keywords.
-#[derive(Debug, Drop)]
+#[derive(Drop)]
 pub struct StoredHead {
     pub rowid: i64,
     pub mailbox: i64,
@@ -20,7 +20,7 @@ pub struct StoredHead {
 }
 
 /// The octets of a message.
-#[derive(Debug, Drop)]
+#[derive(Drop)]
 pub struct StoredBody {
     pub rowid: i64,
     pub mailbox: i64,
@@ -29,7 +29,7 @@ pub struct StoredBody {
 }
 
 /// A keyword of a message.
-#[derive(Debug, Drop)]
+#[derive(Drop)]
 pub struct StoredKeyword {
     pub rowid: i64,
     pub mailbox: i64,

@@ -264,20 +264,9 @@ fn too_big(alloc: Global) -> Result<Request, AllocError> {
     Ok(Request::TooBig { tag })
 }
 
-/// What `Debug` says of the frame's request.
-fn debug_of(alloc: Global, frame: &[u8]) -> Result<Vec<u8>, AllocError> {
-    let request = read(alloc, frame)?;
-    let text = format!(in alloc; "{request:?}");
-    drop(request);
-    Ok(text?.into_bytes())
-}
-
-/// No frame spells a literal that is too big.
 #[test]
-fn requests_are_shown(rt: HostRuntime) {
+fn no_frame_spells_a_literal_that_is_too_big(rt: HostRuntime) {
     expect(&rt, written_of(rt.alloc(), too_big(rt.alloc())), b"");
-    let wanted = b"Command { tag: Tag(Octets(b\"a1\")), body: Command { verb: GetAcl, .. } }";
-    expect(&rt, debug_of(rt.alloc(), b"a1 GETACL INBOX\r\n"), wanted);
 }
 
 /// A front, a middle, how often the middle comes, and a back.

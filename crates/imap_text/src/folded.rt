@@ -12,7 +12,7 @@ use std::marker::Model;
 use unicode_normalization::to_nfc;
 
 /// A text as SEARCH compares it. In contracts it is its UTF-8.
-#[derive(Debug, Drop)]
+#[derive(Drop)]
 pub struct Folded(Vec<u8>);
 
 impl Model for Folded {
@@ -69,7 +69,7 @@ fn fold_ascii(alloc: Global, octets: &[u8]) -> Result<Vec<u8>, AllocError>
 
 /// A text that is looked for, ready to be looked for in several texts. In contracts it is the UTF-8 of its
 /// fold.
-#[derive(Debug, Drop)]
+#[derive(Drop)]
 pub struct Needle(Finder<'static>);
 
 impl Model for Needle {

@@ -9,7 +9,7 @@ use std::marker::Model;
 /// The names that mailboxes get, in their order, each with the UIDVALIDITY that its mailbox has there.
 ///
 /// Contracts see the list of pairs.
-#[derive(Debug, Drop)]
+#[derive(Drop)]
 pub struct Arrivals {
     // For the table of mailboxes, and for that of validities.
     names: Vec<Name>,

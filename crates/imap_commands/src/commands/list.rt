@@ -20,7 +20,7 @@ use imap_syntax::{
 use std::alloc::{AllocError, Global};
 
 /// A selection option (RFC 9051, section 6.3.9.1).
-#[derive(Clone, Copy, Debug, PartialEq, Eq)]
+#[derive(Clone, Copy, PartialEq, Eq)]
 pub enum Selection {
     Subscribed,
     Remote,
@@ -28,7 +28,7 @@ pub enum Selection {
 }
 
 /// A return option (RFC 9051, section 6.3.9.2).
-#[derive(Debug, Drop)]
+#[derive(Drop)]
 pub enum ListReturn {
     Subscribed,
     Children,
@@ -37,7 +37,7 @@ pub enum ListReturn {
 }
 
 /// The patterns of a LIST.
-#[derive(Debug, Drop)]
+#[derive(Drop)]
 pub enum Patterns {
     One(Octets),
     /// In parentheses.

@@ -20,7 +20,7 @@ use imap_values::{Same, TryCopy};
 use std::alloc::{AllocError, Global};
 
 /// The state of the mailbox that the client knows, as QRESYNC sends it.
-#[derive(Debug, Drop)]
+#[derive(Drop)]
 pub struct QresyncArg {
     /// From 1 on.
     pub validity: u32,
@@ -30,7 +30,7 @@ pub struct QresyncArg {
 }
 
 /// The parameters of SELECT or EXAMINE (RFC 7162, sections 3.1.8 and 3.2.5).
-#[derive(Debug, Drop)]
+#[derive(Drop)]
 pub struct SelectParameters {
     pub condstore: bool,
     pub qresync: Option<QresyncArg>,

@@ -14,7 +14,7 @@ use imap_values::{Same, TryCopy};
 use std::alloc::{AllocError, Global};
 
 /// How the flags of a message change.
-#[derive(Clone, Copy, Debug, PartialEq, Eq)]
+#[derive(Clone, Copy, PartialEq, Eq)]
 pub enum StoreChange {
     Replace,
     Add,
@@ -22,7 +22,7 @@ pub enum StoreChange {
 }
 
 /// The arguments of STORE after its set of messages.
-#[derive(Debug, Drop)]
+#[derive(Drop)]
 pub struct StoreSpec {
     /// A message with a greater mod-sequence is left as it is (RFC 7162, section 3.1.3).
     pub unchanged_since: Option<u64>,
