@@ -24,7 +24,7 @@ use imap_syntax::Items;
 use imap_targets::{batch_effect, named_batch};
 use imap_values::beside;
 use imap_view::{Readable, Seen};
-use imap_world::Effect;
+use imap_world::{Effect, is_same_name};
 use std::alloc::{AllocError, Global};
 
 /// Answers a MOVE of these messages: all are moved, or none.
@@ -47,7 +47,7 @@ pub(crate) fn move_messages(
     }
     if lacks_move_events(
         mailbox,
-        is_same(&selected.name, name),
+        is_same_name(&selected.name, name),
         copies.uids.as_slice(),
     ) {
         return context.refuse(Refusal::Limit);
@@ -63,12 +63,6 @@ pub(crate) fn move_messages(
     );
     let (effect, lines) = beside(effect, lines)?;
     context.carried_out(lines, None, effect)
-}
-
-fn is_same(name: &Name, other: &Name) -> bool
-    ensures { result ≡ is_same_name name.now other.now }
-{
-    name.is_same(other)
 }
 
 /// The line that tells the UIDs, before the messages go, if the user may read the target.
@@ -109,7 +103,7 @@ fn move_effect(
     if copies.uids.is_empty() {
         return Ok(None);
     }
-    if is_same(source, target) {
+    if is_same_name(source, target) {
         Ok(Some(move_within(alloc, user, target, copies)?))
     } else {
         Ok(Some(move_between(alloc, user, target, source, copies)?))

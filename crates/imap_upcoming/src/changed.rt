@@ -8,7 +8,7 @@ ghost use Rattle.imap_world.specs.Messages.{is_same_name};
 use imap_batch::BatchWrite;
 use imap_names::Name;
 use imap_rights::Acl;
-use imap_world::{Change, NamedWrite, Write};
+use imap_world::{Change, NamedWrite, Write, is_same_name};
 
 /// The access control list that the mailbox of this name has after the change, or `None` if it loses the
 /// name. `acl` is the list before.
@@ -26,13 +26,13 @@ fn acl_written<'a>(name: &Name, acl: &'a Acl, write: &'a Write) -> Option<&'a Ac
 {
     match write {
         Write::SetAcl(changed, new) => {
-            if is_same(name, changed) {
+            if is_same_name(name, changed) {
                 Some(new)
             } else {
                 Some(acl)
             }
         }
-        Write::Remove(gone) => acl_unless(is_same(name, gone), acl),
+        Write::Remove(gone) => acl_unless(is_same_name(name, gone), acl),
         Write::Move(old, _, _) => acl_unless(is_within(old, name), acl),
         Write::Put(_) | Write::Messages(_, _) | Write::Subscribe(_, _) | Write::Unsubscribe(_, _) =>
             Some(acl),
@@ -76,7 +76,7 @@ fn part_for<'a>(
 ) -> Option<&'a BatchWrite>
     ensures { option_copied result ≡ specs.part_for name.now part.now other.now }
 {
-    if is_same(name, &part.name) {
+    if is_same_name(name, &part.name) {
         Some(&part.write)
     } else {
         other_for(name, other)
@@ -88,7 +88,7 @@ fn other_for<'a>(name: &Name, other: &'a Option<NamedWrite>) -> Option<&'a Batch
 {
     match other {
         Some(other) => {
-            if is_same(name, &other.name) {
+            if is_same_name(name, &other.name) {
                 Some(&other.write)
             } else {
                 None
@@ -96,12 +96,6 @@ fn other_for<'a>(name: &Name, other: &'a Option<NamedWrite>) -> Option<&'a Batch
         }
         None => None,
     }
-}
-
-fn is_same(name: &Name, other: &Name) -> bool
-    ensures { result ≡ is_same_name name.now other.now }
-{
-    name.is_same(other)
 }
 
 /// Whether the name is `top` or below it.

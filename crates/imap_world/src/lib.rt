@@ -34,6 +34,7 @@ pub use change::{Change, Write};
 pub use effect::Effect;
 pub use error::WorldError;
 pub use mailbox_entry::MailboxEntry;
+pub use messages::is_same_name;
 pub use moving::can_move;
 pub use named_batch::{NamedBatch, NamedWrite};
 pub use new_mailbox::NewMailbox;

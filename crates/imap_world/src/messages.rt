@@ -59,7 +59,7 @@ impl World {
         ensures { let mailboxes = (world_of self.now).mailboxes in
             Answers result (messages_written mailboxes part.now (Some other.now)) }
     {
-        if are_same(&other.name, &part.name) {
+        if is_same_name(&other.name, &part.name) {
             return Err(WorldError::Cannot);
         }
         match self.refusal_of_two(part, other) {
@@ -113,7 +113,8 @@ impl World {
     }
 }
 
-fn are_same(name: &Name, other: &Name) -> bool
+/// Whether both are the same name.
+pub fn is_same_name(name: &Name, other: &Name) -> bool
     ensures { result ≡ is_same_name name.now other.now }
 {
     name.is_same(other)

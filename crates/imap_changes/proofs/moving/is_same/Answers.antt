@@ -1,5 +1,0 @@
-use Rattle.imap_world.proofs.Parts.{same_by_test}
-use Rattle.imap_changes.proofs.moving.is_same.Goals as goal
-
-pub returns : goal.returns
-returns c = same_by_test c.args.name.now c.args.other.now c.is_same.result c.is_same.ensures
