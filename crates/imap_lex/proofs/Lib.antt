@@ -12,3 +12,4 @@ pub mod FirstLine
 pub mod FramesRead
 pub mod Readings
 pub mod Only
+pub mod Parts

@@ -2,23 +2,30 @@
 
 ghost use Rattle.std.specs.Prelude.{◌≡◌, ◌≤◌, length, slice_range, IfOk, IfErr};
 
-use bytes::Bytes;
 use imap_values::{Same, TryCopy};
 use std::alloc::{AllocError, AllocFailed, Global};
 use std::marker::Model;
+use std::sync::Arc;
 
 /// Octets of any number and any value, as in a string (RFC 9051, section 4.3).
 ///
 /// A copy or a part shares them.
 #[derive(Drop)]
-pub struct Octets(Bytes);
+pub struct Octets {
+    whole: Arc<Vec<u8>>,
+    start: usize,
+    end: usize,
+}
 
 impl Model for Octets {
-    ghost use Rattle.std.specs.Prelude.{ℕ, List};
+    ghost use Rattle.std.specs.Arc.{arc_value};
+    ghost use Rattle.std.specs.Prelude.{ℕ, List, ◌≤◌, length, slice_range};
 
     ghost Value = { List ℕ };
 
-    ghost view = { λ o. o.0 };
+    ghost view = { λ o. slice_range (arc_value o.whole).items o.start o.end };
+
+    ghost invariant = { λ o. (o.start ≤ o.end) × (o.end ≤ length (arc_value o.whole).items) };
 }
 
 impl Octets {
@@ -34,21 +41,27 @@ impl Octets {
         ensures ok { IfOk result (λ made. made ≡ octets.items) }
         ensures err { IfErr result (λ failed. failed.value.items ≡ octets.items) }
     {
-        Ok(Octets(Bytes::from_vec(octets)?))
+        let end = octets.len();
+        let whole = Arc::new(*octets.allocator(), octets)?;
+        Ok(Octets {
+            whole,
+            start: 0,
+            end,
+        })
     }
 
     /// Returns a copy of a slice.
     pub fn from_slice(alloc: Global, octets: &[u8]) -> Result<Octets, AllocError>
         ensures { IfOk result (λ copy. copy ≡ octets.now) }
     {
-        Ok(Octets(Bytes::copy_from_slice(alloc, octets)?))
+        Octets::from_vec(Vec::from_slice(alloc, octets)?)
     }
 
     /// Returns the octets themselves.
     pub fn as_slice(&self) -> &[u8]
         ensures { result.now ≡ self.now }
     {
-        self.0.as_slice()
+        &self.whole.as_slice()[self.start..self.end]
     }
 
     /// Returns the octets from `start` up to `end`, without copying them.
@@ -57,21 +70,31 @@ impl Octets {
         requires within { end ≤ length self.now }
         ensures { IfOk result (λ part. part ≡ slice_range self.now start end) }
     {
-        Ok(Octets(self.0.slice(start..end)?))
+        let whole = Arc::try_clone(&self.whole)?;
+        Ok(Octets {
+            whole,
+            start: self.start + start,
+            end: self.start + end,
+        })
     }
 
     /// Returns the same octets, without copying them.
     pub fn try_copy(&self) -> Result<Octets, AllocError>
         ensures { IfOk result (λ copy. copy ≡ self.now) }
     {
-        Ok(Octets(self.0.clone()?))
+        let whole = Arc::try_clone(&self.whole)?;
+        Ok(Octets {
+            whole,
+            start: self.start,
+            end: self.end,
+        })
     }
 
     /// Brings the count that a copy raises into the processor's cache. It changes nothing.
     ///
     /// Before many copies: such reads overlap, while each raise waits for the one before.
     pub fn prefetch(&self) {
-        self.0.is_unique();
+        Arc::strong_count(&self.whole);
     }
 }
 
