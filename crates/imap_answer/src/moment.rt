@@ -8,7 +8,7 @@ use imap_values::Same;
 use std::marker::Model;
 
 /// A moment from 1970 to the year 9999. In contracts it is its date and time at `+0000`.
-#[derive(Clone, Copy, PartialEq, Eq)]
+#[derive(Clone, Copy)]
 pub struct Moment {
     date_time: DateTime,
 }

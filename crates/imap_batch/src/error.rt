@@ -7,7 +7,7 @@ use std::alloc::AllocError;
 use thiserror::Error;
 
 /// Why nothing is written.
-#[derive(Clone, Copy, PartialEq, Eq, Debug, Error)]
+#[derive(Clone, Copy, Debug, Error)]
 pub enum BatchError {
     /// A message would have more than [`MAX_KEYWORDS`](imap_mailbox::MAX_KEYWORDS) keywords, or too few UIDs
     /// or shared events are left.

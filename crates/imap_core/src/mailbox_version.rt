@@ -7,7 +7,7 @@ use imap_view::Readable;
 
 /// UIDVALIDITY and HIGHESTMODSEQ of a mailbox, as its user sees it: while both stay, so do its messages and their flags
 /// (RFC 7162, section 3.1).
-#[derive(Clone, Copy, PartialEq, Eq)]
+#[derive(Clone, Copy)]
 pub struct MailboxVersion {
     pub uid_validity: u32,
     pub highest_mod_seq: u64,

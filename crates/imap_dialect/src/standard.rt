@@ -9,7 +9,7 @@ use imap_print::{Pieces, Response, print_line};
 use std::alloc::{AllocError, Global};
 
 /// Hands every frame on, and prints every reply.
-#[derive(Clone, Copy, PartialEq, Eq)]
+#[derive(Clone, Copy)]
 pub struct Standard;
 
 impl Dialect for Standard {

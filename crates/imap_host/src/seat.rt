@@ -67,7 +67,7 @@ impl<L: Ledger> Seat<L> {
 }
 
 /// Why a host has no seat left.
-#[derive(Clone, Copy, Debug, Error, PartialEq, Eq)]
+#[derive(Clone, Copy, Debug, Error)]
 pub enum SeatError {
     /// Only one part of the ledger is left.
     #[error("no seat is left")]

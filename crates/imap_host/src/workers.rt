@@ -20,7 +20,7 @@ use std::thread::{Scope, Threads};
 use thiserror::Error;
 
 /// Why not all workers ran.
-#[derive(Clone, Copy, Debug, Error, PartialEq, Eq)]
+#[derive(Clone, Copy, Debug, Error)]
 pub enum CrewError {
     #[error("a worker couldn't be started")]
     Start,

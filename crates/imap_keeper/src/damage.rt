@@ -3,7 +3,7 @@
 use thiserror::Error;
 
 /// A row of a store that stands for nothing.
-#[derive(Clone, Copy, Debug, Error, PartialEq, Eq)]
+#[derive(Clone, Copy, Debug, Error)]
 #[error("table {table}, row {row}: {fault}")]
 pub struct Damage {
     pub table: &'static str,

@@ -5,7 +5,7 @@ use std::error::Error;
 use std::fmt;
 
 // The texts are written by hand: an `impl` that `thiserror` derives has no clause on what it writes.
-#[derive(Clone, Copy, Debug, PartialEq, Eq)]
+#[derive(Clone, Copy, Debug)]
 pub enum LexError {
     /// Memory ran out. The piece may be fed again.
     Memory,

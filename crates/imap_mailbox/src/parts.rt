@@ -44,7 +44,7 @@ pub struct MailboxParts {
 }
 
 /// Why parts are those of no mailbox or world.
-#[derive(Clone, Copy, Debug, Error, PartialEq, Eq)]
+#[derive(Clone, Copy, Debug, Error)]
 pub enum PartsError {
     /// No mailbox or world has these parts.
     #[error("what the store keeps is damaged")]

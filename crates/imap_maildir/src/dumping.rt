@@ -20,7 +20,7 @@ const STRIDE: u64 = 1_000;
 const PARTS: &[&str] = &["cur", "new", "tmp"];
 
 /// How much was written.
-#[derive(Clone, Copy, PartialEq, Eq)]
+#[derive(Clone, Copy)]
 pub struct Dumped {
     pub mailboxes: usize,
     pub messages: u64,

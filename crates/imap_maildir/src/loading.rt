@@ -18,7 +18,7 @@ use std::alloc::{AllocError, Global};
 use std::rt::Files;
 
 /// How much was read.
-#[derive(Clone, Copy, PartialEq, Eq)]
+#[derive(Clone, Copy)]
 pub struct Loaded {
     pub mailboxes: usize,
     /// How many messages were added.

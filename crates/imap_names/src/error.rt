@@ -9,7 +9,7 @@ use thiserror::Error;
 /// Why a text is no name.
 ///
 /// Of several faults the first of `Control`, `Reserved`, `EmptyComponent`, `TooLong` and `TooDeep` counts.
-#[derive(Clone, Copy, Debug, PartialEq, Eq, Error)]
+#[derive(Clone, Copy, Debug, Error)]
 pub enum NameError {
     /// Two delimiters in a row, or one at an end.
     #[error("a component of the name is empty")]

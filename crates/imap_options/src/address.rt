@@ -7,7 +7,7 @@ use std::str;
 pub const MAX_SOCKET_PATH: usize = 107;
 
 /// Where the clients of a user come in.
-#[derive(Clone, Copy, PartialEq, Eq)]
+#[derive(Clone, Copy)]
 pub enum Address {
     /// At a port of 127.0.0.1.
     Tcp(u16),

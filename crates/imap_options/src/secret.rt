@@ -12,7 +12,7 @@ const OTHERS: u32 = 0o077;
 const MAX_SECRET: usize = 1024;
 
 /// Why a secret isn't had.
-#[derive(Clone, Copy, PartialEq, Eq)]
+#[derive(Clone, Copy)]
 pub enum SecretFault {
     Memory,
     /// In words.

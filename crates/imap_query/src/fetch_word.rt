@@ -32,7 +32,7 @@ pub(crate) enum Modifier {
 }
 
 /// The modifiers of a FETCH.
-#[derive(Clone, Copy, PartialEq, Eq)]
+#[derive(Clone, Copy)]
 pub struct Modifiers {
     /// Only messages with a greater mod-sequence are wanted (RFC 7162, section 3.1.4.1). At least 1.
     pub changed_since: Option<u64>,

@@ -58,7 +58,7 @@ impl Model for Acl {
 }
 
 /// Why an entry was not set.
-#[derive(Clone, Copy, PartialEq, Eq, Debug, Error)]
+#[derive(Clone, Copy, Debug, Error)]
 pub enum AclError {
     /// The list has [`MAX_ENTRIES`] entries already.
     #[error("the access control list is full")]

@@ -8,7 +8,7 @@ use imap_world::WorldError;
 use std::alloc::{AllocError, AllocFailed};
 
 /// Why a line of a script was not taken.
-#[derive(Clone, Copy, PartialEq, Eq)]
+#[derive(Clone, Copy)]
 pub(crate) enum LineError {
     /// It is no line of a script, or can't stand where it stands.
     Bad,

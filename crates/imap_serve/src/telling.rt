@@ -24,7 +24,7 @@ use std::io::Write;
 const OCTETS_AT_ONCE: u64 = 32_768;
 
 /// The state of a session.
-#[derive(Clone, Copy, PartialEq, Eq)]
+#[derive(Clone, Copy)]
 pub(crate) struct Flow {
     /// Whether a BYE closed it.
     pub(crate) closed: bool,

@@ -26,7 +26,7 @@ pub struct Watched<T> {
 }
 
 /// What a reader or a writer answered last.
-#[derive(Clone, Copy, PartialEq, Eq)]
+#[derive(Clone, Copy)]
 pub(crate) struct Log {
     pub(crate) last: Option<Answer>,
     /// How many of the last answers in a row were interruptions.
@@ -47,7 +47,7 @@ impl Log {
 }
 
 /// What a reader or a writer answers.
-#[derive(Clone, Copy, PartialEq, Eq)]
+#[derive(Clone, Copy)]
 pub(crate) enum Answer {
     /// This many octets. A reader has none at the end.
     Octets(usize),
@@ -58,7 +58,7 @@ pub(crate) enum Answer {
 }
 
 /// What a read brought.
-#[derive(Clone, Copy, PartialEq, Eq)]
+#[derive(Clone, Copy)]
 pub(crate) enum Taken {
     /// This many octets.
     Octets(usize),
@@ -68,7 +68,7 @@ pub(crate) enum Taken {
 }
 
 /// The reader or the writer failed.
-#[derive(Clone, Copy, PartialEq, Eq)]
+#[derive(Clone, Copy)]
 pub(crate) struct Failed;
 
 impl<T> Watched<T> {

@@ -21,7 +21,7 @@ enum Place {
 
 /// Looks whether the first line of a connection is an HTTP request line (RFC 9112, section 3): a method in capitals,
 /// a path or `*`, and ` HTTP/1.`, with single spaces between them.
-#[derive(Clone, Copy, PartialEq, Eq)]
+#[derive(Clone, Copy)]
 pub struct RequestLine {
     place: Place,
 }

@@ -24,7 +24,7 @@ use std::time::{Duration, Instant};
 const PAUSE_MILLIS: u64 = 1;
 
 /// Why a wait has ended.
-#[derive(Clone, Copy, PartialEq, Eq)]
+#[derive(Clone, Copy)]
 enum Woken {
     /// The client has sent something, or closed the connection.
     Connection,

@@ -45,7 +45,7 @@ impl Comparison {
 }
 
 /// What was loaded.
-#[derive(Clone, Copy, PartialEq, Eq)]
+#[derive(Clone, Copy)]
 enum Loaded {
     /// The mailboxes that were wanted.
     Same,

@@ -4,7 +4,7 @@ use imap_names::UserName;
 use imap_rights::SharedGroups;
 
 /// Limits that the host's administrator may choose.
-#[derive(Clone, Copy, PartialEq, Eq)]
+#[derive(Clone, Copy)]
 pub struct Limits {
     /// The most messages of a mailbox.
     pub max_messages: u64,
