@@ -96,14 +96,25 @@ impl ScriptRow {
         scenario: &Scenario,
         world: &World,
     ) -> Result<(), ScriptError> {
+        self.push_kept_runs::<DatabaseKeeper<F>>(alloc, report, scenario, world)
+    }
+
+    /// Appends the same.
+    fn push_kept_runs<K: TestKeeper>(
+        &self,
+        alloc: Global,
+        report: &mut Vec<u8>,
+        scenario: &Scenario,
+        world: &World,
+    ) -> Result<(), ScriptError> {
         if !self.stored.is_empty() {
-            return self.push_stored::<DatabaseKeeper<F>>(alloc, report, scenario);
+            return self.push_stored::<K>(alloc, report, scenario);
         }
         let transcript = run_in_memory(alloc, scenario, world)?;
         report.extend_from_slice(transcript.as_slice())?;
-        let found = run_in_database::<DatabaseKeeper<F>>(alloc, scenario, world);
+        let found = run_in_database::<K>(alloc, scenario, world);
         push_difference(alloc, report, found, transcript.as_slice())?;
-        self.push_reports::<DatabaseKeeper<F>>(alloc, report, scenario, world)
+        self.push_reports::<K>(alloc, report, scenario, world)
     }
 
     /// Appends the transcript over the database whose octets are given, and the reports of all runs over it.
