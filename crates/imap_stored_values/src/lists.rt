@@ -13,29 +13,77 @@ use imap_tables::{StoredEpoch, StoredSubscription};
 use imap_world::Subscription;
 use std::alloc::Global;
 
+/// A row that keeps one value of a list.
+trait Listed: Sized {
+    type Value: Drop;
+
+    /// The row keeps the value.
+    ghost keeps: { Self → Self.Value → Type 0 };
+
+    /// Reads the value. Fails with `Bad` if the row keeps none.
+    fn read(&self, alloc: Global) -> Result<Self::Value, PartsError>
+        ensures ok { IfOk result (keeps self.now) }
+        ensures bad { result ≡ Err PartsError.Bad → (it : Self.Value) → keeps self.now it → ⊥ };
+}
+
+impl Listed for StoredEpoch {
+    type Value = (Name, u32);
+
+    ghost keeps = { IsEpochFor };
+
+    fn read(&self, alloc: Global) -> Result<(Name, u32), PartsError> {
+        match read_key(alloc, &self.key) {
+            Ok(name) => Ok((name, self.greatest)),
+            Err(error) => Err(error),
+        }
+    }
+}
+
+impl Listed for StoredSubscription {
+    type Value = Subscription;
+
+    ghost keeps = { IsSubscriptionFor };
+
+    fn read(&self, alloc: Global) -> Result<Subscription, PartsError> {
+        let user = String::from_str(alloc, &self.user)?;
+        match read_key(alloc, &self.key) {
+            Ok(name) => Ok(Subscription::new(user, name)),
+            Err(error) => Err(error),
+        }
+    }
+}
+
+/// Reads the rows, in their order. Fails with `Bad` if one of them keeps nothing.
+#[tactic(auto, using(crate::proofs::Zipped::read_start))]
+fn read_all<R: Listed>(alloc: Global, rows: &[R]) -> Result<Vec<R::Value>, PartsError>
+    ensures ok { IfOk result (λ items. AllZip R.Listed.keeps rows.now items.items) }
+    ensures bad { result ≡ Err PartsError.Bad
+        → (items : List R.Value) → AllZip R.Listed.keeps rows.now items → ⊥ }
+{
+    let mut items = Vec::with_capacity(alloc, rows.len())?;
+    'rows: for row in rows {
+        let item = match row.read(alloc) {
+            Ok(item) => item,
+            Err(error) => return Err(error),
+        };
+        let Ok(()) = items.push(item) else {
+            return Err(PartsError::Memory);
+        };
+    }
+    Ok(items)
+}
+
 /// Reads the greatest UIDVALIDITY that was ever used under each name. Fails with `Bad` if a row names no
 /// mailbox.
-#[tactic(auto, using(crate::proofs::Zipped::read_start, crate::proofs::Zipped::read_next))]
 pub fn read_epochs(alloc: Global, rows: Vec<StoredEpoch>) -> Result<Vec<(Name, u32)>, PartsError>
     ensures ok { IfOk result (λ epochs. AllZip IsEpochFor rows.items epochs.items) }
     ensures bad { result ≡ Err PartsError.Bad
         → (epochs : List (Name × ℕ)) → AllZip IsEpochFor rows.items epochs → ⊥ }
 {
-    let mut epochs = Vec::with_capacity(alloc, rows.len())?;
-    'rows: for row in rows {
-        let name = match read_key(alloc, &row.key) {
-            Ok(name) => name,
-            Err(error) => return Err(error),
-        };
-        let Ok(()) = epochs.push((name, row.greatest)) else {
-            return Err(PartsError::Memory);
-        };
-    }
-    Ok(epochs)
+    read_all(alloc, rows.as_slice())
 }
 
 /// Reads the names that users subscribed to. Fails with `Bad` if a row names no mailbox.
-#[tactic(auto, using(crate::proofs::Zipped::read_start, crate::proofs::Zipped::read_next))]
 pub fn read_subscriptions(
     alloc: Global,
     rows: Vec<StoredSubscription>,
@@ -44,16 +92,5 @@ pub fn read_subscriptions(
     ensures bad { result ≡ Err PartsError.Bad
         → (names : List Subscription) → AllZip IsSubscriptionFor rows.items names → ⊥ }
 {
-    let mut names = Vec::with_capacity(alloc, rows.len())?;
-    'rows: for row in rows {
-        let name = match read_key(alloc, &row.key) {
-            Ok(name) => name,
-            Err(error) => return Err(error),
-        };
-        let user = String::from_str(alloc, &row.user)?;
-        let Ok(()) = names.push(Subscription::new(user, name)) else {
-            return Err(PartsError::Memory);
-        };
-    }
-    Ok(names)
+    read_all(alloc, rows.as_slice())
 }
