@@ -1,5 +1,5 @@
 -- The tables of a store. Whole numbers, texts and octets alone, none of them NULL.
-use Rattle.std.specs.Prelude.{ℕ, true, false, List, [], ◌∷◌, codes, Some, None}
+use Rattle.std.specs.Prelude.{ℕ, Bool, if◌then◌else◌, true, false, List, [], ◌∷◌, codes, Some, None}
 use Rattle.sqlite.specs.Collation.TheVariants.{Binary}
 use Rattle.sqlite.specs.declared.types.Value.TheVariants.{Null}
 use Rattle.sqlite.specs.Table.{Table}
@@ -115,6 +115,9 @@ to_mailbox = record {
   on_update = NoAction;
   is_deferred = false;
 }
+
+abbrev pub references_of : Bool → List Reference
+references_of is_below = if is_below then to_mailbox ∷ [] else []
 
 -- a table below a mailbox
 abbrev pub child_table : List ℕ → ℕ → List Column → List ℕ → Table

@@ -8,6 +8,7 @@ mod cells;
 mod changes;
 mod columns;
 mod deletes;
+mod description;
 mod finding;
 mod inserts;
 mod making;

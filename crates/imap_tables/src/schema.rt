@@ -1,22 +1,193 @@
 //! Whether a database has the tables of a store.
 
 ghost use Rattle.std.specs.Prelude.{◌≡◌, ◌∷◌, [], ◌↔◌, false, None, IsTrue, codes};
-ghost use Rattle.imap_tables.specs.Tables.{acl_table, added_indexes, added_tables, body_table, epoch_table};
-ghost use Rattle.imap_tables.specs.Tables.{gone_table, index_of, keyword_table, mailbox_table, mark_table};
-ghost use Rattle.imap_tables.specs.Tables.{message2_table, message_table, meta_table, no_schema};
-ghost use Rattle.imap_tables.specs.Tables.{store_indexes, store_schema, store_tables, sub_table, table_of};
-ghost use Rattle.imap_tables.specs.Tables.{to_mailbox};
+ghost use Rattle.imap_tables.specs.Described.{described_table};
+ghost use Rattle.imap_tables.specs.Tables.{index_of, mailbox_table, no_schema, references_of};
+ghost use Rattle.imap_tables.specs.Tables.{store_indexes, store_schema, store_tables, table_of, to_mailbox};
 ghost use Rattle.imap_tables.specs.Texts.{first_schema};
 ghost use Rattle.sqlite_schema.specs.declared.schema.Action.TheVariants.{Cascade, NoAction};
 
 use crate::columns::{
-    has_acl_columns, has_body_columns, has_epoch_columns, has_gone_columns, has_keyword_columns,
-    has_mailbox_columns, has_mark_columns, has_message_columns, has_message2_columns,
-    has_meta_columns, has_sub_columns,
+    ACL_COLUMNS, BODY_COLUMNS, ColumnRow, EPOCH_COLUMNS, GONE_COLUMNS, KEYWORD_COLUMNS,
+    MARK_COLUMNS, MESSAGE_COLUMNS, MESSAGE2_COLUMNS, META_COLUMNS, SUB_COLUMNS,
+    has_mailbox_columns,
 };
+use crate::description::{Description, describe_all};
 use sqlite_schema::code::Terms;
 use sqlite_schema::schema::{Action, Index, Reference, Schema, Stamps, Table};
 use sqlite_value::value::Bytes;
+
+/// A table whose rows have no column for their rowid.
+struct TableRow {
+    name: &'static str,
+    tree: u32,
+    /// Whether its rows go with their mailbox.
+    is_below: bool,
+    /// The places of the columns in which no two rows agree.
+    key: &'static [usize],
+    columns: &'static [ColumnRow],
+}
+
+/// An index of the columns in which no two rows of a table agree.
+struct IndexRow {
+    name: &'static str,
+    tree: u32,
+    /// The tree of the table.
+    table: u32,
+    columns: &'static [usize],
+}
+
+/// The tables of the first version after that of the mailboxes.
+const FIRST_TABLES: &[TableRow] = &[
+    TableRow {
+        name: "acl",
+        tree: 2,
+        is_below: true,
+        key: &[1, 2],
+        columns: ACL_COLUMNS,
+    },
+    TableRow {
+        name: "message",
+        tree: 4,
+        is_below: true,
+        key: &[1, 2],
+        columns: MESSAGE_COLUMNS,
+    },
+    TableRow {
+        name: "gone",
+        tree: 6,
+        is_below: true,
+        key: &[1, 2],
+        columns: GONE_COLUMNS,
+    },
+    TableRow {
+        name: "mark",
+        tree: 8,
+        is_below: true,
+        key: &[1, 2, 3],
+        columns: MARK_COLUMNS,
+    },
+    TableRow {
+        name: "epoch",
+        tree: 10,
+        is_below: false,
+        key: &[1, 2],
+        columns: EPOCH_COLUMNS,
+    },
+    TableRow {
+        name: "sub",
+        tree: 12,
+        is_below: false,
+        key: &[1, 2, 3],
+        columns: SUB_COLUMNS,
+    },
+    TableRow {
+        name: "meta",
+        tree: 14,
+        is_below: false,
+        key: &[1],
+        columns: META_COLUMNS,
+    },
+];
+
+/// The three tables of messages, which the second version added.
+const ADDED_TABLES: &[TableRow] = &[
+    TableRow {
+        name: "message2",
+        tree: 16,
+        is_below: true,
+        key: &[1, 2],
+        columns: MESSAGE2_COLUMNS,
+    },
+    TableRow {
+        name: "body",
+        tree: 18,
+        is_below: true,
+        key: &[1, 2],
+        columns: BODY_COLUMNS,
+    },
+    TableRow {
+        name: "keyword",
+        tree: 20,
+        is_below: true,
+        key: &[1, 2, 3],
+        columns: KEYWORD_COLUMNS,
+    },
+];
+
+/// The indexes of the first version.
+const FIRST_INDEXES: &[IndexRow] = &[
+    IndexRow {
+        name: "sqlite_autoindex_mailbox_1",
+        tree: 1,
+        table: 0,
+        columns: &[2, 3],
+    },
+    IndexRow {
+        name: "sqlite_autoindex_acl_1",
+        tree: 3,
+        table: 2,
+        columns: &[1, 2],
+    },
+    IndexRow {
+        name: "sqlite_autoindex_message_1",
+        tree: 5,
+        table: 4,
+        columns: &[1, 2],
+    },
+    IndexRow {
+        name: "sqlite_autoindex_gone_1",
+        tree: 7,
+        table: 6,
+        columns: &[1, 2],
+    },
+    IndexRow {
+        name: "sqlite_autoindex_mark_1",
+        tree: 9,
+        table: 8,
+        columns: &[1, 2, 3],
+    },
+    IndexRow {
+        name: "sqlite_autoindex_epoch_1",
+        tree: 11,
+        table: 10,
+        columns: &[1, 2],
+    },
+    IndexRow {
+        name: "sqlite_autoindex_sub_1",
+        tree: 13,
+        table: 12,
+        columns: &[1, 2, 3],
+    },
+    IndexRow {
+        name: "sqlite_autoindex_meta_1",
+        tree: 15,
+        table: 14,
+        columns: &[1],
+    },
+];
+
+/// The indexes of the three tables of messages.
+const ADDED_INDEXES: &[IndexRow] = &[
+    IndexRow {
+        name: "sqlite_autoindex_message2_1",
+        tree: 17,
+        table: 16,
+        columns: &[1, 2],
+    },
+    IndexRow {
+        name: "sqlite_autoindex_body_1",
+        tree: 19,
+        table: 18,
+        columns: &[1, 2],
+    },
+    IndexRow {
+        name: "sqlite_autoindex_keyword_1",
+        tree: 21,
+        table: 20,
+        columns: &[1, 2, 3],
+    },
+];
 
 /// Whether nothing was made so far.
 pub fn is_blank(schema: &Schema) -> bool
@@ -196,124 +367,33 @@ fn is_mailbox(table: &Table) -> bool
     has_mailbox_columns(table.columns.as_slice())
 }
 
-fn is_acl(table: &Table) -> bool
-    ensures { IsTrue result ↔ (table.now ≡ acl_table) }
+/// Whether the rows have no column for their rowid, and go with their mailbox or refer to no rows.
+fn has_place(table: &Table, is_below_mailbox: bool) -> bool
+    ensures key { IsTrue result → (table.now).key ≡ None }
+    ensures references { IsTrue result → (table.now).references ≡ references_of is_below_mailbox }
+    ensures all { (table.now).key ≡ None → (table.now).references ≡ references_of is_below_mailbox
+        → IsTrue result }
 {
-    if !is_table(table, "acl", 2, &[1, 2], &[1, 2]) {
-        return false;
+    if is_below_mailbox {
+        return is_below(table);
     }
-    if !is_below(table) {
-        return false;
-    }
-    has_acl_columns(table.columns.as_slice())
+    is_alone(table)
 }
 
-fn is_message(table: &Table) -> bool
-    ensures { IsTrue result ↔ (table.now ≡ message_table) }
-{
-    if !is_table(table, "message", 4, &[1, 2], &[1, 2]) {
-        return false;
-    }
-    if !is_below(table) {
-        return false;
-    }
-    has_message_columns(table.columns.as_slice())
-}
+impl Description for TableRow {
+    type Part = Table;
 
-fn is_gone(table: &Table) -> bool
-    ensures { IsTrue result ↔ (table.now ≡ gone_table) }
-{
-    if !is_table(table, "gone", 6, &[1, 2], &[1, 2]) {
-        return false;
-    }
-    if !is_below(table) {
-        return false;
-    }
-    has_gone_columns(table.columns.as_slice())
-}
+    ghost described = { described_table };
 
-fn is_mark(table: &Table) -> bool
-    ensures { IsTrue result ↔ (table.now ≡ mark_table) }
-{
-    if !is_table(table, "mark", 8, &[1, 2, 3], &[1, 2, 3]) {
-        return false;
+    fn describes(&self, table: &Table) -> bool {
+        if !is_table(table, self.name, self.tree, self.key, self.key) {
+            return false;
+        }
+        if !has_place(table, self.is_below) {
+            return false;
+        }
+        describe_all(self.columns, table.columns.as_slice())
     }
-    if !is_below(table) {
-        return false;
-    }
-    has_mark_columns(table.columns.as_slice())
-}
-
-fn is_epoch(table: &Table) -> bool
-    ensures { IsTrue result ↔ (table.now ≡ epoch_table) }
-{
-    if !is_table(table, "epoch", 10, &[1, 2], &[1, 2]) {
-        return false;
-    }
-    if !is_alone(table) {
-        return false;
-    }
-    has_epoch_columns(table.columns.as_slice())
-}
-
-fn is_sub(table: &Table) -> bool
-    ensures { IsTrue result ↔ (table.now ≡ sub_table) }
-{
-    if !is_table(table, "sub", 12, &[1, 2, 3], &[1, 2, 3]) {
-        return false;
-    }
-    if !is_alone(table) {
-        return false;
-    }
-    has_sub_columns(table.columns.as_slice())
-}
-
-fn is_meta(table: &Table) -> bool
-    ensures { IsTrue result ↔ (table.now ≡ meta_table) }
-{
-    if !is_table(table, "meta", 14, &[1], &[1]) {
-        return false;
-    }
-    if !is_alone(table) {
-        return false;
-    }
-    has_meta_columns(table.columns.as_slice())
-}
-
-fn is_message2(table: &Table) -> bool
-    ensures { IsTrue result ↔ (table.now ≡ message2_table) }
-{
-    if !is_table(table, "message2", 16, &[1, 2], &[1, 2]) {
-        return false;
-    }
-    if !is_below(table) {
-        return false;
-    }
-    has_message2_columns(table.columns.as_slice())
-}
-
-fn is_body(table: &Table) -> bool
-    ensures { IsTrue result ↔ (table.now ≡ body_table) }
-{
-    if !is_table(table, "body", 18, &[1, 2], &[1, 2]) {
-        return false;
-    }
-    if !is_below(table) {
-        return false;
-    }
-    has_body_columns(table.columns.as_slice())
-}
-
-fn is_keyword(table: &Table) -> bool
-    ensures { IsTrue result ↔ (table.now ≡ keyword_table) }
-{
-    if !is_table(table, "keyword", 20, &[1, 2, 3], &[1, 2, 3]) {
-        return false;
-    }
-    if !is_below(table) {
-        return false;
-    }
-    has_keyword_columns(table.columns.as_slice())
 }
 
 fn is_index(index: &Index, name: &str, tree: u32, table: u32, columns: &[usize]) -> bool
@@ -337,51 +417,27 @@ fn is_index(index: &Index, name: &str, tree: u32, table: u32, columns: &[usize])
     index.name.as_slice() == name.as_bytes()
 }
 
+impl Description for IndexRow {
+    type Part = Index;
+
+    ghost described = { λ row. index_of row.name.now row.tree row.table row.columns.now };
+
+    fn describes(&self, index: &Index) -> bool {
+        is_index(index, self.name, self.tree, self.table, self.columns)
+    }
+}
+
 /// Whether the tables are those of the first version.
 fn are_first_tables(tables: &[Table]) -> bool
     ensures { IsTrue result ↔ (tables.now ≡ first_schema.tables) }
 {
-    let [mailbox, acl, message, gone, mark, epoch, sub, meta] = tables else {
+    let [mailbox, others @ ..] = tables else {
         return false;
     };
     if !is_mailbox(mailbox) {
         return false;
     }
-    if !is_acl(acl) {
-        return false;
-    }
-    if !is_message(message) {
-        return false;
-    }
-    if !is_gone(gone) {
-        return false;
-    }
-    if !is_mark(mark) {
-        return false;
-    }
-    if !is_epoch(epoch) {
-        return false;
-    }
-    if !is_sub(sub) {
-        return false;
-    }
-    is_meta(meta)
-}
-
-/// Whether the tables are the three of messages, which the second version added.
-fn are_added_tables(tables: &[Table]) -> bool
-    ensures { IsTrue result ↔ (tables.now ≡ added_tables) }
-{
-    let [message2, body, keyword] = tables else {
-        return false;
-    };
-    if !is_message2(message2) {
-        return false;
-    }
-    if !is_body(body) {
-        return false;
-    }
-    is_keyword(keyword)
+    describe_all(FIRST_TABLES, others)
 }
 
 fn are_tables(tables: &[Table]) -> bool
@@ -390,54 +446,7 @@ fn are_tables(tables: &[Table]) -> bool
     let Some((first, added)) = tables.split_at_checked(8) else {
         return false;
     };
-    are_first_tables(first) && are_added_tables(added)
-}
-
-/// Whether the indexes are those of the first version.
-fn are_first_indexes(indexes: &[Index]) -> bool
-    ensures { IsTrue result ↔ (indexes.now ≡ first_schema.indexes) }
-{
-    let [mailbox, acl, message, gone, mark, epoch, sub, meta] = indexes else {
-        return false;
-    };
-    if !is_index(mailbox, "sqlite_autoindex_mailbox_1", 1, 0, &[2, 3]) {
-        return false;
-    }
-    if !is_index(acl, "sqlite_autoindex_acl_1", 3, 2, &[1, 2]) {
-        return false;
-    }
-    if !is_index(message, "sqlite_autoindex_message_1", 5, 4, &[1, 2]) {
-        return false;
-    }
-    if !is_index(gone, "sqlite_autoindex_gone_1", 7, 6, &[1, 2]) {
-        return false;
-    }
-    if !is_index(mark, "sqlite_autoindex_mark_1", 9, 8, &[1, 2, 3]) {
-        return false;
-    }
-    if !is_index(epoch, "sqlite_autoindex_epoch_1", 11, 10, &[1, 2]) {
-        return false;
-    }
-    if !is_index(sub, "sqlite_autoindex_sub_1", 13, 12, &[1, 2, 3]) {
-        return false;
-    }
-    is_index(meta, "sqlite_autoindex_meta_1", 15, 14, &[1])
-}
-
-/// Whether the indexes are those of the three tables of messages.
-fn are_added_indexes(indexes: &[Index]) -> bool
-    ensures { IsTrue result ↔ (indexes.now ≡ added_indexes) }
-{
-    let [message2, body, keyword] = indexes else {
-        return false;
-    };
-    if !is_index(message2, "sqlite_autoindex_message2_1", 17, 16, &[1, 2]) {
-        return false;
-    }
-    if !is_index(body, "sqlite_autoindex_body_1", 19, 18, &[1, 2]) {
-        return false;
-    }
-    is_index(keyword, "sqlite_autoindex_keyword_1", 21, 20, &[1, 2, 3])
+    are_first_tables(first) && describe_all(ADDED_TABLES, added)
 }
 
 fn are_indexes(indexes: &[Index]) -> bool
@@ -446,7 +455,7 @@ fn are_indexes(indexes: &[Index]) -> bool
     let Some((first, added)) = indexes.split_at_checked(8) else {
         return false;
     };
-    are_first_indexes(first) && are_added_indexes(added)
+    describe_all(FIRST_INDEXES, first) && describe_all(ADDED_INDEXES, added)
 }
 
 /// Whether the tables are those of a store of the first version.
@@ -459,7 +468,7 @@ pub fn is_first_store(schema: &Schema) -> bool
     if !are_first_tables(schema.tables.as_slice()) {
         return false;
     }
-    are_first_indexes(schema.indexes.as_slice())
+    describe_all(FIRST_INDEXES, schema.indexes.as_slice())
 }
 
 /// Whether the tables are those of a store.
