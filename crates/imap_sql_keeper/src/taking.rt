@@ -98,7 +98,9 @@ fn move_rows<S: Alter>(conn: &mut Connection<S>, alloc: Global) -> Result<(), Ke
         Ok(stored) => stored,
         Err(error) => return Err(error),
     };
-    match adopt_rows(conn, alloc, stored.messages.as_slice()) {
+    let moved = adopt_rows(conn, alloc, stored.messages.as_slice());
+    drop(stored);
+    match moved {
         Ok(()) => Ok(()),
         Err(error) => Err(refusal(error)),
     }

@@ -18,23 +18,23 @@ returns-in-Err-clause-undamaged g c clean same =
     let (says, world, held) = c.requires.first (early old new _ c.requires.rest c.read_first.ensures.crash clean) (c.in-Err.ensures.was_open clean (ap Err is)) in
     c.in-Err.ensures.unread clean (ap Err is) (first_shown old.now.trees world held)
 
-pub returns-in-Ok-adopt_rows-clause-taken : goal.returns-in-Ok-adopt_rows-clause-taken
-returns-in-Ok-adopt_rows-clause-taken g c clean =
+pub returns-in-Ok-moved-clause-taken : goal.returns-in-Ok-moved-clause-taken
+returns-in-Ok-moved-clause-taken g c clean =
     saved_taken (state g.S.Store c.args.conn.now) (state g.S.Store c.read_first.new.conn) c.requires.rest c.read_first.ensures.crash c.schema.ensures.live c.in-Ok.stored c.in-Ok.ensures.read c.in-Ok.ensures.open
-    c.requires.first c.as_slice.result.now c.as_slice.ensures.value c.read_first.ensures.kept (state g.S.Store c.adopt_rows.new.conn) c.adopt_rows.ensures.crash clean (c.in-Ok-adopt_rows.ensures.after clean)
+    c.requires.first c.as_slice.result.now c.as_slice.ensures.value c.read_first.ensures.kept (state g.S.Store c.adopt_rows-moved.new.conn) c.adopt_rows-moved.ensures.crash clean (c.in-Ok-moved.ensures.after clean)
 
-pub returns-in-Ok-adopt_rows-clause-crash : goal.returns-in-Ok-adopt_rows-clause-crash
-returns-in-Ok-adopt_rows-clause-crash g c =
+pub returns-in-Ok-moved-clause-crash : goal.returns-in-Ok-moved-clause-crash
+returns-in-Ok-moved-clause-crash g c =
     crash_taken (state g.S.Store c.args.conn.now) (state g.S.Store c.read_first.new.conn) c.requires.rest c.read_first.ensures.crash c.schema.ensures.live c.in-Ok.stored c.in-Ok.ensures.read c.in-Ok.ensures.open
-    c.requires.first c.as_slice.result.now c.as_slice.ensures.value c.read_first.ensures.kept (state g.S.Store c.adopt_rows.new.conn) c.adopt_rows.ensures.crash
+    c.requires.first c.as_slice.result.now c.as_slice.ensures.value c.read_first.ensures.kept (state g.S.Store c.adopt_rows-moved.new.conn) c.adopt_rows-moved.ensures.crash
 
-pub returns-in-Ok-adopt_rows-clause-alone : goal.returns-in-Ok-adopt_rows-clause-alone
-returns-in-Ok-adopt_rows-clause-alone g c clean =
+pub returns-in-Ok-moved-clause-alone : goal.returns-in-Ok-moved-clause-alone
+returns-in-Ok-moved-clause-alone g c clean =
     alone_taken (state g.S.Store c.args.conn.now) (state g.S.Store c.read_first.new.conn) c.requires.rest c.read_first.ensures.crash c.schema.ensures.live c.in-Ok.stored c.in-Ok.ensures.read c.in-Ok.ensures.open
-    c.requires.first c.as_slice.result.now c.as_slice.ensures.value c.read_first.ensures.kept (state g.S.Store c.adopt_rows.new.conn) c.adopt_rows.ensures.crash clean (c.in-Ok-adopt_rows.ensures.after clean)
-    (c.in-Ok-adopt_rows.ensures.alone clean)
+    c.requires.first c.as_slice.result.now c.as_slice.ensures.value c.read_first.ensures.kept (state g.S.Store c.adopt_rows-moved.new.conn) c.adopt_rows-moved.ensures.crash clean (c.in-Ok-moved.ensures.after clean)
+    (c.in-Ok-moved.ensures.alone clean)
 
-pub returns-clause-crash : goal.returns-clause-crash
-returns-clause-crash g c =
+pub returns-in-Err-moved-clause-crash : goal.returns-in-Err-moved-clause-crash
+returns-in-Err-moved-clause-crash g c =
     crash_taken (state g.S.Store c.args.conn.now) (state g.S.Store c.read_first.new.conn) c.requires.rest c.read_first.ensures.crash c.schema.ensures.live c.in-Ok.stored c.in-Ok.ensures.read c.in-Ok.ensures.open
-    c.requires.first c.as_slice.result.now c.as_slice.ensures.value c.read_first.ensures.kept (state g.S.Store c.adopt_rows.new.conn) c.adopt_rows.ensures.crash
+    c.requires.first c.as_slice.result.now c.as_slice.ensures.value c.read_first.ensures.kept (state g.S.Store c.adopt_rows-moved.new.conn) c.adopt_rows-moved.ensures.crash
