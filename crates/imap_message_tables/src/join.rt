@@ -103,23 +103,23 @@ fn take_message(
 /// Takes all rows, which are laid in order, the last first.
 fn zip_all(
     alloc: Global,
-    mut heads: Vec<StoredHead>,
-    mut bodies: Vec<StoredBody>,
-    mut words: Vec<StoredKeyword>,
+    heads: &mut Vec<StoredHead>,
+    bodies: &mut Vec<StoredBody>,
+    words: &mut Vec<StoredKeyword>,
 ) -> Result<Option<Vec<JoinedMessage>>, AllocError>
-    requires heads_up { AreUp head_key (reverse heads.items) }
-    requires bodies_up { AreUp body_key (reverse bodies.items) }
-    requires words_up { AreUp word_key (reverse words.items) }
+    requires heads_up { AreUp head_key (reverse heads.old.items) }
+    requires bodies_up { AreUp body_key (reverse bodies.old.items) }
+    requires words_up { AreUp word_key (reverse words.old.items) }
     ensures { IfOk result (λ joined. MatchOption joined
-        (Fit (reverse heads.items) (reverse bodies.items) (reverse words.items) → ⊥)
-        (λ ms. Zips (reverse heads.items) (reverse bodies.items) (reverse words.items) ms.items)) }
+        (Fit (reverse heads.old.items) (reverse bodies.old.items) (reverse words.old.items) → ⊥)
+        (λ ms. Zips (reverse heads.old.items) (reverse bodies.old.items) (reverse words.old.items) ms.items)) }
 {
     let mut messages = Vec::with_capacity(alloc, heads.len())?;
-    'heads: while let Some(head) = take_last(&mut heads) {
+    'heads: while let Some(head) = take_last(heads) {
         if is_doubled(heads.as_slice(), &head) {
             return Ok(None);
         }
-        let Some(message) = take_message(alloc, head, &mut bodies, &mut words)? else {
+        let Some(message) = take_message(alloc, head, bodies, words)? else {
             return Ok(None);
         };
         messages.push(message)?;
@@ -149,5 +149,5 @@ pub fn join_rows(
     lay_heads(&mut heads);
     lay_bodies(&mut bodies);
     lay_words(&mut words);
-    zip_all(alloc, heads, bodies, words)
+    zip_all(alloc, &mut heads, &mut bodies, &mut words)
 }

@@ -23,7 +23,7 @@ heads-preserved c =
       bodies_up = ups.0;
       words_up = ups.1;
       fits = λ f. fits_next h hs bs bodies ws words c.in-Some-2.message taken heads_up c.heads.invariant.bodies_up c.heads.invariant.words_up (subst (λ l. Fit l bs ws) t (c.heads.invariant.fits f));
-      zips = zips_next h hs bs bodies ws words c.in-Some-2.message c.heads.messages.items c.push.new.self.items (Zips (reverse c.args.heads.items) (reverse c.args.bodies.items) (reverse c.args.words.items))
+      zips = zips_next h hs bs bodies ws words c.in-Some-2.message c.heads.messages.items c.push.new.self.items (Zips (reverse c.args.heads.now.items) (reverse c.args.bodies.now.items) (reverse c.args.words.now.items))
           (heads_apart h hs heads_up off) taken c.in_ok-push.ensures.items (λ ms z. c.heads.invariant.zips ms (subst (λ l. Zips l bs ws ms) (sym t) z));
     }
 
@@ -47,5 +47,5 @@ returns c =
     let few : length c.heads.bodies.items ≤ 0 = omega (arith, c.len-2.ensures, c.if-len-gt0.false) in
     let least : length c.heads.words.items ≤ 0 = omega (arith, c.len-3.ensures, c.if-len-gt0-2.false) in
     zips_end (reverse c.heads.heads.items) (reverse c.heads.bodies.items) (reverse c.heads.words.items) c.heads.messages.items
-    (Zips (reverse c.args.heads.items) (reverse c.args.bodies.items) (reverse c.args.words.items))
+    (Zips (reverse c.args.heads.now.items) (reverse c.args.bodies.now.items) (reverse c.args.words.now.items))
     (none_left c.heads.heads.items low) (none_left c.heads.bodies.items few) (none_left c.heads.words.items least) c.heads.invariant.zips
