@@ -113,6 +113,6 @@ fn change_own(accounts: &mut UserMap<OwnSessions>, who: &SessionId, effect: Sess
 {
     match accounts.get_mut(who.user.as_str()) {
         Some(own) => own.change(who.number, effect),
-        None => {}
+        None => drop(effect),
     }
 }

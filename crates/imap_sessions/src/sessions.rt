@@ -153,7 +153,7 @@ impl OwnSessions {
     {
         match index_of(&self.entries, number) {
             Some(index) => edit_in(&mut self.entries[index], effect),
-            None => {}
+            None => drop(effect),
         }
     }
 
