@@ -3,6 +3,7 @@
 ghost use Rattle.std.specs.Prelude.{◌≡◌, ◌++◌, ◌∷◌, [], map, IfOk, OnOk};
 
 use imap_names::Name;
+use imap_values::beside;
 use std::alloc::{AllocError, Global};
 use std::marker::Model;
 
@@ -32,10 +33,9 @@ impl Arrivals {
     pub(crate) fn with_capacity(alloc: Global, count: usize) -> Result<Arrivals, AllocError>
         ensures { IfOk result (λ arrivals. arrivals ≡ []) }
     {
-        Ok(Arrivals {
-            names: Vec::with_capacity(alloc, count)?,
-            validities: Vec::with_capacity(alloc, count)?,
-        })
+        let names = Vec::with_capacity(alloc, count)?;
+        let (validities, names) = beside(Vec::with_capacity(alloc, count), names)?;
+        Ok(Arrivals { names, validities })
     }
 
     /// Appends a name with its UIDVALIDITY.
@@ -70,17 +70,18 @@ impl Arrivals {
     pub fn try_copy(&self, alloc: Global) -> Result<Arrivals, AllocError>
         ensures { IfOk result (λ copy. copy ≡ self.now) }
     {
-        copy_entries(alloc, self.entries())
+        let mut copy = Arrivals::with_capacity(alloc, self.entries().len())?;
+        push_copies(&mut copy, self.entries())?;
+        Ok(copy)
     }
 }
 
-fn copy_entries(alloc: Global, entries: &[(Name, u32)]) -> Result<Arrivals, AllocError>
-    ensures { IfOk result (λ copy. copy ≡ entries.now) }
+/// Appends copies of the entries.
+fn push_copies(arrivals: &mut Arrivals, entries: &[(Name, u32)]) -> Result<(), AllocError>
+    ensures { OnOk result (arrivals.new ≡ arrivals.old ++ entries.now) }
 {
-    let mut copy = Arrivals::with_capacity(alloc, entries.len())?;
     for entry in entries {
-        let name = entry.0.try_copy()?;
-        copy.push(name, entry.1)?;
+        arrivals.push(entry.0.try_copy()?, entry.1)?;
     }
-    Ok(copy)
+    Ok(())
 }

@@ -6,9 +6,10 @@ ghost use Rattle.imap_world.specs.Ready.{count_of, counts_of};
 use crate::arrivals::Arrivals;
 use crate::named_batch::NamedWrite;
 use crate::new_mailbox::NewMailbox;
+use crate::owned::{append, both, push};
 use imap_names::{Name, UserName};
 use imap_rights::Acl;
-use imap_values::TryCopy;
+use imap_values::{TryCopy, beside, pushed};
 use std::alloc::{AllocError, Global};
 use std::marker::Model;
 
@@ -52,21 +53,27 @@ impl Write {
     {
         match self {
             Write::Put(row) => Ok(Write::Put(row.try_copy(alloc)?)),
-            Write::SetAcl(name, acl) => Ok(Write::SetAcl(name.try_copy()?, acl.try_copy(alloc)?)),
+            Write::SetAcl(name, acl) => {
+                let (name, acl) = both(name.try_copy(), acl.try_copy(alloc))?;
+                Ok(Write::SetAcl(name, acl))
+            }
             Write::Remove(name) => Ok(Write::Remove(name.try_copy()?)),
             Write::Move(old, new, arrivals) => {
-                let arrivals = arrivals.try_copy(alloc)?;
-                Ok(Write::Move(old.try_copy()?, new.try_copy()?, arrivals))
+                let names = both(old.try_copy(), new.try_copy());
+                let ((old, new), arrivals) = both(names, arrivals.try_copy(alloc))?;
+                Ok(Write::Move(old, new, arrivals))
             }
             Write::Messages(part, other) => {
-                let part = part.try_copy(alloc)?;
-                Ok(Write::Messages(part, other.try_copy(alloc)?))
+                let (part, other) = both(part.try_copy(alloc), other.try_copy(alloc))?;
+                Ok(Write::Messages(part, other))
             }
             Write::Subscribe(user, name) => {
-                Ok(Write::Subscribe(user.try_copy()?, name.try_copy()?))
+                let (user, name) = both(user.try_copy(), name.try_copy())?;
+                Ok(Write::Subscribe(user, name))
             }
             Write::Unsubscribe(user, name) => {
-                Ok(Write::Unsubscribe(user.try_copy()?, name.try_copy()?))
+                let (user, name) = both(user.try_copy(), name.try_copy())?;
+                Ok(Write::Unsubscribe(user, name))
             }
         }
     }
@@ -105,8 +112,7 @@ impl Change {
     pub(crate) fn of(alloc: Global, write: Write) -> Result<Change, AllocError>
         ensures { IfOk result (λ change. change ≡ write ∷ []) }
     {
-        let mut writes = Vec::with_capacity(alloc, 1)?;
-        writes.push_reserved(write);
+        let writes = pushed(Vec::new(alloc), write)?;
         Ok(Change { writes })
     }
 
@@ -114,16 +120,14 @@ impl Change {
     pub(crate) fn push(&mut self, write: Write) -> Result<(), AllocError>
         ensures { OnOk result (self.new ≡ self.old ++ write ∷ []) }
     {
-        self.writes.push(write)?;
-        Ok(())
+        push(&mut self.writes, write)
     }
 
     /// Writes what the other change writes, too.
-    pub(crate) fn append(&mut self, mut other: Change) -> Result<(), AllocError>
+    pub(crate) fn append(&mut self, other: Change) -> Result<(), AllocError>
         ensures { OnOk result (self.new ≡ self.old ++ other) }
     {
-        self.writes.append(&mut other.writes)?;
-        Ok(())
+        append(&mut self.writes, other.writes)
     }
 
     /// The values that are written.
@@ -137,7 +141,9 @@ impl Change {
     pub fn try_copy(&self, alloc: Global) -> Result<Change, AllocError>
         ensures { IfOk result (λ copy. copy ≡ self.now) }
     {
-        let writes = copy_writes(alloc, self.writes.as_slice())?;
+        let mut writes = Vec::with_capacity(alloc, self.writes.len())?;
+        let copied = push_copies(&mut writes, alloc, self.writes.as_slice());
+        let ((), writes) = beside(copied, writes)?;
         Ok(Change { writes })
     }
 
@@ -176,13 +182,12 @@ fn count_all(writes: &[Write]) -> Result<usize, AllocError>
     Ok(count)
 }
 
-fn copy_writes(alloc: Global, writes: &[Write]) -> Result<Vec<Write>, AllocError>
-    ensures { IfOk result (λ copy. copy.items ≡ writes.now) }
+/// Appends copies of the writes.
+fn push_copies(copies: &mut Vec<Write>, alloc: Global, writes: &[Write]) -> Result<(), AllocError>
+    ensures { OnOk result (copies.new.items ≡ copies.old.items ++ writes.now) }
 {
-    let mut copy = Vec::with_capacity(alloc, writes.len())?;
     for write in writes {
-        let write = write.try_copy(alloc)?;
-        copy.push(write)?;
+        push(copies, write.try_copy(alloc)?)?;
     }
-    Ok(copy)
+    Ok(())
 }

@@ -17,6 +17,7 @@ mod messages;
 mod moving;
 mod named_batch;
 mod new_mailbox;
+mod owned;
 mod owner;
 mod placing;
 mod resolve;

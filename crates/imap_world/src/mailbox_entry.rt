@@ -8,11 +8,13 @@ ghost use Rattle.imap_batch.specs.Written.{with_batch, MayWrite};
 ghost use Rattle.imap_world.specs.Mailbox.{new_mailbox, plain};
 ghost use Rattle.imap_world.specs.Shared.{HasOwnRoomFor};
 
+use crate::owned::both;
 use crate::shared_mailbox::SharedMailbox;
 use imap_batch::BatchWrite;
 use imap_identifier_index::Numbered;
 use imap_mailbox::Mailbox;
 use imap_rights::Acl;
+use imap_values::beside;
 use std::alloc::{AllocError, Global};
 
 /// A mailbox, apart from its name. Contracts see it with its room; `plain` leaves that out.
@@ -37,10 +39,12 @@ impl MailboxEntry {
     pub(crate) fn new(alloc: Global, validity: u32, acl: Acl) -> Result<MailboxEntry, AllocError>
         ensures { IfOk result (λ entry. plain entry ≡ new_mailbox validity acl) }
     {
+        let messages = SharedMailbox::new(alloc, Mailbox::new(alloc));
+        let (messages, acl) = beside(messages, acl)?;
         Ok(MailboxEntry {
             validity,
             acl,
-            messages: SharedMailbox::new(alloc, Mailbox::new(alloc))?,
+            messages,
             number: 0,
         })
     }
@@ -75,10 +79,11 @@ impl MailboxEntry {
     pub fn try_copy(&self, alloc: Global) -> Result<MailboxEntry, AllocError>
         ensures { IfOk result (λ copy. plain copy ≡ plain self.now) }
     {
+        let (acl, messages) = both(self.acl.try_copy(alloc), self.messages.try_copy(alloc))?;
         Ok(MailboxEntry {
             validity: self.validity,
-            acl: self.acl.try_copy(alloc)?,
-            messages: self.messages.try_copy(alloc)?,
+            acl,
+            messages,
             number: self.number,
         })
     }

@@ -269,6 +269,6 @@ fn write_to(mailboxes: &mut NameMap<MailboxEntry>, name: &NameRef<'_>, write: Ba
 {
     match mailboxes.get_mut(name) {
         Some(entry) => entry.write(write),
-        None => {}
+        None => drop(write),
     }
 }

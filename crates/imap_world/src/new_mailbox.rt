@@ -5,8 +5,10 @@ ghost use Rattle.imap_world.specs.Mailbox.{plain};
 ghost use Rattle.imap_world.specs.NewMailbox.{mailbox_in};
 
 use crate::mailbox_entry::MailboxEntry;
+use crate::owned::both;
 use imap_names::Name;
 use imap_rights::Acl;
+use imap_values::beside;
 use std::alloc::{AllocError, Global};
 use std::marker::Model;
 
@@ -49,8 +51,9 @@ impl NewMailbox {
     ) -> Result<NewMailbox, AllocError>
         ensures { IfOk result (λ row. row ≡ record { name = name; validity = validity; acl = acl }) }
     {
-        let epoch_name = name.try_copy()?;
-        let mailbox = MailboxEntry::new(alloc, validity, acl)?;
+        let mailbox = MailboxEntry::new(alloc, validity, acl);
+        let (mailbox, name) = beside(mailbox, name)?;
+        let (epoch_name, (mailbox, name)) = beside(name.try_copy(), (mailbox, name))?;
         Ok(NewMailbox {
             name,
             epoch_name,
@@ -76,10 +79,12 @@ impl NewMailbox {
     pub fn try_copy(&self, alloc: Global) -> Result<NewMailbox, AllocError>
         ensures { IfOk result (λ copy. copy ≡ self.now) }
     {
+        let names = both(self.name.try_copy(), self.epoch_name.try_copy());
+        let ((name, epoch_name), mailbox) = both(names, self.mailbox.try_copy(alloc))?;
         Ok(NewMailbox {
-            name: self.name.try_copy()?,
-            epoch_name: self.epoch_name.try_copy()?,
-            mailbox: self.mailbox.try_copy(alloc)?,
+            name,
+            epoch_name,
+            mailbox,
         })
     }
 }

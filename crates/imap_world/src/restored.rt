@@ -1,6 +1,6 @@
 //! A world from what a store keeps of it.
 
-ghost use Rattle.std.specs.Prelude.{◌≡◌, ◌↔◌, ◌<◌, ◌++◌, ◌∷◌, [], ℕ, Some, None};
+ghost use Rattle.std.specs.Prelude.{◌≡◌, ◌↔◌, ◌<◌, ℕ, Some, None};
 ghost use Rattle.std.specs.Prelude.{IfOk, IsPermutation, IsTrue, OnOk};
 ghost use Rattle.std.specs.FinMap as map;
 ghost use Rattle.std.specs.FinMap.Entries.{find, is_sorted};
@@ -13,6 +13,7 @@ ghost use Rattle.imap_world.specs.Restored.{AddsName, HaveName, PushesRow, Resto
 ghost use Rattle.imap_world.specs.Restored.{RestoresMap, RestoresNames, Subscribes};
 
 use crate::mailbox_entry::MailboxEntry;
+use crate::owned::push;
 use crate::placing::has_superior;
 use crate::shared_mailbox::SharedMailbox;
 use crate::world_parts::{MailboxRow, Subscription};
@@ -95,13 +96,6 @@ fn held(alloc: Global, mailbox: Mailbox) -> Result<SharedMailbox, AllocError>
 {
     let _ = mailbox.next_uid();
     SharedMailbox::new(alloc, mailbox)
-}
-
-fn push<T: Drop>(list: &mut Vec<T>, item: T) -> Result<(), AllocError>
-    ensures { OnOk result (list.new.items ≡ list.old.items ++ item ∷ []) }
-{
-    list.push(item)?;
-    Ok(())
 }
 
 /// Whether the mailboxes are closed under superiors, and the UIDVALIDITY of each is at least 1 and is counted

@@ -10,6 +10,7 @@ ghost use Rattle.imap_world.specs.Shared.{HasOwnRoomFor};
 
 use imap_batch::{BatchWrite, make_room, write_batch};
 use imap_mailbox::Mailbox;
+use imap_values::beside;
 use std::alloc::{AllocError, Global};
 use std::marker::Model;
 use std::mem;
@@ -68,9 +69,10 @@ impl SharedMailbox {
         match &mut self.place {
             Place::Own(mailbox) => make_room(mailbox.as_mut(), alloc, write),
             Place::Shared(mailbox) => {
-                let mut copy = Box::new(alloc, mailbox.try_copy(alloc)?)?;
-                make_room(copy.as_mut(), alloc, write)?;
-                self.place = Place::Own(copy);
+                let mut copy = mailbox.try_copy(alloc)?;
+                let ready = make_room(&mut copy, alloc, write);
+                let ((), copy) = beside(ready, copy)?;
+                self.place = Place::Own(Box::new(alloc, copy)?);
                 Ok(())
             }
         }
@@ -84,7 +86,7 @@ impl SharedMailbox {
     {
         match &mut self.place {
             Place::Own(mailbox) => write_batch(mailbox.as_mut(), write),
-            Place::Shared(_) => {}
+            Place::Shared(_) => drop(write),
         }
     }
 
@@ -117,10 +119,11 @@ impl SharedMailbox {
     pub(crate) fn try_copy(&self, alloc: Global) -> Result<SharedMailbox, AllocError>
         ensures { IfOk result (λ copy. summary_in copy.value ≡ summary_in self.now.value) }
     {
-        let place = match &self.place {
-            Place::Own(mailbox) => Place::Own(Box::new(alloc, mailbox.try_copy(alloc)?)?),
-            Place::Shared(mailbox) => Place::Shared(Arc::try_clone(mailbox)?),
-        };
-        Ok(SharedMailbox { place })
+        match &self.place {
+            Place::Own(mailbox) => SharedMailbox::new(alloc, mailbox.try_copy(alloc)?),
+            Place::Shared(mailbox) => Ok(SharedMailbox {
+                place: Place::Shared(Arc::try_clone(mailbox)?),
+            }),
+        }
     }
 }

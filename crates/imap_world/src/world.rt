@@ -245,10 +245,21 @@ impl World {
         ensures world { Changes result (world_of self.new) (Ok (with_row (world_of self.old) row)) }
         ensures err { OnErr result (world_of self.new ≡ world_of self.old) }
     {
-        self.make_room_for_row(alloc, &row)?;
+        let room = self.make_room_to_add(alloc, &row);
+        let ((), row) = beside(room, row)?;
+        self.put(row);
+        Ok(())
+    }
+
+    /// Makes room for a mailbox.
+    fn make_room_to_add(&mut self, alloc: Global, row: &NewMailbox) -> Result<(), AllocError>
+        ensures world { world_of self.new ≡ world_of self.old }
+        ensures mailboxes { OnOk result (0 < self.new.mailboxes.spare) }
+        ensures epochs { OnOk result (0 < self.new.epochs.spare) }
+    {
+        self.make_room_for_row(alloc, row)?;
         self.mailboxes.reserve(1)?;
         self.epochs.reserve(1)?;
-        self.put(row);
         Ok(())
     }
 
