@@ -32,18 +32,19 @@ pub(crate) fn open(
 ) -> Result<FileKeeper, ServiceError> {
     make_missing(rt, path)?;
     if report_unread(rt, level, path)? {
-        put_log_back(connect(rt, path)?)?;
+        put_log_back(connect(rt, path))?;
     }
-    let conn = connect(rt, path)?;
-    adopt(conn, make_private(rt, path))
+    adopt(rt, path, connect(rt, path))
 }
 
-/// Takes the database over if its files were made private.
+/// Makes the files of the database private, and takes it over.
 fn adopt<S: Alter + Drop>(
-    conn: Connection<S>,
-    made_private: Result<(), ServiceError>,
+    rt: &HostRuntime,
+    path: &str,
+    conn: Result<Connection<S>, ServiceError>,
 ) -> Result<SqlKeeper<S>, ServiceError> {
-    if let Err(error) = made_private {
+    let conn = conn?;
+    if let Err(error) = make_private(rt, path) {
         drop(conn);
         return Err(error);
     }
@@ -70,12 +71,20 @@ pub(crate) fn end<S: Alter + Drop>(
 }
 
 /// Puts the log back into the database, and closes it.
-pub(crate) fn put_log_back<D: Disk + Drop>(
-    conn: Connection<FileStore<D>>,
-) -> Result<(), ServiceError> {
+pub(crate) fn close<D: Disk + Drop>(conn: Connection<FileStore<D>>) -> Result<(), ServiceError> {
     match conn.close() {
         Ok(()) => Ok(()),
         Err(error) => Err(fault(error)),
+    }
+}
+
+/// Does the same if the database could be opened.
+fn put_log_back<D: Disk + Drop>(
+    conn: Result<Connection<FileStore<D>>, ServiceError>,
+) -> Result<(), ServiceError> {
+    match conn {
+        Ok(conn) => close(conn),
+        Err(error) => Err(error),
     }
 }
 

@@ -1,16 +1,16 @@
 //! Tasks over a store that nobody is served from.
 
-use crate::checking::{load, report_fault, report_store};
+use crate::checking::{Fault, load, report_fault, report_store};
 use crate::dumping::report_dump;
 use crate::loading::report_load;
-use crate::store::{FileKeeper, open, put_log_back};
+use crate::store::{FileKeeper, close, open};
 use crate::told_progress::ToldProgress;
-use imap_maildir::dump;
+use imap_maildir::{Loaded, MaildirError, dump};
 use imap_names::UserName;
 use imap_options::LogLevel;
 use imap_service::{ServiceError, StoreFault, report_service_error};
 use imap_sql_keeper::SqlKeeper;
-use sqlite::FileStore;
+use sqlite::{Alter, Connection, FileStore};
 use sqlite_disk::Disk;
 use std::fs;
 use std::io::ErrorKind;
@@ -62,41 +62,85 @@ fn present(rt: &impl Files, path: &str) -> Result<(), ServiceError> {
     }
 }
 
-/// Does the task over what the keeper keeps, and ends it. It takes any file, since the proof that a keeper in a file of
-/// the system is dropped is long.
+/// Does the task over what the keeper keeps, and ends it. It takes any file, since the proof over a file of the system is
+/// long, and hands the keeper on to functions that take any store.
 fn perform_over<R: Files + Print + Eprint + AllocGlobal + Clone + Drop, D: Disk + Drop>(
     rt: &R,
     path: &str,
     keeper: SqlKeeper<FileStore<D>>,
     task: StoreTask<'_>,
-    mut progress: ToldProgress<'_, R>,
+    progress: ToldProgress<'_, R>,
 ) -> ExitCode {
-    let mut kept = match load(rt.alloc(), keeper) {
-        Ok(kept) => kept,
-        Err(fault) => return report_fault(rt, fault),
-    };
     match task {
-        StoreTask::Check => {
+        StoreTask::Check => check(rt, path, keeper),
+        StoreTask::Dump(folder) => dump_into(rt, keeper, folder, progress),
+        StoreTask::Load(folder, administrator) => {
+            let loaded = load_from(rt, keeper, folder, administrator, progress);
+            end_load(rt, folder, loaded)
+        }
+    }
+}
+
+/// Prints how much the keeper keeps, and ends it.
+fn check<R: Print + Eprint + AllocGlobal, S: Alter + Drop>(
+    rt: &R,
+    path: &str,
+    keeper: SqlKeeper<S>,
+) -> ExitCode {
+    match load(rt.alloc(), keeper) {
+        Ok(kept) => {
             let status = report_store(rt, path, kept.world());
             drop(kept);
             status
         }
-        StoreTask::Dump(folder) => {
+        Err(fault) => report_fault(rt, fault),
+    }
+}
+
+/// Writes what the keeper keeps below the folder, and ends it.
+fn dump_into<R: Files + Print + Eprint + AllocGlobal + Clone + Drop, S: Alter + Drop>(
+    rt: &R,
+    keeper: SqlKeeper<S>,
+    folder: &str,
+    mut progress: ToldProgress<'_, R>,
+) -> ExitCode {
+    match load(rt.alloc(), keeper) {
+        Ok(kept) => {
             let ended = dump(rt, kept.world(), folder, &mut progress);
             progress.end();
-            let status = report_dump(rt, folder, ended);
             drop(kept);
-            status
+            report_dump(rt, folder, ended)
         }
-        StoreTask::Load(folder, administrator) => {
+        Err(fault) => report_fault(rt, fault),
+    }
+}
+
+/// Adds the messages in the folder to what the keeper keeps. Returns how that ended, and the database.
+fn load_from<R: Files + Print + Eprint + AllocGlobal + Clone + Drop, S: Alter + Drop>(
+    rt: &R,
+    keeper: SqlKeeper<S>,
+    folder: &str,
+    administrator: &UserName,
+    mut progress: ToldProgress<'_, R>,
+) -> Result<(Result<Loaded, MaildirError>, Connection<S>), Fault> {
+    match load(rt.alloc(), keeper) {
+        Ok(mut kept) => {
             let ended = imap_maildir::load(rt, &mut kept, administrator, folder, &mut progress);
             progress.end();
-            report_load(
-                rt,
-                folder,
-                ended,
-                put_log_back(kept.into_keeper().release()),
-            )
+            Ok((ended, kept.into_keeper().release()))
         }
+        Err(fault) => Err(fault),
+    }
+}
+
+/// Closes the database after messages were added, and prints how many.
+fn end_load<R: Print + Eprint, D: Disk + Drop>(
+    rt: &R,
+    folder: &str,
+    loaded: Result<(Result<Loaded, MaildirError>, Connection<FileStore<D>>), Fault>,
+) -> ExitCode {
+    match loaded {
+        Ok((ended, conn)) => report_load(rt, folder, ended, close(conn)),
+        Err(fault) => report_fault(rt, fault),
     }
 }
