@@ -16,6 +16,7 @@ ghost use Rattle.imap_serve.specs.Turns.{Fits, cues_by, frame as cue};
 use crate::error::ServeError;
 use crate::gate::{Gate, wait_for};
 use crate::moments::Moments;
+use crate::session::Session;
 use crate::telling::{Flow, reply, tell};
 use crate::watched::Watched;
 use imap_dialect::Dialect;
@@ -27,7 +28,6 @@ use std::alloc::{AllocError, Global};
 use std::io::Write;
 
 /// Makes a step, and writes its replies. A poll asks that the session idles.
-#[tactic(auto, using(crate::proofs::Scenes::made_all, crate::proofs::Scenes::made_part, crate::proofs::Scenes::not_made, crate::proofs::Scenes::refused_here, crate::proofs::Scenes::caused_writing, crate::proofs::Scenes::not_refused))]
 fn answer<R: Room, D: Dialect, O: Write>(
     alloc: Global,
     room: &mut R,
@@ -63,35 +63,32 @@ fn answer<R: Room, D: Dialect, O: Write>(
 
 /// Makes an act of the session, and writes the replies to the frame, or to nothing. A poll asks that the session
 /// idles.
-#[tactic(auto, using(crate::proofs::Scenes::breaks_off))]
-pub(crate) fn make<R: Room, D: Dialect, O: Write>(
-    alloc: Global,
+pub(crate) fn make<R: Room, D: Dialect, O: Write, C: Moments, G: Gate>(
+    session: &Session<'_, C, G>,
     room: &mut R,
-    who: &SessionId,
     dialect: &mut D,
     by: Option<&Frame>,
-    at: Moment,
     act: Act,
     flow: Flow,
     output: &mut Watched<O>,
 ) -> Result<Flow, ServeError>
     requires fits { Fits D.telling dialect.old (option_copied by) (asks_of_act act) }
     requires polls { is_poll act ≡ true → flow.idles ≡ true }
-    ensures ok { IfOk result (λ next. GoesOrCloses next.closed (site who.now R.keeps_all D.telling)
-        flow.idles next.idles
+    ensures ok { IfOk result (λ next. GoesOrCloses next.closed
+        (site session.now.who.now R.keeps_all D.telling) flow.idles next.idles
         (scene (R.entries room.old) (O.contents output.old.inner) dialect.old)
         (scene (R.entries room.new) (O.contents output.new.inner) dialect.new)
         (cues_by (option_copied by.entry) (asks_of_act act))) }
-    ensures err { OnErr result (Breaks (site who.now R.keeps_all D.telling) flow.idles
+    ensures err { OnErr result (Breaks (site session.now.who.now R.keeps_all D.telling) flow.idles
         (scene (R.entries room.old) (O.contents output.old.inner) dialect.old)
         (scene (R.entries room.new) (O.contents output.new.inner) dialect.new)
         (cues_by (option_copied by.entry) (asks_of_act act))) }
     ensures cause { IfErr result (λ e. IsCaused e unasked output.new.log) }
     ensures refused { IfErr result (λ e. IsRefused R.refuses e room.new) }
 {
-    match step_of(who, at, act) {
+    match step_of(session.who, session.clock.now(), act) {
         Ok(step) => {
-            let answered = answer(alloc, room, dialect, by, &step, flow, output);
+            let answered = answer(session.alloc, room, dialect, by, &step, flow, output);
             drop(step);
             answered
         }
@@ -109,13 +106,9 @@ pub(crate) fn step_of(who: &SessionId, at: Moment, act: Act) -> Result<Step, All
 }
 
 /// Makes a request in the room once the gate lets it through, and writes the replies to the client's frame.
-#[tactic(auto, using(crate::proofs::Scenes::no_poll))]
 fn request<R: Room, D: Dialect, O: Write, C: Moments, G: Gate>(
-    alloc: Global,
+    session: &Session<'_, C, G>,
     room: &mut R,
-    who: &SessionId,
-    clock: &C,
-    gate: &G,
     dialect: &mut D,
     by: &Frame,
     request: Act,
@@ -124,36 +117,26 @@ fn request<R: Room, D: Dialect, O: Write, C: Moments, G: Gate>(
 ) -> Result<Flow, ServeError>
     requires fits { Fits D.telling dialect.old (Some by.now) (asks_of_act request) }
     requires polls { is_poll request ≡ false }
-    ensures ok { IfOk result (λ next. GoesOrCloses next.closed (site who.now R.keeps_all D.telling)
-        flow.idles next.idles
+    ensures ok { IfOk result (λ next. GoesOrCloses next.closed
+        (site session.now.who.now R.keeps_all D.telling) flow.idles next.idles
         (scene (R.entries room.old) (O.contents output.old.inner) dialect.old)
         (scene (R.entries room.new) (O.contents output.new.inner) dialect.new) (cue by.now ∷ [])) }
-    ensures err { OnErr result (Breaks (site who.now R.keeps_all D.telling) flow.idles
+    ensures err { OnErr result (Breaks (site session.now.who.now R.keeps_all D.telling) flow.idles
         (scene (R.entries room.old) (O.contents output.old.inner) dialect.old)
         (scene (R.entries room.new) (O.contents output.new.inner) dialect.new) (cue by.now ∷ [])) }
     ensures cause { IfErr result (λ e. IsCaused e unasked output.new.log) }
     ensures refused { IfErr result (λ e. IsRefused R.refuses e room.new) }
 {
     let call = flow.calls.saturating_add(1);
-    let _asked = wait_for(gate, who, call);
+    let _asked = wait_for(session.gate, session.who, call);
     let flow = Flow {
         closed: false,
         idles: flow.idles,
         calls: call,
     };
-    match make(
-        alloc,
-        room,
-        who,
-        dialect,
-        Some(by),
-        clock.now(),
-        request,
-        flow,
-        output,
-    ) {
+    match make(session, room, dialect, Some(by), request, flow, output) {
         Ok(flow) => {
-            gate.answered(who, call);
+            session.gate.answered(session.who, call);
             Ok(flow)
         }
         Err(error) => Err(error),
@@ -161,7 +144,6 @@ fn request<R: Room, D: Dialect, O: Write, C: Moments, G: Gate>(
 }
 
 /// Returns the act of a command that came whole.
-#[tactic(auto, using(crate::proofs::Scenes::command_act, crate::proofs::Scenes::command_is_no_poll))]
 fn act_of_command(alloc: Global, octets: &Octets) -> Result<Act, AllocError>
     ensures act { IfOk result (λ act. act ≡ act_of_command octets.now) }
     ensures asks { IfOk result (λ act. asks_of_act act ≡ ask_of (Whole octets.now) ∷ []) }
@@ -178,13 +160,9 @@ fn act_of_rejected(alloc: Global, tag: &Option<Tag>) -> Result<Act, AllocError>
 }
 
 /// Does what a frame asks for, which the dialect made of the client's, and writes the replies to the client's.
-#[tactic(auto, using(crate::proofs::Scenes::breaks_off, crate::proofs::Scenes::frame_asked, crate::proofs::Scenes::rejected_asked, crate::proofs::Scenes::ready_all, crate::proofs::Scenes::ready_part, crate::proofs::Scenes::hangup_all, crate::proofs::Scenes::hangup_part, crate::proofs::Scenes::caused_writing, crate::proofs::Scenes::not_refused))]
 fn take_rewritten<R: Room, D: Dialect, O: Write, C: Moments, G: Gate>(
-    alloc: Global,
+    session: &Session<'_, C, G>,
     room: &mut R,
-    who: &SessionId,
-    clock: &C,
-    gate: &G,
     dialect: &mut D,
     by: &Frame,
     frame: &Frame,
@@ -192,27 +170,24 @@ fn take_rewritten<R: Room, D: Dialect, O: Write, C: Moments, G: Gate>(
     output: &mut Watched<O>,
 ) -> Result<Flow, ServeError>
     requires { frame.now ≡ D.telling.rewritten dialect.old by.now }
-    ensures ok { IfOk result (λ next. GoesOrCloses next.closed (site who.now R.keeps_all D.telling)
-        flow.idles next.idles
+    ensures ok { IfOk result (λ next. GoesOrCloses next.closed
+        (site session.now.who.now R.keeps_all D.telling) flow.idles next.idles
         (scene (R.entries room.old) (O.contents output.old.inner) dialect.old)
         (scene (R.entries room.new) (O.contents output.new.inner) dialect.new) (cue by.now ∷ [])) }
-    ensures err { OnErr result (Breaks (site who.now R.keeps_all D.telling) flow.idles
+    ensures err { OnErr result (Breaks (site session.now.who.now R.keeps_all D.telling) flow.idles
         (scene (R.entries room.old) (O.contents output.old.inner) dialect.old)
         (scene (R.entries room.new) (O.contents output.new.inner) dialect.new) (cue by.now ∷ [])) }
     ensures cause { IfErr result (λ e. IsCaused e unasked output.new.log) }
     ensures refused { IfErr result (λ e. IsRefused R.refuses e room.new) }
 {
+    let alloc = session.alloc;
     match frame {
         Frame::Whole(octets) => match act_of_command(alloc, octets) {
-            Ok(act) => request(
-                alloc, room, who, clock, gate, dialect, by, act, flow, output,
-            ),
+            Ok(act) => request(session, room, dialect, by, act, flow, output),
             Err(_) => Err(ServeError::Memory),
         },
         Frame::Reject(tag) => match act_of_rejected(alloc, tag) {
-            Ok(act) => request(
-                alloc, room, who, clock, gate, dialect, by, act, flow, output,
-            ),
+            Ok(act) => request(session, room, dialect, by, act, flow, output),
             Err(_) => Err(ServeError::Memory),
         },
         Frame::Continue => match reply(alloc, dialect, Some(by), output, &[Response::Ready]) {
@@ -243,61 +218,49 @@ fn take_rewritten<R: Room, D: Dialect, O: Write, C: Moments, G: Gate>(
 }
 
 /// Does what a frame asks for, as the dialect rewrites it.
-#[tactic(auto, using(crate::proofs::Scenes::breaks_off))]
 fn take_frame<R: Room, D: Dialect, O: Write, C: Moments, G: Gate>(
-    alloc: Global,
+    session: &Session<'_, C, G>,
     room: &mut R,
-    who: &SessionId,
-    clock: &C,
-    gate: &G,
     dialect: &mut D,
     frame: &Frame,
     flow: Flow,
     output: &mut Watched<O>,
 ) -> Result<Flow, ServeError>
-    ensures ok { IfOk result (λ next. GoesOrCloses next.closed (site who.now R.keeps_all D.telling)
-        flow.idles next.idles
+    ensures ok { IfOk result (λ next. GoesOrCloses next.closed
+        (site session.now.who.now R.keeps_all D.telling) flow.idles next.idles
         (scene (R.entries room.old) (O.contents output.old.inner) dialect.old)
         (scene (R.entries room.new) (O.contents output.new.inner) dialect.new) (cue frame.now ∷ [])) }
-    ensures err { OnErr result (Breaks (site who.now R.keeps_all D.telling) flow.idles
+    ensures err { OnErr result (Breaks (site session.now.who.now R.keeps_all D.telling) flow.idles
         (scene (R.entries room.old) (O.contents output.old.inner) dialect.old)
         (scene (R.entries room.new) (O.contents output.new.inner) dialect.new) (cue frame.now ∷ [])) }
     ensures cause { IfErr result (λ e. IsCaused e unasked output.new.log) }
     ensures refused { IfErr result (λ e. IsRefused R.refuses e room.new) }
 {
-    match dialect.rewrite(alloc, frame) {
+    match dialect.rewrite(session.alloc, frame) {
         Ok(Some(other)) => {
-            let taken = take_rewritten(
-                alloc, room, who, clock, gate, dialect, frame, &other, flow, output,
-            );
+            let taken = take_rewritten(session, room, dialect, frame, &other, flow, output);
             drop(other);
             taken
         }
-        Ok(None) => take_rewritten(
-            alloc, room, who, clock, gate, dialect, frame, frame, flow, output,
-        ),
+        Ok(None) => take_rewritten(session, room, dialect, frame, frame, flow, output),
         Err(_) => Err(ServeError::Memory),
     }
 }
 
 /// Does what frames ask for, until one closes the session.
-#[tactic(auto, using(crate::proofs::Scenes::goes_nowhere, crate::proofs::Scenes::frames_more, crate::proofs::Scenes::frames_close, crate::proofs::Scenes::frames_break))]
 fn take_frames<R: Room, D: Dialect, O: Write, C: Moments, G: Gate>(
-    alloc: Global,
+    session: &Session<'_, C, G>,
     room: &mut R,
-    who: &SessionId,
-    clock: &C,
-    gate: &G,
     dialect: &mut D,
     frames: &[Frame],
     flow: Flow,
     output: &mut Watched<O>,
 ) -> Result<Flow, ServeError>
-    ensures ok { IfOk result (λ next. GoesOrCloses next.closed (site who.now R.keeps_all D.telling)
-        flow.idles next.idles
+    ensures ok { IfOk result (λ next. GoesOrCloses next.closed
+        (site session.now.who.now R.keeps_all D.telling) flow.idles next.idles
         (scene (R.entries room.old) (O.contents output.old.inner) dialect.old)
         (scene (R.entries room.new) (O.contents output.new.inner) dialect.new) (map cue frames.now)) }
-    ensures err { OnErr result (Breaks (site who.now R.keeps_all D.telling) flow.idles
+    ensures err { OnErr result (Breaks (site session.now.who.now R.keeps_all D.telling) flow.idles
         (scene (R.entries room.old) (O.contents output.old.inner) dialect.old)
         (scene (R.entries room.new) (O.contents output.new.inner) dialect.new) (map cue frames.now)) }
     ensures cause { IfErr result (λ e. IsCaused e unasked output.new.log) }
@@ -311,7 +274,7 @@ fn take_frames<R: Room, D: Dialect, O: Write, C: Moments, G: Gate>(
             idles,
             calls,
         };
-        match take_frame(alloc, room, who, clock, gate, dialect, frame, flow, output) {
+        match take_frame(session, room, dialect, frame, flow, output) {
             Ok(flow) => {
                 if flow.closed {
                     return Ok(flow);
@@ -330,44 +293,30 @@ fn take_frames<R: Room, D: Dialect, O: Write, C: Moments, G: Gate>(
 }
 
 /// Does what `piece` asks for, which follows the octets that the framer holds.
-#[tactic(auto, using(crate::proofs::Scenes::breaks_off, crate::proofs::Scenes::nothing_framed, crate::proofs::Scenes::stays_hung_up))]
 pub(crate) fn take_piece<R: Room, D: Dialect, O: Write, C: Moments, G: Gate>(
-    alloc: Global,
+    session: &Session<'_, C, G>,
     room: &mut R,
-    who: &SessionId,
-    clock: &C,
-    gate: &G,
     dialect: &mut D,
     framer: &mut Framer,
     piece: &[u8],
     flow: Flow,
     output: &mut Watched<O>,
 ) -> Result<Flow, ServeError>
-    ensures ok { IfOk result (λ next. GoesOrCloses next.closed (site who.now R.keeps_all D.telling)
-        flow.idles next.idles
+    ensures ok { IfOk result (λ next. GoesOrCloses next.closed
+        (site session.now.who.now R.keeps_all D.telling) flow.idles next.idles
         (scene (R.entries room.old) (O.contents output.old.inner) dialect.old)
         (scene (R.entries room.new) (O.contents output.new.inner) dialect.new)
         (map cue (run framer.old piece.now).frames)) }
     ensures next { OnOk result (framer.new ≡ (run framer.old piece.now).next) }
-    ensures err { OnErr result (Breaks (site who.now R.keeps_all D.telling) flow.idles
+    ensures err { OnErr result (Breaks (site session.now.who.now R.keeps_all D.telling) flow.idles
         (scene (R.entries room.old) (O.contents output.old.inner) dialect.old)
         (scene (R.entries room.new) (O.contents output.new.inner) dialect.new)
         (map cue (run framer.old piece.now).frames)) }
     ensures cause { IfErr result (λ e. IsCaused e unasked output.new.log) }
     ensures refused { IfErr result (λ e. IsRefused R.refuses e room.new) }
 {
-    match framer.feed(alloc, piece) {
-        Ok(frames) => take_frames(
-            alloc,
-            room,
-            who,
-            clock,
-            gate,
-            dialect,
-            frames.as_slice(),
-            flow,
-            output,
-        ),
+    match framer.feed(session.alloc, piece) {
+        Ok(frames) => take_frames(session, room, dialect, frames.as_slice(), flow, output),
         Err(LexError::Memory) => Err(ServeError::Memory),
         // After a hangup the stream has no frames.
         Err(LexError::Closed) => Ok(Flow {

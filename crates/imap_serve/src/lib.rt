@@ -14,6 +14,7 @@ mod gate;
 pub mod laws;
 mod moments;
 mod serving;
+mod session;
 mod standard;
 mod talking;
 mod telling;

@@ -3,19 +3,19 @@
 //! The room is asked for an end after a failure too. So the memory for the step Leave is taken before anything
 //! else. If the room refuses it, the next Open of the session begins it anew.
 
-ghost use Rattle.std.specs.Prelude.{◌≡◌, ◌≤◌, false, IfErr, IfOk, OnErr};
+ghost use Rattle.std.specs.Prelude.{◌≡◌, ◌≤◌, false, IfErr, IfOk};
 ghost use Rattle.imap_hall.specs.Act.TheVariants as specs;
 ghost use Rattle.imap_serve.specs.declared.error.End.TheVariants.{Idle};
-ghost use Rattle.imap_serve.specs.Reading.{unasked};
 ghost use Rattle.imap_serve.specs.Served as plain;
 ghost use Rattle.imap_serve.specs.Served.{IsAllRead, IsCaused, IsLastRead, IsRefused, Leaves};
-ghost use Rattle.imap_serve.specs.Told.{Breaks, BrokeOffAfter, EndedAfter, GivesUp, GoesOrCloses, Serves};
+ghost use Rattle.imap_serve.specs.Told.{BrokeOffAfter, EndedAfter, GivesUp, Serves};
 ghost use Rattle.imap_serve.specs.Told.{scene, site, to_open};
 
 use crate::error::{End, ServeError};
 use crate::exchange::{make, step_of};
 use crate::gate::Gate;
 use crate::moments::Moments;
+use crate::session::Session;
 use crate::talking::talk;
 use crate::telling::Flow;
 use crate::watched::Watched;
@@ -25,63 +25,24 @@ use std::alloc::Global;
 use std::io::{Read, Write};
 use std::sync::Wait;
 
-/// Opens the session, and writes the greeting.
-fn open_session<R: Room, D: Dialect, O: Write, C: Moments>(
-    alloc: Global,
-    room: &mut R,
-    who: &SessionId,
-    clock: &C,
-    dialect: &mut D,
-    output: &mut Watched<O>,
-) -> Result<Flow, ServeError>
-    ensures ok { IfOk result (λ next. GoesOrCloses next.closed (site who.now R.keeps_all D.telling)
-        false next.idles
-        (scene (R.entries room.old) (O.contents output.old.inner) dialect.old)
-        (scene (R.entries room.new) (O.contents output.new.inner) dialect.new) to_open) }
-    ensures err { OnErr result (Breaks (site who.now R.keeps_all D.telling) false
-        (scene (R.entries room.old) (O.contents output.old.inner) dialect.old)
-        (scene (R.entries room.new) (O.contents output.new.inner) dialect.new) to_open) }
-    ensures cause { IfErr result (λ e. IsCaused e unasked output.new.log) }
-    ensures refused { IfErr result (λ e. IsRefused R.refuses e room.new) }
-{
-    let flow = Flow {
-        closed: false,
-        idles: false,
-        calls: 0,
-    };
-    make(
-        alloc,
-        room,
-        who,
-        dialect,
-        None,
-        clock.now(),
-        Act::Open,
-        flow,
-        output,
-    )
-}
-
 /// Opens the session, and does what its octets ask for until it ends.
-#[tactic(auto, using(crate::proofs::Scenes::opened_closes, crate::proofs::Scenes::opened_breaks, crate::proofs::Scenes::opened_ended, crate::proofs::Scenes::opened_broke, crate::proofs::Scenes::caused_writer))]
 fn converse<R: Room, D: Dialect, I: Read, O: Write, C: Moments, G: Gate, W: Wait>(
     rt: &W,
-    alloc: Global,
+    session: &Session<'_, C, G>,
     room: &mut R,
-    who: &SessionId,
-    clock: &C,
-    gate: &G,
     dialect: &mut D,
     max_octets: u64,
     idle_turns: u64,
     input: &mut Watched<I>,
     output: &mut Watched<O>,
 ) -> Result<End, ServeError>
-    ensures ended { IfOk result (λ end. EndedAfter max_octets end (site who.now R.keeps_all D.telling) false
+    ensures ended { IfOk result (λ end. EndedAfter max_octets end
+        (site session.now.who.now R.keeps_all D.telling) false
         (I.remaining input.old.inner) (I.remaining input.new.inner)
         (scene (R.entries room.old) (O.contents output.old.inner) dialect.old)
         (scene (R.entries room.new) (O.contents output.new.inner) dialect.new) to_open) }
-    ensures broke { IfErr result (λ e. BrokeOffAfter max_octets e (site who.now R.keeps_all D.telling) false
+    ensures broke { IfErr result (λ e. BrokeOffAfter max_octets e
+        (site session.now.who.now R.keeps_all D.telling) false
         (I.remaining input.old.inner) (I.remaining input.new.inner)
         (scene (R.entries room.old) (O.contents output.old.inner) dialect.old)
         (scene (R.entries room.new) (O.contents output.new.inner) dialect.new) to_open) }
@@ -91,14 +52,18 @@ fn converse<R: Room, D: Dialect, I: Read, O: Write, C: Moments, G: Gate, W: Wait
     ensures last { IfOk result (λ end. IsLastRead end input.new.log.last) }
     ensures idle { IfOk result (λ end. end ≡ Idle → idle_turns ≤ input.new.quiet) }
 {
-    match open_session(alloc, room, who, clock, dialect, output) {
+    let flow = Flow {
+        closed: false,
+        idles: false,
+        calls: 0,
+    };
+    match make(session, room, dialect, None, Act::Open, flow, output) {
         Ok(flow) => {
             if flow.closed {
                 return Ok(End::Closed);
             }
             match talk(
-                rt, alloc, room, who, clock, gate, dialect, max_octets, idle_turns, flow.idles,
-                input, output,
+                rt, session, room, dialect, max_octets, idle_turns, flow.idles, input, output,
             ) {
                 Ok(end) => Ok(end),
                 Err(error) => Err(error),
@@ -119,7 +84,6 @@ fn leave<R: Room, C: Moments>(alloc: Global, room: &mut R, clock: &C, step: Step
     drop(step);
 }
 
-#[tactic(auto, using(crate::proofs::Scenes::left, crate::proofs::Scenes::stayed))]
 fn leave_by<R: Room>(alloc: Global, room: &mut R, step: &Step)
     requires { step.now.act ≡ specs.Leave }
     ensures { Leaves R.entries R.refuses (plain.site step.now.who R.keeps_all) room.old room.new }
@@ -138,7 +102,6 @@ fn leave_by<R: Room>(alloc: Global, room: &mut R, step: &Step)
 /// `max_octets` octets together.
 ///
 /// After a failure a beginning of the replies was written; all of them if the reader failed.
-#[tactic(auto, using(crate::proofs::Scenes::serves, crate::proofs::Scenes::gives_up, crate::proofs::Scenes::never_began))]
 pub fn serve_in<R: Room, D: Dialect, I: Read, O: Write, C: Moments, G: Gate, W: Wait>(
     rt: &W,
     alloc: Global,
@@ -168,8 +131,14 @@ pub fn serve_in<R: Room, D: Dialect, I: Read, O: Write, C: Moments, G: Gate, W: 
     let Ok(step) = step_of(who, clock.now(), Act::Leave) else {
         return Err(ServeError::Memory);
     };
+    let session = Session {
+        alloc,
+        who,
+        clock,
+        gate,
+    };
     match converse(
-        rt, alloc, room, who, clock, gate, dialect, max_octets, idle_turns, input, output,
+        rt, &session, room, dialect, max_octets, idle_turns, input, output,
     ) {
         Ok(end) => {
             leave(alloc, room, clock, step);

@@ -1,19 +1,19 @@
 //! A session from its first read to its last.
 
-ghost use Rattle.std.specs.Prelude.{◌≡◌, ◌≤◌, [], true, IfErr, IfOk, OnErr};
+ghost use Rattle.std.specs.Prelude.{◌≡◌, ◌≤◌, [], IfErr, IfOk};
 ghost use Rattle.imap_serve.specs.declared.error.End.TheVariants.{Idle};
-ghost use Rattle.imap_serve.specs.Reading.{unasked};
 ghost use Rattle.imap_serve.specs.Served.{IsAllRead, IsCaused, IsLastRead, IsRefused};
-ghost use Rattle.imap_serve.specs.Told.{Breaks, BrokeOffAfter, EndedAfter, GoesOrCloses, scene, site};
+ghost use Rattle.imap_serve.specs.Told.{BrokeOffAfter, EndedAfter, scene, site};
 
 use crate::error::{End, ServeError};
 use crate::exchange::{make, take_piece};
 use crate::gate::Gate;
 use crate::moments::Moments;
+use crate::session::Session;
 use crate::telling::{Flow, say};
 use crate::watched::{Taken, Watched};
 use imap_dialect::Dialect;
-use imap_hall::{Act, Room, SessionId};
+use imap_hall::{Act, Room};
 use imap_lex::Framer;
 use imap_print::{Farewell, Response};
 use std::alloc::Global;
@@ -23,50 +23,12 @@ use std::sync::Wait;
 /// The most octets that one read takes.
 const PIECE_OCTETS: usize = 4096;
 
-/// Tells a session what changed, which idles (RFC 2177).
-fn poll<R: Room, D: Dialect, O: Write, C: Moments>(
-    alloc: Global,
-    room: &mut R,
-    who: &SessionId,
-    clock: &C,
-    dialect: &mut D,
-    flow: Flow,
-    output: &mut Watched<O>,
-) -> Result<Flow, ServeError>
-    requires { flow.idles ≡ true }
-    ensures ok { IfOk result (λ next. GoesOrCloses next.closed (site who.now R.keeps_all D.telling)
-        flow.idles next.idles
-        (scene (R.entries room.old) (O.contents output.old.inner) dialect.old)
-        (scene (R.entries room.new) (O.contents output.new.inner) dialect.new) []) }
-    ensures err { OnErr result (Breaks (site who.now R.keeps_all D.telling) flow.idles
-        (scene (R.entries room.old) (O.contents output.old.inner) dialect.old)
-        (scene (R.entries room.new) (O.contents output.new.inner) dialect.new) []) }
-    ensures cause { IfErr result (λ e. IsCaused e unasked output.new.log) }
-    ensures refused { IfErr result (λ e. IsRefused R.refuses e room.new) }
-{
-    make(
-        alloc,
-        room,
-        who,
-        dialect,
-        None,
-        clock.now(),
-        Act::Poll,
-        flow,
-        output,
-    )
-}
-
 /// Reads, and does what the octets ask for, until the input ends, the session is closed, or nothing came for too
 /// long. `idles` says whether the session idles at the beginning.
-#[tactic(auto, using(crate::proofs::Scenes::heard_nothing, crate::proofs::Scenes::heard_more, crate::proofs::Scenes::heard_all, crate::proofs::Scenes::heard_unread, crate::proofs::Scenes::heard_still, crate::proofs::Scenes::heard_poll, crate::proofs::Scenes::caused_writer, crate::proofs::Scenes::caused_writing, crate::proofs::Scenes::not_refused))]
 pub(crate) fn talk<R: Room, D: Dialect, I: Read, O: Write, C: Moments, G: Gate, W: Wait>(
     rt: &W,
-    alloc: Global,
+    session: &Session<'_, C, G>,
     room: &mut R,
-    who: &SessionId,
-    clock: &C,
-    gate: &G,
     dialect: &mut D,
     max_octets: u64,
     idle_turns: u64,
@@ -74,11 +36,13 @@ pub(crate) fn talk<R: Room, D: Dialect, I: Read, O: Write, C: Moments, G: Gate, 
     input: &mut Watched<I>,
     output: &mut Watched<O>,
 ) -> Result<End, ServeError>
-    ensures ended { IfOk result (λ end. EndedAfter max_octets end (site who.now R.keeps_all D.telling) idles
+    ensures ended { IfOk result (λ end. EndedAfter max_octets end
+        (site session.now.who.now R.keeps_all D.telling) idles
         (I.remaining input.old.inner) (I.remaining input.new.inner)
         (scene (R.entries room.old) (O.contents output.old.inner) dialect.old)
         (scene (R.entries room.new) (O.contents output.new.inner) dialect.new) []) }
-    ensures broke { IfErr result (λ e. BrokeOffAfter max_octets e (site who.now R.keeps_all D.telling) idles
+    ensures broke { IfErr result (λ e. BrokeOffAfter max_octets e
+        (site session.now.who.now R.keeps_all D.telling) idles
         (I.remaining input.old.inner) (I.remaining input.new.inner)
         (scene (R.entries room.old) (O.contents output.old.inner) dialect.old)
         (scene (R.entries room.new) (O.contents output.new.inner) dialect.new) []) }
@@ -88,7 +52,7 @@ pub(crate) fn talk<R: Room, D: Dialect, I: Read, O: Write, C: Moments, G: Gate, 
     ensures last { IfOk result (λ end. IsLastRead end input.new.log.last) }
     ensures idle { IfOk result (λ end. end ≡ Idle → idle_turns ≤ input.new.quiet) }
 {
-    let mut framer = Framer::new(alloc, max_octets);
+    let mut framer = Framer::new(session.alloc, max_octets);
     let mut piece = [0u8; PIECE_OCTETS];
     let mut polled = room.change_count();
     let mut idles = idles;
@@ -103,11 +67,8 @@ pub(crate) fn talk<R: Room, D: Dialect, I: Read, O: Write, C: Moments, G: Gate, 
             Ok(Taken::End) => return Ok(End::InputEnded),
             Ok(Taken::Octets(count)) => {
                 match take_piece(
-                    alloc,
+                    session,
                     room,
-                    who,
-                    clock,
-                    gate,
                     dialect,
                     &mut framer,
                     &piece[..count],
@@ -127,7 +88,7 @@ pub(crate) fn talk<R: Room, D: Dialect, I: Read, O: Write, C: Moments, G: Gate, 
             Ok(Taken::Occasion) => {
                 if input.quiet() >= idle_turns {
                     match say(
-                        alloc,
+                        session.alloc,
                         dialect,
                         None,
                         output,
@@ -137,10 +98,11 @@ pub(crate) fn talk<R: Room, D: Dialect, I: Read, O: Write, C: Moments, G: Gate, 
                         Err(error) => return Err(error),
                     }
                 }
+                // An idling session is told what changed (RFC 2177).
                 let now = room.change_count();
                 if idles && now != polled {
                     polled = now;
-                    match poll(alloc, room, who, clock, dialect, flow, output) {
+                    match make(session, room, dialect, None, Act::Poll, flow, output) {
                         Ok(flow) => {
                             if flow.closed {
                                 return Ok(End::Closed);

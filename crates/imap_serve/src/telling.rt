@@ -48,7 +48,6 @@ impl Flow {
 }
 
 /// Tells replies to a frame, or to nothing, and writes them.
-#[tactic(auto, using(crate::proofs::Pieces::ruled_all, crate::proofs::Pieces::ruled_part))]
 pub(crate) fn say<D: Dialect, O: Write>(
     alloc: Global,
     dialect: &D,

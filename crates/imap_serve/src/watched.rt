@@ -118,7 +118,6 @@ impl<I: Read> Watched<I> {
     }
 
     /// Reads into a buffer that isn't empty. A read that was interrupted is made again, up to 1,000 times.
-    #[tactic(auto, using(crate::proofs::Bytes::consumes_nothing, crate::proofs::Bytes::consumes_keeps, crate::proofs::Bytes::consumes_then))]
     pub(crate) fn read(&mut self, buf: &mut [u8]) -> Result<Taken, Failed>
         requires { 0 < length buf.old }
         ensures ok { IfOk result (λ taken.
@@ -183,7 +182,6 @@ impl<O: Write> Watched<O> {
 
     /// Writes some octets of a piece that isn't empty. A write that was interrupted is made again, up to 1,000
     /// times. A write of nothing is a failure.
-    #[tactic(auto, using(crate::proofs::Bytes::appends_nothing, crate::proofs::Bytes::appends_keeps, crate::proofs::Bytes::appends_then))]
     fn write_some(&mut self, bytes: &[u8]) -> Result<usize, Failed>
         requires { 0 < length bytes.now }
         ensures ok { IfOk result (λ n.

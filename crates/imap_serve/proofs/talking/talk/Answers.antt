@@ -1,16 +1,103 @@
-use Rattle.std.proofs.Common.{subst, take, map, []}
+use Rattle.std.proofs.Common.{rules, subst, take, map, []}
 use Rattle.std.specs.Io.KnownBytes.{Consumes}
 use Rattle.imap_lex.specs.Framing.{run}
 use Rattle.imap_serve.specs.declared.watched.Taken.TheVariants as taken
 use Rattle.imap_serve.specs.Reading.{Takes, unasked}
-use Rattle.imap_serve.specs.Told.{Scene, scene, Site, site, Closes, GoesOrCloses}
+use Rattle.imap_serve.specs.Told.{Scene, scene, Site, site, Closes, GoesOn, GoesOrCloses}
 use Rattle.imap_serve.specs.Turns.{frame}
-use Rattle.imap_serve.proofs.Scenes.{caused_writing, heard_closes, heard_breaks, heard_poll_closes, heard_poll_breaks, heard_idles, idle_all, idle_part}
+use Rattle.imap_serve.proofs.Scenes.{caused_writing, heard_nothing, heard_more, heard_all, heard_unread, heard_still, heard_poll, heard_closes, heard_breaks, heard_poll_closes, heard_poll_breaks, heard_idles, idle_all, idle_part}
 use Rattle.imap_serve.proofs.talking.talk.Goals as goal
+
+pub loop-init : goal.loop-init
+loop-init g c =
+    let s : Site _ = site c.args.session.now.who.now g.R.Room.keeps_all g.D.Dialect.telling in
+    let p = c.args.idles in
+    let a : Scene _ = scene (g.R.Room.entries c.args.room.now) (g.O.Write.contents c.args.output.now.inner) c.args.dialect.now in
+    let heard = heard_nothing c.args.max_octets s p (g.I.Read.remaining c.args.input.now.inner) a in
+    search (rules, heard)
+
+-- ---- it goes on
+
+pub loop-preserved-in-Ok : goal.loop-preserved-in-Ok
+loop-preserved-in-Ok g c =
+    let s : Site _ = site c.args.session.now.who.now g.R.Room.keeps_all g.D.Dialect.telling in
+    let p = c.args.idles in
+    let q = c.loop.idles in
+    let a : Scene _ = scene (g.R.Room.entries c.args.room.now) (g.O.Write.contents c.args.output.now.inner) c.args.dialect.now in
+    let b : Scene _ = scene (g.R.Room.entries c.loop.room) (g.O.Write.contents c.loop.output.inner) c.loop.dialect in
+    let i = g.I.Read.remaining c.args.input.now.inner in
+    let j = g.I.Read.remaining c.loop.input.inner in
+    let k = g.I.Read.remaining c.read.new.self.inner in
+    let d : Scene _ = scene (g.R.Room.entries c.take_piece.new.room) (g.O.Write.contents c.take_piece.new.output.inner) c.take_piece.new.dialect in
+    let f = c.loop.framer in
+    let ys = take c.in-Ok-Octets.count c.read.new.buf in
+    let t = c.in-Ok.flow.idles in
+    let took : Takes (taken.Octets c.in-Ok-Octets.count) j k c.read.new.buf = subst (λ t. Takes t j k c.read.new.buf) c.in-Ok-Octets.field-0-is c.in-Ok-Octets.ensures.ok in
+    let next : GoesOn s q t b d (map frame (run f ys).frames) = subst (λ closed. GoesOrCloses closed s q t b d (map frame (run f ys).frames)) c.if-flow.false c.in-Ok.ensures.ok in
+    let heard = heard_more c.args.max_octets s p q i j k a b d f ys c.loop.invariant.2 took.0 c.take_piece.new.framer t next c.in-Ok.ensures.next in
+    search (rules, heard)
+
+pub loop-preserved-then-now-polled : goal.loop-preserved-then-now-polled
+loop-preserved-then-now-polled g c =
+    let s : Site _ = site c.args.session.now.who.now g.R.Room.keeps_all g.D.Dialect.telling in
+    let p = c.args.idles in
+    let q = c.loop.idles in
+    let a : Scene _ = scene (g.R.Room.entries c.args.room.now) (g.O.Write.contents c.args.output.now.inner) c.args.dialect.now in
+    let b : Scene _ = scene (g.R.Room.entries c.loop.room) (g.O.Write.contents c.loop.output.inner) c.loop.dialect in
+    let i = g.I.Read.remaining c.args.input.now.inner in
+    let j = g.I.Read.remaining c.loop.input.inner in
+    let k = g.I.Read.remaining c.read.new.self.inner in
+    let d : Scene _ = scene (g.R.Room.entries c.make.new.room) (g.O.Write.contents c.make.new.output.inner) c.make.new.dialect in
+    let t = c.in-Ok-make.flow.idles in
+    let read : Consumes j k [] = subst (λ t. Takes t j k c.read.new.buf) c.in-Ok-Occasion.field-0-is c.in-Ok-Occasion.ensures.ok in
+    let next : GoesOn s q t b d [] = subst (λ closed. GoesOrCloses closed s q t b d []) c.if-flow-2.false c.in-Ok-make.ensures.ok in
+    let heard = heard_poll c.args.max_octets s p q i j k a b c.loop.framer c.loop.invariant.2 read d t next in
+    search (rules, heard)
+
+pub loop-preserved : goal.loop-preserved
+loop-preserved g c =
+    let s : Site _ = site c.args.session.now.who.now g.R.Room.keeps_all g.D.Dialect.telling in
+    let p = c.args.idles in
+    let q = c.loop.idles in
+    let a : Scene _ = scene (g.R.Room.entries c.args.room.now) (g.O.Write.contents c.args.output.now.inner) c.args.dialect.now in
+    let b : Scene _ = scene (g.R.Room.entries c.loop.room) (g.O.Write.contents c.loop.output.inner) c.loop.dialect in
+    let i = g.I.Read.remaining c.args.input.now.inner in
+    let j = g.I.Read.remaining c.loop.input.inner in
+    let k = g.I.Read.remaining c.read.new.self.inner in
+    let read : Consumes j k [] = subst (λ t. Takes t j k c.read.new.buf) c.in-Ok-Occasion.field-0-is c.in-Ok-Occasion.ensures.ok in
+    let heard = heard_still c.args.max_octets s p q i j k a b c.loop.framer c.loop.invariant.2 read in
+    search (rules, heard)
+
+-- ---- it ends
+
+pub returns-in-Ok-End-clause-ended : goal.returns-in-Ok-End-clause-ended
+returns-in-Ok-End-clause-ended g c =
+    let s : Site _ = site c.args.session.now.who.now g.R.Room.keeps_all g.D.Dialect.telling in
+    let p = c.args.idles in
+    let q = c.loop.idles in
+    let a : Scene _ = scene (g.R.Room.entries c.args.room.now) (g.O.Write.contents c.args.output.now.inner) c.args.dialect.now in
+    let b : Scene _ = scene (g.R.Room.entries c.loop.room) (g.O.Write.contents c.loop.output.inner) c.loop.dialect in
+    let i = g.I.Read.remaining c.args.input.now.inner in
+    let j = g.I.Read.remaining c.loop.input.inner in
+    let k = g.I.Read.remaining c.read.new.self.inner in
+    let took : Takes taken.End j k c.read.new.buf = subst (λ t. Takes t j k c.read.new.buf) c.in-Ok-End.field-0-is c.in-Ok-End.ensures.ok in
+    heard_all c.args.max_octets s p q i j k a b c.loop.framer c.loop.invariant.2 took.0
+
+pub returns-in-Err-clause-broke : goal.returns-in-Err-clause-broke
+returns-in-Err-clause-broke g c =
+    let s : Site _ = site c.args.session.now.who.now g.R.Room.keeps_all g.D.Dialect.telling in
+    let p = c.args.idles in
+    let q = c.loop.idles in
+    let a : Scene _ = scene (g.R.Room.entries c.args.room.now) (g.O.Write.contents c.args.output.now.inner) c.args.dialect.now in
+    let b : Scene _ = scene (g.R.Room.entries c.loop.room) (g.O.Write.contents c.loop.output.inner) c.loop.dialect in
+    let i = g.I.Read.remaining c.args.input.now.inner in
+    let j = g.I.Read.remaining c.loop.input.inner in
+    let k = g.I.Read.remaining c.read.new.self.inner in
+    heard_unread c.args.max_octets s p q i j k a b c.loop.framer c.loop.invariant.2 c.in-Err.ensures.err
 
 pub returns-then-flow-clause-ended : goal.returns-then-flow-clause-ended
 returns-then-flow-clause-ended g c =
-    let s : Site _ = site c.args.who.now g.R.Room.keeps_all g.D.Dialect.telling in
+    let s : Site _ = site c.args.session.now.who.now g.R.Room.keeps_all g.D.Dialect.telling in
     let p = c.args.idles in
     let q = c.loop.idles in
     let a : Scene _ = scene (g.R.Room.entries c.args.room.now) (g.O.Write.contents c.args.output.now.inner) c.args.dialect.now in
@@ -27,7 +114,7 @@ returns-then-flow-clause-ended g c =
 
 pub returns-in-Err-take_piece-clause-broke : goal.returns-in-Err-take_piece-clause-broke
 returns-in-Err-take_piece-clause-broke g c =
-    let s : Site _ = site c.args.who.now g.R.Room.keeps_all g.D.Dialect.telling in
+    let s : Site _ = site c.args.session.now.who.now g.R.Room.keeps_all g.D.Dialect.telling in
     let p = c.args.idles in
     let q = c.loop.idles in
     let a : Scene _ = scene (g.R.Room.entries c.args.room.now) (g.O.Write.contents c.args.output.now.inner) c.args.dialect.now in
@@ -42,7 +129,7 @@ returns-in-Err-take_piece-clause-broke g c =
 
 pub returns-in-Ok-say-clause-ended : goal.returns-in-Ok-say-clause-ended
 returns-in-Ok-say-clause-ended g c =
-    let s : Site _ = site c.args.who.now g.R.Room.keeps_all g.D.Dialect.telling in
+    let s : Site _ = site c.args.session.now.who.now g.R.Room.keeps_all g.D.Dialect.telling in
     let p = c.args.idles in
     let q = c.loop.idles in
     let a : Scene _ = scene (g.R.Room.entries c.args.room.now) (g.O.Write.contents c.args.output.now.inner) c.args.dialect.now in
@@ -57,7 +144,7 @@ returns-in-Ok-say-clause-ended g c =
 
 pub returns-in-Err-say-clause-broke : goal.returns-in-Err-say-clause-broke
 returns-in-Err-say-clause-broke g c =
-    let s : Site _ = site c.args.who.now g.R.Room.keeps_all g.D.Dialect.telling in
+    let s : Site _ = site c.args.session.now.who.now g.R.Room.keeps_all g.D.Dialect.telling in
     let p = c.args.idles in
     let q = c.loop.idles in
     let a : Scene _ = scene (g.R.Room.entries c.args.room.now) (g.O.Write.contents c.args.output.now.inner) c.args.dialect.now in
@@ -72,29 +159,29 @@ returns-in-Err-say-clause-broke g c =
 
 pub returns-then-flow-2-clause-ended : goal.returns-then-flow-2-clause-ended
 returns-then-flow-2-clause-ended g c =
-    let s : Site _ = site c.args.who.now g.R.Room.keeps_all g.D.Dialect.telling in
+    let s : Site _ = site c.args.session.now.who.now g.R.Room.keeps_all g.D.Dialect.telling in
     let p = c.args.idles in
     let q = c.loop.idles in
     let a : Scene _ = scene (g.R.Room.entries c.args.room.now) (g.O.Write.contents c.args.output.now.inner) c.args.dialect.now in
     let b : Scene _ = scene (g.R.Room.entries c.loop.room) (g.O.Write.contents c.loop.output.inner) c.loop.dialect in
-    let d : Scene _ = scene (g.R.Room.entries c.poll.new.room) (g.O.Write.contents c.poll.new.output.inner) c.poll.new.dialect in
+    let d : Scene _ = scene (g.R.Room.entries c.make.new.room) (g.O.Write.contents c.make.new.output.inner) c.make.new.dialect in
     let i = g.I.Read.remaining c.args.input.now.inner in
     let j = g.I.Read.remaining c.loop.input.inner in
     let k = g.I.Read.remaining c.read.new.self.inner in
     let read : Consumes j k [] = subst (λ t. Takes t j k c.read.new.buf) c.in-Ok-Occasion.field-0-is c.in-Ok-Occasion.ensures.ok in
-    let last : Closes s q b d [] = subst (λ closed. GoesOrCloses closed s q c.in-Ok-poll.flow.idles b d []) c.if-flow-2.true c.in-Ok-poll.ensures.ok in
+    let last : Closes s q b d [] = subst (λ closed. GoesOrCloses closed s q c.in-Ok-make.flow.idles b d []) c.if-flow-2.true c.in-Ok-make.ensures.ok in
     heard_poll_closes c.args.max_octets s p q i j k a b c.loop.framer c.loop.invariant.2 read d last
 
-pub returns-in-Err-poll-clause-broke : goal.returns-in-Err-poll-clause-broke
-returns-in-Err-poll-clause-broke g c =
-    let s : Site _ = site c.args.who.now g.R.Room.keeps_all g.D.Dialect.telling in
+pub returns-in-Err-make-clause-broke : goal.returns-in-Err-make-clause-broke
+returns-in-Err-make-clause-broke g c =
+    let s : Site _ = site c.args.session.now.who.now g.R.Room.keeps_all g.D.Dialect.telling in
     let p = c.args.idles in
     let q = c.loop.idles in
     let a : Scene _ = scene (g.R.Room.entries c.args.room.now) (g.O.Write.contents c.args.output.now.inner) c.args.dialect.now in
     let b : Scene _ = scene (g.R.Room.entries c.loop.room) (g.O.Write.contents c.loop.output.inner) c.loop.dialect in
-    let d : Scene _ = scene (g.R.Room.entries c.poll.new.room) (g.O.Write.contents c.poll.new.output.inner) c.poll.new.dialect in
+    let d : Scene _ = scene (g.R.Room.entries c.make.new.room) (g.O.Write.contents c.make.new.output.inner) c.make.new.dialect in
     let i = g.I.Read.remaining c.args.input.now.inner in
     let j = g.I.Read.remaining c.loop.input.inner in
     let k = g.I.Read.remaining c.read.new.self.inner in
     let read : Consumes j k [] = subst (λ t. Takes t j k c.read.new.buf) c.in-Ok-Occasion.field-0-is c.in-Ok-Occasion.ensures.ok in
-    heard_poll_breaks c.args.max_octets s p q i j k a b c.loop.framer c.loop.invariant.2 read d c.in-Err-poll.error c.poll.new.output.log c.in-Err-poll.ensures.cause c.in-Err-poll.ensures.err
+    heard_poll_breaks c.args.max_octets s p q i j k a b c.loop.framer c.loop.invariant.2 read d c.in-Err-make.error c.make.new.output.log c.in-Err-make.ensures.cause c.in-Err-make.ensures.err
