@@ -24,7 +24,6 @@ pub struct Ready {
 }
 
 /// Prepares a step: what it is answered and what it changes, and the copies of the replies.
-#[tactic(auto, using(crate::proofs::Written::unwritten))]
 pub fn make_ready(core: &mut Core, alloc: Global, step: &Step) -> Result<Ready, AllocError>
     ensures state { core.new.state ≡ core.old.state }
     ensures ready { IfOk result (λ r. IsReady r.prepared core.new) }
