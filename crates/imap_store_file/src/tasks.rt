@@ -1,6 +1,6 @@
 //! Tasks over a store that nobody is served from.
 
-use crate::checking::{Fault, load, report_fault, report_store};
+use crate::checking::{load, report_fault, report_store};
 use crate::dumping::report_dump;
 use crate::loading::report_load;
 use crate::store::{FileKeeper, close, open};
@@ -62,8 +62,16 @@ fn present(rt: &impl Files, path: &str) -> Result<(), ServiceError> {
     }
 }
 
+/// What came of a task.
+enum Performed<'a, S: Alter> {
+    /// The exit status.
+    Ended(ExitCode),
+    /// A folder, how its messages were added, and the database, which is to be closed.
+    Loaded(&'a str, Result<Loaded, MaildirError>, Connection<S>),
+}
+
 /// Does the task over what the keeper keeps, and ends it. It takes any file, since the proof over a file of the system is
-/// long, and hands the keeper on to functions that take any store.
+/// long, and hands the keeper once to a function that takes any store.
 fn perform_over<R: Files + Print + Eprint + AllocGlobal + Clone + Drop, D: Disk + Drop>(
     rt: &R,
     path: &str,
@@ -71,76 +79,41 @@ fn perform_over<R: Files + Print + Eprint + AllocGlobal + Clone + Drop, D: Disk 
     task: StoreTask<'_>,
     progress: ToldProgress<'_, R>,
 ) -> ExitCode {
-    match task {
-        StoreTask::Check => check(rt, path, keeper),
-        StoreTask::Dump(folder) => dump_into(rt, keeper, folder, progress),
-        StoreTask::Load(folder, administrator) => {
-            let loaded = load_from(rt, keeper, folder, administrator, progress);
-            end_load(rt, folder, loaded)
-        }
+    match perform_in(rt, path, keeper, task, progress) {
+        Performed::Ended(status) => status,
+        Performed::Loaded(folder, ended, conn) => report_load(rt, folder, ended, close(conn)),
     }
 }
 
-/// Prints how much the keeper keeps, and ends it.
-fn check<R: Print + Eprint + AllocGlobal, S: Alter + Drop>(
+/// Does the task over what the keeper keeps, and lets go of the database but after a load.
+fn perform_in<'a, R: Files + Print + Eprint + AllocGlobal + Clone + Drop, S: Alter + Drop>(
     rt: &R,
     path: &str,
     keeper: SqlKeeper<S>,
-) -> ExitCode {
-    match load(rt.alloc(), keeper) {
-        Ok(kept) => {
+    task: StoreTask<'a>,
+    mut progress: ToldProgress<'_, R>,
+) -> Performed<'a, S> {
+    let mut kept = match load(rt.alloc(), keeper) {
+        Ok(kept) => kept,
+        Err(fault) => return Performed::Ended(report_fault(rt, fault)),
+    };
+    match task {
+        StoreTask::Check => {
             let status = report_store(rt, path, kept.world());
             drop(kept);
-            status
+            Performed::Ended(status)
         }
-        Err(fault) => report_fault(rt, fault),
-    }
-}
-
-/// Writes what the keeper keeps below the folder, and ends it.
-fn dump_into<R: Files + Print + Eprint + AllocGlobal + Clone + Drop, S: Alter + Drop>(
-    rt: &R,
-    keeper: SqlKeeper<S>,
-    folder: &str,
-    mut progress: ToldProgress<'_, R>,
-) -> ExitCode {
-    match load(rt.alloc(), keeper) {
-        Ok(kept) => {
+        StoreTask::Dump(folder) => {
             let ended = dump(rt, kept.world(), folder, &mut progress);
             progress.end();
+            let status = report_dump(rt, folder, ended);
             drop(kept);
-            report_dump(rt, folder, ended)
+            Performed::Ended(status)
         }
-        Err(fault) => report_fault(rt, fault),
-    }
-}
-
-/// Adds the messages in the folder to what the keeper keeps. Returns how that ended, and the database.
-fn load_from<R: Files + Print + Eprint + AllocGlobal + Clone + Drop, S: Alter + Drop>(
-    rt: &R,
-    keeper: SqlKeeper<S>,
-    folder: &str,
-    administrator: &UserName,
-    mut progress: ToldProgress<'_, R>,
-) -> Result<(Result<Loaded, MaildirError>, Connection<S>), Fault> {
-    match load(rt.alloc(), keeper) {
-        Ok(mut kept) => {
+        StoreTask::Load(folder, administrator) => {
             let ended = imap_maildir::load(rt, &mut kept, administrator, folder, &mut progress);
             progress.end();
-            Ok((ended, kept.into_keeper().release()))
+            Performed::Loaded(folder, ended, kept.into_keeper().release())
         }
-        Err(fault) => Err(fault),
-    }
-}
-
-/// Closes the database after messages were added, and prints how many.
-fn end_load<R: Print + Eprint, D: Disk + Drop>(
-    rt: &R,
-    folder: &str,
-    loaded: Result<(Result<Loaded, MaildirError>, Connection<FileStore<D>>), Fault>,
-) -> ExitCode {
-    match loaded {
-        Ok((ended, conn)) => report_load(rt, folder, ended, close(conn)),
-        Err(fault) => report_fault(rt, fault),
     }
 }
