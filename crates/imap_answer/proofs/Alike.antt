@@ -2,11 +2,11 @@
 use Rattle.std.proofs.Common.{◌≡◌, ℕ, List, Option, Some, None, refl, sym, ap, ◌∙◌}
 use Rattle.imap_view.proofs.Asked.{own_effects}
 use Rattle.imap_view.specs.View.{View, view_of}
-use Rattle.imap_world.specs.declared.site.Site.{Site}
-use Rattle.imap_world.specs.declared.effect.Effect.{Effect}
-use Rattle.imap_world.specs.Effects.{after_all}
-use Rattle.imap_world.specs.Kept.{AreKept}
-use Rattle.imap_world.specs.World.{World}
+use Rattle.imap_view.specs.Site.{Site}
+use Rattle.imap_view.specs.Effect.{Effect}
+use Rattle.imap_view.specs.Effects.{after_all}
+use Rattle.imap_view.specs.Kept.{AreKept}
+use Rattle.imap_view.specs.World.{World}
 use Rattle.imap_answer.specs.Alike.{AnswersAlike, effects_of, view_after_asking}
 use Rattle.imap_answer.specs.Answer.{Answer}
 use Rattle.imap_answer.specs.Fit.{IsFit, IsViewed, MayBeAsked}

@@ -7,10 +7,10 @@ use Rattle.imap_print.specs.declared.enabled.EnabledCapabilities.{EnabledCapabil
 use Rattle.imap_print.specs.declared.response.Code.{Code}
 use Rattle.imap_print.specs.declared.response.Response.{Response}
 use Rattle.imap_print.specs.declared.response.Refusal.TheVariants.{NonExistent, NoPerm}
-use Rattle.imap_rights.specs.Rights.{has_any, lookup}
+use Rattle.imap_view.specs.Rights.{has_any, lookup}
 use Rattle.imap_view.specs.After.{MayAsk}
 use Rattle.imap_view.specs.View.{View}
-use Rattle.imap_world.specs.declared.effect.Effect.{Effect}
+use Rattle.imap_view.specs.Effect.{Effect}
 use Rattle.imap_answer.specs.Access.{missing_right_refusal}
 use Rattle.imap_answer.specs.Answer.{Answer, done_with, done_with_code, enabling, followed_by, lines_of, nothing_enabled, preceded_by, refusal, telling}
 use Rattle.imap_answer.specs.Fit.{IsFit, IsViewed, is_refusal, is_unavailable}

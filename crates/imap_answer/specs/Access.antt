@@ -2,7 +2,7 @@
 use Rattle.std.specs.Prelude.{ℕ, if◌then◌else◌}
 use Rattle.imap_print.specs.declared.response.Refusal.{Refusal}
 use Rattle.imap_print.specs.declared.response.Refusal.TheVariants.{NonExistent, NoPerm}
-use Rattle.imap_rights.specs.Rights.{has_any, lookup}
+use Rattle.imap_view.specs.Rights.{has_any, lookup}
 
 -- why a command is refused whose user holds these rights and lacks another. Without `l` it is as if
 -- there were no mailbox (section 6)

@@ -2,11 +2,11 @@
 use Rattle.std.specs.Prelude.{◌≡◌, ℕ, List, [], ◌∷◌, Option, Some, None}
 use Rattle.imap_view.specs.After.{view_after}
 use Rattle.imap_view.specs.View.{View, view_of}
-use Rattle.imap_world.specs.declared.site.Site.{Site}
-use Rattle.imap_world.specs.declared.effect.Effect.{Effect}
-use Rattle.imap_world.specs.Effects.{after_all}
-use Rattle.imap_world.specs.Kept.{AreKept}
-use Rattle.imap_world.specs.World.{World}
+use Rattle.imap_view.specs.Site.{Site}
+use Rattle.imap_view.specs.Effect.{Effect}
+use Rattle.imap_view.specs.Effects.{after_all}
+use Rattle.imap_view.specs.Kept.{AreKept}
+use Rattle.imap_view.specs.World.{World}
 use Rattle.imap_answer.specs.Answer.{Answer}
 
 abbrev pub effects_of : Option Effect → List Effect

@@ -5,7 +5,7 @@ use Rattle.imap_print.specs.declared.response.Code.{Code}
 use Rattle.imap_print.specs.declared.response.Response.{Response}
 use Rattle.imap_print.specs.declared.response.Response.TheVariants as response
 use Rattle.imap_print.specs.declared.response.Refusal.{Refusal}
-use Rattle.imap_world.specs.declared.effect.Effect.{Effect}
+use Rattle.imap_view.specs.Effect.{Effect}
 
 pub record Answer : Type 0 where
   pub untagged : List Response

@@ -7,9 +7,9 @@ use Rattle.imap_print.specs.declared.response.Response.{Response}
 use Rattle.imap_print.specs.declared.response.Response.TheVariants as response
 use Rattle.imap_view.specs.After.{MayAsk}
 use Rattle.imap_view.specs.View.{View, view_of}
-use Rattle.imap_world.specs.declared.effect.Effect.{Effect}
-use Rattle.imap_world.specs.Kept.{AreKept}
-use Rattle.imap_world.specs.World.{World}
+use Rattle.imap_view.specs.Effect.{Effect}
+use Rattle.imap_view.specs.Kept.{AreKept}
+use Rattle.imap_view.specs.World.{World}
 use Rattle.imap_answer.specs.Answer.{Answer, lines_of, nothing_enabled}
 
 abbrev pub is_refusal : Response → Bool

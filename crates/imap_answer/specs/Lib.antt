@@ -10,3 +10,9 @@ pub mod Name
 pub use Rattle.imap_view.specs.Readable
 pub use Rattle.imap_view.specs.View
 pub use Rattle.imap_view.specs.declared.readable.Readable as ReadableMailbox
+pub use Rattle.imap_view.specs.Seen
+pub use Rattle.imap_view.specs.Starts
+pub use Rattle.imap_print.specs.Lines
+pub use Rattle.imap_print.specs.declared.list.Children
+pub use Rattle.imap_print.specs.declared.response.Response
+pub use Rattle.imap_view.specs.NameMapRows

@@ -4,11 +4,11 @@ ghost use Rattle.std.specs.Prelude.{◌≡◌, [], IfOk};
 ghost use Rattle.std.specs.List.{AllByRecursion};
 ghost use Rattle.imap_print.specs.Lines.{IsPrintable};
 ghost use Rattle.imap_answer.specs.Answer.{enabling, followed_by, nothing_enabled, preceded_by, telling};
-ghost use Rattle.imap_mailbox.specs.Summary.{AreRising};
+ghost use Rattle.imap_view.specs.Summary.{AreRising};
 
 use imap_print::{EnabledCapabilities, Response};
 use imap_values::{beside, joined};
-use imap_world::Effect;
+use imap_view::Effect;
 use std::alloc::{AllocError, Global};
 use std::marker::Model;
 
@@ -28,14 +28,14 @@ impl Model for Answer {
     ghost use Rattle.std.specs.Prelude.{ℕ, List, Option, refl};
     ghost use Rattle.std.specs.Coded.{code_by, coded×, codes};
     ghost use Rattle.std.specs.List.{AllByRecursion};
-    ghost use Rattle.imap_mailbox.specs.Summary.{AreRising};
+    ghost use Rattle.imap_view.specs.Summary.{AreRising};
     ghost use Rattle.imap_print.specs.Lines.{IsPrintable};
     ghost use Rattle.imap_print.specs.contracts.enabled.EnabledCapabilities.{the_row as enabled_row};
     ghost use Rattle.imap_print.specs.contracts.response.Response.{the_row as response_row};
     ghost use Rattle.imap_print.specs.declared.enabled.EnabledCapabilities.{EnabledCapabilities};
     ghost use Rattle.imap_print.specs.declared.response.Response.{Response};
-    ghost use Rattle.imap_world.specs.contracts.effect.Effect.{the_row as effect_row};
-    ghost use Rattle.imap_world.specs.declared.effect.Effect.{Effect};
+    ghost use Rattle.imap_view.specs.EffectType.{the_row as effect_row};
+    ghost use Rattle.imap_view.specs.Effect.{Effect};
     ghost use Rattle.imap_answer.specs.Answer as specs;
 
     ghost Value = { specs.Answer };

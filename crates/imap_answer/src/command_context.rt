@@ -14,8 +14,7 @@ use imap_lex::{Octets, Tag};
 use imap_names::{Name, NameError, read_name, show_name};
 use imap_print::{Code, Refusal, Response};
 use imap_values::beside;
-use imap_view::View;
-use imap_world::Effect;
+use imap_view::{Effect, View};
 use std::alloc::{AllocError, Global};
 use std::marker::Model;
 

@@ -13,5 +13,6 @@ mod moment;
 pub use access::missing_right_refusal;
 pub use answer::Answer;
 pub use command_context::{CommandContext, refused_line};
+pub use imap_print::{Children, ListAttributes, Response};
 pub use imap_view::{Readable, View};
 pub use moment::Moment;

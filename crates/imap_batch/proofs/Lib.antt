@@ -7,3 +7,5 @@ pub mod Entering
 pub mod Walking
 pub mod Untouched
 pub mod Events
+pub use Rattle.imap_mailbox.proofs.Keeping
+pub use Rattle.imap_mailbox.proofs.OneMailbox

@@ -7,3 +7,18 @@ pub mod Laws
 pub mod Planned
 pub mod Untouched
 pub mod Events
+pub use Rattle.imap_mailbox.specs.Held
+pub use Rattle.imap_mailbox.specs.Parts
+pub use Rattle.imap_mailbox.specs.Summary
+pub use Rattle.imap_mailbox.specs.contracts.message.GoneMessage as GoneMessageType
+pub use Rattle.imap_mailbox.specs.contracts.message.Message as MessageType
+pub use Rattle.imap_mailbox.specs.contracts.own.SeenChange as SeenChangeType
+pub use Rattle.imap_mailbox.specs.declared.message.GoneMessage
+pub use Rattle.imap_mailbox.specs.declared.message.Message
+pub use Rattle.imap_mailbox.specs.declared.own.SeenChange
+pub use Rattle.imap_mailbox.specs.declared.parts.PartsError
+pub use Rattle.imap_mailbox.specs.Brought
+pub use Rattle.imap_mailbox.specs.Lent
+pub use Rattle.imap_mailbox.specs.Order as MailboxOrder
+pub use Rattle.imap_mailbox.specs.Rows
+pub use Rattle.imap_mailbox.specs.Shown

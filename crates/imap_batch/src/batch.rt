@@ -3,10 +3,8 @@
 ghost use Rattle.std.specs.Prelude.{◌≡◌, IfOk};
 ghost use Rattle.imap_batch.specs.Batch.{adding, expunging, marking};
 
-use imap_lex::Octets;
-use imap_mailbox::SharedFlags;
+use imap_mailbox::{DateTime, Items, Octets, SharedFlags};
 use imap_names::UserName;
-use imap_syntax::{DateTime, Items};
 use imap_values::{TryCopy, beside};
 use std::alloc::{AllocError, Global};
 

@@ -19,6 +19,7 @@ mod writing;
 
 pub use batch::{Batch, FlagUpdate, NewMessage};
 pub use error::BatchError;
+pub use imap_mailbox::{GoneUids, Mailbox, MailboxParts, PartsError, Rows};
 pub use planned::Planned;
 pub use resolving::{flag_count, refusal, resolve};
 pub use write::BatchWrite;

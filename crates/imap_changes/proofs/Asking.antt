@@ -16,7 +16,7 @@ use Rattle.imap_mailbox.specs.Rows.{Row, first_uid}
 use Rattle.imap_mailbox.specs.Shown.{content_of}
 use Rattle.imap_names.specs.Name.{Name}
 use Rattle.imap_names.proofs.NameLaws.{equal_names}
-use Rattle.imap_session.specs.State.{Selection}
+use Rattle.imap_targets.specs.State.{Selection}
 use Rattle.imap_targets.specs.Left.{events_left}
 use Rattle.imap_targets.proofs.Possible.{chosen_known, may_change}
 use Rattle.imap_view.specs.declared.readable.Readable.{Readable}

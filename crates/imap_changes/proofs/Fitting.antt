@@ -9,7 +9,7 @@ use Rattle.imap_batch.specs.Batch.{are_known}
 use Rattle.imap_mailbox.specs.Lent.{row_uids}
 use Rattle.imap_print.specs.declared.response.Code.{Code}
 use Rattle.imap_print.specs.declared.response.Refusal.TheVariants.{Cannot, NoPerm}
-use Rattle.imap_session.specs.State.{Selection, SessionState}
+use Rattle.imap_targets.specs.State.{Selection, SessionState}
 use Rattle.imap_syntax.specs.declared.set.MessageSet.{MessageSet}
 use Rattle.imap_syntax.specs.declared.set.Numbering.TheVariants as numbering
 use Rattle.imap_view.specs.declared.readable.Readable.{Readable}

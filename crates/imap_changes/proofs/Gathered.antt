@@ -9,7 +9,7 @@ use Rattle.imap_mailbox.specs.Flags.{has_too_many}
 use Rattle.imap_mailbox.specs.Rows.{Row}
 use Rattle.imap_targets.specs.declared.message_numbers.Numbered.{Numbered}
 use Rattle.imap_targets.specs.MessageNumbers.{row_with}
-use Rattle.imap_session.specs.State.{Selection}
+use Rattle.imap_targets.specs.State.{Selection}
 use Rattle.imap_changes.specs.declared.store_outcome.StoreOutcome.{StoreOutcome}
 use Rattle.imap_changes.specs.Store.{are_many}
 use Rattle.imap_changes.specs.Storing.{AddsStored, Stores, stored_if_there, stored_named}

@@ -11,7 +11,7 @@ use Rattle.imap_mailbox.proofs.Rising.{rises_lower}
 use Rattle.imap_targets.specs.declared.message_numbers.Numbered.{Numbered}
 use Rattle.imap_targets.specs.MessageNumbers.{row_with, uids_of}
 use Rattle.imap_targets.proofs.Named.{row_below}
-use Rattle.imap_session.specs.State.{Selection}
+use Rattle.imap_targets.specs.State.{Selection}
 use Rattle.imap_changes.specs.declared.store_outcome.StoreOutcome.{StoreOutcome}
 use Rattle.imap_changes.specs.Store.{number_with, stored_all, stored_if_named, stored_of}
 use Rattle.imap_changes.specs.Storing.{Stores, stored_if_there, stored_named}

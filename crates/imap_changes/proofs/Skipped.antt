@@ -13,7 +13,7 @@ use Rattle.imap_mailbox.specs.Summary.{Rises}
 use Rattle.imap_modseq.specs.Numbers.{max_events, number_after}
 use Rattle.imap_targets.specs.declared.message_numbers.Numbered.{Numbered}
 use Rattle.imap_targets.specs.MessageNumbers.{row_with}
-use Rattle.imap_session.specs.State.{Selection}
+use Rattle.imap_targets.specs.State.{Selection}
 use Rattle.imap_changes.specs.declared.store_outcome.StoreOutcome.{StoreOutcome}
 use Rattle.imap_changes.specs.Laws.{SkippedMessagesStay}
 use Rattle.imap_changes.specs.Store.{marks_of, number_with, stored_all, stored_if_named, stored_of}

@@ -22,7 +22,7 @@ use Rattle.imap_mailbox.proofs.Sameness.{flags_are_tested}
 use Rattle.imap_modseq.specs.Numbers.{highest_after, max_events, number_after}
 use Rattle.imap_print.specs.declared.response.Response.{Response}
 use Rattle.imap_targets.specs.declared.message_numbers.Numbered.{Numbered}
-use Rattle.imap_session.specs.State.{Selection}
+use Rattle.imap_targets.specs.State.{Selection}
 use Rattle.imap_changes.specs.declared.store_outcome.StoreOutcome.{StoreOutcome}
 use Rattle.imap_changes.specs.Laws.{StoreTellsWhatItLeaves, line_if_named, lines_of, marking}
 use Rattle.imap_changes.specs.Store.{full_line, lines_from, marks_of, number_with, seen_changes, stored_all, stored_if_named, stored_of}

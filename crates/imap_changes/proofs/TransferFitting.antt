@@ -13,7 +13,7 @@ use Rattle.imap_print.specs.declared.copied.CopiedUids.{CopiedUids}
 use Rattle.imap_print.specs.declared.response.Code.{Code}
 use Rattle.imap_print.specs.declared.response.Refusal.TheVariants.{Cannot, ExpungeIssued, Limit, Malformed, NonExistent, NoPerm, OverQuota, TryCreate}
 use Rattle.imap_rights.specs.Rights.{has_any, insert, lookup}
-use Rattle.imap_session.specs.State.{Selection, SessionState}
+use Rattle.imap_targets.specs.State.{Selection, SessionState}
 use Rattle.imap_targets.specs.declared.message_numbers.Numbered.{Numbered}
 use Rattle.imap_targets.specs.MessageNumbers.{has_known_numbers, is_by_uid, is_refused, is_saved, uids_of}
 use Rattle.imap_targets.specs.Target.{holds_create_above, target_refusal}

@@ -10,7 +10,7 @@ use Rattle.imap_print.specs.declared.response.Code.{Code}
 use Rattle.imap_print.specs.declared.response.Code.TheVariants as code
 use Rattle.imap_print.specs.declared.response.Refusal.TheVariants.{Cannot, NonExistent, NoPerm, WrongState}
 use Rattle.imap_rights.specs.Rights.{expunge, has_any}
-use Rattle.imap_session.specs.State.{Selection, SessionState}
+use Rattle.imap_targets.specs.State.{Selection, SessionState}
 use Rattle.imap_syntax.specs.declared.set.MessageSet.{MessageSet}
 use Rattle.imap_syntax.specs.declared.set.Numbering.TheVariants as numbering
 use Rattle.imap_view.specs.declared.readable.Readable.{Readable}

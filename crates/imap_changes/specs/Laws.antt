@@ -12,7 +12,7 @@ use Rattle.imap_mailbox.specs.Rows.{Row, is_among}
 use Rattle.imap_mailbox.specs.Shown.{Content}
 use Rattle.imap_modseq.specs.Numbers.{max_events}
 use Rattle.imap_print.specs.declared.response.Response.{Response}
-use Rattle.imap_session.specs.State.{Selection}
+use Rattle.imap_targets.specs.State.{Selection}
 use Rattle.imap_syntax.specs.declared.set.MessageSet.{MessageSet}
 use Rattle.imap_syntax.specs.declared.set.Numbering.TheVariants as numbering
 use Rattle.imap_targets.specs.declared.message_numbers.Numbered.{Numbered}

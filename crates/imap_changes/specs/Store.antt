@@ -22,8 +22,8 @@ use Rattle.imap_print.specs.declared.response.Response.{Response}
 use Rattle.imap_print.specs.declared.response.Response.TheVariants as response
 use Rattle.imap_print.specs.Sets.{set_of}
 use Rattle.imap_rights.specs.Rights.{delete_messages, has_any, seen, union, write}
-use Rattle.imap_session.specs.Notices.{notice_items}
-use Rattle.imap_session.specs.State.{Selection, SessionState}
+use Rattle.imap_targets.specs.Notices.{notice_items}
+use Rattle.imap_targets.specs.State.{Selection, SessionState}
 use Rattle.imap_syntax.specs.declared.flag.Flag.{Flag}
 use Rattle.imap_syntax.specs.declared.flag.Flag.TheVariants as flag
 use Rattle.imap_syntax.specs.declared.set.MessageSet.{MessageSet}

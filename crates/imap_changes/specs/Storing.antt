@@ -3,7 +3,7 @@ use Rattle.std.specs.Prelude.{◌≡◌, ℕ, ◌+◌, Bool, true, false, List, 
 use Rattle.std.specs.declared.alloc.Global.{Global}
 use Rattle.imap_commands.specs.declared.commands.store.StoreSpec.{StoreSpec}
 use Rattle.imap_mailbox.specs.Rows.{Row}
-use Rattle.imap_session.specs.State.{Selection}
+use Rattle.imap_targets.specs.State.{Selection}
 use Rattle.imap_targets.specs.declared.message_numbers.Numbered.{Numbered}
 use Rattle.imap_targets.specs.MessageNumbers.{row_with}
 use Rattle.imap_changes.specs.declared.store_outcome.StoreOutcome.{StoreOutcome}

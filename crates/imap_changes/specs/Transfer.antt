@@ -17,7 +17,7 @@ use Rattle.imap_print.specs.declared.response.Refusal.TheVariants.{NonExistent, 
 use Rattle.imap_print.specs.declared.response.Response.{Response}
 use Rattle.imap_print.specs.declared.response.Response.TheVariants as response
 use Rattle.imap_rights.specs.Rights.{delete_messages, expunge, has_any, insert}
-use Rattle.imap_session.specs.State.{Selection, SessionState}
+use Rattle.imap_targets.specs.State.{Selection, SessionState}
 use Rattle.imap_syntax.specs.declared.set.MessageSet.{MessageSet}
 use Rattle.imap_syntax.specs.declared.set.Numbering.{Numbering}
 use Rattle.imap_targets.specs.declared.message_numbers.Numbered.{Numbered}

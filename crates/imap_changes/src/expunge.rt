@@ -5,7 +5,7 @@ ghost use Rattle.imap_changes.specs.Expunge as specs;
 ghost use Rattle.imap_mailbox.specs.Lent.{row_uids};
 ghost use Rattle.imap_mailbox.specs.Rows.{Row, is_among};
 ghost use Rattle.imap_modseq.specs.Numbers.{max_events, max_number};
-ghost use Rattle.imap_session.specs.State.{selection_of, state_of};
+ghost use Rattle.imap_targets.specs.State.{selection_of, state_of};
 
 use imap_answer::{Answer, CommandContext};
 use imap_batch::Batch;
@@ -13,9 +13,10 @@ use imap_mailbox::Rows;
 use imap_names::{Name, UserName};
 use imap_print::{Code, Refusal};
 use imap_rights::Rights;
-use imap_session::{KnownList, Selected, Session};
 use imap_syntax::{MessageSet, Numbering};
-use imap_targets::{batch_effect, events_left, in_set, is_saved, last_of, ranges_of};
+use imap_targets::{
+    KnownList, Selected, Session, batch_effect, events_left, in_set, is_saved, last_of, ranges_of,
+};
 use imap_view::{Readable, View};
 use imap_world::Effect;
 use std::alloc::{AllocError, Global};

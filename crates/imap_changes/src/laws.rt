@@ -7,7 +7,7 @@ ghost use Rattle.imap_changes.specs.Expunge.{close_answer, expunge_answer};
 ghost use Rattle.imap_changes.specs.Laws.{ExpungesAll, ExpungesDeleted, SkippedMessagesStay, StoreTellsWhatItLeaves};
 ghost use Rattle.imap_changes.specs.Store.{StoreArguments, store_answer};
 ghost use Rattle.imap_changes.specs.Transfer.{TransferArguments, transfer_answer};
-ghost use Rattle.imap_session.specs.State.{SessionState};
+ghost use Rattle.imap_targets.specs.State.{SessionState};
 ghost use Rattle.imap_syntax.specs.declared.set.MessageSet.{MessageSet};
 
 /// In two worlds that are alike to its user each command is answered alike, and leaves them alike to that

@@ -9,7 +9,7 @@ ghost use Rattle.imap_mailbox.specs.Summary.{AreRising};
 ghost use Rattle.imap_modseq.specs.Numbers.{max_events, max_number};
 ghost use Rattle.imap_print.specs.Lines.{IsPrintable};
 ghost use Rattle.imap_rights.specs.Rights.{bits};
-ghost use Rattle.imap_session.specs.State.{selection_of, state_of};
+ghost use Rattle.imap_targets.specs.State.{selection_of, state_of};
 ghost use Rattle.imap_targets.specs.Effects.{marking_effect};
 ghost use Rattle.imap_targets.specs.MessageNumbers.{uids_of};
 
@@ -24,11 +24,10 @@ use imap_grammar::StoreSpec;
 use imap_modseq::MAX_EVENTS;
 use imap_print::{EnabledCapabilities, Refusal, Response};
 use imap_rights::Rights;
-use imap_session::{Selected, Session};
 use imap_syntax::{MessageSet, Numbering};
 use imap_targets::{
-    Numbered, has_known_numbers, is_refused, is_saved, known_count, lacks_events, marking_effect,
-    messages_named, remove_skipped, skipped_numbers, storing_rights,
+    Numbered, Selected, Session, has_known_numbers, is_refused, is_saved, known_count,
+    lacks_events, marking_effect, messages_named, remove_skipped, skipped_numbers, storing_rights,
 };
 use imap_values::beside;
 use imap_view::Readable;

@@ -9,8 +9,8 @@ ghost use Rattle.imap_print.specs.Lines.{IsPrintable};
 use crate::store_outcome::StoreOutcome;
 use imap_mailbox::KnownMessage;
 use imap_print::{FetchedItems, Response, fetch_is_printable};
-use imap_session::fetch_line;
 use imap_syntax::Items;
+use imap_targets::fetch_line;
 use imap_values::TryCopy;
 use std::alloc::{AllocError, Global};
 

@@ -7,7 +7,7 @@ ghost use Rattle.imap_changes.specs.Storing.{AddsStored, Stores, stored_if_there
 ghost use Rattle.imap_mailbox.specs.Lent.{row_shown, row_uids};
 ghost use Rattle.imap_mailbox.specs.Summary.{AreRising};
 ghost use Rattle.imap_rights.specs.Rights.{bits};
-ghost use Rattle.imap_session.specs.State.{selection_of};
+ghost use Rattle.imap_targets.specs.State.{selection_of};
 ghost use Rattle.imap_targets.specs.MessageNumbers.{uids_of};
 
 use crate::expunge::knows;
@@ -16,8 +16,7 @@ use imap_batch::FlagUpdate;
 use imap_grammar::StoreSpec;
 use imap_mailbox::{Row, Rows, SharedFlags};
 use imap_rights::Rights;
-use imap_session::Selected;
-use imap_targets::{Numbered, row_with};
+use imap_targets::{Numbered, Selected, row_with};
 use imap_values::TryCopy;
 use std::alloc::{AllocError, Global};
 

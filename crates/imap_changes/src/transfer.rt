@@ -6,7 +6,7 @@ ghost use Rattle.imap_mailbox.specs.Order.{AreRowsInOrder};
 ghost use Rattle.imap_mailbox.specs.Rows.{first_uid};
 ghost use Rattle.imap_mailbox.specs.Summary.{Rises};
 ghost use Rattle.imap_modseq.specs.Numbers.{max_events};
-ghost use Rattle.imap_session.specs.State.{selection_of, state_of};
+ghost use Rattle.imap_targets.specs.State.{selection_of, state_of};
 ghost use Rattle.imap_view.specs.Seen.{shown};
 
 use crate::copies::{Copies, copies_of_named};
@@ -18,9 +18,9 @@ use imap_answer::{Answer, CommandContext};
 use imap_names::Name;
 use imap_print::Refusal;
 use imap_rights::Rights;
-use imap_session::{Selected, Session};
 use imap_targets::{
-    has_known_numbers, is_refused, is_saved, known_count, messages_named, target_refusal,
+    Selected, Session, has_known_numbers, is_refused, is_saved, known_count, messages_named,
+    target_refusal,
 };
 use imap_view::{Readable, Seen, View};
 use std::alloc::AllocError;

@@ -2,8 +2,8 @@
 use Rattle.std.proofs.Common.{◌≡◌, ◌⊎◌, inl, inr, ℕ, Bool, true, false, ◌||◌, List, [], ◌∷◌, refl, sym, ap, ◌∙◌}
 use Rattle.std.specs.List.{list_any}
 use Rattle.imap_answer.specs.Fit.{is_unavailable}
-use Rattle.imap_core.specs.Machine.{State, answers}
-use Rattle.imap_core.specs.Trace.{IsolationOfReplies, replies_among, replies_to}
+use Rattle.imap_saving.specs.Machine.{State, answers}
+use Rattle.imap_saving.specs.Trace.{IsolationOfReplies, replies_among, replies_to}
 use Rattle.imap_hall.specs.Journal.{IsMade, IsRefused, IsRun, JournalEntry, Point}
 use Rattle.imap_hall.specs.Laws.{AreSaved, JournalsAreIsolated, answers_in, heard, is_refused, steps_of}
 

@@ -4,9 +4,9 @@ use Rattle.std.proofs.lemmas.List.{length-map}
 use Rattle.std.specs.Str.{bytes_eq}
 use Rattle.std.proofs.lemmas.Bool.Decides.{nat_tests}
 use Rattle.std.proofs.lemmas.Slice.Eq.{bytes_eq-Decides}
-use Rattle.imap_core.specs.declared.step.Step.{Step}
-use Rattle.imap_core.specs.SessionId.{SessionId}
-use Rattle.imap_core.specs.Machine.{Machine, answer, next}
+use Rattle.imap_saving.specs.Step.{Step}
+use Rattle.imap_saving.specs.SessionId.{SessionId}
+use Rattle.imap_saving.specs.Machine.{Machine, answer, next}
 use Rattle.imap_world.specs.World.{World}
 use Rattle.std.specs.FinMap as fin
 use Rattle.std.specs.FinMap.{get-empty}

@@ -1,6 +1,6 @@
 -- What a crash leaves of an opening.
 use Rattle.std.proofs.Common.{◌≡◌, ◌∙◌, ◌⊎◌, inl, inr, sym, ap, subst, List, []}
-use Rattle.imap_core.specs.Machine.{State}
+use Rattle.imap_saving.specs.Machine.{State}
 use Rattle.imap_keeper.specs.Keeping.{LeavesOnly, LeavesOr}
 use Rattle.imap_world.specs.declared.change.Write.{Write}
 use Rattle.imap_world.specs.Effects.{after_writes}

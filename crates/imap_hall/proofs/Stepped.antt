@@ -1,9 +1,9 @@
 -- What a step that was performed is as an entry.
 use Rattle.std.proofs.Common.{◌≡◌, ◌∙◌, ◌⊎◌, ◌↔◌, ◌+◌, inl, inr, refl, sym, ap, subst, ℕ, List, [], ◌∷◌, ◌++◌, Ok, Err, Result, IfErr, IfOk, IsErrOf, OnErr, OnOk, length, length-append, arith}
-use Rattle.imap_core.specs.declared.step.Step.{Step}
-use Rattle.imap_core.specs.Machine.{State, next}
-use Rattle.imap_core.proofs.Starting.{admission_apart}
-use Rattle.imap_core.specs.Opening.{admission}
+use Rattle.imap_saving.specs.Step.{Step}
+use Rattle.imap_saving.specs.Machine.{State, next}
+use Rattle.imap_saving.proofs.Starting.{admission_apart}
+use Rattle.imap_saving.specs.Opening.{admission}
 use Rattle.imap_world.specs.declared.change.Write.{Write}
 use Rattle.imap_keeper.specs.Keeping.{LeavesOr}
 use Rattle.imap_world.specs.Effects.{writes_of}

@@ -10,7 +10,7 @@ use Rattle.std.proofs.lemmas.Bool.Decides.{nat_tests}
 use Rattle.std.proofs.lemmas.Map.Text.{is_eq-slice_cmp}
 use Rattle.std.proofs.lemmas.Slice.Eq.{bytes_eq-Decides}
 use Rattle.imap_user_map.specs.Rows.{Rows, with_value}
-use Rattle.imap_core.specs.SessionId.{SessionId}
+use Rattle.imap_saving.specs.SessionId.{SessionId}
 use Rattle.imap_hall.specs.Counts.{AreSameCounts, Counts, IsCounted, IsCountedAt, OwnCounts, count_at, count_in, count_of}
 
 itself : (user : List ℕ) → bytes_eq user user ≡ true

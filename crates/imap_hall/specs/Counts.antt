@@ -5,7 +5,7 @@ use Rattle.std.specs.Coded.{Coded, coded×, coded_ℕ, coded_list}
 use Rattle.std.specs.List.{position}
 use Rattle.std.specs.FinMap as map
 use Rattle.imap_user_map.specs.Rows.{Users, users_code}
-use Rattle.imap_core.specs.SessionId.{SessionId}
+use Rattle.imap_saving.specs.SessionId.{SessionId}
 
 -- ---- of one user
 

@@ -1,8 +1,8 @@
 -- What contracts see of a hall.
 use Rattle.std.specs.Prelude.{◌≡◌, ◌⊎◌, ℕ, ◌+◌, ◌≤◌, List, [], ◌∷◌, ◌++◌, length, map, refl}
 use Rattle.std.specs.Coded.{Coded, coded×, coded_ℕ, coded_list, code_by}
-use Rattle.imap_core.specs.declared.step.Step.{Step}
-use Rattle.imap_core.specs.Machine.{Machine}
+use Rattle.imap_saving.specs.Step.{Step}
+use Rattle.imap_saving.specs.Machine.{Machine}
 use Rattle.imap_print.specs.declared.response.Response.{Response}
 use Rattle.imap_saving.specs.Performing.{HasRisen}
 use Rattle.imap_world.specs.World.{World}

@@ -1,8 +1,8 @@
 -- The journal: a run of the machine from a base.
 use Rattle.std.specs.Prelude.{◌≡◌, ◌⊎◌, ℕ, ◌+◌, ◌^◌, List, [], ◌∷◌, refl}
 use Rattle.std.specs.Coded.{Coded, coded×, coded_ℕ, coded_list, code_by}
-use Rattle.imap_core.specs.declared.step.Step.{Step}
-use Rattle.imap_core.specs.Machine.{State, answer, next, state_code}
+use Rattle.imap_saving.specs.Step.{Step}
+use Rattle.imap_saving.specs.Machine.{State, answer, next, state_code}
 use Rattle.imap_print.specs.declared.response.Response.{Response}
 use Rattle.imap_saving.specs.Refusals.{unavailable}
 use Rattle.imap_hall.specs.Counts.{Counts, AreSameCounts, IsCounted, count_of, counts_code}

@@ -2,8 +2,8 @@
 use Rattle.std.specs.Prelude.{◌≡◌, ℕ, Bool, false, List, map}
 use Rattle.std.specs.List.{list_any}
 use Rattle.imap_answer.specs.Fit.{is_unavailable}
-use Rattle.imap_core.specs.declared.step.Step.{Step}
-use Rattle.imap_core.specs.Trace.{Alike, replies_among, trace}
+use Rattle.imap_saving.specs.Step.{Step}
+use Rattle.imap_saving.specs.Trace.{Alike, replies_among, trace}
 use Rattle.imap_print.specs.declared.response.Response.{Response}
 use Rattle.imap_hall.specs.Journal.{IsRun, JournalEntry, Point}
 

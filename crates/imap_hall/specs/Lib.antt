@@ -7,9 +7,9 @@ pub mod Opening
 pub mod Receipts
 pub mod Saving
 -- what those above say of the machine
-pub use Rattle.imap_core.specs.Frames
-pub use Rattle.imap_core.specs.declared.step.Act
-pub use Rattle.imap_core.specs.declared.step.Step
-pub use Rattle.imap_core.specs.contracts.step.Act as ActType
-pub use Rattle.imap_core.specs.contracts.step.Step as StepType
-pub use Rattle.imap_core.specs.SessionId
+pub use Rattle.imap_saving.specs.Frames
+pub use Rattle.imap_saving.specs.Act
+pub use Rattle.imap_saving.specs.Step
+pub use Rattle.imap_saving.specs.ActType as ActType
+pub use Rattle.imap_saving.specs.StepType as StepType
+pub use Rattle.imap_saving.specs.SessionId

@@ -1,6 +1,6 @@
 -- What receipts say, and what a room has of the steps that were made in it.
 use Rattle.std.specs.Prelude.{◌≡◌, Bool, true, List, [], ◌∷◌, ◌++◌}
-use Rattle.imap_core.specs.declared.step.Step.{Step}
+use Rattle.imap_saving.specs.Step.{Step}
 use Rattle.imap_hall.specs.declared.journal.Receipt.{Receipt}
 use Rattle.imap_hall.specs.Hall.{entry_of}
 use Rattle.imap_hall.specs.Journal.{JournalEntry}

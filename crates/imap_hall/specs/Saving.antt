@@ -1,7 +1,7 @@
 -- What a step leaves in the store.
 use Rattle.std.specs.Prelude.{◌≡◌, ◌⊎◌, ℕ, List}
-use Rattle.imap_core.specs.declared.step.Step.{Step}
-use Rattle.imap_core.specs.Machine.{State, next}
+use Rattle.imap_saving.specs.Step.{Step}
+use Rattle.imap_saving.specs.Machine.{State, next}
 use Rattle.imap_keeper.specs.Keeping.{LeavesOnly, LeavesOr}
 use Rattle.imap_print.specs.declared.response.Response.{Response}
 use Rattle.imap_world.specs.World.{World}

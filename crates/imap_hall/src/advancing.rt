@@ -14,9 +14,8 @@ use crate::counts::{count_of, raise_count, reserve_count};
 use crate::error::HallError;
 use crate::journal::{Entry, Receipt};
 use crate::own_counts::OwnCounts;
-use imap_core::{Core, Step};
 use imap_keeper::Keeper;
-use imap_saving::{Replies, make_ready, perform};
+use imap_saving::{Core, Replies, Step, make_ready, perform};
 use imap_user_map::UserMap;
 use std::alloc::{AllocError, Global};
 

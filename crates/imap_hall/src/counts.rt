@@ -5,7 +5,7 @@ ghost use Rattle.std.specs.FinMap as map;
 ghost use Rattle.imap_hall.specs.Counts.{AreSameCounts, HasSession, IsCounted, count_of};
 
 use crate::own_counts::OwnCounts;
-use imap_core::SessionId;
+use imap_saving::SessionId;
 use imap_user_map::UserMap;
 use std::alloc::{AllocError, Global};
 

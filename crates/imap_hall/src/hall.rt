@@ -2,9 +2,9 @@
 
 ghost use Rattle.std.specs.Prelude.{◌≡◌, ◌+◌, ◌↔◌, is_some, length, map};
 ghost use Rattle.std.specs.Prelude.{IfErr, IfOk, IsErrOf, OnErr, OnOk};
-ghost use Rattle.imap_core.specs.Accounts.{session_at};
-ghost use Rattle.imap_core.specs.Opening.{state_at_start};
-ghost use Rattle.imap_core.specs.Version.{version_in};
+ghost use Rattle.imap_saving.specs.Accounts.{session_at};
+ghost use Rattle.imap_saving.specs.Opening.{state_at_start};
+ghost use Rattle.imap_saving.specs.Version.{version_in};
 ghost use Rattle.imap_world.specs.World.{World as Mailboxes};
 ghost use Rattle.imap_hall.specs.declared.error.OpenError.TheVariants as error;
 ghost use Rattle.imap_hall.specs.Hall.{HasStepped, IsFresh, IsKept, IsTurnedOver, IsUntouched};
@@ -20,10 +20,10 @@ use crate::journal::{Entry, OldBase, Receipt};
 use crate::opening::{Start, base_of, begin};
 use crate::own_counts::OwnCounts;
 use crate::room::Room;
-use imap_core::{Core, MailboxVersion, SessionId, Step};
 use imap_keeper::Keeper;
 use imap_names::UserName;
 use imap_rights::Groups;
+use imap_saving::{Core, MailboxVersion, SessionId, Step};
 use imap_user_map::UserMap;
 use imap_world::Limits;
 use std::alloc::{AllocError, Global};
@@ -49,7 +49,7 @@ pub struct Hall<K: Keeper> {
 }
 
 impl<K: Keeper> Model for Hall<K> {
-    ghost use Rattle.imap_core.specs.contracts.step.Step.{the_row as step_row};
+    ghost use Rattle.imap_saving.specs.StepType.{the_row as step_row};
     ghost use Rattle.imap_print.specs.contracts.response.Response.{the_row as response_row};
     ghost use Rattle.imap_hall.specs.Hall.{HallState, IsKept, hall_code, hall_state};
 

@@ -4,8 +4,7 @@
 //! no difference.
 
 use crate::own_counts::OwnCounts;
-use imap_core::{Core, Step};
-use imap_saving::SharedReplies;
+use imap_saving::{Core, SharedReplies, Step};
 use imap_user_map::UserMap;
 
 /// An entry of the journal.

@@ -5,8 +5,8 @@ ghost use Rattle.imap_hall.specs.Journal.{IsRun};
 ghost use Rattle.imap_hall.specs.Laws.{JournalsAreIsolated};
 
 use crate::hall::Hall;
-use imap_core::laws::{isolation_of_replies, messages_are_kept};
 use imap_keeper::Keeper;
+use imap_saving::laws::{isolation_of_replies, messages_are_kept};
 
 /// To each user, two journals in which the store refused nothing tell the same, if they begin alike and have
 /// one trace for that user: they are runs of the machine, of which isolation speaks.

@@ -17,8 +17,9 @@ mod room;
 
 pub use error::{HallError, OpenError};
 pub use hall::Hall;
-pub use imap_core::{Act, MailboxVersion, Moment, SessionId, SessionNumber, Step};
-pub use imap_saving::SharedReplies;
+pub use imap_saving::{
+    Act, Core, MailboxVersion, Moment, SessionId, SessionNumber, SharedReplies, Step,
+};
 pub use journal::{Entry, OldBase, Receipt};
 pub use memory::{entry_octets, reply_octets};
 pub use room::Room;

@@ -8,9 +8,9 @@ mod replies;
 mod steps;
 
 use crate::memory::steps::step_octets;
-use imap_core::Step;
 use imap_lex::Octets;
 use imap_print::Response;
+use imap_saving::Step;
 pub use replies::reply_octets;
 
 /// About how many octets a step holds with its replies.

@@ -1,7 +1,7 @@
 //! The machine with which a hall opens.
 
 ghost use Rattle.std.specs.Prelude.{◌≡◌, IfErr, IfOk, OnErr};
-ghost use Rattle.imap_core.specs.Opening.{state_at_start};
+ghost use Rattle.imap_saving.specs.Opening.{state_at_start};
 ghost use Rattle.imap_hall.specs.declared.error.OpenError.TheVariants as error;
 ghost use Rattle.imap_hall.specs.Opening.{open_error};
 ghost use Rattle.imap_hall.specs.Saving.{IsOpened, IsOpenedAlone};
@@ -12,11 +12,10 @@ ghost use Rattle.imap_world.specs.Stored.{world_of};
 ghost use Rattle.imap_world.specs.World.{World as Mailboxes};
 
 use crate::error::OpenError;
-use imap_core::Core;
 use imap_keeper::{KeepError, Keeper};
 use imap_names::UserName;
 use imap_rights::Groups;
-use imap_saving::save_change;
+use imap_saving::{Core, save_change};
 use imap_values::beside;
 use imap_world::{Change, Limits, World};
 use std::alloc::{AllocError, Global};

@@ -4,7 +4,7 @@ ghost use Rattle.std.specs.Prelude.{◌≡◌, ◌<◌, ◌==◌, ◌^◌, [], �
 ghost use Rattle.std.specs.List.{position};
 ghost use Rattle.imap_hall.specs.Counts.{HasNumber, IsCountedAt, count_at, raised};
 
-use imap_core::SessionNumber;
+use imap_saving::SessionNumber;
 use imap_values::TryCopy;
 use std::alloc::{AllocError, Global};
 use std::marker::Model;

@@ -1,14 +1,14 @@
 //! The trait of what makes the steps of a session.
 
 ghost use Rattle.std.specs.Prelude.{◌≡◌, ◌+◌, ℕ, Bool, IfErr, IfOk, List, OnErr, OnOk};
-ghost use Rattle.imap_core.specs.declared.step.Step.{Step as Steps};
+ghost use Rattle.imap_saving.specs.Step.{Step as Steps};
 ghost use Rattle.imap_hall.specs.declared.error.HallError.{HallError as Errors};
 ghost use Rattle.imap_hall.specs.Journal.{JournalEntry};
 ghost use Rattle.imap_hall.specs.Receipts.{IsAdded, IsNewest};
 
 use crate::error::HallError;
 use crate::journal::Receipt;
-use imap_core::Step;
+use imap_saving::Step;
 use std::alloc::Global;
 
 /// Makes the steps of a session: a hall, or one of several seats at a hall.

@@ -1,7 +1,7 @@
 -- What is listed determines the lines.
 use Rattle.std.proofs.Common.{◌≡◌, suc, Bool, true, false, List, [], ◌∷◌, get_or, map, drop, All, refl, sym, ap, subst, arith}
 use Rattle.std.specs.Prelude.{◌↔◌, IsTrue}
-use Rattle.imap_view.specs.View.{View}
+use Rattle.imap_answer.specs.View.{View}
 use Rattle.imap_listing.specs.declared.line.Line.{Line}
 use Rattle.imap_listing.specs.Texts.{Text}
 use Rattle.imap_listing.specs.IsListing.{IsThere, IsSubscribed, HasChildren, IsListed, IsSubscribedListed, name_of, IsListing}

@@ -11,8 +11,8 @@ use Rattle.imap_names.specs.Showing.{shown}
 use Rattle.imap_names.specs.declared.token.Token.{Token}
 use Rattle.imap_names.specs.MatchTest.{is_match, ends_in_percent}
 use Rattle.imap_names.specs.Pattern.{IsMatch, EndsInPercent}
-use Rattle.imap_view.specs.Seen.{Seen}
-use Rattle.imap_view.specs.View.{View}
+use Rattle.imap_answer.specs.Seen.{Seen}
+use Rattle.imap_answer.specs.View.{View}
 use Rattle.imap_listing.specs.declared.line.Line.{Line}
 use Rattle.imap_listing.specs.Texts.{Text, text_cmp, in_order, has, levels}
 use Rattle.imap_listing.specs.Matching.{Patterns, is_level_match, is_matched, is_matched_level}

@@ -6,9 +6,9 @@ use Rattle.std.specs.List.{Contains, cons_option, filter_map}
 use Rattle.std.proofs.lemmas.Option.{cond_some, none-some}
 use Rattle.imap_names.specs.Name.{Name}
 use Rattle.imap_names.specs.Showing.{shown}
-use Rattle.imap_view.specs.Seen.{Seen}
-use Rattle.imap_view.specs.Starts.{HaveAllSeen}
-use Rattle.imap_view.specs.View.{View}
+use Rattle.imap_answer.specs.Seen.{Seen}
+use Rattle.imap_answer.specs.Starts.{HaveAllSeen}
+use Rattle.imap_answer.specs.View.{View}
 use Rattle.imap_listing.specs.IsListing.{IsThere}
 use Rattle.imap_listing.specs.declared.line.Line.{Line}
 use Rattle.imap_listing.specs.Lines.{line_by, listed_names, lines_of, subscribed_listed_names, subscribed_lines_of}

@@ -8,8 +8,8 @@ use Rattle.imap_names.specs.Name.{Name}
 use Rattle.imap_names.specs.Showing.{shown}
 use Rattle.imap_names.specs.declared.token.Token.{Token}
 use Rattle.imap_names.specs.Pattern.{IsMatch, EndsInPercent}
-use Rattle.imap_view.specs.Seen.{Seen}
-use Rattle.imap_view.specs.View.{View}
+use Rattle.imap_answer.specs.Seen.{Seen}
+use Rattle.imap_answer.specs.View.{View}
 use Rattle.imap_listing.specs.declared.line.Line.{Line}
 use Rattle.imap_listing.specs.Matching.{Patterns}
 use Rattle.imap_listing.specs.Texts.{Text, text_cmp, IsBelow}

@@ -3,7 +3,7 @@ use Rattle.std.specs.Prelude.{◌≡◌, true, false, List, ◌↔◌}
 use Rattle.std.specs.List.{All, Contains}
 use Rattle.imap_names.specs.declared.token.Token.{Token}
 use Rattle.imap_names.specs.MatchTest.{ends_in_percent}
-use Rattle.imap_view.specs.View.{View}
+use Rattle.imap_answer.specs.View.{View}
 use Rattle.imap_listing.specs.declared.line.Line.{Line}
 use Rattle.imap_listing.specs.IsListing.{IsListed, IsSubscribedListed, IsListing}
 use Rattle.imap_listing.specs.Listing.{listing, subscribed_listing}

@@ -1,10 +1,10 @@
 -- The response that is a line of a listing (RFC 9051, section 7.3.1).
 use Rattle.std.specs.Prelude.{Bool, true, false, not, ◌&&◌}
 use Rattle.imap_listing.specs.declared.line.Line.{Line}
-use Rattle.imap_print.specs.declared.list.Children.{Children}
-use Rattle.imap_print.specs.declared.list.Children.TheVariants.{Has, HasNo}
-use Rattle.imap_print.specs.declared.response.Response.{Response}
-use Rattle.imap_print.specs.declared.response.Response.TheVariants as response
+use Rattle.imap_answer.specs.Children.{Children}
+use Rattle.imap_answer.specs.Children.TheVariants.{Has, HasNo}
+use Rattle.imap_answer.specs.Response.{Response}
+use Rattle.imap_answer.specs.Response.TheVariants as response
 
 abbrev pub children_of : Bool → Children
 children_of true = Has

@@ -1,6 +1,6 @@
 -- What LIST answers to the user of a view (RFC 9051, section 6.3.9).
 use Rattle.std.specs.Prelude.{List}
-use Rattle.imap_view.specs.View.{View}
+use Rattle.imap_answer.specs.View.{View}
 use Rattle.imap_listing.specs.declared.line.Line.{Line}
 use Rattle.imap_listing.specs.Lines.{lines_of, subscribed_lines_of}
 use Rattle.imap_listing.specs.Matching.{Patterns}

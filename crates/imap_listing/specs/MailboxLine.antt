@@ -1,12 +1,12 @@
 -- The LIST line of one mailbox, as SELECT gives it (RFC 9051, section 6.3.2).
 use Rattle.std.specs.Prelude.{Bool, true, false, List}
 use Rattle.std.specs.List.{list_any}
-use Rattle.imap_name_map.specs.Rows.{below_of}
+use Rattle.imap_answer.specs.NameMapRows.{below_of}
 use Rattle.imap_names.specs.Name.{Name}
 use Rattle.imap_names.specs.Showing.{shown}
-use Rattle.imap_print.specs.declared.response.Response.{Response}
-use Rattle.imap_view.specs.Seen.{Seen}
-use Rattle.imap_view.specs.View.{View}
+use Rattle.imap_answer.specs.Response.{Response}
+use Rattle.imap_answer.specs.Seen.{Seen}
+use Rattle.imap_answer.specs.View.{View}
 use Rattle.imap_listing.specs.declared.line.Line.{Line}
 use Rattle.imap_listing.specs.ListLine.{list_line}
 use Rattle.imap_listing.specs.ViewNames.{is_listable}

@@ -5,8 +5,8 @@ use Rattle.std.specs.List.{Contains}
 use Rattle.imap_names.specs.Name.{Name}
 use Rattle.imap_names.specs.Showing.{shown}
 use Rattle.imap_rights.specs.Rights.{has_any, lookup}
-use Rattle.imap_view.specs.Seen.{Seen}
-use Rattle.imap_view.specs.View.{View}
+use Rattle.imap_answer.specs.Seen.{Seen}
+use Rattle.imap_answer.specs.View.{View}
 use Rattle.imap_listing.specs.Texts.{Text}
 
 -- `l` lets its holder see the mailbox in lists (RFC 4314, section 2.1)

@@ -1,7 +1,7 @@
 //! The levels of the hierarchy above names.
 ghost use Rattle.std.specs.Prelude.{◌≡◌, ◌↔◌, ◌⊎◌, true, OnOk, IfOk};
 ghost use Rattle.std.specs.List.{Contains};
-ghost use Rattle.imap_print.specs.Lines.{IsPlain};
+ghost use Rattle.imap_answer.specs.Lines.{IsPlain};
 ghost use Rattle.imap_listing.specs.Texts.{Text, IsBelow, in_order, levels};
 
 use crate::ordered::OrderedNames;

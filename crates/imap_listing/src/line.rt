@@ -2,11 +2,11 @@
 
 ghost use Rattle.std.specs.Prelude.{◌≡◌, IfOk};
 ghost use Rattle.imap_listing.specs.ListLine as specs;
-ghost use Rattle.imap_print.specs.Lines.{IsPrintable};
+ghost use Rattle.imap_answer.specs.Lines.{IsPrintable};
 
 use crate::shown_name::ShownName;
+use imap_answer::{Children, ListAttributes, Response};
 use imap_lex::Octets;
-use imap_print::{Children, ListAttributes, Response};
 use std::alloc::AllocError;
 
 /// What a listing says of one name.

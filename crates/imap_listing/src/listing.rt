@@ -9,8 +9,8 @@ use crate::matching::{push_matched, push_matched_levels};
 use crate::ordered::OrderedNames;
 use crate::shown_name::ShownName;
 use crate::view_names::{listable_names, subscribed_names};
+use imap_answer::View;
 use imap_names::Pattern;
-use imap_view::View;
 use std::alloc::{AllocError, Global};
 
 /// What LIST answers (RFC 9051, section 6.3.9): a line for each mailbox on which the user holds `l` and

@@ -2,15 +2,13 @@
 
 ghost use Rattle.std.specs.Prelude.{◌≡◌, IfOk};
 ghost use Rattle.imap_listing.specs.MailboxLine as specs;
-ghost use Rattle.imap_print.specs.Lines.{IsPrintable};
+ghost use Rattle.imap_answer.specs.Lines.{IsPrintable};
 
 use crate::line::{Line, list_line};
 use crate::shown_name::ShownName;
-use imap_answer::CommandContext;
+use imap_answer::{CommandContext, Response, View};
 use imap_names::Name;
-use imap_print::Response;
 use imap_rights::Rights;
-use imap_view::View;
 use std::alloc::AllocError;
 
 /// Returns the LIST line of a mailbox that is there, as SELECT gives it (RFC 9051, section 6.3.2).

@@ -6,10 +6,10 @@ ghost use Rattle.std.specs.Cmp.Rules.{comparing};
 ghost use Rattle.std.specs.Ordering.{as_partial_cmp, nat_cmp};
 ghost use Rattle.std.specs.Prelude.{◌≡◌, ◌==◌, string_bytes, IfOk};
 ghost use Rattle.imap_names.specs.Showing.{shown};
-ghost use Rattle.imap_print.specs.Lines.{IsPlain};
+ghost use Rattle.imap_answer.specs.Lines.{IsPlain};
 
+use imap_answer::View;
 use imap_names::{Name, show_name};
-use imap_view::View;
 use std::alloc::{AllocError, Global};
 use std::cmp::Ordering;
 use std::marker::Model;
@@ -20,7 +20,7 @@ pub struct ShownName(String);
 
 impl Model for ShownName {
     ghost use Rattle.std.specs.Prelude.{ℕ, List, string_bytes};
-    ghost use Rattle.imap_print.specs.Lines.{IsPlain};
+    ghost use Rattle.imap_answer.specs.Lines.{IsPlain};
 
     ghost Value = { List ℕ };
 
@@ -68,7 +68,7 @@ pub(crate) struct ShownRef<'a>(&'a str);
 
 impl<'a> Model for ShownRef<'a> {
     ghost use Rattle.std.specs.Prelude.{ℕ, List};
-    ghost use Rattle.imap_print.specs.Lines.{IsPlain};
+    ghost use Rattle.imap_answer.specs.Lines.{IsPlain};
 
     ghost Value = { List ℕ };
 

@@ -6,9 +6,9 @@ ghost use Rattle.imap_listing.specs.ViewNames.{subscribed_names};
 ghost use Rattle.imap_names.specs.Showing.{shown};
 
 use crate::shown_name::ShownName;
+use imap_answer::View;
 use imap_names::Name;
 use imap_rights::Rights;
-use imap_view::View;
 use std::alloc::{AllocError, Global};
 
 /// The names of the mailboxes on which the user holds `l`, in any order. A name may be there more than once.

@@ -9,9 +9,8 @@ ghost use Rattle.imap_mailbox.specs.Calls.{add_result, set_flags_result, expunge
 use crate::error::MailboxError;
 use crate::flags::SharedFlags;
 use crate::mailbox::Mailbox;
-use imap_lex::Octets;
 use imap_modseq::MAX_EVENTS;
-use imap_syntax::DateTime;
+use imap_syntax::{DateTime, Octets};
 use std::alloc::Global;
 
 /// The most keywords of a message.

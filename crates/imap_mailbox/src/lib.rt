@@ -40,6 +40,7 @@ pub use calls::MAX_KEYWORDS;
 pub use error::MailboxError;
 pub use flags::SharedFlags;
 pub use gone::{GoneUid, GoneUids};
+pub use imap_syntax::{DateTime, Items, Octets};
 pub use known::KnownMessage;
 pub use mailbox::Mailbox;
 pub use message::{GoneMessage, Message};

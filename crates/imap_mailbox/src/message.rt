@@ -7,8 +7,7 @@ ghost use Rattle.imap_mailbox.specs.Summary.{AreRising, uids_in, without, flags_
 ghost use Rattle.imap_mailbox.specs.Lent.{place_in, IsPlaceFor};
 
 use crate::flags::SharedFlags;
-use imap_lex::Octets;
-use imap_syntax::DateTime;
+use imap_syntax::{DateTime, Octets};
 
 /// The number of messages that a look-up from a place on looks at before it searches.
 const NEAR_MESSAGES: usize = 32;

@@ -10,9 +10,8 @@ ghost use Rattle.imap_mailbox.specs.Lent.{row_shown};
 use crate::flags::SharedFlags;
 use crate::message::Message;
 use crate::own::OwnSeen;
-use imap_lex::Octets;
 use imap_modseq::number_after;
-use imap_syntax::DateTime;
+use imap_syntax::{DateTime, Octets};
 
 /// A message as a user has it, lent from the mailbox.
 #[derive(Drop)]

@@ -7,8 +7,8 @@ use Rattle.imap_mailbox.specs.Summary.{AreRising, Rises}
 use Rattle.imap_mailbox.proofs.Rising.{rises_lower}
 use Rattle.imap_print.specs.declared.enabled.EnabledCapabilities.{EnabledCapabilities}
 use Rattle.imap_print.specs.declared.response.Refusal.TheVariants.{ExpungeIssued}
-use Rattle.imap_session.specs.Held.{UidsRise, uid_limit}
-use Rattle.imap_session.specs.State.{Selection}
+use Rattle.imap_targets.specs.Held.{UidsRise, uid_limit}
+use Rattle.imap_targets.specs.State.{Selection}
 use Rattle.imap_syntax.specs.declared.set.Numbering.{Numbering}
 use Rattle.imap_syntax.specs.declared.set.SeqRange.{SeqRange}
 use Rattle.imap_view.specs.declared.readable.Readable.{Readable}

@@ -19,7 +19,7 @@ use Rattle.imap_print.specs.declared.response.Response.TheVariants as response
 use Rattle.imap_resync.specs.UidSet.{UidSet}
 use Rattle.imap_resync.specs.Vanished.{earlier_line, vanished_in}
 use Rattle.imap_rights.specs.Rights.{has_any, insert, lookup}
-use Rattle.imap_session.specs.State.{Selection, SessionState}
+use Rattle.imap_targets.specs.State.{Selection, SessionState}
 use Rattle.imap_syntax.specs.Lexical.{has_nul}
 use Rattle.imap_syntax.specs.Moments.{Moment}
 use Rattle.imap_view.specs.MessagesAfter.{IsPossibleAt}

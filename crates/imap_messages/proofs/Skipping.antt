@@ -11,7 +11,7 @@ use Rattle.imap_mailbox.specs.Rows.{Row, first_uid}
 use Rattle.imap_mailbox.specs.Summary.{AreRising}
 use Rattle.imap_mailbox.proofs.Finding.{number_there, up}
 use Rattle.imap_messages.specs.Changed.{AreLeft, AreThere, is_changed}
-use Rattle.imap_session.specs.Held.{UidsRise, uid_limit}
+use Rattle.imap_targets.specs.Held.{UidsRise, uid_limit}
 use Rattle.imap_targets.proofs.Named.{row_at, row_nowhere, row_within}
 use Rattle.imap_targets.specs.MessageNumbers.{row_with}
 

@@ -9,7 +9,7 @@ use Rattle.imap_print.specs.declared.response.Response.{Response}
 use Rattle.imap_query.specs.declared.fetch.FetchItem.{FetchItem}
 use Rattle.imap_query.specs.declared.fetch.FetchItem.TheVariants as item
 use Rattle.imap_rights.specs.Rights.{has_any, seen}
-use Rattle.imap_session.specs.State.{Selection, SessionState}
+use Rattle.imap_targets.specs.State.{Selection, SessionState}
 use Rattle.imap_syntax.specs.declared.set.MessageSet.{MessageSet}
 use Rattle.imap_syntax.specs.declared.set.Numbering.{Numbering}
 use Rattle.imap_view.specs.declared.readable.Readable.{Readable}

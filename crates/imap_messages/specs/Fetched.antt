@@ -11,7 +11,7 @@ use Rattle.imap_query.specs.contracts.fetch.BodySection.{the_row as body_row}
 use Rattle.imap_query.specs.declared.fetch.BodySection.{BodySection}
 use Rattle.imap_query.specs.declared.fetch.FetchItem.{FetchItem}
 use Rattle.imap_query.specs.declared.fetch.FetchItem.TheVariants as item
-use Rattle.imap_session.specs.Notices.{flag_set}
+use Rattle.imap_targets.specs.Notices.{flag_set}
 use Rattle.imap_messages.specs.BodySections.{fetched_section, with_section}
 
 -- ---- what is wanted of each message

@@ -6,7 +6,7 @@ ghost use Rattle.imap_mailbox.specs.Summary.{AreRising};
 ghost use Rattle.imap_messages.specs.Changed.{AreLeft, AreSkipped, AreThere, NoneRefuses};
 
 use imap_mailbox::Rows;
-use imap_session::KnownList;
+use imap_targets::KnownList;
 
 /// Whether known messages from the index `start` on and before `end` may be skipped that haven't changed after
 /// `since`. One that is gone may refuse the command if messages are named by their numbers. Where the answer is no,

@@ -19,8 +19,8 @@ ghost use Rattle.imap_targets.specs.MessageNumbers.{is_by_uid as by_uid_in, is_r
 ghost use Rattle.imap_targets.specs.Spans.{named_in};
 ghost use Rattle.imap_print.specs.Lines.{IsPrintable};
 ghost use Rattle.imap_rights.specs.Rights.{has_any, seen};
-ghost use Rattle.imap_session.specs.Held.{UidsRise};
-ghost use Rattle.imap_session.specs.State.{selection_of, state_of};
+ghost use Rattle.imap_targets.specs.Held.{UidsRise};
+ghost use Rattle.imap_targets.specs.State.{selection_of, state_of};
 ghost use Rattle.imap_view.specs.View.{rights_in};
 
 use crate::changed::{may_skip, next_to_read};
@@ -33,11 +33,10 @@ use imap_print::{EnabledCapabilities, Refusal, Response};
 use imap_query::FetchItem;
 use imap_resync::{UidSet, vanished_lines};
 use imap_rights::Rights;
-use imap_session::{KnownList, Selected, Session};
 use imap_syntax::{Items, MessageSet, Numbering};
 use imap_targets::{
-    MessageNumbers, RowFinder, has_known_numbers, is_by_uid, is_saved, known_count, last_of,
-    marking_effect, number_at, ranges_of,
+    KnownList, MessageNumbers, RowFinder, Selected, Session, has_known_numbers, is_by_uid,
+    is_saved, known_count, last_of, marking_effect, number_at, ranges_of,
 };
 use imap_values::beside;
 use imap_view::{Readable, View};

@@ -4,7 +4,7 @@ ghost use Rattle.std.specs.Prelude.{ℕ, List};
 ghost use Rattle.imap_answer.specs.Alike.{AnswersAlike};
 ghost use Rattle.imap_messages.specs.Append.{AppendArguments, append_answer};
 ghost use Rattle.imap_messages.specs.Fetch.{FetchArguments, fetch_answer};
-ghost use Rattle.imap_session.specs.State.{SessionState};
+ghost use Rattle.imap_targets.specs.State.{SessionState};
 ghost use Rattle.imap_syntax.specs.Moments.{Moment};
 
 /// In two worlds that are alike to its user each command is answered alike, and leaves them alike to that

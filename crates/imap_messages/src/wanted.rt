@@ -9,7 +9,7 @@ use crate::body_sections::{add_section, fetched_sections};
 use imap_mailbox::Row;
 use imap_print::{FetchedItems, FlagSet, Response, fetch_is_printable};
 use imap_query::{BodySection, FetchItem};
-use imap_session::flag_set;
+use imap_targets::flag_set;
 use std::alloc::{AllocError, Global};
 use std::marker::Model;
 

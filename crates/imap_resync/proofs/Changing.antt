@@ -8,7 +8,7 @@ use Rattle.imap_mailbox.specs.Order.{AreAtMost}
 use Rattle.imap_mailbox.specs.Rows.{Row}
 use Rattle.imap_print.specs.declared.response.Response.{Response}
 use Rattle.imap_print.specs.Lines.{IsPrintable}
-use Rattle.imap_session.proofs.OneLines.{all_append}
+use Rattle.imap_targets.proofs.OneLines.{all_append}
 use Rattle.imap_resync.specs.Select.{changed_line, changed_lines, line_if_changed}
 use Rattle.imap_resync.specs.UidSet.{UidSet, includes}
 

@@ -17,8 +17,8 @@ use Rattle.imap_mailbox.specs.Shown.{Content}
 use Rattle.imap_names.specs.Name.{Name}
 use Rattle.imap_print.specs.declared.enabled.EnabledCapabilities.{EnabledCapabilities}
 use Rattle.imap_print.specs.declared.response.Response.{Response}
-use Rattle.imap_session.specs.Select.{closed_line, select_answer, select_if_named, select_if_readable}
-use Rattle.imap_session.specs.State.{Selection, SessionState}
+use Rattle.imap_targets.specs.Select.{closed_line, select_answer, select_if_named, select_if_readable}
+use Rattle.imap_targets.specs.State.{Selection, SessionState}
 use Rattle.imap_view.specs.declared.readable.Readable.{Readable}
 use Rattle.imap_view.specs.Readable.{readable_in, readable_of}
 use Rattle.imap_view.specs.Seen.{Seen}

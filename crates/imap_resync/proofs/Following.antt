@@ -21,8 +21,8 @@ use Rattle.imap_mailbox.proofs.Client as mailbox
 use Rattle.imap_mailbox.proofs.Reordered.{Has}
 use Rattle.imap_names.specs.Name.{Name}
 use Rattle.imap_print.specs.declared.response.Response.{Response}
-use Rattle.imap_session.specs.Select.{closed_line, mailbox_lines, rights_to_change, select_answer, select_if_named, select_if_readable}
-use Rattle.imap_session.specs.State.{Selection, SessionState}
+use Rattle.imap_targets.specs.Select.{closed_line, mailbox_lines, rights_to_change, select_answer, select_if_named, select_if_readable}
+use Rattle.imap_targets.specs.State.{Selection, SessionState}
 use Rattle.imap_view.specs.declared.readable.Readable.{Readable}
 use Rattle.imap_view.specs.Readable.{readable_by, readable_of}
 use Rattle.imap_view.specs.Seen.{Seen}

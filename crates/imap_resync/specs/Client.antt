@@ -16,8 +16,8 @@ use Rattle.imap_print.specs.declared.flag.FlagSet.{FlagSet}
 use Rattle.imap_print.specs.declared.response.Response.{Response}
 use Rattle.imap_print.specs.declared.response.Response.TheVariants as response
 use Rattle.imap_rights.specs.Rights.{has_any, read}
-use Rattle.imap_session.specs.Select.{select_answer}
-use Rattle.imap_session.specs.State.{SessionState}
+use Rattle.imap_targets.specs.Select.{select_answer}
+use Rattle.imap_targets.specs.State.{SessionState}
 use Rattle.imap_view.specs.Seen.{Seen}
 use Rattle.imap_view.specs.View.{View}
 use Rattle.imap_resync.specs.Select.{resync_lines, select_with_parameters}

@@ -14,10 +14,10 @@ use Rattle.imap_names.specs.Name.{Name}
 use Rattle.imap_print.specs.declared.enabled.EnabledCapabilities.{EnabledCapabilities}
 use Rattle.imap_print.specs.declared.response.Response.{Response}
 use Rattle.imap_print.specs.declared.response.Response.TheVariants as response
-use Rattle.imap_session.specs.declared.select.Selecting.{Selecting}
-use Rattle.imap_session.specs.Notices.{notice_items}
-use Rattle.imap_session.specs.Select.{select_answer}
-use Rattle.imap_session.specs.State.{SessionState}
+use Rattle.imap_targets.specs.Selecting.{Selecting}
+use Rattle.imap_targets.specs.Notices.{notice_items}
+use Rattle.imap_targets.specs.Select.{select_answer}
+use Rattle.imap_targets.specs.State.{SessionState}
 use Rattle.imap_view.specs.declared.readable.Readable.{Readable}
 use Rattle.imap_view.specs.Readable.{readable_of}
 use Rattle.imap_view.specs.Seen.{Seen}

@@ -12,7 +12,7 @@ ghost use Rattle.imap_resync.specs.Select as specs;
 use crate::uid_set::{UidSet, includes};
 use imap_mailbox::{KnownMessage, Near, Row, Rows};
 use imap_print::Response;
-use imap_session::fetch_line;
+use imap_targets::fetch_line;
 use imap_view::Readable;
 use std::alloc::{AllocError, Global};
 

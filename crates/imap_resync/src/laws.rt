@@ -5,7 +5,7 @@ ghost use Rattle.imap_answer.specs.Alike.{AnswersAlike};
 ghost use Rattle.imap_commands.specs.declared.commands.select.SelectParameters.{SelectParameters};
 ghost use Rattle.imap_resync.specs.Client.{ClientIsBroughtUp, SelectResyncs};
 ghost use Rattle.imap_resync.specs.Select.{select_with_parameters};
-ghost use Rattle.imap_session.specs.State.{SessionState};
+ghost use Rattle.imap_targets.specs.State.{SessionState};
 
 /// A client that held what the first events gave, and follows the lines of SELECT with QRESYNC, holds the UIDs and
 /// flags that a fetch of all messages gives (RFC 7162, section 3.2.5).

@@ -7,7 +7,7 @@ ghost use Rattle.imap_answer.specs.Fit.{is_refusal};
 ghost use Rattle.imap_mailbox.specs.Order.{AreRowsInOrder};
 ghost use Rattle.imap_print.specs.Lines.{IsPrintable};
 ghost use Rattle.imap_resync.specs.Select as specs;
-ghost use Rattle.imap_session.specs.State.{state_of};
+ghost use Rattle.imap_targets.specs.State.{state_of};
 ghost use Rattle.imap_view.specs.Readable.{readable_of};
 ghost use Rattle.imap_view.specs.Seen.{shown};
 
@@ -19,7 +19,7 @@ use imap_commands::{QresyncArg, SelectParameters};
 use imap_lex::Octets;
 use imap_names::Name;
 use imap_print::{EnabledCapabilities, Response};
-use imap_session::{Selecting, Session, select_answer};
+use imap_targets::{Selecting, Session, select_answer};
 use imap_values::{beside, joined};
 use imap_view::{Readable, Seen};
 use std::alloc::{AllocError, Global};

@@ -10,6 +10,7 @@ mod replies;
 mod saving;
 mod shared_replies;
 
+pub use imap_core::{Act, Core, MailboxVersion, Moment, SessionId, SessionNumber, Step, laws};
 pub use performing::perform;
 pub use ready::{Ready, make_ready};
 pub use replies::Replies;

@@ -6,7 +6,7 @@ use Rattle.imap_answer.specs.Fit.{IsFit}
 use Rattle.imap_answer.proofs.Alike.{answers_alike}
 use Rattle.imap_answer.proofs.Fits.{fits_alone, fits_enabling}
 use Rattle.imap_print.specs.declared.response.Refusal.TheVariants.{BadCharset, Cannot, Malformed}
-use Rattle.imap_session.specs.State.{Selection, SessionState}
+use Rattle.imap_targets.specs.State.{Selection, SessionState}
 use Rattle.imap_view.specs.declared.readable.Readable.{Readable}
 use Rattle.imap_view.specs.Readable.{readable_in}
 use Rattle.imap_view.specs.View.{View}

@@ -11,7 +11,7 @@ use Rattle.imap_print.specs.declared.response.Response.TheVariants as response
 use Rattle.imap_query.specs.declared.search.SearchReturn.{SearchReturn}
 use Rattle.imap_query.specs.declared.search.SearchReturn.TheVariants as search_return
 use Rattle.imap_query.specs.Keys.{Plain, Token, mod_seq, numbers, uids, unserved}
-use Rattle.imap_session.specs.State.{Selection, SessionState}
+use Rattle.imap_targets.specs.State.{Selection, SessionState}
 use Rattle.imap_syntax.specs.declared.set.Numbering.{Numbering}
 use Rattle.imap_targets.specs.MessageNumbers.{are_numbers, is_by_uid, is_saved, last_uid, number_by, ranges_of, row_with}
 use Rattle.imap_view.specs.declared.readable.Readable.{Readable}

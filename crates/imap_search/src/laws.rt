@@ -5,7 +5,7 @@ ghost use Rattle.imap_answer.specs.Alike.{AnswersAlike};
 ghost use Rattle.imap_search.specs.Search.{SearchArguments, search_answer};
 ghost use Rattle.imap_search.specs.Tokens.{TokensFind};
 ghost use Rattle.imap_search.specs.Within.{WithinIsTested};
-ghost use Rattle.imap_session.specs.State.{SessionState};
+ghost use Rattle.imap_targets.specs.State.{SessionState};
 
 /// In two worlds that are alike to its user the command is answered alike, and leaves them alike to that user.
 pub fn commands_are_alike()

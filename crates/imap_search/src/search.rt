@@ -11,7 +11,7 @@ ghost use Rattle.imap_search.specs.Ready.{AreReadyFor};
 ghost use Rattle.imap_search.specs.Search as specs;
 ghost use Rattle.imap_search.specs.Span.{FindsAmong};
 ghost use Rattle.imap_search.specs.Tokens as tokens;
-ghost use Rattle.imap_session.specs.State.{selection_of, state_of};
+ghost use Rattle.imap_targets.specs.State.{selection_of, state_of};
 
 use crate::key::{Candidate, finds_all};
 use crate::key_facts::facts_of;
@@ -24,9 +24,10 @@ use imap_lex::Octets;
 use imap_mailbox::{Row, Rows};
 use imap_print::{EnabledCapabilities, Refusal, Response, SearchResults};
 use imap_query::{SearchKeys, SearchReturn};
-use imap_session::{KnownList, Selected, Session};
 use imap_syntax::{Items, Numbering};
-use imap_targets::{RowFinder, is_by_uid, known_count, last_of, number_at};
+use imap_targets::{
+    KnownList, RowFinder, Selected, Session, is_by_uid, known_count, last_of, number_at,
+};
 use imap_view::Readable;
 use std::alloc::{AllocError, Global};
 use std::marker::Model;

@@ -6,9 +6,8 @@ ghost use Rattle.imap_search.specs.Span.{AreAmong, AreNamedAmong};
 ghost use Rattle.imap_targets.specs.MessageNumbers.{ranges_of};
 
 use imap_query::SearchKey;
-use imap_session::KnownList;
 use imap_syntax::{MessageSet, Numbering};
-use imap_targets::{MessageNumbers, ranges_of};
+use imap_targets::{KnownList, MessageNumbers, ranges_of};
 
 /// Returns the range of indexes of the known messages that all keys may find: from the first, up to but without the
 /// second. Looks up by halving where the sets begin and end that are among the keys. `last` and `last_uid` are what

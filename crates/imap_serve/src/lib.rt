@@ -23,7 +23,7 @@ mod watched;
 pub use error::{End, ServeError};
 pub use gate::{Gate, OpenGate};
 pub use imap_hall::{
-    Act, Entry, Hall, HallError, MailboxVersion, Moment, OldBase, OpenError, Receipt, Room,
+    Act, Core, Entry, Hall, HallError, MailboxVersion, Moment, OldBase, OpenError, Receipt, Room,
     SessionId, SessionNumber, SharedReplies, Step, entry_octets,
 };
 pub use moments::Moments;

@@ -32,6 +32,7 @@ pub use date::{Date, DateTime, Zone};
 pub use error::ReadError;
 pub use field_name::FieldName;
 pub use flag::{Flag, Flags};
+pub use imap_lex::Octets;
 pub use items::{Items, are_same};
 pub use keywords::Keywords;
 pub use lexical::{AtomChar, Digit, WordChar, decimal, has_nul, is_atom_char, is_word_char};

@@ -3,3 +3,5 @@ pub mod Named
 pub mod Permitted
 pub mod Possible
 pub mod Spanned
+pub use Rattle.imap_session.proofs.OneLines
+pub use Rattle.imap_session.proofs.RowsRise

@@ -18,7 +18,7 @@ use Rattle.imap_modseq.specs.Numbers.{max_events}
 use Rattle.imap_names.specs.Name.{Name}
 use Rattle.imap_rights.specs.Effective.{effective}
 use Rattle.imap_rights.specs.Rights.{has_any, read, visible_rights}
-use Rattle.imap_world.specs.Mailbox.{Mailbox}
+use Rattle.imap_view.specs.Mailbox.{Mailbox}
 use Rattle.imap_view.specs.declared.readable.Readable.{Readable}
 use Rattle.imap_view.specs.MessagesAfter.{IsPossibleAt, MayAskOf}
 use Rattle.imap_view.specs.Readable.{readable_by, readable_in, readable_of}

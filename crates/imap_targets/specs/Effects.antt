@@ -4,9 +4,9 @@ use Rattle.imap_batch.specs.Batch.{marking}
 use Rattle.imap_batch.specs.declared.batch.Batch.{Batch}
 use Rattle.imap_batch.specs.declared.batch.FlagUpdate.{FlagUpdate}
 use Rattle.imap_names.specs.Name.{Name}
-use Rattle.imap_world.specs.declared.effect.Effect.{Effect}
-use Rattle.imap_world.specs.declared.effect.Effect.TheVariants as effect
-use Rattle.imap_world.specs.declared.named_batch.NamedBatch.{NamedBatch}
+use Rattle.imap_view.specs.Effect.{Effect}
+use Rattle.imap_view.specs.Effect.TheVariants as effect
+use Rattle.imap_view.specs.NamedBatch.{NamedBatch}
 
 abbrev pub named_batch : Name → Batch → NamedBatch
 named_batch name batch = record { name = name; batch = batch }

@@ -6,3 +6,8 @@ pub mod NewFlags
 pub mod Spans
 pub mod Target
 pub mod UnchangedSince
+pub use Rattle.imap_session.specs.State
+pub use Rattle.imap_session.specs.Notices
+pub use Rattle.imap_session.specs.Select
+pub use Rattle.imap_session.specs.declared.select.Selecting
+pub use Rattle.imap_session.specs.Held

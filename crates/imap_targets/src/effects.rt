@@ -6,7 +6,7 @@ ghost use Rattle.imap_targets.specs.Effects as specs;
 use imap_batch::{Batch, FlagUpdate};
 use imap_names::{Name, UserName};
 use imap_values::beside;
-use imap_world::{Effect, NamedBatch};
+use imap_view::{Effect, NamedBatch};
 use std::alloc::{AllocError, Global};
 
 /// Returns the batch with the name of its mailbox.

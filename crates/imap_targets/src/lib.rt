@@ -15,6 +15,9 @@ pub use effects::{batch_effect, marking_effect, named_batch};
 pub use flags::{
     has_seen, has_too_many, is_new_seen, new_flags, right_for, storing_rights, with_permitted,
 };
+pub use imap_session::{
+    KnownList, Selected, Selecting, Session, fetch_line, flag_set, select_answer,
+};
 pub use left::{events_left, lacks_events};
 pub use message_numbers::{
     MessageNumbers, Numbered, end_of, has_known_numbers, in_set, is_by_uid, is_refused, is_saved,

@@ -1,7 +1,6 @@
 //! A room that refuses one step.
 
-use imap_core::Step;
-use imap_hall::{HallError, Receipt, Room};
+use imap_serve::{HallError, Receipt, Room, Step};
 use std::alloc::Global;
 
 /// Passes all steps on to its room but one, which it refuses.

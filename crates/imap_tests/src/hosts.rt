@@ -1,13 +1,11 @@
 //! Hosts and seats.
 
 ghost use Rattle.std.specs.Prelude.{◌≡◌, IfOk};
-ghost use Rattle.imap_hall.specs.Hall.{IsFresh};
+ghost use Rattle.imap_serve.specs.Hall.{IsFresh};
 
 use crate::doors::Clients;
 use crate::owned::{both, push, push_beside, second};
-use imap_core::{Act, Moment, Step};
 use imap_grammar::parse;
-use imap_hall::{Hall, Receipt, Room};
 use imap_host::{Desk, Host, Seat};
 use imap_keeper::{Keeper, ListKeeper};
 use imap_lex::Octets;
@@ -16,6 +14,7 @@ use imap_names::UserName;
 use imap_print::print;
 use imap_rights::Groups;
 use imap_script::Scenario;
+use imap_serve::{Act, Hall, Moment, Receipt, Room, Step};
 use imap_world::World;
 use std::alloc::{AllocError, Global};
 use std::sync::Wait;

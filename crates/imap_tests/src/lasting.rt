@@ -3,9 +3,9 @@
 ghost use Rattle.std.specs.Prelude.{◌≡◌};
 
 use crate::hosts::{make, new_host, seat};
-use imap_core::Act;
 use imap_host::{Host, PARTS};
 use imap_keeper::Keeper;
+use imap_serve::Act;
 use std::marker::Brand;
 use std::sync::Wait;
 use std::sync::ledger::{Blank, Ledger};

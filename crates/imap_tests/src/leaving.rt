@@ -6,8 +6,7 @@ use crate::serving::{
     ends_with_leave, expect_after_greeting, new_hall, serve_in, shown, with_entries,
 };
 use crate::wanted::expect;
-use imap_hall::HallError;
-use imap_serve::OpenGate;
+use imap_serve::{HallError, OpenGate};
 use std::alloc::AllocError;
 use std::sync::Wait;
 

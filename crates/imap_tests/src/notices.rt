@@ -2,10 +2,10 @@
 
 use crate::hosts::{act, user};
 use crate::owned::both;
-use imap_core::{Act, Core, Moment, SessionId, SessionNumber, Step};
 use imap_limits::DEFAULT_LIMITS;
 use imap_print::{Response, print};
 use imap_rights::Groups;
+use imap_serve::{Act, Core, Moment, SessionId, SessionNumber, Step};
 use imap_session::{NoticeOptions, Selected, notices_plain};
 use imap_world::World;
 use std::alloc::{AllocError, Global};

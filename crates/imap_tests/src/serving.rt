@@ -3,11 +3,12 @@
 use crate::connection::{Behaviour, OCTETS, Sink, Source, WHOLE};
 use crate::hosts::{opened, user};
 use crate::wanted::expect;
-use imap_core::{Act, Moment, SessionId, SessionNumber};
-use imap_hall::{Entry, Hall, Room};
 use imap_keeper::{Keeper, ListKeeper};
 use imap_limits::DEFAULT_LIMITS;
-use imap_serve::{End, Gate, Moments, OpenGate, ServeError, Watched, serve};
+use imap_serve::{
+    Act, End, Entry, Gate, Hall, Moment, Moments, OpenGate, Room, ServeError, SessionId,
+    SessionNumber, Watched, serve,
+};
 use imap_world::World;
 use std::alloc::{AllocError, Global};
 use std::io::Read;

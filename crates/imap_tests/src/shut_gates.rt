@@ -2,8 +2,7 @@
 
 use crate::connection::WHOLE;
 use crate::serving::{new_hall, serve_in};
-use imap_core::SessionId;
-use imap_serve::Gate;
+use imap_serve::{Gate, SessionId};
 use std::alloc::AllocError;
 use std::sync::Wait;
 use std::sync::atomic::{AtomicU64, Ordering};

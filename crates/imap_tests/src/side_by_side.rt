@@ -4,12 +4,10 @@ ghost use Rattle.std.specs.Prelude.{◌≡◌};
 
 use crate::hosts::{Posts, new_host, posts};
 use crate::serving::{IDLE_TICKS, Standing};
-use imap_core::SessionId;
-use imap_hall::Entry;
 use imap_host::{Host, PARTS, crew};
 use imap_keeper::Keeper;
 use imap_limits::DEFAULT_LIMITS;
-use imap_serve::Gate;
+use imap_serve::{Entry, Gate, SessionId};
 use std::marker::Brand;
 use std::rt::Clock;
 use std::sync::Wait;

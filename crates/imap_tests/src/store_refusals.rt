@@ -3,11 +3,10 @@
 use crate::connection::WHOLE;
 use crate::hosts::user;
 use crate::serving::{ends_with_leave, expect_after_greeting, serve_in, shown, with_entries};
-use imap_hall::{Hall, OpenError};
 use imap_keeper::{Keeper, ListKeeper, Refuser};
 use imap_limits::DEFAULT_LIMITS;
 use imap_rights::Groups;
-use imap_serve::OpenGate;
+use imap_serve::{Hall, OpenError, OpenGate};
 use imap_world::World;
 use std::alloc::{AllocError, Global};
 use std::sync::Wait;

@@ -2,14 +2,14 @@
 use Rattle.std.proofs.Common.{◌≡◌, ℕ, Bool, true, false, cond, List, Option, Some, None, refl, sym, ap, ◌∙◌}
 use Rattle.std.specs.Prelude.{◌≢◌, option_and_then}
 use Rattle.std.specs.FinMap as map
-use Rattle.imap_batch.proofs.Sights.{anothers_batch_is_hidden}
-use Rattle.imap_batch.specs.Laws.{MarksOwnSeen}
-use Rattle.imap_batch.specs.declared.batch.Batch.{Batch}
+use Rattle.imap_world.proofs.BatchSights.{anothers_batch_is_hidden}
+use Rattle.imap_world.specs.BatchLaws.{MarksOwnSeen}
+use Rattle.imap_world.specs.BatchType.{Batch}
 use Rattle.imap_names.specs.Name.{Name}
 use Rattle.imap_names.specs.Order.{Names}
 use Rattle.imap_names.proofs.NameLaws.{is_name_at, equal_names, same_names}
-use Rattle.imap_rights.specs.Effective.{effective}
-use Rattle.imap_rights.specs.Rights.{has_any, visible_rights}
+use Rattle.imap_world.specs.Effective.{effective}
+use Rattle.imap_world.specs.Rights.{has_any, visible_rights}
 use Rattle.imap_world.specs.declared.site.Site.{Site}
 use Rattle.imap_world.specs.Mailbox.{Mailbox}
 use Rattle.imap_world.specs.Messages.{messages_changed}

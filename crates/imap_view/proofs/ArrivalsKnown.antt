@@ -5,9 +5,9 @@ use Rattle.std.specs.List.{list_all}
 use Rattle.std.specs.FinMap as map
 use Rattle.std.proofs.lemmas.Bool.{and_parts}
 use Rattle.std.proofs.lemmas.Simd.{map-map}
-use Rattle.imap_name_map.specs.Renaming.{moved_names}
-use Rattle.imap_name_map.specs.Rows.{entries_below, run_of}
-use Rattle.imap_name_map.proofs.WithinLaws.{run_names, run_within}
+use Rattle.imap_world.specs.Renaming.{moved_names}
+use Rattle.imap_world.specs.NameMapRows.{entries_below, run_of}
+use Rattle.imap_world.proofs.WithinLaws.{run_names, run_within}
 use Rattle.imap_names.specs.Name.{Name}
 use Rattle.imap_names.specs.Order.{Names, is_below, is_within, moved}
 use Rattle.imap_names.specs.Valid.{fits}

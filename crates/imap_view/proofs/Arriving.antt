@@ -1,7 +1,7 @@
 -- New validities change nothing that is seen, and no name in use.
 use Rattle.std.proofs.Common.{◌≡◌, ℕ, Bool, true, false, cond, List, [], ◌∷◌, Option, Some, None, refl, sym, ap, ◌∙◌}
 use Rattle.std.specs.FinMap as map
-use Rattle.imap_name_map.specs.Rows.{inserted_all}
+use Rattle.imap_world.specs.NameMapRows.{inserted_all}
 use Rattle.imap_names.specs.Name.{Name}
 use Rattle.imap_names.specs.Order.{Names}
 use Rattle.imap_names.proofs.NameLaws.{is_name_at, equal_names, get_put}

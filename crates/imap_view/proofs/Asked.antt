@@ -3,8 +3,8 @@ use Rattle.std.proofs.Common.{◌≡◌, ℕ, true, cond, not, List, [], ◌∷�
 use Rattle.std.specs.FinMap as map
 use Rattle.std.proofs.lemmas.List.{append-nil}
 use Rattle.imap_names.specs.Name.{Name}
-use Rattle.imap_name_map.specs.Rows.{has_below, has_within}
-use Rattle.imap_rights.specs.declared.change.RightsChange.{RightsChange}
+use Rattle.imap_world.specs.NameMapRows.{has_below, has_within}
+use Rattle.imap_world.specs.RightsChange.{RightsChange}
 use Rattle.imap_world.specs.declared.site.Site.{Site}
 use Rattle.imap_world.specs.declared.change.Write.{Write}
 use Rattle.imap_world.specs.declared.change.Write.TheVariants as write

@@ -2,19 +2,19 @@
 use Rattle.std.proofs.Common.{◌≡◌, ℕ, Bool, true, false, cond, ◌||◌, List, [], ◌∷◌, Option, Some, None, Ok, Err, refl, sym, ap, subst, ◌∙◌}
 use Rattle.std.specs.Prelude.{option_map, option_and_then}
 use Rattle.std.specs.FinMap as map
-use Rattle.imap_batch.proofs.Kept.{writes_may_be_made}
-use Rattle.imap_batch.proofs.Sights.{batch_is_seen, possible_is_made}
-use Rattle.imap_batch.specs.Batch.{write_for}
-use Rattle.imap_batch.specs.Seen.{IsPossible}
-use Rattle.imap_batch.specs.Written.{with_batch}
-use Rattle.imap_batch.specs.declared.batch.Batch.{Batch}
-use Rattle.imap_batch.specs.declared.write.BatchWrite.{BatchWrite}
-use Rattle.imap_mailbox.specs.Held.{IsKept}
+use Rattle.imap_world.proofs.BatchKept.{writes_may_be_made}
+use Rattle.imap_world.proofs.BatchSights.{batch_is_seen, possible_is_made}
+use Rattle.imap_world.specs.Batch.{write_for}
+use Rattle.imap_world.specs.BatchSeen.{IsPossible}
+use Rattle.imap_world.specs.BatchWritten.{with_batch}
+use Rattle.imap_world.specs.BatchType.{Batch}
+use Rattle.imap_world.specs.BatchWrite.{BatchWrite}
+use Rattle.imap_world.specs.Held.{IsKept}
 use Rattle.imap_names.specs.Name.{Name}
 use Rattle.imap_names.specs.Order.{Names}
 use Rattle.imap_names.proofs.NameLaws.{is_name_at, equal_names, same_names, get_put}
-use Rattle.imap_rights.specs.Effective.{effective}
-use Rattle.imap_rights.specs.Rights.{has_any, visible_rights}
+use Rattle.imap_world.specs.Effective.{effective}
+use Rattle.imap_world.specs.Rights.{has_any, visible_rights}
 use Rattle.imap_world.specs.declared.error.WorldError.TheVariants.{Cannot}
 use Rattle.imap_world.specs.declared.named_batch.NamedBatch.{NamedBatch}
 use Rattle.imap_world.specs.declared.named_batch.NamedWrite.{NamedWrite}

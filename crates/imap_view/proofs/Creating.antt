@@ -8,9 +8,9 @@ use Rattle.std.proofs.lemmas.List.{map-append}
 use Rattle.std.proofs.lemmas.List.Folds.{list_all-append}
 use Rattle.std.proofs.lemmas.Slice.Eq.{bytes_eq-Decides}
 use Rattle.imap_names.specs.Name.{Name, root_of}
-use Rattle.imap_rights.specs.Acl.{AclMap, owner_acl}
-use Rattle.imap_rights.specs.Effective.{effective}
-use Rattle.imap_rights.specs.Rights.{create, has_any, visible_rights}
+use Rattle.imap_world.specs.Acl.{AclMap, owner_acl}
+use Rattle.imap_world.specs.Effective.{effective}
+use Rattle.imap_world.specs.Rights.{create, has_any, visible_rights}
 use Rattle.imap_world.specs.declared.site.Site.{Site}
 use Rattle.imap_world.specs.declared.error.WorldError.TheVariants.{Limit}
 use Rattle.imap_world.specs.Mailbox.{Mailbox, new_mailbox}

@@ -9,8 +9,8 @@ use Rattle.imap_names.specs.Name.{Name}
 use Rattle.imap_names.specs.Order.{name_cmp, is_below}
 use Rattle.imap_names.proofs.NameLaws.{is_name_at, get_without}
 use Rattle.imap_names.proofs.OrderLaws.{IsAbove_from_below}
-use Rattle.imap_name_map.specs.Rows.{has_below}
-use Rattle.imap_rights.specs.Rights.{has_any, delete_mailbox}
+use Rattle.imap_world.specs.NameMapRows.{has_below}
+use Rattle.imap_world.specs.Rights.{has_any, delete_mailbox}
 use Rattle.imap_world.specs.declared.site.Site.{Site}
 use Rattle.imap_world.specs.Mailbox.{Mailbox}
 use Rattle.imap_user_map.specs.Finite.{kept_entry}

@@ -15,10 +15,10 @@ use Rattle.imap_names.specs.UserName.{is_user_name}
 use Rattle.imap_names.proofs.NameLaws.{is_name_at, equal_names, same_names, get_put}
 use Rattle.imap_names.proofs.OrderLaws.{name_antisymmetric}
 use Rattle.imap_names.proofs.UserLaws.{user_name_facts}
-use Rattle.imap_rights.specs.Acl.{owner_acl}
-use Rattle.imap_rights.proofs.AnothersList.{anothers}
-use Rattle.imap_rights.specs.Effective.{granted, effective, owner_rights}
-use Rattle.imap_rights.specs.Rights.{no_rights, all_rights, union, less, visible_rights}
+use Rattle.imap_world.specs.Acl.{owner_acl}
+use Rattle.imap_world.proofs.AnothersList.{anothers}
+use Rattle.imap_world.specs.Effective.{granted, effective, owner_rights}
+use Rattle.imap_world.specs.Rights.{no_rights, all_rights, union, less, visible_rights}
 use Rattle.imap_world.specs.declared.site.Site.{Site}
 use Rattle.imap_world.specs.Mailbox.{Mailbox, new_mailbox}
 use Rattle.imap_world.specs.declared.error.WorldError.TheVariants.{Limit, Taken}

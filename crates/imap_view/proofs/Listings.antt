@@ -7,7 +7,7 @@ use Rattle.std.specs.Iterator.{YieldsFirstRef}
 use Rattle.std.specs.FinMap as fin
 use Rattle.imap_names.specs.Name.{Name}
 use Rattle.imap_names.specs.Order.{Names, name_cmp, is_below}
-use Rattle.imap_name_map.specs.Rows.{entries_below, below_of, has_below}
+use Rattle.imap_world.specs.NameMapRows.{entries_below, below_of, has_below}
 use Rattle.imap_world.specs.declared.site.Site.{Site}
 use Rattle.imap_world.specs.declared.mailbox_entry.MailboxEntry.{MailboxEntry}
 use Rattle.imap_world.specs.Mailbox.{Mailbox, plain, plain_all}

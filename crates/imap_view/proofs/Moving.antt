@@ -3,17 +3,17 @@ use Rattle.std.proofs.Common.{◌≡◌, inl, inr, ℕ, ◌<◌, Bool, true, fal
 use Rattle.std.specs.Prelude.{◌||◌, option_and_then, option_map, is_some}
 use Rattle.std.specs.FinMap as map
 use Rattle.std.specs.FinMap.Entries.{find}
-use Rattle.imap_name_map.specs.Renaming.{renamed}
-use Rattle.imap_name_map.specs.Rows.{run_of, inserted_all}
-use Rattle.imap_name_map.proofs.LookUp.{get_renamed}
-use Rattle.imap_name_map.proofs.Runs.{get_in_run}
+use Rattle.imap_world.specs.Renaming.{renamed}
+use Rattle.imap_world.specs.NameMapRows.{run_of, inserted_all}
+use Rattle.imap_world.proofs.LookUp.{get_renamed}
+use Rattle.imap_world.proofs.Runs.{get_in_run}
 use Rattle.imap_names.specs.Name.{Name, root_of}
 use Rattle.imap_names.specs.Order.{Names, name_cmp, is_within, moved}
 use Rattle.imap_names.proofs.MovedLaws.{within_itself, within_no_shorter, root_of-within, moved_within}
 use Rattle.imap_names.proofs.NameLaws.{is_name_at, is_name_at-same, equal_names, same_names, get_put, get_without}
 use Rattle.imap_names.proofs.OrderLaws.{name_antisymmetric, below_from_within}
-use Rattle.imap_rights.specs.Effective.{effective}
-use Rattle.imap_rights.specs.Rights.{delete_mailbox, has_any, visible_rights}
+use Rattle.imap_world.specs.Effective.{effective}
+use Rattle.imap_world.specs.Rights.{delete_mailbox, has_any, visible_rights}
 use Rattle.imap_world.specs.declared.site.Site.{Site}
 use Rattle.imap_world.specs.Mailbox.{Mailbox}
 use Rattle.imap_world.specs.Moving.{with_moved, with_validities, with_validity}

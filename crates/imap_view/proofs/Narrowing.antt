@@ -10,7 +10,7 @@ use Rattle.imap_names.specs.Name.{Name}
 use Rattle.imap_names.specs.Order.{Names, name_cmp}
 use Rattle.imap_names.proofs.NameLaws.{is_name_at, equal_names, same_names, get_put, get_without, get_where}
 use Rattle.imap_names.proofs.OrderLaws.{name_antisymmetric}
-use Rattle.imap_rights.specs.Rights.{has_any, names_below_rights}
+use Rattle.imap_world.specs.Rights.{has_any, names_below_rights}
 use Rattle.imap_world.specs.declared.site.Site.{Site}
 use Rattle.imap_world.specs.Mailbox.{Mailbox}
 use Rattle.imap_user_map.specs.Finite.{keep}

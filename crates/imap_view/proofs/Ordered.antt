@@ -1,9 +1,9 @@
 -- What is shown of messages is in order.
 use Rattle.std.proofs.Common.{◌≡◌, ℕ, List, Bool, true, false, Some, None, cond, subst}
-use Rattle.imap_mailbox.specs.Brought.{highest_in}
-use Rattle.imap_mailbox.specs.Order.{AreGoneInOrder, AreRowsInOrder}
-use Rattle.imap_mailbox.specs.Shown.{Content, content_of}
-use Rattle.imap_mailbox.specs.Summary.{Summary, gone_of, highest_of, rows_of}
+use Rattle.imap_world.specs.Brought.{highest_in}
+use Rattle.imap_world.specs.MailboxOrder.{AreGoneInOrder, AreRowsInOrder}
+use Rattle.imap_world.specs.Shown.{Content, content_of}
+use Rattle.imap_world.specs.Summary.{Summary, gone_of, highest_of, rows_of}
 
 some_one : (c d : Content) → Some c ≡ Some d → c ≡ d
 some_one c d e = cc e

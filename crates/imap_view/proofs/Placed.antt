@@ -6,7 +6,7 @@ use Rattle.std.specs.FinMap as map
 use Rattle.imap_names.specs.Name.{Name}
 use Rattle.imap_names.specs.Order.{Names}
 use Rattle.imap_names.proofs.NameLaws.{is_name_at, equal_names, same_names, get_put}
-use Rattle.imap_rights.specs.Acl.{AclMap}
+use Rattle.imap_world.specs.Acl.{AclMap}
 use Rattle.imap_world.specs.declared.site.Site.{Site}
 use Rattle.imap_world.specs.Mailbox.{Mailbox, new_mailbox}
 use Rattle.imap_world.specs.Effects.{with_row}

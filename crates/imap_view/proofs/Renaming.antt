@@ -4,13 +4,13 @@ use Rattle.std.specs.Prelude.{nat_lt, bytes_eq, option_and_then}
 use Rattle.std.specs.List.{AllByRecursion}
 use Rattle.std.specs.FinMap as map
 use Rattle.std.proofs.lemmas.Bool.{and_parts, and_from, or_parts, not-true, not_from_false, ltb-true, false_from_ne_true}
-use Rattle.imap_name_map.specs.Rows.{has_within, run_of}
-use Rattle.imap_name_map.proofs.WithinLaws.{run_is_empty, none_within}
+use Rattle.imap_world.specs.NameMapRows.{has_within, run_of}
+use Rattle.imap_world.proofs.WithinLaws.{run_is_empty, none_within}
 use Rattle.imap_names.specs.Name.{Name, root_of}
 use Rattle.imap_names.proofs.MovedLaws.{within_no_shorter}
 use Rattle.imap_names.proofs.NameLaws.{is_name_at, equal_names}
-use Rattle.imap_rights.specs.Acl.{AclMap}
-use Rattle.imap_rights.specs.Rights.{delete_mailbox, has_any}
+use Rattle.imap_world.specs.Acl.{AclMap}
+use Rattle.imap_world.specs.Rights.{delete_mailbox, has_any}
 use Rattle.imap_world.specs.declared.site.Site.{Site}
 use Rattle.imap_world.specs.Mailbox.{Mailbox}
 use Rattle.imap_world.specs.Moving.{arrivals_at, can_move, superior_rows}

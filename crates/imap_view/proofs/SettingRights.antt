@@ -3,15 +3,15 @@ use Rattle.std.proofs.Common.{◌≡◌, inl, ℕ, Bool, true, false, cond, List
 use Rattle.std.specs.Prelude.{option_and_then}
 use Rattle.std.specs.FinMap as map
 use Rattle.std.proofs.lemmas.Bool.{not-true, or_right}
-use Rattle.imap_mailbox.specs.Shown.{content_of}
-use Rattle.imap_mailbox.specs.Summary.{room_of}
+use Rattle.imap_world.specs.Shown.{content_of}
+use Rattle.imap_world.specs.Summary.{room_of}
 use Rattle.imap_names.specs.Name.{Name}
 use Rattle.imap_names.proofs.NameLaws.{is_name_at, equal_names, get_put}
-use Rattle.imap_rights.specs.declared.change.RightsChange.{RightsChange}
-use Rattle.imap_rights.specs.Acl.{AclMap, is_full_for, with_entry}
-use Rattle.imap_rights.specs.Change.{applied}
-use Rattle.imap_rights.specs.Effective.{entry, effective}
-use Rattle.imap_rights.specs.Rights.{has_any, visible_rights, administer, insert, read}
+use Rattle.imap_world.specs.RightsChange.{RightsChange}
+use Rattle.imap_world.specs.Acl.{AclMap, is_full_for, with_entry}
+use Rattle.imap_world.specs.Change.{applied}
+use Rattle.imap_world.specs.Effective.{entry, effective}
+use Rattle.imap_world.specs.Rights.{has_any, visible_rights, administer, insert, read}
 use Rattle.imap_world.specs.declared.site.Site.{Site}
 use Rattle.imap_world.specs.declared.error.WorldError.TheVariants.{Limit}
 use Rattle.imap_world.specs.Mailbox.{Mailbox}

@@ -11,12 +11,12 @@ use Rattle.std.proofs.lemmas.List.{map_more}
 use Rattle.std.proofs.lemmas.List.Elements.{Contains-append_left, Contains-append_right, Contains-push_cases}
 use Rattle.std.proofs.lemmas.Map.Text.{is_eq-slice_cmp}
 use Rattle.std.proofs.lemmas.Slice.Eq.{bytes_eq-Decides}
-use Rattle.imap_identifier_index.specs.Index.{Lists, PushesNames, finds, finds_at}
+use Rattle.imap_world.specs.Index.{Lists, PushesNames, finds, finds_at}
 use Rattle.imap_names.specs.Name.{Name, root_of}
-use Rattle.imap_rights.specs.Acl.{AclMap}
-use Rattle.imap_rights.specs.Effective.{effective, granted, owner_rights}
-use Rattle.imap_rights.specs.Groups.{AreIdentifiersOf, Members, anyone, groups_of, if_counts, is_group_in, stands_for, takes_from, union_where}
-use Rattle.imap_rights.specs.Rights.{has_any, less, no_rights, union, visible_rights}
+use Rattle.imap_world.specs.Acl.{AclMap}
+use Rattle.imap_world.specs.Effective.{effective, granted, owner_rights}
+use Rattle.imap_world.specs.Groups.{AreIdentifiersOf, Members, anyone, groups_of, if_counts, is_group_in, stands_for, takes_from, union_where}
+use Rattle.imap_world.specs.Rights.{has_any, less, no_rights, union, visible_rights}
 use Rattle.imap_view.specs.Seen.{is_root, owner_by_root, owner_of, seen_at, seen_by_rights, seen_with}
 use Rattle.imap_view.specs.Starts.{AddsFound, HaveAllSeen, HaveFound, IsStart}
 use Rattle.imap_view.specs.View.{View, view_of}

@@ -6,8 +6,8 @@ use Rattle.imap_names.specs.Name.{Name, root_of, superior}
 use Rattle.imap_names.specs.Order.{Names, name_cmp}
 use Rattle.imap_names.specs.Valid.{IsName}
 use Rattle.imap_names.proofs.OrderLaws.{name_antisymmetric}
-use Rattle.imap_rights.specs.Rights.{has_any, visible_rights}
-use Rattle.imap_rights.specs.Effective.{effective}
+use Rattle.imap_world.specs.Rights.{has_any, visible_rights}
+use Rattle.imap_world.specs.Effective.{effective}
 use Rattle.imap_world.specs.declared.site.Site.{Site}
 use Rattle.imap_world.specs.Mailbox.{Mailbox}
 use Rattle.imap_world.specs.World.{World, epoch, subscribed_by}

@@ -8,3 +8,14 @@ pub mod Seen
 pub mod Starts
 pub mod TreeAfter
 pub mod View
+pub use Rattle.imap_world.specs.Effects
+pub use Rattle.imap_world.specs.Kept
+pub use Rattle.imap_world.specs.World
+pub use Rattle.imap_world.specs.contracts.effect.Effect as EffectType
+pub use Rattle.imap_world.specs.declared.effect.Effect
+pub use Rattle.imap_world.specs.declared.site.Site
+pub use Rattle.imap_world.specs.Summary
+pub use Rattle.imap_world.specs.Rights
+pub use Rattle.imap_world.specs.NameMapRows
+pub use Rattle.imap_world.specs.Mailbox
+pub use Rattle.imap_world.specs.declared.named_batch.NamedBatch

@@ -3,7 +3,7 @@ use Rattle.std.specs.Prelude.{List, [], ◌∷◌, map, if◌then◌else◌}
 use Rattle.std.specs.List.{filter_map}
 use Rattle.std.specs.Coded.{Coded, coded_list, coded×}
 use Rattle.imap_names.specs.Name.{Name}
-use Rattle.imap_name_map.specs.Rows.{below_of}
+use Rattle.imap_world.specs.NameMapRows.{below_of}
 use Rattle.imap_world.specs.declared.mailbox_entry.MailboxEntry.{MailboxEntry}
 use Rattle.imap_world.specs.Mailbox.{plain}
 use Rattle.imap_user_map.specs.Finite.{kept_entry}

@@ -1,9 +1,9 @@
 -- What the view of a user becomes when the user changes messages (RFC 9051, sections 6.3.12 and 6.4).
 use Rattle.std.specs.Prelude.{◌≡◌, ◌≢◌, ℕ, false, List, [], ◌∷◌, Option, Some, None, option_map, Ok}
 use Rattle.std.specs.FinMap as map
-use Rattle.imap_batch.specs.Laws.{MarksOwnSeen}
-use Rattle.imap_batch.specs.Seen.{IsPossible, batch_seen}
-use Rattle.imap_batch.specs.declared.batch.Batch.{Batch}
+use Rattle.imap_world.specs.BatchLaws.{MarksOwnSeen}
+use Rattle.imap_world.specs.BatchSeen.{IsPossible, batch_seen}
+use Rattle.imap_world.specs.BatchType.{Batch}
 use Rattle.imap_names.specs.Name.{Name}
 use Rattle.imap_names.specs.Order.{Names}
 use Rattle.imap_world.specs.declared.change.Write.TheVariants as write

@@ -1,10 +1,10 @@
 -- What is shown of a mailbox to a user who may read it (RFC 4314, section 2.1, of the right `r`).
 use Rattle.std.specs.Prelude.{ℕ, Option, Some, None, option_and_then, if◌then◌else◌}
 use Rattle.std.specs.FinMap as map
-use Rattle.imap_mailbox.specs.Brought.{highest_in}
-use Rattle.imap_mailbox.specs.Shown.{Content}
+use Rattle.imap_world.specs.Brought.{highest_in}
+use Rattle.imap_world.specs.Shown.{Content}
 use Rattle.imap_names.specs.Name.{Name}
-use Rattle.imap_rights.specs.Rights.{has_any, read}
+use Rattle.imap_world.specs.Rights.{has_any, read}
 use Rattle.imap_view.specs.declared.readable.Readable.{Readable}
 use Rattle.imap_view.specs.Seen.{Seen}
 use Rattle.imap_view.specs.View.{View}

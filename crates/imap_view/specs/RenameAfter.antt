@@ -3,11 +3,11 @@ use Rattle.std.specs.Prelude.{◌≡◌, ℕ, Bool, true, false, not, ◌&&◌, 
 use Rattle.std.specs.Prelude.{Option, Some, None, option_map, map as map_list}
 use Rattle.std.specs.FinMap as map
 use Rattle.std.specs.List.{list_all}
-use Rattle.imap_name_map.specs.Renaming.{renamed}
-use Rattle.imap_name_map.specs.Rows.{has_within, inserted_all}
+use Rattle.imap_world.specs.Renaming.{renamed}
+use Rattle.imap_world.specs.NameMapRows.{has_within, inserted_all}
 use Rattle.imap_names.specs.Name.{Name}
 use Rattle.imap_names.specs.Order.{Names, moved}
-use Rattle.imap_rights.specs.Rights.{delete_mailbox, has_any}
+use Rattle.imap_world.specs.Rights.{delete_mailbox, has_any}
 use Rattle.imap_world.specs.declared.site.Site.{Site}
 use Rattle.imap_world.specs.Moving.{arrivals, arrivals_at, can_arrive, can_move, superior_rows, with_moved}
 use Rattle.imap_world.specs.NewMailbox.{NewMailbox}

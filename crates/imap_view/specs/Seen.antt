@@ -2,13 +2,13 @@
 use Rattle.std.specs.Prelude.{ℕ, Bool, true, false, ◌||◌, List, [], ◌∷◌, Option, Some, None, refl}
 use Rattle.std.specs.Prelude.{if◌then◌else◌}
 use Rattle.std.specs.Coded.{Coded, coded_ℕ, coded_list, coded_option, coded×, code_by}
-use Rattle.imap_mailbox.specs.Lent.{row_code}
-use Rattle.imap_mailbox.specs.Rows.{Row}
-use Rattle.imap_mailbox.specs.Shown.{Content, Rights, Shown, shown_to}
+use Rattle.imap_world.specs.Lent.{row_code}
+use Rattle.imap_world.specs.Rows.{Row}
+use Rattle.imap_world.specs.Shown.{Content, Rights, Shown, shown_to}
 use Rattle.imap_names.specs.Name.{Name, root_of}
-use Rattle.imap_rights.specs.Rights.{bits, has_any, visible_rights, administer, insert, read}
-use Rattle.imap_rights.specs.Acl.{AclMap, acl_code}
-use Rattle.imap_rights.specs.Effective.{effective}
+use Rattle.imap_world.specs.Rights.{bits, has_any, visible_rights, administer, insert, read}
+use Rattle.imap_world.specs.Acl.{AclMap, acl_code}
+use Rattle.imap_world.specs.Effective.{effective}
 use Rattle.imap_world.specs.declared.site.Site.{Site}
 use Rattle.imap_world.specs.Mailbox.{Mailbox, plain}
 use Rattle.imap_view.specs.declared.seen.Seen.{Seen as SeenMailbox}

@@ -3,9 +3,9 @@
 use Rattle.std.specs.Prelude.{◌≡◌, ◌⊎◌, ℕ, true, List, [], bytes_eq}
 use Rattle.std.specs.FinMap as map
 use Rattle.std.specs.List.{Contains}
-use Rattle.imap_identifier_index.specs.Index.{Lists, finds_at}
+use Rattle.imap_world.specs.Index.{Lists, finds_at}
 use Rattle.imap_names.specs.Name.{Name}
-use Rattle.imap_rights.specs.Groups.{groups_of, stands_for}
+use Rattle.imap_world.specs.Groups.{groups_of, stands_for}
 use Rattle.imap_view.specs.View.{View}
 use Rattle.imap_world.specs.declared.site.Site.{Site}
 

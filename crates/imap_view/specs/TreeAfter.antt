@@ -4,15 +4,15 @@ use Rattle.std.specs.Prelude.{◌≡◌, ℕ, ◌+◌, Bool, true, false, not, �
 use Rattle.std.specs.Prelude.{Option, Some, None, Ok, option_map, if◌then◌else◌}
 use Rattle.std.specs.FinMap as map
 use Rattle.std.specs.List.{list_all}
-use Rattle.imap_mailbox.specs.Shown.{Shown, shown_to}
+use Rattle.imap_world.specs.Shown.{Shown, shown_to}
 use Rattle.imap_names.specs.Name.{Name, is_inbox}
 use Rattle.imap_names.specs.Order.{Names}
-use Rattle.imap_name_map.specs.Rows.{has_below}
-use Rattle.imap_rights.specs.declared.change.RightsChange.{RightsChange}
-use Rattle.imap_rights.specs.Acl.{AclMap, is_full_for, with_entry, owner_acl}
-use Rattle.imap_rights.specs.Change.{applied}
-use Rattle.imap_rights.specs.Effective.{entry, effective}
-use Rattle.imap_rights.specs.Rights.{administer, delete_mailbox, has_any, visible_rights}
+use Rattle.imap_world.specs.NameMapRows.{has_below}
+use Rattle.imap_world.specs.RightsChange.{RightsChange}
+use Rattle.imap_world.specs.Acl.{AclMap, is_full_for, with_entry, owner_acl}
+use Rattle.imap_world.specs.Change.{applied}
+use Rattle.imap_world.specs.Effective.{entry, effective}
+use Rattle.imap_world.specs.Rights.{administer, delete_mailbox, has_any, visible_rights}
 use Rattle.imap_world.specs.declared.site.Site.{Site}
 use Rattle.imap_world.specs.Mailbox.{Mailbox, new_mailbox, no_messages}
 use Rattle.imap_world.specs.Changing.{acl_with_rights}

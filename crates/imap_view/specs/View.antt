@@ -5,9 +5,9 @@ use Rattle.std.specs.FinMap as map
 use Rattle.std.specs.Coded.{Coded, coded_ℕ, coded_list, coded×, code_by}
 use Rattle.imap_names.specs.Name.{Name}
 use Rattle.imap_names.specs.Order.{Names}
-use Rattle.imap_rights.specs.Acl.{AclMap}
-use Rattle.imap_rights.specs.Groups.{Members, members_code}
-use Rattle.imap_rights.specs.Rights.{has_any, create, no_rights, names_below_rights}
+use Rattle.imap_world.specs.Acl.{AclMap}
+use Rattle.imap_world.specs.Groups.{Members, members_code}
+use Rattle.imap_world.specs.Rights.{has_any, create, no_rights, names_below_rights}
 use Rattle.imap_user_map.specs.Finite.{keep}
 use Rattle.imap_world.specs.declared.site.Site.{Site}
 use Rattle.imap_world.specs.World.{World, NameSet, epoch, name_code, name_set_code, subscribed_by}

@@ -13,6 +13,7 @@ mod starts;
 mod taken_names;
 mod view;
 
+pub use imap_world::{Effect, NamedBatch, Rights};
 pub use readable::Readable;
 pub use seen::Seen;
 pub use seen_names::SeenNames;

@@ -1,16 +1,15 @@
 //! A mailbox that a user may read.
 
 ghost use Rattle.std.specs.Prelude.{◌≡◌, ◌≤◌, IfSome};
-ghost use Rattle.imap_mailbox.specs.Order.{AreRowsInOrder};
+ghost use Rattle.imap_world.specs.MailboxOrder.{AreRowsInOrder};
 ghost use Rattle.imap_modseq.specs.Numbers.{max_events, max_number};
 ghost use Rattle.imap_view.specs.Readable as specs;
 ghost use Rattle.imap_view.specs.Seen.{shown};
 
 use crate::seen::Seen;
 use crate::view::View;
-use imap_mailbox::Rows;
 use imap_names::NameRef;
-use imap_rights::Rights;
+use imap_world::{Rights, Rows};
 
 /// What a user who may read a mailbox sees of its messages.
 #[derive(Drop)]

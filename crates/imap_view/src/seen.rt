@@ -1,17 +1,15 @@
 //! A mailbox, as one user sees it.
 
 ghost use Rattle.std.specs.Prelude.{◌≡◌, Some, option_copied, option_map};
-ghost use Rattle.imap_mailbox.specs.Brought.{highest_in};
-ghost use Rattle.imap_mailbox.specs.Order.{AreGoneInOrder, AreRowsInOrder};
-ghost use Rattle.imap_mailbox.specs.Shown.{Content};
-ghost use Rattle.imap_rights.specs.Rights.{bits};
+ghost use Rattle.imap_world.specs.Brought.{highest_in};
+ghost use Rattle.imap_world.specs.MailboxOrder.{AreGoneInOrder, AreRowsInOrder};
+ghost use Rattle.imap_world.specs.Shown.{Content};
+ghost use Rattle.imap_world.specs.Rights.{bits};
 ghost use Rattle.imap_view.specs.Seen as specs;
 ghost use Rattle.imap_view.specs.Seen.{shown};
 
-use imap_mailbox::{GoneUids, Mailbox, Rows};
 use imap_names::UserName;
-use imap_rights::{Acl, Rights};
-use imap_world::{MailboxEntry, Site};
+use imap_world::{Acl, GoneUids, Mailbox, MailboxEntry, Rights, Rows, Site};
 
 /// A mailbox that a user sees. It has nothing to do with the flag `\Seen`.
 #[derive(Drop)]

@@ -2,13 +2,12 @@
 
 ghost use Rattle.std.specs.Prelude.{◌≡◌, [], ℕ, List, bytes_eq, map, string_bytes, true, IfOk, IfSome, OnOk};
 ghost use Rattle.std.specs.List.{Contains};
-ghost use Rattle.imap_identifier_index.specs.Index.{IsIndexOf, Lists};
+ghost use Rattle.imap_world.specs.Index.{IsIndexOf, Lists};
 ghost use Rattle.imap_view.specs.Starts.{AddsFound, HaveAllSeen, HaveFound, IsStart};
 
 use crate::view::View;
-use imap_identifier_index::IdentifierIndex;
 use imap_names::{Name, UserName};
-use imap_world::Site;
+use imap_world::{IdentifierIndex, Site};
 use std::alloc::{AllocError, Global};
 
 /// The identifier that stands for every user (RFC 4314, section 2).

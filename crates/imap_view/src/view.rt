@@ -7,8 +7,8 @@ ghost use Rattle.std.specs.Prelude.{◌≡◌, false, nat_lt, option_copied, opt
 ghost use Rattle.std.specs.FinMap as map;
 ghost use Rattle.imap_names.specs.Name.{root_of};
 ghost use Rattle.imap_names.specs.Valid.{IsName};
-ghost use Rattle.imap_name_map.specs.Rows.{below_of, has_below};
-ghost use Rattle.imap_rights.specs.Rights.{bits};
+ghost use Rattle.imap_world.specs.NameMapRows.{below_of, has_below};
+ghost use Rattle.imap_world.specs.Rights.{bits};
 ghost use Rattle.imap_view.specs.Listing.{names_below};
 ghost use Rattle.imap_view.specs.Seen.{is_root, owner_by_root, owner_of, seen_at, shown};
 ghost use Rattle.imap_view.specs.View.{acl_in, epoch_in, rights_in, may_know_name_in, is_own_root};
@@ -22,10 +22,8 @@ use crate::seen::Seen;
 use crate::seen_names::SeenNames;
 use crate::taken_names::TakenNames;
 use bitflags::Flags;
-use imap_name_map::NameMap;
 use imap_names::{Name, NameRef, UserName};
-use imap_rights::{Acl, Rights};
-use imap_world::{MailboxEntry, Site, World};
+use imap_world::{Acl, MailboxEntry, NameMap, Rights, Site, World};
 use std::marker::Model;
 
 /// What a user may see of a world.

@@ -8,8 +8,8 @@ use Rattle.imap_world.specs.Ready.{MayBeWritten, MayWrite}
 use Rattle.imap_world.specs.World.{World}
 use Rattle.std.specs.FinMap as map
 use Rattle.std.specs.FinMap.{get-empty}
-use Rattle.imap_mailbox.specs.Held.{IsKept}
-use Rattle.imap_mailbox.proofs.Keeping.{kept_new}
+use Rattle.imap_batch.specs.Held.{IsKept}
+use Rattle.imap_batch.proofs.Keeping.{kept_new}
 use Rattle.imap_name_map.specs.Renaming.{renamed}
 use Rattle.imap_name_map.specs.Rows.{run_of}
 use Rattle.imap_name_map.proofs.LookUp.{get_renamed}

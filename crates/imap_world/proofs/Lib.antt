@@ -31,3 +31,9 @@ pub mod ListsChanged
 pub mod IndexMoved
 pub mod Numbering
 pub mod Granted
+pub use Rattle.imap_batch.proofs.Kept as BatchKept
+pub use Rattle.imap_batch.proofs.Sights as BatchSights
+pub use Rattle.imap_name_map.proofs.LookUp
+pub use Rattle.imap_name_map.proofs.Runs
+pub use Rattle.imap_name_map.proofs.WithinLaws
+pub use Rattle.imap_rights.proofs.AnothersList

@@ -8,7 +8,7 @@ use Rattle.imap_batch.specs.Batch.{write_for}
 use Rattle.imap_batch.specs.Written.{with_batch}
 use Rattle.imap_batch.specs.declared.error.BatchError.{BatchError}
 use Rattle.imap_batch.specs.declared.write.BatchWrite.{BatchWrite}
-use Rattle.imap_mailbox.specs.Held.{IsKept}
+use Rattle.imap_batch.specs.Held.{IsKept}
 use Rattle.imap_names.specs.Name.{Name}
 use Rattle.imap_names.specs.Order.{Names}
 use Rattle.imap_names.proofs.NameLaws.{equal_names, get_put, is_name_at, is_name_at-same}

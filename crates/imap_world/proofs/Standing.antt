@@ -7,10 +7,10 @@ use Rattle.std.specs.Ordering.{nat_cmp}
 use Rattle.std.specs.FinMap.Entries.{below_all, is_sorted}
 use Rattle.std.specs.List.{AllByRecursion, AllZip, swap}
 use Rattle.std.proofs.lemmas.List.Sorted.{IsPermutation-keeps, IsPermutation-refl, IsPermutation-sym, IsPermutation-trans, length_permutation}
-use Rattle.imap_mailbox.specs.Held.{IsKept}
-use Rattle.imap_mailbox.proofs.OneMailbox.{stand_for_one}
-use Rattle.imap_mailbox.specs.declared.parts.PartsError.{PartsError}
-use Rattle.imap_mailbox.specs.declared.parts.PartsError.TheVariants.{Bad, Memory}
+use Rattle.imap_batch.specs.Held.{IsKept}
+use Rattle.imap_batch.proofs.OneMailbox.{stand_for_one}
+use Rattle.imap_batch.specs.PartsError.{PartsError}
+use Rattle.imap_batch.specs.PartsError.TheVariants.{Bad, Memory}
 use Rattle.imap_name_map.specs.Rows as name
 use Rattle.imap_name_map.proofs.Maps.{entries_of, map_of, sorted_entries}
 use Rattle.imap_names.specs.Name.{Name}

@@ -9,8 +9,8 @@ use Rattle.std.proofs.lemmas.List.Sorted.{sum_by-IsPermutation}
 use Rattle.std.proofs.lemmas.List.Sums.{sum_by-cons}
 use Rattle.std.proofs.lemmas.Map.Text.{is_eq-slice_cmp}
 use Rattle.std.proofs.lemmas.Slice.Eq.{bytes_eq-Decides}
-use Rattle.imap_mailbox.specs.declared.parts.PartsError.{PartsError}
-use Rattle.imap_mailbox.specs.declared.parts.PartsError.TheVariants.{Bad, Memory}
+use Rattle.imap_batch.specs.PartsError.{PartsError}
+use Rattle.imap_batch.specs.PartsError.TheVariants.{Bad, Memory}
 use Rattle.imap_name_map.specs.Rows as name
 use Rattle.imap_names.specs.Name.{Name}
 use Rattle.imap_names.specs.Order.{name_cmp}

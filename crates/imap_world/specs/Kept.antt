@@ -3,7 +3,7 @@ use Rattle.std.specs.Prelude.{◌≡◌, ◌<◌, ◌≤◌, ℕ, Bool, true, Op
 use Rattle.std.specs.FinMap as map
 use Rattle.imap_names.specs.Name.{Name, superior}
 use Rattle.imap_names.specs.Order.{Names}
-use Rattle.imap_mailbox.specs.Held.{IsKept}
+use Rattle.imap_batch.specs.Held.{IsKept}
 use Rattle.imap_world.specs.Mailbox.{Mailbox}
 use Rattle.imap_world.specs.World.{World, epoch}
 

@@ -16,3 +16,25 @@ pub mod World
 pub mod Subscription
 pub mod Parts
 pub mod Restored
+pub use Rattle.imap_identifier_index.specs.Index
+pub use Rattle.imap_batch.specs.Batch
+pub use Rattle.imap_batch.specs.Laws as BatchLaws
+pub use Rattle.imap_batch.specs.Seen as BatchSeen
+pub use Rattle.imap_batch.specs.Written as BatchWritten
+pub use Rattle.imap_batch.specs.declared.batch.Batch as BatchType
+pub use Rattle.imap_batch.specs.declared.write.BatchWrite
+pub use Rattle.imap_batch.specs.Brought
+pub use Rattle.imap_batch.specs.Held
+pub use Rattle.imap_batch.specs.Lent
+pub use Rattle.imap_batch.specs.MailboxOrder
+pub use Rattle.imap_batch.specs.Rows
+pub use Rattle.imap_batch.specs.Shown
+pub use Rattle.imap_batch.specs.Summary
+pub use Rattle.imap_name_map.specs.Renaming
+pub use Rattle.imap_name_map.specs.Rows as NameMapRows
+pub use Rattle.imap_rights.specs.Acl
+pub use Rattle.imap_rights.specs.Change
+pub use Rattle.imap_rights.specs.Effective
+pub use Rattle.imap_rights.specs.Groups
+pub use Rattle.imap_rights.specs.Rights
+pub use Rattle.imap_rights.specs.declared.change.RightsChange

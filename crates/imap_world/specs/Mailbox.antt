@@ -3,14 +3,14 @@ use Rattle.std.specs.Prelude.{◌≡◌, ℕ, Bool, true, not, List, Option, Som
 use Rattle.std.specs.Borrow.{Bor}
 use Rattle.std.specs.Coded.{Coded, coded_ℕ, coded_list, coded×, code_by}
 use Rattle.std.specs.FinMap as map
-use Rattle.imap_mailbox.specs.contracts.message.GoneMessage.{the_row as gone_row}
-use Rattle.imap_mailbox.specs.contracts.message.Message.{the_row as message_row}
-use Rattle.imap_mailbox.specs.contracts.own.SeenChange.{the_row as change_row}
-use Rattle.imap_mailbox.specs.declared.message.GoneMessage.{GoneMessage}
-use Rattle.imap_mailbox.specs.declared.message.Message.{Message}
-use Rattle.imap_mailbox.specs.declared.own.SeenChange.{SeenChange}
-use Rattle.imap_mailbox.specs.Held.{summary_in}
-use Rattle.imap_mailbox.specs.Summary.{Summary, new_summary}
+use Rattle.imap_batch.specs.GoneMessageType.{the_row as gone_row}
+use Rattle.imap_batch.specs.MessageType.{the_row as message_row}
+use Rattle.imap_batch.specs.SeenChangeType.{the_row as change_row}
+use Rattle.imap_batch.specs.GoneMessage.{GoneMessage}
+use Rattle.imap_batch.specs.Message.{Message}
+use Rattle.imap_batch.specs.SeenChange.{SeenChange}
+use Rattle.imap_batch.specs.Held.{summary_in}
+use Rattle.imap_batch.specs.Summary.{Summary, new_summary}
 use Rattle.imap_names.specs.Name.{Name}
 use Rattle.imap_names.specs.Order.{Names}
 use Rattle.imap_rights.specs.Acl.{AclMap, acl_code}

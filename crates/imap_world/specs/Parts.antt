@@ -4,9 +4,9 @@ use Rattle.std.specs.Prelude.{IsPermutation}
 use Rattle.std.specs.FinMap as fin
 use Rattle.std.specs.List.{AllZip, count_by}
 use Rattle.std.specs.Ordering.{eq_by_cmp}
-use Rattle.imap_mailbox.specs.Parts as mailbox
-use Rattle.imap_mailbox.specs.declared.parts.PartsError.{PartsError}
-use Rattle.imap_mailbox.specs.declared.parts.PartsError.TheVariants.{Bad, Memory}
+use Rattle.imap_batch.specs.Parts as mailbox
+use Rattle.imap_batch.specs.PartsError.{PartsError}
+use Rattle.imap_batch.specs.PartsError.TheVariants.{Bad, Memory}
 use Rattle.imap_names.specs.Name.{Name}
 use Rattle.imap_names.specs.Order.{Names, name_cmp}
 use Rattle.imap_rights.specs.Acl.{IsAcl}

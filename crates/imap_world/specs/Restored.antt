@@ -2,9 +2,9 @@
 use Rattle.std.specs.Prelude.{◌≡◌, ◌<◌, ◌≤◌, ℕ, true, false, List, [], ◌∷◌, ◌++◌, Some, Result, Ok, Err}
 use Rattle.std.specs.Prelude.{bytes_eq, if◌then◌else◌, IsPermutation}
 use Rattle.std.specs.FinMap as map
-use Rattle.imap_mailbox.specs.Held.{IsKept}
-use Rattle.imap_mailbox.specs.declared.parts.PartsError.{PartsError}
-use Rattle.imap_mailbox.specs.declared.parts.PartsError.TheVariants.{Bad, Memory}
+use Rattle.imap_batch.specs.Held.{IsKept}
+use Rattle.imap_batch.specs.PartsError.{PartsError}
+use Rattle.imap_batch.specs.PartsError.TheVariants.{Bad, Memory}
 use Rattle.imap_name_map.specs.Rows as name
 use Rattle.imap_names.specs.Name.{Name}
 use Rattle.imap_names.specs.Order.{Names}

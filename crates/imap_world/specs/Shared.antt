@@ -4,7 +4,7 @@ use Rattle.std.specs.Arc.{arc_value}
 use Rattle.std.specs.Coded.{Coded, coded_bool, coded×, code_by}
 use Rattle.imap_batch.specs.declared.batch.Batch.{Batch}
 use Rattle.imap_batch.specs.Written.{HasRoomFor}
-use Rattle.imap_mailbox.specs.Held.{Held, held_code}
+use Rattle.imap_batch.specs.Held.{Held, held_code}
 use Rattle.imap_world.specs.declared.shared_mailbox.Place.{Place}
 use Rattle.imap_world.specs.declared.shared_mailbox.Place.TheVariants as place
 

@@ -10,9 +10,8 @@ ghost use Rattle.imap_world.specs.Shared.{HasOwnRoomFor};
 
 use crate::owned::both;
 use crate::shared_mailbox::SharedMailbox;
-use imap_batch::BatchWrite;
+use imap_batch::{BatchWrite, Mailbox};
 use imap_identifier_index::Numbered;
-use imap_mailbox::Mailbox;
 use imap_rights::Acl;
 use imap_values::beside;
 use std::alloc::{AllocError, Global};

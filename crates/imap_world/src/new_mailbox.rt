@@ -23,7 +23,7 @@ pub struct NewMailbox {
 
 impl Model for NewMailbox {
     ghost use Rattle.std.specs.Prelude.{◌≡◌};
-    ghost use Rattle.imap_mailbox.specs.Held.{summary_in};
+    ghost use Rattle.imap_batch.specs.Held.{summary_in};
     ghost use Rattle.imap_world.specs.Mailbox.{no_messages};
     ghost use Rattle.imap_world.specs.NewMailbox as specs;
 

@@ -5,11 +5,10 @@
 
 ghost use Rattle.std.specs.Prelude.{◌≡◌, false, IfOk, OnOk};
 ghost use Rattle.imap_batch.specs.Written.{with_batch, MayWrite};
-ghost use Rattle.imap_mailbox.specs.Held.{summary_in};
+ghost use Rattle.imap_batch.specs.Held.{summary_in};
 ghost use Rattle.imap_world.specs.Shared.{HasOwnRoomFor};
 
-use imap_batch::{BatchWrite, make_room, write_batch};
-use imap_mailbox::Mailbox;
+use imap_batch::{BatchWrite, Mailbox, make_room, write_batch};
 use imap_values::beside;
 use std::alloc::{AllocError, Global};
 use std::marker::Model;

@@ -3,7 +3,7 @@
 ghost use Rattle.std.specs.Prelude.{◌≡◌};
 ghost use Rattle.std.specs.String.{string_bytes};
 
-use imap_mailbox::MailboxParts;
+use imap_batch::MailboxParts;
 use imap_names::Name;
 use imap_rights::Entry;
 use std::marker::Model;

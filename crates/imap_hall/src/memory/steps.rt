@@ -3,7 +3,7 @@
 use crate::memory::keys::keys_octets;
 use crate::memory::{Holds, list_octets, plain_octets};
 use imap_commands::{Command, Patterns, Request};
-use imap_core::{Act, Step};
+use imap_saving::{Act, Step};
 
 /// The size of a step, of an item of a command, and of a text.
 const STEP: u64 = 256;

@@ -2,7 +2,7 @@ use Rattle.std.proofs.Common.{subst, sym, ◌∙◌}
 use Rattle.imap_mailbox.specs.Rows.{first_uid}
 use Rattle.imap_mailbox.specs.Summary.{AreRising}
 use Rattle.imap_rights.specs.Rights.{bits}
-use Rattle.imap_session.specs.State.{selection_of}
+use Rattle.imap_targets.specs.State.{selection_of}
 use Rattle.imap_targets.specs.MessageNumbers.{uids_of}
 use Rattle.imap_changes.proofs.Merged.{found_rise, unskipped_rise}
 use Rattle.imap_changes.proofs.store.store_named.Goals as goal

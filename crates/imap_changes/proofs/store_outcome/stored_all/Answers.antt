@@ -1,7 +1,7 @@
 use Rattle.std.proofs.Common.{List, subst}
 use Rattle.std.specs.Prelude.{IfOk}
 use Rattle.imap_rights.specs.Rights.{bits}
-use Rattle.imap_session.specs.State.{selection_of}
+use Rattle.imap_targets.specs.State.{selection_of}
 use Rattle.imap_changes.specs.declared.store_outcome.StoreOutcome.{StoreOutcome}
 use Rattle.imap_changes.specs.Storing.{Stores}
 use Rattle.imap_changes.proofs.Merged.{merged}

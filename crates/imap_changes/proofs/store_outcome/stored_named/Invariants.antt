@@ -1,5 +1,5 @@
 use Rattle.imap_rights.specs.Rights.{bits}
-use Rattle.imap_session.specs.State.{selection_of}
+use Rattle.imap_targets.specs.State.{selection_of}
 use Rattle.imap_changes.proofs.Gathered.{IsGathered}
 use Rattle.imap_changes.proofs.store_outcome.stored_named.Given as goal
 

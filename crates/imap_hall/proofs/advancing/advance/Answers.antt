@@ -1,6 +1,6 @@
 use Rattle.std.proofs.Common.{◌≡◌, ◌∙◌, refl, sym, ap, subst, map}
-use Rattle.imap_core.specs.Machine.{State, answer, next}
-use Rattle.imap_core.specs.Planned.{change_of, state_after}
+use Rattle.imap_saving.specs.Machine.{State, answer, next}
+use Rattle.imap_saving.specs.Planned.{change_of, state_after}
 use Rattle.imap_world.specs.Ready.{IsCurrent}
 use Rattle.imap_hall.specs.Hall.{journal_entry}
 use Rattle.imap_saving.specs.Performing.{AreReplies, Performs}

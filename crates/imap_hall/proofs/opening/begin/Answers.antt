@@ -1,5 +1,5 @@
 use Rattle.std.proofs.Common.{◌∙◌, Err, inl, sym, ap, subst}
-use Rattle.imap_core.specs.Opening.{state_at_start}
+use Rattle.imap_saving.specs.Opening.{state_at_start}
 use Rattle.imap_keeper.specs.Keeping.{count_after}
 use Rattle.imap_world.specs.Stored.{world_of}
 use Rattle.imap_hall.proofs.Opened.{left_alone, left_started}

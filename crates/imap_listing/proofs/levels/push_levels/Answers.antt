@@ -1,6 +1,6 @@
 use Rattle.std.proofs.Common.{◌∷◌, ◌++◌, [], Some, None, IsUtf8, subst, ap, ◌∙◌}
 use Rattle.imap_names.proofs.FrontLaws.{split_last, IsUtf8-front}
-use Rattle.imap_print.specs.Lines.{IsPlain}
+use Rattle.imap_answer.specs.Lines.{IsPlain}
 use Rattle.imap_listing.proofs.Hierarchy.{above_more, above_all}
 use Rattle.imap_listing.proofs.Plain.{plain_front}
 use Rattle.imap_listing.proofs.levels.push_levels.Goals as goal

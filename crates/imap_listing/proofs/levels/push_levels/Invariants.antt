@@ -1,7 +1,7 @@
 use Rattle.std.proofs.Common.{length}
 use denote.Text.{Utf8}
 use denote.Shadow.{shadow}
-use Rattle.imap_print.specs.Lines.{IsPlain}
+use Rattle.imap_answer.specs.Lines.{IsPlain}
 use Rattle.imap_listing.proofs.Hierarchy.{Above}
 use Rattle.imap_listing.proofs.levels.push_levels.Given as goal
 

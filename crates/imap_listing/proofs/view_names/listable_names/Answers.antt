@@ -1,6 +1,6 @@
 use Rattle.std.proofs.Common.{◌≡◌, IfSome, List, map, filter_map, sym, ap, subst, ◌∙◌}
 use Rattle.std.proofs.lemmas.Result.{IfOk-weaker}
-use Rattle.imap_view.specs.Starts.{HaveAllSeen}
+use Rattle.imap_answer.specs.Starts.{HaveAllSeen}
 use Rattle.imap_listing.specs.Texts.{Text}
 use Rattle.imap_listing.specs.ViewNames.{HaveSame, listable_at, listable_names}
 use Rattle.imap_listing.proofs.Started.{same_itself, started}

@@ -2,7 +2,7 @@ use Rattle.std.proofs.Common.{◌≡◌, ◌∙◌, ap, sym, subst, Option}
 use Rattle.std.specs.Prelude.{IfOk, IfSome, is_none}
 use Rattle.imap_answer.specs.Answer.{Answer}
 use Rattle.imap_mailbox.specs.Rows.{first_uid}
-use Rattle.imap_session.specs.State.{selection_of}
+use Rattle.imap_targets.specs.State.{selection_of}
 use Rattle.imap_view.specs.View.{View}
 use Rattle.imap_messages.specs.declared.reading.Reading.{Reading}
 use Rattle.imap_messages.specs.Fetch.{FetchArguments, sets_seen}

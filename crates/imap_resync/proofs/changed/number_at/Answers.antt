@@ -1,5 +1,5 @@
 use Rattle.std.proofs.Common.{arith}
-use Rattle.imap_session.proofs.RowsRise.{rows_fit}
+use Rattle.imap_targets.proofs.RowsRise.{rows_fit}
 use Rattle.imap_resync.proofs.changed.number_at.Goals as goal
 
 pub overflow_cast-result : goal.overflow_cast-result

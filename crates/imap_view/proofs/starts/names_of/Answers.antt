@@ -1,6 +1,6 @@
 use Rattle.std.proofs.Common.{◌≡◌, ℕ, List, [], map as map_list, string_bytes, true, Contains, sym, subst₂, ◌∙◌}
 use Rattle.std.specs.Prelude.{bytes_eq}
-use Rattle.imap_rights.specs.Groups.{AreIdentifiersOf, Members, anyone, groups_of}
+use Rattle.imap_world.specs.Groups.{AreIdentifiersOf, Members, anyone, groups_of}
 use Rattle.imap_view.proofs.Starting.{fewer, found_by_steps, starts_are}
 use Rattle.imap_view.proofs.starts.names_of.Goals as goal
 

@@ -1,5 +1,5 @@
 use Rattle.std.proofs.Common.{List, map, string_bytes, take, Contains}
-use Rattle.imap_identifier_index.specs.Index.{IsIndexOf, Lists}
+use Rattle.imap_world.specs.Index.{IsIndexOf, Lists}
 use Rattle.imap_view.specs.Starts.{AddsFound}
 use Rattle.imap_view.proofs.starts.push_all_found.Given as goal
 

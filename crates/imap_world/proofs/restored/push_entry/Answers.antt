@@ -1,6 +1,6 @@
 use Rattle.std.proofs.Common.{refl, sym, subst}
-use Rattle.imap_mailbox.specs.Held.{Held, IsKept, summary_in}
-use Rattle.imap_mailbox.specs.Parts.{StandFor}
+use Rattle.imap_batch.specs.Held.{Held, IsKept, summary_in}
+use Rattle.imap_batch.specs.Parts.{StandFor}
 use Rattle.imap_names.specs.Name.{Name}
 use Rattle.imap_world.specs.declared.mailbox_entry.MailboxEntry.{MailboxEntry}
 use Rattle.imap_world.proofs.restored.push_entry.Goals as goal

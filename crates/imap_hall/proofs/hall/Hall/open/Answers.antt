@@ -1,5 +1,5 @@
 use Rattle.std.proofs.Common.{◌⊎◌, sym, ap, subst}
-use Rattle.imap_core.specs.Machine.{State}
+use Rattle.imap_saving.specs.Machine.{State}
 use Rattle.imap_world.specs.World.{World}
 use Rattle.imap_hall.proofs.Kept.{fresh, fresh_kept}
 use Rattle.imap_hall.proofs.hall.Hall.open.Goals as goal

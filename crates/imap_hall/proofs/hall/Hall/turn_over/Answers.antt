@@ -1,5 +1,5 @@
 use Rattle.std.proofs.Common.{rules, ◌∙◌, ◌+◌, ap, subst}
-use Rattle.imap_core.specs.Machine.{Machine}
+use Rattle.imap_saving.specs.Machine.{Machine}
 use Rattle.imap_hall.specs.Hall.{HallState, IsTurnedOver, hall_state}
 use Rattle.imap_hall.specs.Journal.{point}
 use Rattle.imap_hall.proofs.Kept.{alike_view, kept_alike, kept_turned, turned}

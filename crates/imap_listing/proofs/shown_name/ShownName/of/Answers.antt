@@ -1,6 +1,6 @@
 use Rattle.std.proofs.Common.{List, ℕ, sym, subst}
 use Rattle.imap_answer.proofs.Printable.{shown_plain}
-use Rattle.imap_print.specs.Lines.{IsPlain}
+use Rattle.imap_answer.specs.Lines.{IsPlain}
 use Rattle.imap_listing.proofs.shown_name.ShownName.of.Goals as goal
 
 pub invariant_of-result : goal.invariant_of-result

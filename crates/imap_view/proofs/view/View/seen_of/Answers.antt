@@ -1,6 +1,6 @@
 use Rattle.std.proofs.Common.{◌≡◌, sym, ap, ◌∙◌}
-use Rattle.imap_rights.specs.Rights.{bits}
-use Rattle.imap_rights.specs.Effective.{effective}
+use Rattle.imap_world.specs.Rights.{bits}
+use Rattle.imap_world.specs.Effective.{effective}
 use Rattle.imap_world.specs.Mailbox.{plain}
 use Rattle.imap_world.specs.Stored.{world_of}
 use Rattle.imap_view.specs.Seen.{owner_by_root, owner_of}

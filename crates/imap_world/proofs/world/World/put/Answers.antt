@@ -1,7 +1,7 @@
 use Rattle.std.proofs.Common.{◌≡◌, ◌<◌, true, false, refl, sym, ap, subst, ◌∙◌, arith}
 use Rattle.std.specs.FinMap as map
-use Rattle.imap_mailbox.specs.Held.{IsKept}
-use Rattle.imap_mailbox.proofs.Keeping.{kept_new}
+use Rattle.imap_batch.specs.Held.{IsKept}
+use Rattle.imap_batch.proofs.Keeping.{kept_new}
 use Rattle.imap_world.specs.Indexed.{IsIndexIn, lists_of}
 use Rattle.imap_world.specs.Kept.{AreKept, superior_is_there}
 use Rattle.imap_world.specs.declared.mailbox_entry.MailboxEntry.{MailboxEntry}
