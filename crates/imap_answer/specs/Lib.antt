@@ -12,7 +12,8 @@ pub use Rattle.imap_view.specs.View
 pub use Rattle.imap_view.specs.declared.readable.Readable as ReadableMailbox
 pub use Rattle.imap_view.specs.Seen
 pub use Rattle.imap_view.specs.Starts
+pub use Rattle.imap_view.specs.NameMapRows
+-- and of responses
 pub use Rattle.imap_print.specs.Lines
 pub use Rattle.imap_print.specs.declared.list.Children
 pub use Rattle.imap_print.specs.declared.response.Response
-pub use Rattle.imap_view.specs.NameMapRows

@@ -15,13 +15,25 @@ use std::marker::Model;
 /// The untagged responses to a command, its last line, what it asks of the mailboxes, and what it enables in
 /// its session. A client reads each response as one line, whatever names and tags are in it. The UIDs of
 /// messages of which its lines tell the flags and the mod-sequence rise.
-#[derive(Drop)]
 pub struct Answer {
     untagged: Vec<Response>,
     last: Response,
     effect: Option<Effect>,
     enables: EnabledCapabilities,
     told: Vec<u32>,
+}
+
+// Not derived: a derived one is proved anew in each crate that lets go of one.
+impl Drop for Answer {
+    fn drop(self) {
+        let Answer {
+            untagged: _,
+            last: _,
+            effect: _,
+            enables: _,
+            told: _,
+        } = self;
+    }
 }
 
 impl Model for Answer {
@@ -97,30 +109,20 @@ impl Answer {
     }
 
     /// The same answer, to a command that enables these capabilities.
-    pub fn enabling(self, enables: EnabledCapabilities) -> Answer
+    pub fn enabling(mut self, enables: EnabledCapabilities) -> Answer
         ensures { result ≡ enabling enables self }
     {
-        Answer {
-            untagged: self.untagged,
-            last: self.last,
-            effect: self.effect,
-            enables,
-            told: self.told,
-        }
+        self.enables = enables;
+        self
     }
 
     /// The same answer, whose FETCH lines tell of messages with these UIDs.
-    pub fn telling(self, uids: Vec<u32>) -> Answer
+    pub fn telling(mut self, uids: Vec<u32>) -> Answer
         requires { AreRising uids.items }
         ensures { result ≡ telling uids.items self }
     {
-        Answer {
-            untagged: self.untagged,
-            last: self.last,
-            effect: self.effect,
-            enables: self.enables,
-            told: uids,
-        }
+        self.told = uids;
+        self
     }
 
     /// The same answer, after these responses.
@@ -128,13 +130,22 @@ impl Answer {
         requires { AllByRecursion IsPrintable front.items }
         ensures { IfOk result (λ answer. answer ≡ preceded_by front.items self) }
     {
-        let rest = (self.last, self.effect, self.told);
-        let (untagged, (last, effect, told)) = beside(joined(front, self.untagged), rest)?;
+        let Answer {
+            untagged,
+            last,
+            effect,
+            enables,
+            told,
+        } = self;
+        let (untagged, (last, effect, told)) = beside(
+            joined(front, untagged),
+            (last, effect, told),
+        )?;
         Ok(Answer {
             untagged,
             last,
             effect,
-            enables: self.enables,
+            enables,
             told,
         })
     }
@@ -144,13 +155,22 @@ impl Answer {
         requires { AllByRecursion IsPrintable back.items }
         ensures { IfOk result (λ answer. answer ≡ followed_by back.items self) }
     {
-        let rest = (self.last, self.effect, self.told);
-        let (untagged, (last, effect, told)) = beside(joined(self.untagged, back), rest)?;
+        let Answer {
+            untagged,
+            last,
+            effect,
+            enables,
+            told,
+        } = self;
+        let (untagged, (last, effect, told)) = beside(
+            joined(untagged, back),
+            (last, effect, told),
+        )?;
         Ok(Answer {
             untagged,
             last,
             effect,
-            enables: self.enables,
+            enables,
             told,
         })
     }

@@ -7,6 +7,7 @@ pub mod Laws
 pub mod Planned
 pub mod Untouched
 pub mod Events
+-- what those above say of mailboxes
 pub use Rattle.imap_mailbox.specs.Held
 pub use Rattle.imap_mailbox.specs.Parts
 pub use Rattle.imap_mailbox.specs.Summary

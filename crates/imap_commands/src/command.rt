@@ -9,7 +9,6 @@ use imap_syntax::{Atom, DateTime, Flags, Items, MessageSet, Numbering, OneOrMore
 
 /// A command without its tag. Names of mailboxes, identifiers and rights are as the client sent them, without
 /// their quotes and escapes.
-#[derive(Drop)]
 pub enum Command {
     /// RFC 9051, section 6.1.1.
     Capability,
@@ -145,4 +144,92 @@ pub enum Command {
         messages: MessageSet,
         mailbox: Octets,
     },
+}
+
+// Not derived: a derived one is proved anew in each crate that lets go of one.
+impl Drop for Command {
+    fn drop(self) {
+        match self {
+            Command::Enable { capabilities } => drop(capabilities),
+            Command::Select {
+                mailbox,
+                parameters,
+            } => drop((mailbox, parameters)),
+            Command::Examine {
+                mailbox,
+                parameters,
+            } => drop((mailbox, parameters)),
+            Command::Create { mailbox } => drop(mailbox),
+            Command::Delete { mailbox } => drop(mailbox),
+            Command::Rename { from, to } => drop((from, to)),
+            Command::Subscribe { mailbox } => drop(mailbox),
+            Command::Unsubscribe { mailbox } => drop(mailbox),
+            Command::List {
+                selection,
+                reference,
+                patterns,
+                returns,
+            } => drop((selection, reference, patterns, returns)),
+            Command::Status { mailbox, items } => drop((mailbox, items)),
+            Command::Append {
+                mailbox,
+                flags,
+                date: _,
+                message,
+            } => drop((mailbox, flags, message)),
+            Command::SetAcl {
+                mailbox,
+                identifier,
+                rights,
+            } => drop((mailbox, identifier, rights)),
+            Command::DeleteAcl {
+                mailbox,
+                identifier,
+            } => drop((mailbox, identifier)),
+            Command::GetAcl { mailbox } => drop(mailbox),
+            Command::ListRights {
+                mailbox,
+                identifier,
+            } => drop((mailbox, identifier)),
+            Command::MyRights { mailbox } => drop(mailbox),
+            Command::UidExpunge { messages } => drop(messages),
+            Command::Search {
+                numbering: _,
+                returns,
+                charset,
+                keys,
+            } => drop((returns, charset, keys)),
+            Command::Fetch {
+                numbering: _,
+                messages,
+                items,
+                changed_since: _,
+                vanished: _,
+            } => drop((messages, items)),
+            Command::Store {
+                numbering: _,
+                messages,
+                store,
+            } => drop((messages, store)),
+            Command::Copy {
+                numbering: _,
+                messages,
+                mailbox,
+            } => drop((messages, mailbox)),
+            Command::Move {
+                numbering: _,
+                messages,
+                mailbox,
+            } => drop((messages, mailbox)),
+            Command::Capability
+            | Command::Noop
+            | Command::Logout
+            | Command::Namespace
+            | Command::Idle
+            | Command::Close
+            | Command::Unselect
+            | Command::Authenticate
+            | Command::Expunge => {}
+        }
+    }
 }

@@ -8,7 +8,6 @@ use imap_values::{Same, TryCopy, copy_two, same_two};
 use std::alloc::{AllocError, Global};
 
 /// The request that a frame of the stream makes.
-#[derive(Drop)]
 pub enum Request {
     Command { tag: Tag, body: Command },
     /// The frame is no command. `tag` is the tag with which the frame begins, a space or CRLF after it.
@@ -16,6 +15,17 @@ pub enum Request {
     /// A literal of the command was over the limit. No frame spells this request, and [`parse`](crate::parse)
     /// never returns it: it stands for a command whose octets were refused before they came.
     TooBig { tag: Tag },
+}
+
+// Not derived: a derived one is proved anew in each crate that lets go of one.
+impl Drop for Request {
+    fn drop(self) {
+        match self {
+            Request::Command { tag, body } => drop((tag, body)),
+            Request::Malformed { tag } => drop(tag),
+            Request::TooBig { tag } => drop(tag),
+        }
+    }
 }
 
 impl TryCopy for Request {

@@ -5,6 +5,6 @@ pub mod Opened
 pub mod Refusing
 pub mod Stepped
 pub mod Users
-pub use Rattle.imap_saving.proofs.CoreSend as CoreSend
+pub use Rattle.imap_saving.proofs.CoreSend
 pub use Rattle.imap_saving.proofs.SessionIdSend
 pub use Rattle.imap_saving.proofs.shared_replies.SharedReplies.TheSendSync as SharedRepliesSend

@@ -10,6 +10,6 @@ pub mod Saving
 pub use Rattle.imap_saving.specs.Frames
 pub use Rattle.imap_saving.specs.Act
 pub use Rattle.imap_saving.specs.Step
-pub use Rattle.imap_saving.specs.ActType as ActType
-pub use Rattle.imap_saving.specs.StepType as StepType
+pub use Rattle.imap_saving.specs.ActType
+pub use Rattle.imap_saving.specs.StepType
 pub use Rattle.imap_saving.specs.SessionId

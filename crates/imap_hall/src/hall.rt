@@ -37,7 +37,6 @@ const MAX_ENTRIES: u64 = 1 << 63;
 ///
 /// The entries of the journal, made one after another from the base, lead to where the machine is. The keeper
 /// has the mailboxes of the machine, as long as the store gives back what was written.
-#[derive(Drop)]
 pub struct Hall<K: Keeper> {
     core: Core,
     counts: UserMap<OwnCounts>,
@@ -46,6 +45,21 @@ pub struct Hall<K: Keeper> {
     base_counts: UserMap<OwnCounts>,
     before: u64,
     journal: Vec<Entry>,
+}
+
+// Not derived: a derived one is proved anew in each crate that lets go of one.
+impl<K: Keeper + Drop> Drop for Hall<K> {
+    fn drop(self) {
+        let Hall {
+            core: _,
+            counts: _,
+            keeper: _,
+            base: _,
+            base_counts: _,
+            before: _,
+            journal: _,
+        } = self;
+    }
 }
 
 impl<K: Keeper> Model for Hall<K> {

@@ -8,12 +8,22 @@ use imap_saving::{Core, SharedReplies, Step};
 use imap_user_map::UserMap;
 
 /// An entry of the journal.
-#[derive(Drop)]
 pub struct Entry {
     pub step: Step,
     /// The number of the step among those of its session, from 1.
     pub own: u64,
     pub replies: SharedReplies,
+}
+
+// Not derived: a derived one is proved anew in each crate that lets go of one.
+impl Drop for Entry {
+    fn drop(self) {
+        let Entry {
+            step: _,
+            own: _,
+            replies: _,
+        } = self;
+    }
 }
 
 /// What the session of a step is given of its entry.
@@ -27,8 +37,14 @@ pub struct Receipt {
 }
 
 /// An earlier base of the journal.
-#[derive(Drop)]
 pub struct OldBase {
     pub(crate) base: Core,
     pub(crate) counts: UserMap<OwnCounts>,
+}
+
+// Not derived: a derived one is proved anew in each crate that lets go of one.
+impl Drop for OldBase {
+    fn drop(self) {
+        let OldBase { base: _, counts: _ } = self;
+    }
 }

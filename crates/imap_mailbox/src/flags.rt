@@ -9,13 +9,25 @@ use imap_values::{Same, TryCopy, same_five};
 use std::alloc::{AllocError, Global};
 
 /// The flags of a message that all users share: all but `\Seen` (RFC 9051, section 2.3.2).
-#[derive(Drop)]
 pub struct SharedFlags {
     pub answered: bool,
     pub deleted: bool,
     pub draft: bool,
     pub flagged: bool,
     pub keywords: Keywords,
+}
+
+// Not derived: a derived one is proved anew in each crate that lets go of one.
+impl Drop for SharedFlags {
+    fn drop(self) {
+        let SharedFlags {
+            answered: _,
+            deleted: _,
+            draft: _,
+            flagged: _,
+            keywords: _,
+        } = self;
+    }
 }
 
 impl SharedFlags {

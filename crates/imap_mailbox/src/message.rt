@@ -13,7 +13,6 @@ use imap_syntax::{DateTime, Octets};
 const NEAR_MESSAGES: usize = 32;
 
 /// A message that is there.
-#[derive(Drop)]
 pub struct Message {
     pub uid: u32,
     pub date: DateTime,
@@ -21,6 +20,19 @@ pub struct Message {
     pub flags: SharedFlags,
     /// The place of its last shared event among those of the mailbox, from 0.
     pub place: u64,
+}
+
+// Not derived: a derived one is proved anew in each crate that lets go of one.
+impl Drop for Message {
+    fn drop(self) {
+        let Message {
+            uid: _,
+            date: _,
+            octets: _,
+            flags: _,
+            place: _,
+        } = self;
+    }
 }
 
 /// A message that was expunged.

@@ -17,9 +17,15 @@ pub const MAX_USER_NAME_OCTETS: usize = 64;
 /// It has at least one octet and at most [`MAX_USER_NAME_OCTETS`]. `anyone`, and a text that begins with
 /// `-` or `group:`, is no user name: these mean other things in an ACL (RFC 4314). Contracts see its
 /// octets. A copy shares them.
-#[derive(Drop)]
 pub struct UserName {
     text: ArcStr,
+}
+
+// Not derived: a derived one is proved anew in each crate that lets go of one.
+impl Drop for UserName {
+    fn drop(self) {
+        let UserName { text: _ } = self;
+    }
 }
 
 impl Model for UserName {

@@ -17,7 +17,6 @@ pub struct FetchedSection {
 }
 
 /// The items of a message that are sent (RFC 9051, section 7.5.2).
-#[derive(Drop)]
 pub struct FetchedItems {
     pub uid: Option<u32>,
     pub flags: Option<FlagSet>,
@@ -27,6 +26,20 @@ pub struct FetchedItems {
     /// RFC 7162, section 3.1.
     pub mod_seq: Option<u64>,
     pub sections: Items<FetchedSection>,
+}
+
+// Not derived: a derived one is proved anew in each crate that lets go of one.
+impl Drop for FetchedItems {
+    fn drop(self) {
+        let FetchedItems {
+            uid: _,
+            flags: _,
+            internal_date: _,
+            size: _,
+            mod_seq: _,
+            sections: _,
+        } = self;
+    }
 }
 
 impl TryCopy for FetchedSection {

@@ -14,7 +14,6 @@ use imap_rights::Rights;
 use imap_syntax::{Items, Keywords};
 
 /// One line to a client (RFC 9051, section 7). A mailbox is named as the client's user sees it.
-#[derive(Drop)]
 pub enum Response {
     /// The first line of a session, whose user is known from the connection (section 7.1.4).
     Greeting,
@@ -114,8 +113,53 @@ pub enum Response {
     },
 }
 
+// Not derived: a derived one is proved anew in each crate that lets go of one.
+impl Drop for Response {
+    fn drop(self) {
+        match self {
+            Response::Bye(_) => {}
+            Response::Done { tag, code } => drop((tag, code)),
+            Response::Refused { tag, refusal: _ } => drop(tag),
+            Response::Enabled(_) => {}
+            Response::List {
+                attributes: _,
+                mailbox,
+            } => drop(mailbox),
+            Response::Status { mailbox, items } => drop((mailbox, items)),
+            Response::Acl { mailbox, entries } => drop((mailbox, entries)),
+            Response::MyRights { mailbox, rights: _ } => drop(mailbox),
+            Response::ListRights {
+                mailbox,
+                identifier,
+                owner: _,
+            } => drop((mailbox, identifier)),
+            Response::Flags { keywords } => drop(keywords),
+            Response::PermanentFlags { flags, any: _ } => drop(flags),
+            Response::Exists(_) => {}
+            Response::Expunge(_) => {}
+            Response::Vanished { earlier: _, uids } => drop(uids),
+            Response::UidValidity(_) => {}
+            Response::UidNext(_) => {}
+            Response::HighestModSeq(_) => {}
+            Response::Moved(value) => drop(value),
+            Response::Fetch { number: _, items } => drop(items),
+            Response::Search {
+                tag,
+                uid: _,
+                results,
+            } => drop((tag, results)),
+            Response::Greeting
+            | Response::Capability
+            | Response::Ready
+            | Response::Idling
+            | Response::Namespace
+            | Response::ListRoot
+            | Response::Closed => {}
+        }
+    }
+}
+
 /// The response code of a command that was carried out (RFC 9051, section 7.1, and RFC 7162).
-#[derive(Drop)]
 pub enum Code {
     /// The mailbox is selected, and may be changed.
     ReadWrite,
@@ -129,6 +173,22 @@ pub enum Code {
     HighestModSeq(u64),
     /// The messages that were not changed, as their mod-sequences were too high (RFC 7162, section 3.1.3).
     Modified(NumberSet),
+}
+
+// Not derived: a derived one is proved anew in each crate that lets go of one.
+impl Drop for Code {
+    fn drop(self) {
+        match self {
+            Code::AppendUid {
+                validity: _,
+                uid: _,
+            } => {}
+            Code::CopyUid(value) => drop(value),
+            Code::HighestModSeq(_) => {}
+            Code::Modified(value) => drop(value),
+            Code::ReadWrite | Code::ReadOnly => {}
+        }
+    }
 }
 
 /// Why a session ends.

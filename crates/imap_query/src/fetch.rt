@@ -24,7 +24,6 @@ pub enum Section {
 }
 
 /// A section of the message, or a range of its octets (RFC 9051, section 6.4.5.1).
-#[derive(Drop)]
 pub struct BodySection {
     /// Whether `\Seen` is left as it is.
     pub peek: bool,
@@ -32,8 +31,18 @@ pub struct BodySection {
     pub partial: Option<Partial>,
 }
 
+// Not derived: a derived one is proved anew in each crate that lets go of one.
+impl Drop for BodySection {
+    fn drop(self) {
+        let BodySection {
+            peek: _,
+            section: _,
+            partial: _,
+        } = self;
+    }
+}
+
 /// An item of FETCH (RFC 9051, section 6.4.5).
-#[derive(Drop)]
 pub enum FetchItem {
     Uid,
     Flags,
@@ -45,6 +54,21 @@ pub enum FetchItem {
     /// An item of RFC 9051 that is read and not served: ENVELOPE, BODYSTRUCTURE, BINARY, a part of a
     /// message's body, or a macro with such an item.
     Unserved,
+}
+
+// Not derived: a derived one is proved anew in each crate that lets go of one.
+impl Drop for FetchItem {
+    fn drop(self) {
+        match self {
+            FetchItem::Section(value) => drop(value),
+            FetchItem::Uid
+            | FetchItem::Flags
+            | FetchItem::InternalDate
+            | FetchItem::Rfc822Size
+            | FetchItem::ModSeq
+            | FetchItem::Unserved => {}
+        }
+    }
 }
 
 impl TryCopy for Section {

@@ -64,7 +64,6 @@ impl Same for SearchDate {
 }
 
 /// A key of SEARCH (RFC 9051, section 6.4.4).
-#[derive(Drop)]
 pub enum SearchKey {
     All,
     /// Whether the flag has to be set, or not set.
@@ -85,6 +84,30 @@ pub enum SearchKey {
     Group(Vec<SearchKey>),
     /// A key of RFC 9051 that is read and not served: SENTBEFORE, SENTON or SENTSINCE.
     Unserved,
+}
+
+// Not derived: a derived one is proved anew in each crate that lets go of one.
+impl Drop for SearchKey {
+    fn drop(self) {
+        match self {
+            SearchKey::Flag { flag, set: _ } => drop(flag),
+            SearchKey::Contains { place: _, text } => drop(text),
+            SearchKey::Header { field, text } => drop((field, text)),
+            SearchKey::Date {
+                relation: _,
+                date: _,
+            } => {}
+            SearchKey::Larger(_) => {}
+            SearchKey::Smaller(_) => {}
+            SearchKey::ModSeq(_) => {}
+            SearchKey::Numbers(value) => drop(value),
+            SearchKey::Uids(value) => drop(value),
+            SearchKey::Not(value) => drop(value),
+            SearchKey::Or(first, second) => drop((first, second)),
+            SearchKey::Group(value) => drop(value),
+            SearchKey::All | SearchKey::Unserved => {}
+        }
+    }
 }
 
 pub(crate) const SEARCH_RETURNS: [SearchReturn; 5] = [
@@ -123,8 +146,14 @@ impl Keyword for SearchReturn {
 /// One key or more, each of which has to match.
 ///
 /// In contracts the keys are their tokens, each operator before its operands.
-#[derive(Drop)]
 pub struct SearchKeys(Vec<SearchKey>);
+
+// Not derived: a derived one is proved anew in each crate that lets go of one.
+impl Drop for SearchKeys {
+    fn drop(self) {
+        let SearchKeys(_) = self;
+    }
+}
 
 impl Model for SearchKeys {
     ghost use Rattle.std.specs.Prelude.{List, map};

@@ -8,10 +8,19 @@ use imap_hall::{Receipt, Step};
 use std::collections::VecDeque;
 
 /// A receipt with its step.
-#[derive(Drop)]
 pub struct Kept {
     pub step: Step,
     pub receipt: Receipt,
+}
+
+// Not derived: a derived one is proved anew in each crate that lets go of one.
+impl Drop for Kept {
+    fn drop(self) {
+        let Kept {
+            step: _,
+            receipt: _,
+        } = self;
+    }
 }
 
 /// Drops the receipts at the front that are of entries before the base.

@@ -29,10 +29,16 @@ pub const MAX_ENTRIES: usize = 128;
 ///
 /// It has at most [`MAX_ENTRIES`] entries, each with one of the eleven rights or more.
 /// Contracts see a finite map from the octets of identifiers to sets of rights.
-#[derive(Drop)]
 pub struct Acl {
     // In the order of their identifiers. Each look-up walks through them, since they are few.
     entries: Vec<Entry>,
+}
+
+// Not derived: a derived one is proved anew in each crate that lets go of one.
+impl Drop for Acl {
+    fn drop(self) {
+        let Acl { entries: _ } = self;
+    }
 }
 
 /// An identifier with its rights.

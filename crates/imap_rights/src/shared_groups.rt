@@ -8,8 +8,14 @@ use std::marker::Model;
 use std::sync::Arc;
 
 /// Groups that don't change any more. Contracts see the groups.
-#[derive(Drop)]
 pub struct SharedGroups(Arc<Groups>);
+
+// Not derived: a derived one is proved anew in each crate that lets go of one.
+impl Drop for SharedGroups {
+    fn drop(self) {
+        let SharedGroups(_) = self;
+    }
+}
 
 impl Model for SharedGroups {
     ghost use Rattle.std.specs.Arc.{arc_value};

@@ -1,6 +1,7 @@
 -- What a step leaves that is saved and committed.
 pub mod Performing
 pub mod Refusals
+-- what those above say of the machine
 pub use Rattle.imap_core.specs.Accounts
 pub use Rattle.imap_core.specs.Frames
 pub use Rattle.imap_core.specs.Machine

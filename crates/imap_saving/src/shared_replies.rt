@@ -9,8 +9,14 @@ use std::marker::Model;
 use std::sync::Arc;
 
 /// The replies to one step. A copy shares them.
-#[derive(Drop)]
 pub struct SharedReplies(Arc<Items<Response>>);
+
+// Not derived: a derived one is proved anew in each crate that lets go of one.
+impl Drop for SharedReplies {
+    fn drop(self) {
+        let SharedReplies(_) = self;
+    }
+}
 
 impl Model for SharedReplies {
     ghost use Rattle.std.specs.Prelude.{List};

@@ -15,7 +15,6 @@ use imap_values::TryCopy;
 use std::alloc::{AllocError, Global};
 
 /// The mailbox that a session has selected (RFC 9051, section 3.3).
-#[derive(Drop)]
 pub struct Selected {
     pub name: Name,
     /// Its UIDVALIDITY when it was selected.
@@ -27,14 +26,37 @@ pub struct Selected {
     pub up_to: u64,
 }
 
+// Not derived: a derived one is proved anew in each crate that lets go of one.
+impl Drop for Selected {
+    fn drop(self) {
+        let Selected {
+            name: _,
+            validity: _,
+            read_only: _,
+            known: _,
+            up_to: _,
+        } = self;
+    }
+}
+
 /// An open session.
-#[derive(Drop)]
 pub struct Session {
     pub selected: Option<Selected>,
     /// What the client enabled (RFC 9051, section 6.3.1).
     pub enabled: EnabledCapabilities,
     /// The tag of an IDLE that runs (RFC 2177).
     pub idle: Option<Tag>,
+}
+
+// Not derived: a derived one is proved anew in each crate that lets go of one.
+impl Drop for Session {
+    fn drop(self) {
+        let Session {
+            selected: _,
+            enabled: _,
+            idle: _,
+        } = self;
+    }
 }
 
 impl Session {

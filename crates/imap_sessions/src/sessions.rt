@@ -51,9 +51,15 @@ pub fn room_needed(effect: &SessionEffect) -> usize
 
 /// The open sessions of one user, by their numbers, with room for as many as may be open. They are so
 /// few that a plain walk finds one. Contracts see each with the room of its known list.
-#[derive(Drop)]
 pub struct OwnSessions {
     entries: Vec<(SessionNumber, OpenSession)>,
+}
+
+// Not derived: a derived one is proved anew in each crate that lets go of one.
+impl Drop for OwnSessions {
+    fn drop(self) {
+        let OwnSessions { entries: _ } = self;
+    }
 }
 
 impl Model for OwnSessions {

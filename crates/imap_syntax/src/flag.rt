@@ -15,7 +15,6 @@ use imap_values::{Same, TryCopy};
 use std::alloc::{AllocError, Global};
 
 /// A flag of a command. The five of RFC 9051, section 2.3.2 are read in any case.
-#[derive(Drop)]
 pub enum Flag {
     Answered,
     Deleted,
@@ -25,6 +24,17 @@ pub enum Flag {
     /// Another word after a backslash.
     Other(OtherFlag),
     Keyword(Atom),
+}
+
+// Not derived: a derived one is proved anew in each crate that lets go of one.
+impl Drop for Flag {
+    fn drop(self) {
+        match self {
+            Flag::Other(value) => drop(value),
+            Flag::Keyword(value) => drop(value),
+            Flag::Answered | Flag::Deleted | Flag::Draft | Flag::Flagged | Flag::Seen => {}
+        }
+    }
 }
 
 /// Flags in the order of the command.

@@ -29,11 +29,20 @@ pub struct SeqRange {
 pub type SeqSet = OneOrMore<SeqRange>;
 
 /// The messages of a command.
-#[derive(Drop)]
 pub enum MessageSet {
     /// `$`: the result that a SEARCH has saved.
     Saved,
     Numbers(SeqSet),
+}
+
+// Not derived: a derived one is proved anew in each crate that lets go of one.
+impl Drop for MessageSet {
+    fn drop(self) {
+        match self {
+            MessageSet::Numbers(value) => drop(value),
+            MessageSet::Saved => {}
+        }
+    }
 }
 
 /// Whether the numbers of a set are message numbers or UIDs.

@@ -6,6 +6,7 @@ pub mod NewFlags
 pub mod Spans
 pub mod Target
 pub mod UnchangedSince
+-- what those above say of sessions
 pub use Rattle.imap_session.specs.State
 pub use Rattle.imap_session.specs.Notices
 pub use Rattle.imap_session.specs.Select

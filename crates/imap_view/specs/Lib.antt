@@ -8,6 +8,7 @@ pub mod Seen
 pub mod Starts
 pub mod TreeAfter
 pub mod View
+-- what those above say of worlds
 pub use Rattle.imap_world.specs.Effects
 pub use Rattle.imap_world.specs.Kept
 pub use Rattle.imap_world.specs.World

@@ -16,6 +16,7 @@ pub mod World
 pub mod Subscription
 pub mod Parts
 pub mod Restored
+-- what those above say of mailboxes, maps of names, and rights
 pub use Rattle.imap_identifier_index.specs.Index
 pub use Rattle.imap_batch.specs.Batch
 pub use Rattle.imap_batch.specs.Laws as BatchLaws

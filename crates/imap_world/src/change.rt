@@ -80,9 +80,15 @@ impl Write {
 }
 
 /// What is written, in order. Contracts see the list.
-#[derive(Drop)]
 pub struct Change {
     pub(crate) writes: Vec<Write>,
+}
+
+// Not derived: a derived one is proved anew in each crate that lets go of one.
+impl Drop for Change {
+    fn drop(self) {
+        let Change { writes: _ } = self;
+    }
 }
 
 impl Model for Change {
@@ -127,7 +133,16 @@ impl Change {
     pub(crate) fn append(&mut self, other: Change) -> Result<(), AllocError>
         ensures { OnOk result (self.new ≡ self.old ++ other) }
     {
-        append(&mut self.writes, other.writes)
+        let Change { writes } = other;
+        append(&mut self.writes, writes)
+    }
+
+    /// Returns the values that are written.
+    pub(crate) fn into_writes(self) -> Vec<Write>
+        ensures { result.items ≡ self }
+    {
+        let Change { writes } = self;
+        writes
     }
 
     /// The values that are written.

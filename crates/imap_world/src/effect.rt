@@ -6,7 +6,6 @@ use imap_rights::{Identifier, RightsChange};
 
 /// One change that is asked for. What the user may not know of it is left to
 /// [`World::prepare`](crate::World::prepare).
-#[derive(Drop)]
 pub enum Effect {
     /// The INBOX of a user is made, with all rights for the user alone.
     CreateInbox(UserName),
@@ -29,4 +28,20 @@ pub enum Effect {
     Subscribe(UserName, Name),
     /// It is no longer one of them (RFC 9051, section 6.3.8).
     Unsubscribe(UserName, Name),
+}
+
+// Not derived: a derived one is proved anew in each crate that lets go of one.
+impl Drop for Effect {
+    fn drop(self) {
+        match self {
+            Effect::CreateInbox(value) => drop(value),
+            Effect::Create(first, second) => drop((first, second)),
+            Effect::Delete(value) => drop(value),
+            Effect::Rename(first, second, third) => drop((first, second, third)),
+            Effect::SetRights(first, second, _) => drop((first, second)),
+            Effect::Messages(first, second) => drop((first, second)),
+            Effect::Subscribe(first, second) => drop((first, second)),
+            Effect::Unsubscribe(first, second) => drop((first, second)),
+        }
+    }
 }

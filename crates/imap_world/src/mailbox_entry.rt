@@ -17,7 +17,6 @@ use imap_values::beside;
 use std::alloc::{AllocError, Global};
 
 /// A mailbox, apart from its name. Contracts see it with its room; `plain` leaves that out.
-#[derive(Drop)]
 pub struct MailboxEntry {
     /// UIDVALIDITY (RFC 9051, section 2.3.1.1).
     pub validity: u32,
@@ -25,6 +24,18 @@ pub struct MailboxEntry {
     pub messages: SharedMailbox,
     /// By which the world's index knows it. Another number may stand here: the index tests it.
     pub(crate) number: u32,
+}
+
+// Not derived: a derived one is proved anew in each crate that lets go of one.
+impl Drop for MailboxEntry {
+    fn drop(self) {
+        let MailboxEntry {
+            validity: _,
+            acl: _,
+            messages: _,
+            number: _,
+        } = self;
+    }
 }
 
 impl Numbered for MailboxEntry {

@@ -60,13 +60,24 @@ use std::marker::Model;
 /// The superiors of a mailbox are there, and its UIDVALIDITY is counted among those that were used. Its
 /// messages meet what a mailbox promises of them.
 /// Contracts see the room for more, too; `world_of` leaves it out.
-#[derive(Drop)]
 pub struct World {
     mailboxes: NameMap<MailboxEntry>,
     epochs: NameMap<u32>,
     subscriptions: UserMap<NameMap<()>>,
     // What LIST starts from. Contracts see no more of it than that it is one of these mailboxes.
     index: IdentifierIndex,
+}
+
+// Not derived: a derived one is proved anew in each crate that lets go of one.
+impl Drop for World {
+    fn drop(self) {
+        let World {
+            mailboxes: _,
+            epochs: _,
+            subscriptions: _,
+            index: _,
+        } = self;
+    }
 }
 
 impl Model for World {
@@ -386,7 +397,7 @@ impl World {
         ensures effects { IsMadeByEffects (world_of self.old) (world_of self.new) }
         ensures validities { KeepsValidities (world_of self.old) (world_of self.new) }
     {
-        let mut writes = VecDeque::from_vec(change.writes);
+        let mut writes = VecDeque::from_vec(change.into_writes());
         while let Some(write) = writes.pop_front() {
             self.write(write);
         }

@@ -10,8 +10,8 @@ use Rattle.imap_world.proofs.world.World.commit.Goals as goal
 
 pub loop-write-init : goal.loop-write-init
 loop-write-init c = record {
-  rest = ap (λ ws. after_writes ws (world_of c.args.self.now)) (c.from_vec-writes.ensures.items ∙ c.change.view_is);
-  ready = subst (λ ws. AreReady ws c.args.self.now) (sym (c.from_vec-writes.ensures.items ∙ c.change.view_is)) (current_is_ready c.args.change c.args.self.now c.requires);
+  rest = ap (λ ws. after_writes ws (world_of c.args.self.now)) (c.from_vec-writes.ensures.items ∙ c.into_writes.ensures);
+  ready = subst (λ ws. AreReady ws c.args.self.now) (sym (c.from_vec-writes.ensures.items ∙ c.into_writes.ensures)) (current_is_ready c.args.change c.args.self.now c.requires);
   kept = keeps_itself (world_of c.args.self.now);
 }
 
