@@ -72,7 +72,7 @@ impl<'a> CommandContext<'a> {
         self.tag
     }
 
-    /// When the command is given.
+    /// The moment at which the command is given.
     pub fn at(&self) -> Moment
         ensures { result ≡ self.now.at }
     {

@@ -56,10 +56,10 @@ impl TryCopy for FlagUpdate {
 /// are expunged.
 #[derive(Drop)]
 pub struct Batch {
-    /// Whose own `\Seen` is meant.
+    /// The user whose own `\Seen` changes.
     pub user: UserName,
     pub added: Items<NewMessage>,
-    /// In the order of UIDs.
+    /// The flag updates, in the order of UIDs.
     pub marks: Items<FlagUpdate>,
     /// UIDs, in their order.
     pub expunged: Items<u32>,

@@ -23,7 +23,7 @@ pub fn batch_is_seen()
     ensures { BatchIsSeen }
 {}
 
-/// What is possible by what a user sees can be made.
+/// A change that is possible by what a user sees can be made.
 pub fn possible_is_made()
     ensures { PossibleIsMade }
 {}

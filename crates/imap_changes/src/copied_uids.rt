@@ -49,7 +49,7 @@ fn uids_if_any(
     Ok(both_sets(target.validity, source, copies))
 }
 
-/// None if there are no UIDs.
+/// Returns no sets if there are no UIDs.
 fn both_sets(validity: u32, source: Vec<u32>, target: Vec<u32>) -> Option<CopiedUids>
     ensures { result ≡ both_sets validity source.items target.items }
 {

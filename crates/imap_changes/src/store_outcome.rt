@@ -220,7 +220,7 @@ pub(crate) fn flag_changes(messages: &[StoreOutcome]) -> u64
     count
 }
 
-/// Of how many messages `\Seen` changes.
+/// Counts the messages whose `\Seen` changes.
 pub(crate) fn seen_changes(messages: &[StoreOutcome]) -> u64
     ensures count { result ≡ specs.seen_changes messages.now }
     ensures few { result ≤ length messages.now }

@@ -78,7 +78,7 @@ impl Outcome {
         }
     }
 
-    /// Nothing is said, and the session stays as it is.
+    /// The outcome that says nothing and leaves the session as it is.
     pub(crate) fn silence(alloc: Global) -> Outcome
         ensures { result ≡ specs.silence }
     {

@@ -10,7 +10,7 @@ use thiserror::Error;
 pub enum HallError {
     #[error("out of memory")]
     Memory,
-    /// As many entries were made as can be numbered.
+    /// No more entries can be numbered.
     #[error("the journal is at its end")]
     Exhausted,
 }

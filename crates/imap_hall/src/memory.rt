@@ -43,7 +43,7 @@ pub(crate) fn list_octets<T: Holds>(items: &[T], size: u64) -> u64 {
     octets
 }
 
-/// What so many values of the size `size` hold, which hold nothing else.
+/// Returns the octets of `count` values of the size `size` that hold nothing else.
 pub(crate) fn plain_octets(count: usize, size: u64) -> u64 {
     (count as u64).saturating_mul(size)
 }

@@ -6,7 +6,7 @@ use Rattle.imap_host.specs.declared.seat.Seat.{Seat}
 use Rattle.imap_host.specs.Seats.{notes_of}
 use Rattle.imap_receipts.specs.Settling.{AreEachSettled, AreSettled, IsSettled, SeatNotes, last_base, receipts_since, since}
 
--- of all seats these are left: so many entries have no receipt yet, and this is the greatest base so far
+-- of all seats these are left: this number of entries have no receipt yet, and this is the greatest base so far
 pub record IsPassed (before : ℕ) (journal : List JournalEntry) (all rest : List SeatNotes) (left base : ℕ) : Type 0 where
   pub number : receipts_since before all + left ≡ receipts_since before rest + length journal
   pub each : AreEachSettled before journal rest ↔ AreEachSettled before journal all

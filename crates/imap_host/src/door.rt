@@ -3,7 +3,7 @@
 use imap_serve::{End, ServeError};
 use std::io::{Read, Write};
 
-/// Where connections come from.
+/// A source of connections.
 pub trait Door {
     type In: Read + Drop + Send;
 

@@ -22,7 +22,7 @@ use std::sync::atomic::{AtomicU64, Ordering};
 use std::sync::ledger::{Blank, Ledger};
 use std::sync::{Mutex, Wait};
 
-/// After how many entries the journal begins anew.
+/// The number of entries after which the journal begins anew.
 const MAX_ENTRIES: u64 = 10_000;
 
 /// The journal begins anew when its entries hold about this much memory.

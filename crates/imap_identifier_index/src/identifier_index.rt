@@ -45,7 +45,7 @@ impl Model for IdentifierIndex {
 }
 
 impl IdentifierIndex {
-    /// Of no mailboxes. It takes no memory.
+    /// The index of no mailboxes. It takes no memory.
     pub fn new(alloc: Global) -> IdentifierIndex
         ensures { IsIndexOf result (λ name. None) }
     {

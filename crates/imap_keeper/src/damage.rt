@@ -2,7 +2,7 @@
 
 use thiserror::Error;
 
-/// A row of a store that stands for nothing.
+/// A damaged row of a store: no value of the store is written so.
 #[derive(Clone, Copy, Debug, Error)]
 #[error("table {table}, row {row}: {fault}")]
 pub struct Damage {
@@ -12,7 +12,7 @@ pub struct Damage {
     pub fault: RowFault,
 }
 
-/// Why a row of a store stands for nothing.
+/// Why a row of a store is damaged.
 #[derive(Clone, Copy, Debug, Error, PartialEq, Eq)]
 pub enum RowFault {
     #[error("one of its values is never written there")]

@@ -21,7 +21,7 @@ pub trait Keeper {
     /// How often the store refused.
     ghost failed: { Self → ℕ };
 
-    /// So far the store gave back what was written.
+    /// The store has given back what was written, so far.
     ghost is_honest: { Self → Type 0 };
 
     /// What a crash leaves, as a file.
@@ -30,7 +30,7 @@ pub trait Keeper {
     /// A crash at this moment may leave this.
     ghost leaves: { Self → Image → Type 0 };
 
-    /// What is left is that of this world.
+    /// The image is what a store of this world leaves.
     ghost stands: { Image → Mailboxes → Type 0 };
 
     /// Saves what was prepared by the world that is kept, before it is committed there.

@@ -50,7 +50,7 @@ no_line_before line x text y is none short e = elim (fronts line x text y e) [
 same_mark : (a b : List ℕ) (m n : Announced) → a ≡ b → IsMarked a m → IsMarked b n → m ≡ n
 same_mark a b m n e is_m is_n = let first = marks_are_found a m is_m in let second = marks_are_found b n is_n in cc
 
--- With these octets no section begins that is within the limits, so many octets having come outside literals and inside.
+-- With these octets no section begins that is within the limits, by the numbers of octets that came outside literals and inside.
 record NoSection (limit o n : ℕ) (octets : List ℕ) : Type 0 where
   no : (s : Section) (more : List ℕ) → IsSection s → o + length s.line ≤ max_command_octets → n + s.mark.size ≤ limit → octets ≡ s.line ++ (s.literal ++ more) → ⊥
 

@@ -56,7 +56,7 @@ pub(crate) struct Place {
 pub(crate) enum Step {
     /// The whole piece is of the line, which does not end with it.
     Unended(Place),
-    /// After this many octets of the piece a line ends, or what has come of a literal.
+    /// The line, or the part of a literal that has come, ends after this many octets of the piece.
     Turn(usize, Turn),
 }
 

@@ -21,7 +21,7 @@ pub(crate) fn listable_names(alloc: Global, view: &View<'_>) -> Result<Vec<Shown
     }
 }
 
-/// Of these names, those of the mailboxes on which the user holds `l`.
+/// Returns those of these names on whose mailboxes the user holds `l`.
 fn listable_among(
     alloc: Global,
     view: &View<'_>,

@@ -25,7 +25,7 @@ use std::mem;
 /// How many logins of a connection may fail.
 const MAX_FAILURES: u32 = 3;
 
-/// Where a login stands.
+/// The state of a login.
 #[derive(Clone, Copy)]
 pub enum Stage {
     /// The client has not logged in.
@@ -49,7 +49,7 @@ impl Stage {
 #[derive(Drop)]
 pub(crate) struct Progress {
     pub(crate) stage: Stage,
-    /// After how many wrong logins the connection is closed.
+    /// The number of wrong logins after which the connection is closed.
     tries: u32,
     /// The tag of an AUTHENTICATE whose response has not come.
     pending: Option<Tag>,

@@ -66,7 +66,7 @@ impl<'a> GoneUids<'a> {
         }
     }
 
-    /// Those with a number greater than `number`, by a search that halves.
+    /// Returns those with a number greater than `number`, by a search that halves.
     pub(crate) fn since(&self, number: u64) -> GoneUids<'a>
         ensures { result ≡ gone_after_number number self.now }
     {

@@ -14,7 +14,7 @@ use crate::own::{OwnSeen, SeenChange};
 use crate::recent_events::RecentEvents;
 use crate::rows::Rows;
 
-/// So many events are looked at, at most.
+/// The greatest number of events that are looked at.
 const MAX_LOOKS: usize = 32;
 
 /// The UIDs of the events from a place on. `None` if they are too many, or some were forgotten.

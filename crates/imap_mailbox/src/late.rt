@@ -12,7 +12,7 @@ ghost use Rattle.imap_mailbox.specs.Summary.{latest, latest_number};
 use crate::own::SeenChange;
 use imap_modseq::number_after;
 
-/// So many changes are looked at, at most.
+/// The greatest number of changes that are looked at.
 const MAX_LOOKS: usize = 8;
 
 /// UIDs among which all are whose last own change is above a mod-sequence: those from `low` up to `high`, or all.

@@ -111,7 +111,7 @@ pub fn events_are_later()
     ensures { EventsAreLater }
 {}
 
-/// And so it does after a change of the user's own `\Seen`.
+/// The same holds after a change of the user's own `\Seen`.
 pub fn seen_is_later()
     ensures { SeenIsLater }
 {}

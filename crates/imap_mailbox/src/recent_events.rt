@@ -11,7 +11,7 @@ use crate::message::GoneMessage;
 use std::alloc::{AllocError, Global};
 use std::marker::Model;
 
-/// At most so many events are noted.
+/// The greatest number of events that are noted.
 const MAX_NOTED: usize = 64;
 
 /// The UIDs of the last shared events, in their order. To note one takes no memory: where there is no room,
@@ -33,7 +33,7 @@ impl Model for RecentEvents {
 }
 
 impl RecentEvents {
-    /// Nothing is noted of the events before `place`, which is that of the next one.
+    /// Notes no event before `place`, which is that of the next one.
     pub(crate) fn new(alloc: Global, place: u64) -> RecentEvents
         ensures { result ≡ record { first = place; uids = [] } }
     {

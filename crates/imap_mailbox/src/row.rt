@@ -61,8 +61,8 @@ pub(crate) fn own_row<'a>(message: &'a Message, own: &OwnSeen) -> Row<'a>
     }
 }
 
-/// Where look-ups of a user's own changes ended, so that those of the next message begin there. Rows are right
-/// whatever it says; it makes a walk over them quick.
+/// The places at which look-ups of a user's own changes ended, at which those of the next message begin. Rows are
+/// right whatever it says; it makes a walk over them quick.
 #[derive(Clone, Copy)]
 pub struct Near {
     latest: usize,
@@ -70,7 +70,7 @@ pub struct Near {
 }
 
 impl Near {
-    /// For the first message.
+    /// The places for the first message.
     pub fn start() -> Near {
         Near {
             latest: 0,

@@ -9,7 +9,7 @@ ghost use Rattle.imap_mailbox.specs.Totals.{AreTotals, AreOfGone, ArePartedFrom,
 use crate::message::{Message, find_message, find_message_near};
 use crate::status::{MAX_SIZE, count_deleted, sum_sizes};
 
-/// What is kept of all messages of a mailbox.
+/// The totals over all messages of a mailbox.
 #[derive(Clone, Copy)]
 pub struct Totals {
     /// The number of messages with `\Deleted`.
@@ -19,7 +19,7 @@ pub struct Totals {
 }
 
 impl Totals {
-    /// Of no messages.
+    /// The totals of no messages.
     pub(crate) fn none() -> Totals
         ensures { AreTotals [] result }
     {
@@ -29,7 +29,7 @@ impl Totals {
         }
     }
 
-    /// Of these messages, by a walk.
+    /// The totals of these messages, by a walk.
     pub(crate) fn of(messages: &[Message]) -> Totals
         ensures { AreTotals messages.now result }
     {
@@ -39,7 +39,7 @@ impl Totals {
         }
     }
 
-    /// Of those of the messages that have these UIDs.
+    /// The totals of those of the messages that have these UIDs.
     pub(crate) fn of_uids(messages: &[Message], uids: &[u32]) -> Totals
         requires messages { AreRising (uids_in messages.now) }
         requires uids { AreRising uids.now }

@@ -13,7 +13,7 @@ use imap_world::{MailboxEntry, World};
 use std::alloc::Global;
 use std::rt::Files;
 
-/// After how many messages progress is told.
+/// The number of messages after which progress is told.
 const STRIDE: u64 = 1_000;
 
 /// The folders in a Maildir.

@@ -35,7 +35,7 @@ pub(crate) enum ChangeFault {
 }
 
 impl ChangeFault {
-    /// What is said if the change was of the mailbox of the folder at the path.
+    /// Returns the error of a change of the mailbox that the folder at the path holds.
     pub(crate) fn of_folder(self, alloc: Global, path: &str) -> MaildirError {
         match self {
             ChangeFault::World(error) => MaildirError::of_change(alloc, path, error),
@@ -44,7 +44,7 @@ impl ChangeFault {
         }
     }
 
-    /// What is said if the change was that of a line of the file of lists.
+    /// Returns the error of a change that a line of the file of lists asks for.
     pub(crate) fn of_line(self, line: usize) -> MaildirError {
         match self {
             ChangeFault::World(WorldError::Memory) => MaildirError::Memory,

@@ -219,8 +219,8 @@ fn fetch_readable(
     }
 }
 
-/// What is wanted of each message. A session that enabled CONDSTORE, or that this command enables it for, is sent
-/// mod-sequences.
+/// Returns what is sent of each message. A session that enabled CONDSTORE, or that this command enables it for, is
+/// sent mod-sequences.
 fn wanted_by(
     alloc: Global,
     enabled: EnabledCapabilities,

@@ -27,7 +27,7 @@ pub(crate) struct Reading {
 }
 
 impl Reading {
-    /// Nothing is found yet.
+    /// Begins with nothing found.
     pub(crate) fn new(alloc: Global, sets: bool, highest: u64, own: u64) -> Reading
         ensures sets { result.sets ≡ sets }
         ensures highest { result.highest ≡ highest }

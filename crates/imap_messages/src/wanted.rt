@@ -13,7 +13,7 @@ use imap_targets::flag_set;
 use std::alloc::{AllocError, Global};
 use std::marker::Model;
 
-/// What is wanted of each message (RFC 9051, section 6.4.5): which items, and which sections, each once.
+/// The items and sections that are sent of each message, each once (RFC 9051, section 6.4.5).
 #[derive(Drop)]
 pub(crate) struct Wanted {
     uid: bool,

@@ -59,7 +59,7 @@ fn group_end() -> Address
 }
 
 impl AddressReader {
-    /// At the front of a list.
+    /// Begins at the front of a list.
     fn start(alloc: Global) -> AddressReader
         ensures { result ≡ start }
     {

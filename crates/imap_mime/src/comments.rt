@@ -6,7 +6,7 @@ ghost use Rattle.imap_mime.specs.Parts.{comments_with, first_comment, no_comment
 use crate::octet_string::OctetString;
 use std::alloc::{AllocError, Global};
 
-/// Which comments there are.
+/// How many comments there are.
 #[derive(Clone, Copy)]
 pub enum CommentCount {
     None,

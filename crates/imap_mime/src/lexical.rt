@@ -4,7 +4,7 @@ ghost use Rattle.std.specs.Prelude.{◌≡◌};
 ghost use Rattle.imap_mime.specs.Lexical.{deeper, is_divider, is_white, read_comment, read_literal};
 ghost use Rattle.imap_mime.specs.Lexical.{read_outside, read_quoted, sign_read};
 
-/// Where an octet stands.
+/// The place of an octet in a field's text.
 #[derive(Clone, Copy)]
 pub enum Lexical {
     Outside,
@@ -42,7 +42,7 @@ pub enum Sign {
 #[derive(Clone, Copy)]
 pub struct SignRead {
     pub sign: Sign,
-    /// Where the next octet stands.
+    /// The place of the next octet.
     pub next: Lexical,
 }
 

@@ -13,7 +13,7 @@ use crate::octet_string::OctetString;
 use crate::phrase::Phrase;
 use std::alloc::{AllocError, Global};
 
-/// Where an octet stands.
+/// The place of an octet in an address.
 #[derive(Clone, Copy)]
 pub enum Place {
     /// Before `<`, if there is one.
@@ -50,7 +50,7 @@ fn given(octets: OctetString) -> Option<OctetString>
 }
 
 impl Parts {
-    /// Nothing has been read.
+    /// Begins with nothing read.
     pub fn new(alloc: Global) -> Parts
         ensures { result ≡ no_parts }
     {

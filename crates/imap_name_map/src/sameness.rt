@@ -40,7 +40,7 @@ pub(crate) fn are_within<V: Part>(entries: &[(Name, V)], others: &[(Name, V)]) -
     true
 }
 
-/// Of a set without names nothing is kept.
+/// Nothing is kept of a set without names.
 impl Part for NameMap<()> {
     ghost use Rattle.imap_names.specs.Order.{Names};
     ghost use Rattle.imap_name_map.specs.Kept.{if_filled};

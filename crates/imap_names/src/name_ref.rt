@@ -173,7 +173,7 @@ fn compare_octets(a: u8, b: u8) -> Ordering
     (a != b'/').cmp(&(b != b'/')).then(a.cmp(&b))
 }
 
-/// Where the path stands to `top` and all paths below it.
+/// Compares the path with the run of `top` and all paths below it.
 fn compare_path_to_run(path: &str, top: &str) -> Ordering
     ensures { result ≡ path_run_cmp (components_of path.now) (components_of top.now) }
 {
@@ -183,7 +183,7 @@ fn compare_path_to_run(path: &str, top: &str) -> Ordering
     }
 }
 
-/// Where a path stands to a run, if it is the text of the run's top and then `rest`.
+/// Compares a path with a run, if it is the text of the run's top and then `rest`.
 fn compare_end(rest: &[u8]) -> Ordering
     ensures { result ≡ end_cmp rest.now }
 {

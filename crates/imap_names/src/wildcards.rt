@@ -25,7 +25,7 @@ pub(crate) enum Stop {
     AtAny(usize),
 }
 
-/// What comes of the tokens before the next `*`.
+/// The match of the tokens before the next `*`.
 #[derive(Clone, Copy)]
 pub(crate) enum Segment {
     /// There is no `*`, and the text matches.
@@ -112,7 +112,7 @@ fn walk_levels(pattern: &[Token], text: &Letters<'_>, n: usize) -> Segment
     }
 }
 
-/// Where the first `/` from `from` on stands, or the text's end.
+/// Returns the place of the first `/` from `from` on, or of the text's end.
 fn level_end(text: &Letters<'_>, from: usize) -> usize
     requires { from ≤ length text.now }
     ensures after { from ≤ result }

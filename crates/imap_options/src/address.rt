@@ -6,12 +6,12 @@ use std::str;
 /// How many octets the path of a socket file may have (`unix(7)`).
 pub const MAX_SOCKET_PATH: usize = 107;
 
-/// Where the clients of a user come in.
+/// The address at which the clients of a user come in.
 #[derive(Clone, Copy)]
 pub enum Address {
-    /// At a port of 127.0.0.1.
+    /// A port of 127.0.0.1.
     Tcp(u16),
-    /// At a socket file.
+    /// A socket file.
     Unix(SocketPath),
 }
 

@@ -19,29 +19,29 @@ pub const VERSION: &str = "0.1.0";
 /// What the program is asked to do.
 #[derive(Drop)]
 pub enum Task {
-    /// To say whether the database at this path is a sound store.
+    /// Says whether the database at this path is a sound store.
     Check(String),
-    /// To write the mailboxes of a database as folders of messages.
+    /// Writes the mailboxes of a database as folders of messages.
     Dump {
         /// The path of the database.
         database: String,
         /// The path of the folder, which is made.
         folder: String,
     },
-    /// To read folders of messages into the mailboxes of a database.
+    /// Reads folders of messages into the mailboxes of a database.
     Load {
         /// The path of the database, which is made if it is missing.
         database: String,
         /// The path of the folder.
         folder: String,
-        /// Who owns the Shared tree.
+        /// The owner of the Shared tree.
         administrator: UserName,
     },
-    /// To run the script on standard input.
+    /// Runs the script on standard input.
     Script,
-    /// To say which version of the program this is.
+    /// Says which version of the program this is.
     Version,
-    /// To serve users.
+    /// Serves users.
     Serve {
         /// The path of the database that keeps the mail.
         database: String,

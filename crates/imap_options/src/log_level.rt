@@ -1,6 +1,6 @@
 //! Which lines standard error is told.
 
-/// Which lines are said.
+/// The lines that the log has.
 #[derive(Clone, Copy, PartialEq, Eq)]
 pub enum LogLevel {
     Off,

@@ -25,7 +25,7 @@ impl From<AllocError> for SecretFault {
     }
 }
 
-/// Where secrets are read.
+/// The files from which secrets are read.
 pub trait SecretFiles {
     /// Returns the text of the file.
     fn read(&self, path: &str) -> Result<String, SecretFault>;

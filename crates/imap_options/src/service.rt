@@ -23,10 +23,10 @@ pub struct Service {
     pub administrator: UserName,
     /// The users who are served, each once.
     pub ports: Vec<Port>,
-    /// Which of these users, and whether the administrator, are in which groups.
+    /// The groups, and which of these users and the administrator are in each.
     pub groups: Groups,
     pub limits: Limits,
     pub dialect: DialectName,
-    /// Which lines are said while it is served.
+    /// The lines that the log has while it is served.
     pub log: LogLevel,
 }

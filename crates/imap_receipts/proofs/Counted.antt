@@ -8,7 +8,7 @@ use Rattle.imap_hall.specs.SessionId.{SessionId}
 use Rattle.imap_hall.specs.Journal.{JournalEntry}
 use Rattle.imap_receipts.specs.Settling.{AreOfEntries, IsOfEntry, Rise, since}
 
--- of all receipts since the base these are left, after one at this place and so many
+-- of all receipts since the base these are left, after one at this place and a number of others
 pub record IsCounted (before : ℕ) (journal : List JournalEntry) (session : SessionId) (all left : List Kept) (last count : ℕ) : Type 0 where
   pub rising : Rise last left ↔ Rise before all
   pub entries : AreOfEntries before journal session left ↔ AreOfEntries before journal session all

@@ -13,7 +13,7 @@ use imap_stored_values::{read_change, read_entry, read_gone, read_message};
 use imap_tables::{StoredEntry, StoredGone, StoredMessage, StoredSeenFlag};
 use std::alloc::Global;
 
-/// What is read again from a row below a mailbox.
+/// A value that is read again from a row below a mailbox.
 pub trait Restore<R>: Sized + Drop {
     /// It is kept by the row.
     ghost is_for: { R → Self → Type 0 };

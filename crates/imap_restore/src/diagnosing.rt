@@ -1,4 +1,4 @@
-//! Which row of a damaged store stands for nothing.
+//! The damaged row of a store.
 //!
 //! `restore` ends at the first fault that it finds, and says no more. Only where it refused, the rows are
 //! walked once more, and one is named. No contract says which: it is tested.
@@ -18,7 +18,7 @@ use imap_tables::{AddedTables, FromRow, MailboxKey, StoredMailbox, StoredTables}
 use std::alloc::Global;
 use std::collections::BTreeSet;
 
-/// Finds a row that stands for nothing: the first by itself, or else the first that doesn't fit others.
+/// Finds a damaged row: the first that is wrong by itself, or else the first that doesn't fit others.
 /// Returns `None` if none is found, or memory runs out.
 pub fn find_damage(alloc: Global, tables: StoredTables, added: AddedTables) -> Option<Damage> {
     if let Some(row) = tables.messages.first() {

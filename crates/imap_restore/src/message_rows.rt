@@ -1,4 +1,4 @@
-//! Which row of the three tables of messages stands for nothing.
+//! The damaged row of the three tables of messages.
 //!
 //! As in `diagnosing`, no contract says which row is named: it is tested.
 

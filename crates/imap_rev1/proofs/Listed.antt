@@ -36,7 +36,7 @@ use Rattle.imap_rev1.proofs.Strings.{no_word}
 
 -- ---- a word
 
--- in so many parentheses
+-- in a number of parentheses
 abbrev pub within : Named → Depth → Scan
 within command level = record { named = command; passes = 0; depth = level; quoting = quoting.Outside }
 

@@ -11,7 +11,7 @@ use Rattle.imap_rev1_frames.specs.Writing.{GoesOn}
 -- ---- one octet
 
 module _ (held : ℕ) (scan : Scan) (word : List ℕ) (octet : ℕ) (later : List ℕ) where
-  -- the octet belongs to the word, and so many after it do in any case
+  -- the octet belongs to the word, and a number of octets after it do in any case
   module _ (n : ℕ) (e : count_held held scan word octet (octet ∷ later) ≡ suc n) where
     pub held_written : written_from held scan word (octet ∷ later) ≡ written_from n scan (word ++ octet ∷ []) later
     held_written = ap (λ (k : ℕ). by_held k (λ m. written_from m scan (word ++ octet ∷ []) later) (written_word scan word ++ octet ∷ written_from 0 (after_octet (after_word scan word) octet) [] later)) e

@@ -138,7 +138,7 @@ fields_text (section.Fields names) = Some (part_text.Fields names)
 fields_text (section.FieldsNot names) = Some (part_text.FieldsNot names)
 fields_text _ = None
 
--- header fields, if the one item asks for them, before so many octets
+-- header fields, if the one item asks for them, and a number of octets before the end
 abbrev pub fields_named : List FetchItem → (left : ℕ) → Option Fields
 fields_named (item.Section body ∷ []) left =
     option_map (λ text. record { text = text; partial = body.partial; left = left }) (fields_text body.section)

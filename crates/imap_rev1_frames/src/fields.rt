@@ -46,7 +46,7 @@ fn fields_text(alloc: Global, section: &Section) -> Result<Option<PartText>, All
     }
 }
 
-/// Returns the header fields for which the one item asks, before so many octets.
+/// Returns the header fields for which the one item asks, `left` octets before the end.
 fn fields_named(
     alloc: Global,
     items: &[FetchItem],

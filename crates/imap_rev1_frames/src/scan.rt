@@ -22,7 +22,7 @@ pub enum Depth {
     More,
 }
 
-/// Where an octet stands (RFC 3501, section 9, `quoted`).
+/// The place of an octet (RFC 3501, section 9, `quoted`).
 #[derive(Clone, Copy)]
 pub enum Quoting {
     Outside,
@@ -35,7 +35,7 @@ pub enum Quoting {
 #[derive(Clone, Copy)]
 pub struct Scan {
     named: Named,
-    /// So many words or strings that follow are a tag or arguments, and stay.
+    /// The number of words or strings that follow and stay: a tag, or arguments.
     passes: usize,
     depth: Depth,
     quoting: Quoting,

@@ -24,7 +24,7 @@ pub(crate) struct Writing {
     scan: Scan,
     /// The octets of the word that has begun.
     word: Vec<u8>,
-    /// So many octets that follow belong to the word.
+    /// The number of octets that follow and belong to the word.
     held: usize,
     out: Vec<u8>,
     /// What the items so far ask for.

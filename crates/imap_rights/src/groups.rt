@@ -20,7 +20,7 @@ pub(crate) const GROUP_PREFIX: &'static str = "group:";
 /// An identifier that stands for every user.
 const ANYONE: &'static str = "anyone";
 
-/// Which users are in which groups. Contracts see each user's set of groups.
+/// The groups, and which users are in each. Contracts see each user's set of groups.
 ///
 /// The names of groups have the rules of users' names.
 #[derive(Drop)]

@@ -12,7 +12,7 @@ pub fn letters_are_read()
     ensures { LettersAreRead }
 {}
 
-/// Which rights a user has, right by right.
+/// The rights that a user has, right by right.
 pub fn rights_are_those_given()
     ensures { RightsAreThoseGiven }
 {}
@@ -22,7 +22,7 @@ pub fn anothers_list_gives_nothing()
     ensures { AnothersListGivesNothing }
 {}
 
-/// Which users are in which groups.
+/// The members of groups are the users that were added.
 pub fn members_are_those_added()
     ensures { MembersAreThoseAdded }
 {}

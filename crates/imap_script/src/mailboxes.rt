@@ -15,7 +15,7 @@ use std::collections::HashMap;
 /// The mailboxes that a head makes, each with its access control list.
 #[derive(Drop)]
 pub(crate) struct Mailboxes {
-    /// In the order of their lines.
+    /// The names that were made, in the order of their lines.
     made: Vec<(Name, Acl)>,
     /// The index of each in `made`, by the text that shows its name to the administrator.
     indexes: HashMap<String, usize>,

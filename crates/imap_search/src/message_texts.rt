@@ -37,7 +37,7 @@ impl<'a> Model for MessageTexts<'a> {
 }
 
 impl<'a> MessageTexts<'a> {
-    /// Nothing is folded so far.
+    /// Begins with nothing folded.
     pub(crate) fn new(alloc: Global, octets: &'a [u8]) -> MessageTexts<'a>
         ensures { result ≡ octets.now }
     {

@@ -192,9 +192,9 @@ struct Criteria<'a> {
     arguments: &'a SearchArguments<'a>,
     /// The keys of the arguments.
     keys: Vec<ReadyKey<'a>>,
-    /// In a set of numbers.
+    /// The last number of a set of numbers.
     last: u32,
-    /// In a set of UIDs.
+    /// The last UID of a set of UIDs.
     last_uid: u32,
 }
 

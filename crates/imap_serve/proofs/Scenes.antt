@@ -16,7 +16,6 @@ use Rattle.imap_hall.specs.Frames.{act_of_command, is_done, rejected}
 use Rattle.imap_commands.specs.Spells.{request_read}
 use Rattle.imap_hall.specs.Step.{Step}
 use Rattle.imap_hall.specs.declared.error.HallError.{HallError}
-use Rattle.imap_hall.specs.declared.error.HallError.TheVariants as hall
 use Rattle.imap_hall.specs.declared.journal.Receipt.{Receipt}
 use Rattle.imap_hall.specs.Hall.{entry_of}
 use Rattle.imap_hall.specs.Journal.{JournalEntry}
@@ -31,7 +30,7 @@ use Rattle.imap_serve.specs.Reading.{AppendsPart, HasFailed, unasked}
 use Rattle.imap_serve.specs.Events.{Event, asks_of_act, begin_idle, close, entries, entry_in, ask_in, replies_of, IsOf, IsOpen, end_of}
 use Rattle.imap_serve.specs.Events.{idles_after, idles_after_all, is_poll, is_polled}
 use Rattle.imap_serve.specs.Served as plain
-use Rattle.imap_serve.specs.Served.{EndsBy, IsCaused, IsCausedWriting, IsExhausted, IsRefused, Leaves}
+use Rattle.imap_serve.specs.Served.{IsCaused, IsCausedWriting, IsRefused, Leaves}
 use Rattle.imap_serve.specs.Turns.{Turn, turn, Cue, cues_by, cue_in, cues, events, AllFit, Fits, text, after_turns}
 use Rattle.imap_serve.specs.Told.{Scene, scene, Site, site, Answers, GoesOn, GoesOnSomehow, Closes, Idles, Breaks, GoesOrCloses, Heard, EndedAfter, BrokeOffAfter, Ended, BrokeOff, Serves, GivesUp, to_open, requests}
 use Rattle.imap_serve.proofs.Bytes.{appends_more, consumes_more, appends_nothing, consumes_nothing}
@@ -212,9 +211,6 @@ module _ {S : Type 0} (keeps_all : Bool) (telling : Telling S) (i : Bool) (t : S
 pub not_made : {S : Type 0} (s : Site S) (i : Bool) (old new : List JournalEntry) (written : Option (List ℕ)) (state : S) (ws : List Cue) → new ≡ old → Breaks s i (scene old written state) (scene new written state) ws
 not_made s i old new written state ws is = subst (λ l. Breaks s i (scene old written state) (scene l written state) ws) (sym is) (breaks_off s i (scene old written state) ws)
 
-pub refused_here : {R : Type 0} (Refuses : R → Step → HallError → R → Type 0) (old new : R) (t : Step) (e : HallError) → e ≡ hall.Exhausted → Refuses old t e new → IsExhausted Refuses new
-refused_here Refuses old new t e is h = record { before = old; step = t; refused = subst (λ e. Refuses old t e new) is h }
-
 -- ---- what is no step
 
 module _ {S : Type 0} (s : Site S) (i : Bool) (made : List JournalEntry) (before next : Option (List ℕ)) (state q : S) where
@@ -321,12 +317,6 @@ caused_writing error.Write r w cause = cause
 caused_writing error.Memory r w cause = tt
 caused_writing error.Read r w cause = absurd cause
 caused_writing error.Exhausted r w cause = tt
-
-pub not_refused : {R : Type 0} (Refuses : R → Step → HallError → R → Type 0) (room : R) (e : ServeError) (w : Log) → IsCausedWriting e w → IsRefused Refuses e room
-not_refused Refuses room error.Write w cause = tt
-not_refused Refuses room error.Memory w cause = tt
-not_refused Refuses room error.Read w cause = tt
-not_refused Refuses room error.Exhausted w cause = absurd cause
 
 module _ {S : Type 0} (limit : ℕ) (s : Site S) (p q : Bool) (i j k : Option (List ℕ)) (a b d : Scene S) (f : Framing) (ys : List ℕ) (h : Heard limit s p q i j a b f) (read : Consumes j k ys) where
   all_read : Consumes i k (h.octets ++ ys)

@@ -5,7 +5,7 @@ use crate::moments::Moments;
 use imap_hall::SessionId;
 use std::alloc::Global;
 
-/// Whose session it is, its clock, and the gate before its requests.
+/// A session's identifier, its clock, and the gate before its requests.
 #[derive(Drop)]
 pub(crate) struct Session<'a, C: Moments, G: Gate> {
     pub(crate) alloc: Global,

@@ -21,7 +21,7 @@ pub struct AcceptFaults {
 }
 
 impl AcceptFaults {
-    /// None has failed.
+    /// Begins with no accept that failed.
     pub fn new() -> AcceptFaults {
         AcceptFaults {
             count: 0,

@@ -43,7 +43,7 @@ pub struct ClientDoor<
     pub dialect: DialectName,
     /// The number of the worker's session.
     pub number: usize,
-    /// For how long a client may keep a reply from being written.
+    /// The longest time for which a client may keep a reply from being written.
     pub write_timeout: Duration,
     /// Whether the worker has a client.
     pub has_client: bool,

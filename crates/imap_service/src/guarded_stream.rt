@@ -17,7 +17,7 @@ pub struct GuardedStream<'a, R: Net<Listener = TcpListener, Stream = TcpStream> 
     input: WakeableStream<'a, R>,
     stream: Arc<Connection>,
     line: RequestLine,
-    /// What is read before anything else.
+    /// The octets that are read before anything else.
     first: Cursor<Vec<u8>>,
 }
 

@@ -6,14 +6,14 @@
 /// What follows the path of a request line.
 const VERSION: &[u8] = b" HTTP/1.";
 
-/// Where the first line of a connection stands.
+/// The place of an octet in the first line of a connection.
 #[derive(Clone, Copy, PartialEq, Eq)]
 enum Place {
-    /// In the method: capitals, of which there was at least one if the flag is set.
+    /// The method: capitals, of which there was at least one if the flag is set.
     Method(bool),
     /// Behind the space after the method.
     Path,
-    /// In the path, of which the last octets are as many of ` HTTP/1.` as the number says.
+    /// The path, of which the last octets are as many of ` HTTP/1.` as the number says.
     Rest(usize),
     /// It is no request, or was one.
     Decided(bool),
@@ -27,7 +27,7 @@ pub struct RequestLine {
 }
 
 impl RequestLine {
-    /// At the start of a connection.
+    /// Begins a connection.
     pub fn new() -> RequestLine {
         RequestLine {
             place: Place::Method(false),

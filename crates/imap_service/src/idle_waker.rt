@@ -12,7 +12,7 @@ pub(crate) const CONNECTION: Token = Token(0);
 /// A worker was woken.
 const WOKEN: Token = Token(1);
 
-/// By which a worker is woken while it has a connection.
+/// The waker by which a worker is woken while it has a connection.
 #[derive(Drop)]
 pub struct IdleWaker {
     waker: Mutex<Option<Waker>>,
@@ -27,7 +27,7 @@ impl IdleWaker {
         }
     }
 
-    /// From now on a wake ends a wait of `poll`.
+    /// Lets a wake end a wait of `poll` from now on.
     pub(crate) fn attach<R: Wait>(&self, rt: &R, poll: &Poll) -> io::Result<()> {
         let waker = Waker::new(poll.registry(), WOKEN)?;
         *self.waker.lock(rt) = Some(waker);

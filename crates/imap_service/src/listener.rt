@@ -10,7 +10,7 @@ use std::os::unix::net::UnixListener;
 #[derive(Drop)]
 pub enum Listener {
     Tcp(TcpListener),
-    /// At a socket file.
+    /// A socket file.
     Unix(UnixListener),
 }
 

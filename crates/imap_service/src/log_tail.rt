@@ -84,7 +84,7 @@ pub fn report_unread<R: Files + Eprint + AllocGlobal>(
 #[derive(Clone, Copy, PartialEq, Eq)]
 pub struct LogLook {
     pub length: u64,
-    /// Those of frames that aren't read when the database is opened.
+    /// The octets of frames that aren't read when the database is opened.
     pub unread: u64,
 }
 
@@ -158,7 +158,7 @@ fn look_at_frames<I: Read>(alloc: Global, input: &mut I, log: &Log) -> io::Resul
 }
 
 impl Walk {
-    /// After one more frame, or what there is of it.
+    /// Goes on by one more frame, or what there is of it.
     fn after(self, log: &Log, frame: &[u8], is_full: bool) -> Walk {
         let mut walk = self;
         walk.at = walk.at.saturating_add(frame.len() as u64);

@@ -13,7 +13,7 @@ use std::rt::Clock;
 use std::sync::Wait;
 use std::time::{Duration, Instant};
 
-/// For how long a client may take to log in.
+/// The seconds that a client may take to log in.
 pub const LOGIN_SECONDS: u64 = 60;
 
 /// The most octets that one read takes.

@@ -29,7 +29,7 @@ struct Queue {
     is_closed: bool,
 }
 
-/// Where the clients of one port are received.
+/// The reception of the clients of one port.
 #[derive(Drop)]
 pub struct Reception {
     listener: Listener,

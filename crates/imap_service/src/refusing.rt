@@ -7,7 +7,7 @@ use std::time::Duration;
 /// What a client is told that is refused (RFC 9051, section 7.1.5).
 const GOODBYE: &[u8] = b"* BYE limit reached\r\n";
 
-/// For how long a client may keep this from being written.
+/// The seconds for which a client may keep this from being written.
 const GOODBYE_SECONDS: u64 = 1;
 
 /// Tells the client, as far as the connection takes it, that it isn't served.

@@ -28,7 +28,7 @@ impl<'a, R: Eprint> Report<'a, R> {
         }
     }
 
-    /// Says that so many octets of the database's log were not read when it was opened.
+    /// Says how many octets of the database's log were not read when it was opened.
     pub(crate) fn unread_log(&self, octets: u64) {
         if self.says_errors() {
             let _said = eprintln!(self.rt;

@@ -72,7 +72,7 @@ pub enum StoreFault {
     OtherTables,
     #[error("its rows stand for no mailboxes")]
     Damaged,
-    /// Of which one stands for nothing. `row` is the number by which SQL knows it, `rowid`.
+    /// One of its rows is damaged. `row` is the number by which SQL knows it, `rowid`.
     #[error("table {table}, row {row}: {fault}")]
     Row {
         table: StoreTable,

@@ -30,10 +30,10 @@ use std::sync::ledger::{Blank, Ledger};
 use std::thread::Threads;
 use std::time::{Duration, Instant};
 
-/// After how many reads in a row that bring nothing a session ends: those of 30 minutes.
+/// The number of reads in a row that bring nothing after which a session ends: those of 30 minutes.
 pub const IDLE_TICKS: u64 = 1800 * TICKS_PER_SECOND;
 
-/// For how many seconds a client may keep a reply from being written.
+/// The seconds for which a client may keep a reply from being written.
 const WRITE_SECONDS: u64 = 300;
 
 /// Serves the users of `service` at their ports of 127.0.0.1 and socket files from what `keeper` keeps, until no connection comes any

@@ -16,7 +16,7 @@ use std::os::unix::fs::FileTypeExt;
 use std::os::unix::net::{SocketAddr, UnixListener};
 use std::rt::Files;
 
-/// As many connections may wait to be accepted as the system allows.
+/// The number of connections that may wait to be accepted: as many as the system allows.
 const BACKLOG: i32 = i32::MAX;
 
 /// Listens at a socket file to which its owner alone may connect. Makes it, in a folder that is there. Replaces one at

@@ -1,4 +1,4 @@
-//! The tables of a store that have a row which stands for nothing.
+//! The tables of a store that may have a damaged row.
 
 use std::error::Error;
 use std::fmt::{self, Display, Formatter};
@@ -15,7 +15,7 @@ pub enum StoreTable {
     Mailbox,
     Mark,
     Message,
-    /// What is said of a message, beside its octets and keywords.
+    /// The head of a message: all but its octets and keywords.
     MessageHead,
     Meta,
     Subscription,

@@ -20,7 +20,7 @@ use std::rt::Clock;
 use std::sync::{Arc, Wait};
 use std::time::{Duration, Instant};
 
-/// After how many milliseconds without an octet a client pauses. Its worker isn't woken before.
+/// The milliseconds without an octet after which a client pauses. Its worker isn't woken before.
 const PAUSE_MILLIS: u64 = 1;
 
 /// Why a wait has ended.
@@ -44,13 +44,13 @@ pub struct WakeableStream<'a, R: Net<Listener = TcpListener, Stream = TcpStream>
     wakers: &'a IdleWakers,
     waker: &'a IdleWaker,
     stream: Arc<Connection>,
-    /// Where the worker waits for both.
+    /// The poll by which the worker waits for both.
     poll: Poll,
     events: Events,
     /// Whether the client has not paused since octets came.
     is_sending: bool,
     ticks: IdleTicks,
-    /// When the second ends that has begun.
+    /// The moment at which the second ends that has begun.
     until: Option<Instant>,
     /// The count of the wakers when a read brought nothing last.
     seen: u64,

@@ -38,7 +38,7 @@ pub fn changes_are_applied(known: &KnownList)
     let _ = known.len();
 }
 
-/// Who was brought up to a mod-sequence stays so while the mailbox changes.
+/// A session that was brought up to a mod-sequence stays so while the mailbox changes.
 pub fn later_by_uid()
     ensures { LaterByUid }
 {}

@@ -19,7 +19,7 @@ use imap_mailbox::Rows;
 use imap_print::Response;
 use std::alloc::{AllocError, Global};
 
-/// With as many messages, a message sequence number may have no room.
+/// The number of messages from which on a message sequence number may have no room.
 const TOO_MANY: usize = 4_294_967_295;
 
 /// Returns the lines of [`KnownList::notices`] after a command whose own lines told nothing. The session was told all

@@ -1,4 +1,4 @@
-//! Which row of a damaged store stands for nothing.
+//! The damaged row of a store.
 //!
 //! It is asked only after a keeper could not load, and no contract says which row it names.
 
@@ -15,7 +15,7 @@ use imap_tables::{
 use sqlite::{Alter, Connection, Error, ErrorCode, Row, Rows};
 use std::alloc::Global;
 
-/// Finds a row that stands for nothing. Returns `None` if none is found, or the tables can't be read.
+/// Finds a damaged row. Returns `None` if none is found, or the tables can't be read.
 pub(crate) fn damage_of<S: Alter>(conn: &mut Connection<S>, alloc: Global) -> Option<Damage>
     requires { IsAtRest (state S.Store conn.old) }
 {

@@ -1,12 +1,12 @@
 //! Of what a row of a store is: of which mailbox, and of which message.
 //!
-//! It is asked for a row that stands for nothing, and no contract says what is found.
+//! It is asked for a damaged row, and no contract says what is found.
 
 use imap_keeper::Damage;
 use sqlite::{Alter, Connection, params};
 use std::alloc::Global;
 
-/// A row that stands for nothing, and of what it is, as far as its store says so.
+/// A damaged row, and of what it is, as far as its store says so.
 #[derive(Drop)]
 pub struct Finding {
     pub damage: Damage,
@@ -48,7 +48,7 @@ fn name_of<S: Alter>(conn: &mut Connection<S>, mailbox: i64) -> Option<(String, 
     Some((tree, path))
 }
 
-/// Finds of what a row is that stands for nothing.
+/// Finds of what a damaged row is.
 pub(crate) fn locate<S: Alter>(conn: &mut Connection<S>, damage: Damage) -> Finding {
     match place_of(conn, &damage) {
         Some((mailbox, uid)) => Finding {

@@ -101,7 +101,7 @@ impl<S: Alter> SqlKeeper<S> {
 }
 
 impl<S: Alter + Drop> SqlKeeper<S> {
-    /// Ends a keeper that could not load, and names a row of its tables that stands for nothing. Returns
+    /// Ends a keeper that could not load, and names a damaged row of its tables. Returns
     /// `None` if none is found, or memory runs out.
     pub fn into_damage(self, alloc: Global) -> Option<Damage> {
         let SqlKeeper {
@@ -111,7 +111,7 @@ impl<S: Alter + Drop> SqlKeeper<S> {
         damage_of(&mut conn, alloc)
     }
 
-    /// Ends a keeper that could not load, and names a row of its tables that stands for nothing, and of
+    /// Ends a keeper that could not load, and names a damaged row of its tables, and of
     /// what it is. Returns `None` if none is found, or memory runs out.
     pub fn into_finding(self, alloc: Global) -> Option<Finding> {
         let SqlKeeper {

@@ -9,7 +9,7 @@ use sqlite::Alter;
 use std::alloc::Global;
 use std::process::ExitCode;
 
-/// Why a store can't be used, and of what the row is that stands for nothing.
+/// Why a store can't be used, and of what its damaged row is.
 pub(crate) type Fault = (ServiceError, Option<Finding>);
 
 /// Prints how much the store in the file holds.
@@ -70,7 +70,7 @@ fn report_finding(rt: &impl Eprint, finding: &Finding) {
     };
 }
 
-/// What is lost with a row of this table.
+/// Says what is lost with a row of this table.
 fn loss_of(table: &str) -> &'static str {
     match table {
         "acl" => "an identifier has no rights on the mailbox",

@@ -30,7 +30,7 @@ pub enum StoreTask<'a> {
 }
 
 /// Does the task over the store in the file, which `Load` alone makes if it is missing. If the store can't be used, tells
-/// standard error why, as where it is to be served, and of what the row is that stands for nothing. Returns the exit
+/// standard error why, as where it is to be served, and of what the damaged row is. Returns the exit
 /// status: 0, 3 if a file or a folder can't be made or read or standard output failed, 4 for want of memory, and 5 if the
 /// store can't be used.
 pub fn perform(rt: &HostRuntime, path: &str, task: StoreTask<'_>) -> ExitCode {

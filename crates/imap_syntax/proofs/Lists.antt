@@ -99,7 +99,7 @@ flag_opens_by b q passes o false front back x hf hb = let f = o.first x back hb 
 pub flag_then_opens : {B : Type 0} {test : ℕ → Bool} (b : ℕ) (q : Bool → Rule B) → test b ≡ true → Opens test (q false) → Opens test (flag b >>= q)
 flag_then_opens b q passes o = record { first = λ x text h. let f = flag_opens_by b q passes o h.0 h.1 h.2 x h.3 h.4 in (f.0, f.1, h.5 ∙ f.2, f.3) }
 
--- ---- so many octets
+-- ---- a number of octets
 
 length-take-le : (n : ℕ) (input : List ℕ) → n ≤ length input → length (take n input) ≡ n
 length-take-le n input le = omega (arith, length-take n input)

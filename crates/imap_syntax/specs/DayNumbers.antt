@@ -31,7 +31,7 @@ clock_seconds t = t.hour * 3600 + t.minute * 60 + t.second
 abbrev pub utc : Offset
 utc = record { west = false; hours = 0; minutes = 0 }
 
--- the moment is so many seconds after the beginning of 1-Jan-1970 in UTC, and written at +0000
+-- the moment is this number of seconds after the beginning of 1-Jan-1970 in UTC, and written at +0000
 pub record IsMomentAt (seconds : ℕ) (t : Moment) : Type 0 where
   pub is_utc : t.zone ≡ utc
   pub sum : day_number t.date *ℤ pos 86400 +ℤ pos (clock_seconds t) ≡ pos seconds

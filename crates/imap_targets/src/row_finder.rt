@@ -17,7 +17,7 @@ pub struct RowFinder {
 }
 
 impl RowFinder {
-    /// For the first message.
+    /// The finder for the first message.
     pub fn start() -> RowFinder {
         RowFinder {
             index: 0,

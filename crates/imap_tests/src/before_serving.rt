@@ -39,7 +39,7 @@ fn tells_requests_from_commands(rt: HostRuntime) {
     }
 }
 
-/// As Linux shows it.
+/// Returns the address as Linux shows it.
 #[test]
 fn reads_how_many_files_may_be_open(rt: HostRuntime) {
     const LIMITED: &str =
@@ -53,7 +53,7 @@ fn reads_how_many_files_may_be_open(rt: HostRuntime) {
     assert!(rt; needed(20) <= 1024 && needed(21) > 1024);
 }
 
-/// After how many failing accepts a listener is given up, of 40.
+/// Returns after how many failing accepts a listener is given up, of 40.
 fn given_up(code: i32) -> u32 {
     let mut faults = AcceptFaults::new();
     let mut count: u32 = 0;

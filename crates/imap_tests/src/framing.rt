@@ -16,7 +16,7 @@ fn show(frames: &[Frame], out: &mut Vec<u8>) -> Result<(), AllocError> {
     Ok(())
 }
 
-/// Feeds one piece, and appends what comes of it, an error in angle brackets.
+/// Feeds one piece, and appends the frames that end in it, an error in angle brackets.
 fn feed(
     alloc: Global,
     framer: &mut Framer,

@@ -12,7 +12,7 @@ use std::rt::Clock;
 use std::sync::{Arc, Wait};
 use std::time::Instant;
 
-/// After how many seconds a session ends whose worker is woken `wakes_per_second` times in each second.
+/// Returns after how many seconds a session ends whose worker is woken `wakes_per_second` times in each second.
 fn seconds_until_end(wakes_per_second: u64) -> u64 {
     let mut ticks = IdleTicks::new();
     let mut wakes: u64 = 0;

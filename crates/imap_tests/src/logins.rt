@@ -151,7 +151,7 @@ fn clients_authenticate(rt: HostRuntime) {
     expect_answers(&rt, ROWS);
 }
 
-/// What a line is answered with so many octets before its CRLF.
+/// Returns what a line with `count` octets before its CRLF is answered.
 fn long_line(alloc: Global, count: usize) -> Result<Vec<u8>, AllocError> {
     let mut line = Vec::new(alloc);
     line.extend_from_slice(b"a NOOP ")?;

@@ -26,7 +26,7 @@ fn fetch_of(alloc: Global, octets: &[u8]) -> Result<Response, AllocError> {
     Ok(Response::Fetch { number: 1, items })
 }
 
-/// What stands before and after the second of three pieces, if that has so many octets.
+/// Returns what stands before and after the second of three pieces, if that has `len` octets.
 fn around(alloc: Global, pieces: &[Octets], len: usize) -> Result<Vec<u8>, AllocError> {
     match pieces {
         [front, long, back] if long.as_slice().len() == len => {
@@ -38,7 +38,7 @@ fn around(alloc: Global, pieces: &[Octets], len: usize) -> Result<Vec<u8>, Alloc
     }
 }
 
-/// Prints the response that was made in pieces, of which the second has so many octets.
+/// Prints the response that was made in pieces, of which the second has `len` octets.
 fn in_pieces(
     alloc: Global,
     made: Result<Response, AllocError>,

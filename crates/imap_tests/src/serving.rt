@@ -15,7 +15,7 @@ use std::io::Read;
 use std::process::Abort;
 use std::sync::Wait;
 
-/// After how many reads in a row that bring nothing a session ends.
+/// The number of reads in a row that bring nothing after which a session ends.
 pub(crate) const IDLE_TICKS: u64 = 3;
 
 /// A clock that stands.

@@ -44,7 +44,7 @@ impl Comparison {
     }
 }
 
-/// What was loaded.
+/// The result of a load.
 #[derive(Clone, Copy)]
 enum Loaded {
     /// The mailboxes that were wanted.

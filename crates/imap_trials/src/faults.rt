@@ -30,7 +30,7 @@ fn push_line(
     report.push_str(text.as_str())
 }
 
-/// What is loaded after a line of SQL.
+/// Returns what is loaded after a line of SQL.
 fn found_after<K: TestKeeper>(
     alloc: Global,
     image: &Image,
@@ -47,7 +47,7 @@ fn found_after<K: TestKeeper>(
     }
 }
 
-/// What is loaded of the database.
+/// Returns what is loaded of the database.
 fn found<K: TestKeeper>(alloc: Global, image: &Image) -> Result<&'static str, KeepError> {
     let (loaded, left) = load::<K>(alloc, image)?;
     let is_same = left.written.has_same_database(image);

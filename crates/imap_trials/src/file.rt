@@ -44,7 +44,7 @@ fn write<D: Disk>(disk: &mut D, octets: &[u8]) -> io::Result<()> {
     disk.sync()
 }
 
-/// After how many calls each file fails.
+/// The number of calls after which each file fails.
 #[derive(Clone, Copy)]
 pub(crate) struct Calls {
     pub(crate) log: u64,

@@ -38,7 +38,7 @@ impl<'a> Model for UpcomingMessages<'a> {
 }
 
 impl<'a> UpcomingMessages<'a> {
-    /// Those of a mailbox as they are, for a user.
+    /// The messages of a mailbox as they are, for a user.
     pub(crate) fn there(mailbox: &'a Mailbox, user: &str) -> UpcomingMessages<'a>
         ensures { result ≡ rows_of (summary_in mailbox.now) user.now }
     {
@@ -47,7 +47,7 @@ impl<'a> UpcomingMessages<'a> {
         }
     }
 
-    /// Those of a mailbox as a batch will leave them to its user.
+    /// The messages of a mailbox as a batch will leave them to its user.
     pub(crate) fn planned(mailbox: &'a Mailbox, write: &'a BatchWrite) -> UpcomingMessages<'a>
         requires { MayWrite write.now (summary_in mailbox.now) }
         ensures { let batch = write.now.batch in

@@ -2,7 +2,7 @@
 
 ghost use Rattle.std.specs.Prelude.{◌≡◌, ◌↔◌, IsTrue, Option, option_and_then, option_copied};
 
-/// A value of which something is kept, or nothing is: of a list with room only the list is, and that only if
+/// A value of which a part is kept, or nothing: of a list with room only the list is, and that only if
 /// it isn't empty.
 pub trait Part {
     ghost Kept: { Type 0 };

@@ -79,7 +79,7 @@ impl Write {
     }
 }
 
-/// What is written, in order. Contracts see the list.
+/// The writes of a change, in order. Contracts see the list.
 pub struct Change {
     pub(crate) writes: Vec<Write>,
 }

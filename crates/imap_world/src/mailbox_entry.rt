@@ -22,7 +22,7 @@ pub struct MailboxEntry {
     pub validity: u32,
     pub acl: Acl,
     pub messages: SharedMailbox,
-    /// By which the world's index knows it. Another number may stand here: the index tests it.
+    /// The number by which the world's index knows it. Another number may stand here: the index tests it.
     pub(crate) number: u32,
 }
 

@@ -17,7 +17,7 @@ pub struct Site {
     /// The owner of the Shared tree, who is also a user.
     pub administrator: UserName,
     pub limits: Limits,
-    /// Which users are in the groups that access control lists may name.
+    /// The members of the groups that access control lists may name.
     pub groups: SharedGroups,
 }
 

@@ -40,7 +40,7 @@ pub enum ListReturn {
 #[derive(Drop)]
 pub enum Patterns {
     One(Octets),
-    /// In parentheses.
+    /// Several patterns, in parentheses.
     Many(Items<Octets>),
 }
 

@@ -22,9 +22,9 @@ use std::alloc::{AllocError, Global};
 /// The state of the mailbox that the client knows, as QRESYNC sends it.
 #[derive(Drop)]
 pub struct QresyncArg {
-    /// From 1 on.
+    /// The UIDVALIDITY, from 1 on.
     pub validity: u32,
-    /// From 1 on.
+    /// The mod-sequence, from 1 on.
     pub mod_seq: u64,
     pub known_uids: Option<SeqSet>,
 }

@@ -60,7 +60,7 @@ fn has_word(words: &[Atom], name: &[u8]) -> bool
     )
 }
 
-/// Those of the named capabilities that were not enabled before.
+/// Returns those of the named capabilities that were not enabled before.
 fn newly_enabled(named: EnabledCapabilities, enabled: EnabledCapabilities) -> EnabledCapabilities
     ensures { result ≡ specs.newly_enabled named enabled }
 {

@@ -3,7 +3,7 @@
 use crate::rev1::rows::{seen, session};
 use crate::wanted::expect;
 
-/// In IMAP4rev1.
+/// Frames and what they become in IMAP4rev1.
 const BEFORE: &[(&[u8], &[u8])] = &[
     (b"T CHECK\r\n", b"T NOOP\r\n"),
     (b"T check\r\n", b"T NOOP\r\n"),
@@ -226,7 +226,7 @@ const NO_FIELDS: &[&[u8]] = &[
     b"T STORE 1 BODY[2.HEADER.FIELDS (A)]\r\n",
 ];
 
-/// After IMAP4rev2 was enabled.
+/// Frames and what they become after IMAP4rev2 was enabled.
 const AFTER: &[(&[u8], &[u8])] = &[
     (b"T CHECK\r\n", b"T NOOP\r\n"),
     (b"T LSUB \"\" %\r\n", b"T LIST (SUBSCRIBED) \"\" %\r\n"),
