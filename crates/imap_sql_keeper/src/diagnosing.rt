@@ -26,97 +26,86 @@ pub(crate) fn damage_of<S: Alter>(conn: &mut Connection<S>, alloc: Global) -> Op
     }
 }
 
+/// The tables of a store, each with a query that reads it, its numbers first.
+const TABLES: &[(&str, &str)] = &[
+    (
+        "mailbox",
+        "SELECT id, tree, path, validity, uidnext, shared FROM mailbox",
+    ),
+    (
+        "message",
+        "SELECT rowid, mailbox, uid, date, octets, flags, keywords, place FROM message",
+    ),
+    (
+        "message2",
+        "SELECT rowid, mailbox, uid, date, flags, place FROM message2",
+    ),
+    ("body", "SELECT rowid, mailbox, uid, octets FROM body"),
+    ("keyword", "SELECT rowid, mailbox, uid, word FROM keyword"),
+    ("acl", "SELECT rowid, mailbox, identifier, rights FROM acl"),
+    ("gone", "SELECT rowid, mailbox, uid, place FROM gone"),
+    (
+        "mark",
+        "SELECT rowid, mailbox, user, own, before, uid, seen FROM mark",
+    ),
+    ("epoch", "SELECT rowid, tree, path, greatest FROM epoch"),
+    ("sub", "SELECT rowid, user, tree, path FROM sub"),
+    ("meta", "SELECT rowid, key, value FROM meta"),
+];
+
 /// Finds the first row of which nothing is read.
 fn unread_row<S: Alter>(conn: &mut Connection<S>) -> Option<Damage> {
-    if let Some(damage) = unread_mailbox(conn) {
-        return Some(damage);
+    for (table, query) in TABLES {
+        if let Some(row) = unread_in(conn, table, query) {
+            return Some(Damage {
+                table,
+                row,
+                fault: RowFault::Value,
+            });
+        }
     }
-    if let Some(damage) = unread_message(conn) {
-        return Some(damage);
-    }
-    if let Some(damage) = unread_below(conn) {
-        return Some(damage);
-    }
-    unread_name(conn)
+    None
 }
 
-fn unread_mailbox<S: Alter>(conn: &mut Connection<S>) -> Option<Damage> {
-    let text = "SELECT id, tree, path, validity, uidnext, shared FROM mailbox";
-    unread_in::<S, StoredMailbox>(conn, "mailbox", text)
-}
-
-fn unread_message<S: Alter>(conn: &mut Connection<S>) -> Option<Damage> {
-    let text = "SELECT rowid, mailbox, uid, date, octets, flags, keywords, place FROM message";
-    if let Some(damage) = unread_in::<S, StoredMessage>(conn, "message", text) {
-        return Some(damage);
-    }
-    let text = "SELECT rowid, mailbox, uid, date, flags, place FROM message2";
-    if let Some(damage) = unread_in::<S, StoredHead>(conn, "message2", text) {
-        return Some(damage);
-    }
-    let text = "SELECT rowid, mailbox, uid, octets FROM body";
-    if let Some(damage) = unread_in::<S, StoredBody>(conn, "body", text) {
-        return Some(damage);
-    }
-    let text = "SELECT rowid, mailbox, uid, word FROM keyword";
-    unread_in::<S, StoredKeyword>(conn, "keyword", text)
-}
-
-fn unread_below<S: Alter>(conn: &mut Connection<S>) -> Option<Damage> {
-    let text = "SELECT rowid, mailbox, identifier, rights FROM acl";
-    if let Some(damage) = unread_in::<S, StoredEntry>(conn, "acl", text) {
-        return Some(damage);
-    }
-    let text = "SELECT rowid, mailbox, uid, place FROM gone";
-    if let Some(damage) = unread_in::<S, StoredGone>(conn, "gone", text) {
-        return Some(damage);
-    }
-    let text = "SELECT rowid, mailbox, user, own, before, uid, seen FROM mark";
-    unread_in::<S, StoredSeenFlag>(conn, "mark", text)
-}
-
-fn unread_name<S: Alter>(conn: &mut Connection<S>) -> Option<Damage> {
-    let text = "SELECT rowid, tree, path, greatest FROM epoch";
-    if let Some(damage) = unread_in::<S, StoredEpoch>(conn, "epoch", text) {
-        return Some(damage);
-    }
-    let text = "SELECT rowid, user, tree, path FROM sub";
-    if let Some(damage) = unread_in::<S, StoredSubscription>(conn, "sub", text) {
-        return Some(damage);
-    }
-    let text = "SELECT rowid, key, value FROM meta";
-    unread_in::<S, StoredMeta>(conn, "meta", text)
-}
-
-/// Finds the first row of a table of which nothing is read. `text` reads the table, its numbers first.
-fn unread_in<S: Alter, R: FromRow>(
-    conn: &mut Connection<S>,
-    table: &'static str,
-    text: &str,
-) -> Option<Damage> {
-    let mut rows = conn.query(text, &[]).ok()?;
-    let row = first_unread::<S, R>(&mut rows)?;
-    Some(Damage {
-        table,
-        row,
-        fault: RowFault::Value,
-    })
+/// Returns the number of the first row of the table of which nothing is read.
+fn unread_in<S: Alter>(conn: &mut Connection<S>, table: &str, query: &str) -> Option<i64> {
+    let mut rows = conn.query(query, &[]).ok()?;
+    first_unread(&mut rows, table)
 }
 
 /// Returns the number in the first column of the first row of which nothing is read, and 0 if none is there.
-fn first_unread<S: Alter, R: FromRow>(rows: &mut Rows<'_, S>) -> Option<i64> {
+fn first_unread<S: Alter>(rows: &mut Rows<'_, S>, table: &str) -> Option<i64> {
     for _ in 0..u64::MAX {
         let Ok(Some(row)) = rows.next() else {
             return None;
         };
-        if is_unread::<R>(row) {
+        if is_unread(table, row) {
             return Some(row.get(0).unwrap_or(0));
         }
     }
     None
 }
 
-fn is_unread<R: FromRow>(row: &Row) -> bool {
+/// Whether nothing is read of a row of the table.
+fn is_unread(table: &str, row: &Row) -> bool {
+    match table {
+        "mailbox" => is_unread_as::<StoredMailbox>(row),
+        "message" => is_unread_as::<StoredMessage>(row),
+        "message2" => is_unread_as::<StoredHead>(row),
+        "body" => is_unread_as::<StoredBody>(row),
+        "keyword" => is_unread_as::<StoredKeyword>(row),
+        "acl" => is_unread_as::<StoredEntry>(row),
+        "gone" => is_unread_as::<StoredGone>(row),
+        "mark" => is_unread_as::<StoredSeenFlag>(row),
+        "epoch" => is_unread_as::<StoredEpoch>(row),
+        "sub" => is_unread_as::<StoredSubscription>(row),
+        "meta" => is_unread_as::<StoredMeta>(row),
+        _ => false,
+    }
+}
+
+/// Whether nothing is read of a row as an `R`.
+fn is_unread_as<R: FromRow>(row: &Row) -> bool {
     match R::read(row) {
         Ok(_) | Err(Error::SqliteFailure(ErrorCode::OutOfMemory)) => false,
         Err(_) => true,

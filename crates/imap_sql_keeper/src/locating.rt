@@ -3,7 +3,7 @@
 //! It is asked for a damaged row, and no contract says what is found.
 
 use imap_keeper::Damage;
-use sqlite::{Alter, Connection, params};
+use sqlite::{Alter, Connection, Row, params};
 use std::alloc::Global;
 
 /// A damaged row, and of what it is, as far as its store says so.
@@ -31,21 +31,40 @@ fn query_of(table: &str) -> Option<&'static str> {
     }
 }
 
-/// Finds the id of the row's mailbox, and the UID of its message.
-fn place_of<S: Alter>(conn: &mut Connection<S>, damage: &Damage) -> Option<(i64, Option<u32>)> {
-    let query = query_of(damage.table)?;
-    let row = conn.query_row(query, params![damage.row]).ok()?;
+/// Returns the row of a query for a number, if there is one.
+fn row_of<S: Alter>(conn: &mut Connection<S>, query: &str, number: i64) -> Option<Row> {
+    conn.query_row(query, params![number]).ok()
+}
+
+/// Reads the id of a mailbox, and a UID that isn't 0.
+fn place_in(row: &Row) -> Option<(i64, Option<u32>)> {
     let mailbox: i64 = row.get(0).ok()?;
     let uid: u32 = row.get(1).unwrap_or(0);
     Some((mailbox, if uid == 0 { None } else { Some(uid) }))
 }
 
-fn name_of<S: Alter>(conn: &mut Connection<S>, mailbox: i64) -> Option<(String, String)> {
-    let query = "SELECT tree, path FROM mailbox WHERE id = ?1";
-    let row = conn.query_row(query, params![mailbox]).ok()?;
+/// Finds the id of the row's mailbox, and the UID of its message.
+fn place_of<S: Alter>(conn: &mut Connection<S>, damage: &Damage) -> Option<(i64, Option<u32>)> {
+    let query = query_of(damage.table)?;
+    let row = row_of(conn, query, damage.row)?;
+    place_in(&row)
+}
+
+/// Reads a tree and a path.
+fn name_in(row: &Row) -> Option<(String, String)> {
     let tree: String = row.get(0).ok()?;
     let path: String = row.get(1).ok()?;
     Some((tree, path))
+}
+
+/// Finds the tree and the path of a mailbox.
+fn name_of<S: Alter>(conn: &mut Connection<S>, mailbox: i64) -> Option<(String, String)> {
+    let row = row_of(
+        conn,
+        "SELECT tree, path FROM mailbox WHERE id = ?1",
+        mailbox,
+    )?;
+    name_in(&row)
 }
 
 /// Finds of what a damaged row is.
