@@ -26,4 +26,4 @@ pub use host_state::HostState;
 pub use imap_receipts::{Kept, PARTS, ReceiptPair, SettleError};
 pub use imap_serve::{End, Gate, Hall, Moment, Moments, OpenError, ServeError, SessionId};
 pub use seat::{Seat, SeatError};
-pub use workers::{CrewError, crew, crew_in};
+pub use workers::{CrewError, crew};

@@ -7,7 +7,7 @@ use crate::desk::Desk;
 use crate::door::Door;
 use crate::host::Host;
 use crate::seat::Seat;
-use imap_dialect::{Dialect, Standard};
+use imap_dialect::Dialect;
 use imap_keeper::Keeper;
 use imap_serve::{End, Gate, Moments, ServeError, Watched, serve_in};
 use std::alloc::Global;
@@ -175,7 +175,7 @@ fn start_all<
 /// dialect, from the same state on.
 ///
 /// Fails with `Start` if a worker can't be started. The workers that were started have then ended.
-pub fn crew_in<
+pub fn crew<
     K: Keeper + Send,
     L: Ledger + Send + Sync,
     D: Door + Send,
@@ -205,27 +205,4 @@ pub fn crew_in<
     } else {
         Err(CrewError::Start)
     }
-}
-
-/// As [`crew_in`], in the server's own dialect.
-pub fn crew<
-    K: Keeper + Send,
-    L: Ledger + Send + Sync,
-    D: Door + Send,
-    C: Moments + Sync,
-    G: Gate + Sync,
-    R: Threads + Wait + Sync,
->(
-    rt: &R,
-    alloc: Global,
-    host: &Host<K, L>,
-    posts: &mut [(Seat<L>, D)],
-    clock: &C,
-    gate: &G,
-    max_octets: u64,
-    idle_turns: u64,
-) -> Result<(), CrewError> {
-    crew_in(
-        rt, alloc, host, posts, clock, gate, &Standard, max_octets, idle_turns,
-    )
 }

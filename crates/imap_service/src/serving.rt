@@ -15,7 +15,7 @@ use crate::reporting_keeper::ReportingKeeper;
 use crate::service_error::ServiceError;
 use crate::system_clock::SystemClock;
 use imap_dialect::{Dialect, Standard};
-use imap_host::{Hall, Host, Seat, crew_in};
+use imap_host::{Hall, Host, Seat, crew};
 use imap_keeper::Keeper;
 use imap_names::UserName;
 use imap_options::{DialectName, Port, Service};
@@ -318,7 +318,7 @@ fn run_crew<
     dialect: &T,
     max_octets: u64,
 ) {
-    let _ran = crew_in(
+    let _ran = crew(
         rt,
         rt.alloc(),
         host,

@@ -5,6 +5,7 @@ ghost use Rattle.std.specs.Prelude.{◌≡◌};
 use crate::hosts::{Posts, act, hall, make, new_host, posts};
 use crate::owned::firsts;
 use crate::serving::{IDLE_TICKS, Standing};
+use imap_dialect::Standard;
 use imap_host::{Host, PARTS, Seat, SettleError, crew};
 use imap_keeper::Keeper;
 use imap_limits::DEFAULT_LIMITS;
@@ -92,6 +93,7 @@ fn served<K: Keeper + Send, L: Ledger + Send + Sync, R: Threads + Wait + AllocGl
         slice,
         &Standing,
         &OpenGate,
+        &Standard,
         DEFAULT_LIMITS.max_octets,
         IDLE_TICKS,
     );

@@ -4,6 +4,7 @@ ghost use Rattle.std.specs.Prelude.{◌≡◌};
 
 use crate::hosts::{Posts, new_host, posts};
 use crate::serving::{IDLE_TICKS, Standing};
+use imap_dialect::Standard;
 use imap_host::{Host, PARTS, crew};
 use imap_keeper::Keeper;
 use imap_limits::DEFAULT_LIMITS;
@@ -89,6 +90,7 @@ fn waits<K: Keeper + Send, L: Ledger + Send + Sync, R: Threads + Wait + Clock + 
         posts,
         &Standing,
         &gate,
+        &Standard,
         DEFAULT_LIMITS.max_octets,
         IDLE_TICKS,
     );

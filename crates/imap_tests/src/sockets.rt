@@ -4,6 +4,7 @@ ghost use Rattle.std.specs.Prelude.{◌≡◌};
 
 use crate::hosts::{new_host, post};
 use crate::serving::{IDLE_TICKS, Standing};
+use imap_dialect::Standard;
 use imap_host::{Door, Host, PARTS, crew};
 use imap_keeper::Keeper;
 use imap_limits::DEFAULT_LIMITS;
@@ -81,6 +82,7 @@ fn told<
             posts,
             &Standing,
             &OpenGate,
+            &Standard,
             DEFAULT_LIMITS.max_octets,
             IDLE_TICKS,
         )

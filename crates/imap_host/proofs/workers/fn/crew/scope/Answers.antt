@@ -1,5 +1,5 @@
 use denote.Param.Send.{param_send, sendable}
-use Rattle.imap_host.proofs.workers.fn.crew_in.scope.Goals as goal
+use Rattle.imap_host.proofs.workers.fn.crew.scope.Goals as goal
 
 pub start_all-requires-send-K : goal.start_all-requires-send-K
 start_all-requires-send-K g c κs within = search (sendable, param_send) depth 60 fits 20000
