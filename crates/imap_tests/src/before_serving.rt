@@ -39,7 +39,7 @@ fn tells_requests_from_commands(rt: HostRuntime) {
     }
 }
 
-/// Returns the address as Linux shows it.
+/// Limits as Linux shows them.
 #[test]
 fn reads_how_many_files_may_be_open(rt: HostRuntime) {
     const LIMITED: &str =
