@@ -192,9 +192,9 @@ struct Criteria<'a> {
     arguments: &'a SearchArguments<'a>,
     /// The keys of the arguments.
     keys: Vec<ReadyKey<'a>>,
-    /// The last number of a set of numbers.
+    /// What `*` stands for in a set of numbers.
     last: u32,
-    /// The last UID of a set of UIDs.
+    /// What `*` stands for in a set of UIDs.
     last_uid: u32,
 }
 
