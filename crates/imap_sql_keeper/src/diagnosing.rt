@@ -26,39 +26,83 @@ pub(crate) fn damage_of<S: Alter>(conn: &mut Connection<S>, alloc: Global) -> Op
     }
 }
 
-/// The tables of a store, each with a query that reads it, its numbers first.
-const TABLES: &[(&str, &str)] = &[
+/// A table of a store.
+#[derive(Clone, Copy)]
+enum Table {
+    Mailbox,
+    Message,
+    Head,
+    Body,
+    Keyword,
+    Entry,
+    Gone,
+    SeenFlag,
+    Epoch,
+    Subscription,
+    Meta,
+}
+
+/// The tables of a store, each with its name and a query that reads it, its numbers first.
+const TABLES: &[(Table, &str, &str)] = &[
     (
+        Table::Mailbox,
         "mailbox",
         "SELECT id, tree, path, validity, uidnext, shared FROM mailbox",
     ),
     (
+        Table::Message,
         "message",
         "SELECT rowid, mailbox, uid, date, octets, flags, keywords, place FROM message",
     ),
     (
+        Table::Head,
         "message2",
         "SELECT rowid, mailbox, uid, date, flags, place FROM message2",
     ),
-    ("body", "SELECT rowid, mailbox, uid, octets FROM body"),
-    ("keyword", "SELECT rowid, mailbox, uid, word FROM keyword"),
-    ("acl", "SELECT rowid, mailbox, identifier, rights FROM acl"),
-    ("gone", "SELECT rowid, mailbox, uid, place FROM gone"),
     (
+        Table::Body,
+        "body",
+        "SELECT rowid, mailbox, uid, octets FROM body",
+    ),
+    (
+        Table::Keyword,
+        "keyword",
+        "SELECT rowid, mailbox, uid, word FROM keyword",
+    ),
+    (
+        Table::Entry,
+        "acl",
+        "SELECT rowid, mailbox, identifier, rights FROM acl",
+    ),
+    (
+        Table::Gone,
+        "gone",
+        "SELECT rowid, mailbox, uid, place FROM gone",
+    ),
+    (
+        Table::SeenFlag,
         "mark",
         "SELECT rowid, mailbox, user, own, before, uid, seen FROM mark",
     ),
-    ("epoch", "SELECT rowid, tree, path, greatest FROM epoch"),
-    ("sub", "SELECT rowid, user, tree, path FROM sub"),
-    ("meta", "SELECT rowid, key, value FROM meta"),
+    (
+        Table::Epoch,
+        "epoch",
+        "SELECT rowid, tree, path, greatest FROM epoch",
+    ),
+    (
+        Table::Subscription,
+        "sub",
+        "SELECT rowid, user, tree, path FROM sub",
+    ),
+    (Table::Meta, "meta", "SELECT rowid, key, value FROM meta"),
 ];
 
 /// Finds the first row of which nothing is read.
 fn unread_row<S: Alter>(conn: &mut Connection<S>) -> Option<Damage> {
-    for (table, query) in TABLES {
-        if let Some(row) = unread_in(conn, table, query) {
+    for (table, name, query) in TABLES {
+        if let Some(row) = unread_in(conn, *table, query) {
             return Some(Damage {
-                table,
+                table: name,
                 row,
                 fault: RowFault::Value,
             });
@@ -68,13 +112,13 @@ fn unread_row<S: Alter>(conn: &mut Connection<S>) -> Option<Damage> {
 }
 
 /// Returns the number of the first row of the table of which nothing is read.
-fn unread_in<S: Alter>(conn: &mut Connection<S>, table: &str, query: &str) -> Option<i64> {
+fn unread_in<S: Alter>(conn: &mut Connection<S>, table: Table, query: &str) -> Option<i64> {
     let mut rows = conn.query(query, &[]).ok()?;
     first_unread(&mut rows, table)
 }
 
 /// Returns the number in the first column of the first row of which nothing is read, and 0 if none is there.
-fn first_unread<S: Alter>(rows: &mut Rows<'_, S>, table: &str) -> Option<i64> {
+fn first_unread<S: Alter>(rows: &mut Rows<'_, S>, table: Table) -> Option<i64> {
     for _ in 0..u64::MAX {
         let Ok(Some(row)) = rows.next() else {
             return None;
@@ -87,20 +131,19 @@ fn first_unread<S: Alter>(rows: &mut Rows<'_, S>, table: &str) -> Option<i64> {
 }
 
 /// Whether nothing is read of a row of the table.
-fn is_unread(table: &str, row: &Row) -> bool {
+fn is_unread(table: Table, row: &Row) -> bool {
     match table {
-        "mailbox" => is_unread_as::<StoredMailbox>(row),
-        "message" => is_unread_as::<StoredMessage>(row),
-        "message2" => is_unread_as::<StoredHead>(row),
-        "body" => is_unread_as::<StoredBody>(row),
-        "keyword" => is_unread_as::<StoredKeyword>(row),
-        "acl" => is_unread_as::<StoredEntry>(row),
-        "gone" => is_unread_as::<StoredGone>(row),
-        "mark" => is_unread_as::<StoredSeenFlag>(row),
-        "epoch" => is_unread_as::<StoredEpoch>(row),
-        "sub" => is_unread_as::<StoredSubscription>(row),
-        "meta" => is_unread_as::<StoredMeta>(row),
-        _ => false,
+        Table::Mailbox => is_unread_as::<StoredMailbox>(row),
+        Table::Message => is_unread_as::<StoredMessage>(row),
+        Table::Head => is_unread_as::<StoredHead>(row),
+        Table::Body => is_unread_as::<StoredBody>(row),
+        Table::Keyword => is_unread_as::<StoredKeyword>(row),
+        Table::Entry => is_unread_as::<StoredEntry>(row),
+        Table::Gone => is_unread_as::<StoredGone>(row),
+        Table::SeenFlag => is_unread_as::<StoredSeenFlag>(row),
+        Table::Epoch => is_unread_as::<StoredEpoch>(row),
+        Table::Subscription => is_unread_as::<StoredSubscription>(row),
+        Table::Meta => is_unread_as::<StoredMeta>(row),
     }
 }
 
