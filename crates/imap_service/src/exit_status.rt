@@ -55,9 +55,13 @@ pub fn report_service_error(rt: &impl Eprint, error: ServiceError) -> ExitCode {
             let _ = eprintln!(rt; "imapd: out of memory");
             ExitCode::from(OUT_OF_MEMORY)
         }
-        ServiceError::Store(fault) => {
-            let _ = eprintln!(rt; "imapd: store unusable\nimapd: {fault}");
-            ExitCode::from(NO_STORE)
-        }
+        ServiceError::Store(fault) => report_store_fault(rt, &fault),
     }
+}
+
+/// Tells standard error, as far as it takes it, why the store can't be used: in words after the line that says so.
+/// Returns the exit status 5.
+pub fn report_store_fault<E: Display>(rt: &impl Eprint, fault: &E) -> ExitCode {
+    let _ = eprintln!(rt; "imapd: store unusable\nimapd: {fault}");
+    ExitCode::from(NO_STORE)
 }

@@ -40,16 +40,18 @@ pub use accept_faults::AcceptFaults;
 pub use client_door::ClientDoor;
 pub use connection::Connection;
 pub use descriptors::{needed, read_limit};
-pub use exit_status::{report_file_fault, report_misuse, report_service_error, report_version};
+pub use exit_status::{
+    report_file_fault, report_misuse, report_service_error, report_store_fault, report_version,
+};
 pub use guarded_stream::GuardedStream;
 pub use http_request::RequestLine;
 pub use idle_ticks::{IdleTicks, TICKS_PER_SECOND};
 pub use idle_waker::{IdleWaker, IdleWakers};
 pub use listener::Listener;
 pub use listening::listen_at;
-pub use log_tail::{LogLook, look_at, report_unread};
+pub use log_tail::{LogLook, look_at, look_at_log, report_unread};
 pub use port_door::{PortDoor, Receptionist};
-pub use private_files::{make_missing, make_private};
+pub use private_files::{MadeFiles, cut_log, make_missing, make_private, remove_made};
 pub use reception::{Reception, SEATS};
 pub use report::Report;
 pub use service_error::{ServiceError, SocketFault, StoreFault};

@@ -55,28 +55,34 @@ struct Walk {
     sum: Sum,
 }
 
-/// Reports how many octets of the log of the database at `path` aren't read when it is opened, if any aren't. Returns
-/// whether there is a log. A log that can't be read is for the database to refuse.
-pub fn report_unread<R: Files + Eprint + AllocGlobal>(
+/// Reports how many octets of a log aren't read when its database is opened, if any aren't.
+pub fn report_unread<R: Eprint>(rt: &R, level: LogLevel, look: LogLook) {
+    if look.unread > 0 {
+        Report::new(rt, level).unread_log(look.unread);
+    }
+}
+
+/// Looks at the log of the database at `path`. Returns `None` if it has none. A log that can't be read is for the
+/// database to refuse: it counts as one without an end.
+pub fn look_at_log<R: Files + AllocGlobal>(
     rt: &R,
-    level: LogLevel,
     path: &str,
-) -> Result<bool, ServiceError> {
+) -> Result<Option<LogLook>, ServiceError> {
     let name = format!(in rt.alloc(); "{path}-wal")?;
     let Ok(file) = fs::open(rt, name.as_str()) else {
-        return Ok(false);
+        return Ok(None);
     };
     let Ok(mut input) = BufReader::new(rt.alloc(), file) else {
         return Err(ServiceError::Memory);
     };
     match look_at(rt.alloc(), &mut input) {
-        Ok(look) => {
-            if look.unread > 0 {
-                Report::new(rt, level).unread_log(look.unread);
-            }
-            Ok(look.length > EMPTY)
-        }
-        Err(_) => Ok(true),
+        Ok(look) => Ok(Some(look)),
+        Err(_) => Ok(Some(LogLook {
+            length: u64::MAX,
+            unread: 0,
+            salts: None,
+            is_written: true,
+        })),
     }
 }
 
@@ -86,6 +92,17 @@ pub struct LogLook {
     pub length: u64,
     /// The octets of frames that aren't read when the database is opened.
     pub unread: u64,
+    /// The salts of its header, if it has one.
+    pub salts: Option<(u32, u32)>,
+    /// Whether frames were written after this header.
+    pub is_written: bool,
+}
+
+impl LogLook {
+    /// Whether the file holds more than a log that was put back into its database.
+    pub fn has_frames(&self) -> bool {
+        self.length > EMPTY
+    }
 }
 
 /// Looks at a database's log.
@@ -98,7 +115,12 @@ pub fn look_at<I: Read>(alloc: Global, input: &mut I) -> io::Result<LogLook> {
             let rest = skip(input)?;
             let length = rest.saturating_add(count as u64);
             let unread = if length > EMPTY { length } else { 0 };
-            Ok(LogLook { length, unread })
+            Ok(LogLook {
+                length,
+                unread,
+                salts: None,
+                is_written: false,
+            })
         }
     }
 }
@@ -154,6 +176,8 @@ fn look_at_frames<I: Read>(alloc: Global, input: &mut I, log: &Log) -> io::Resul
     Ok(LogLook {
         length: walk.at,
         unread: walk.written.saturating_sub(walk.read),
+        salts: Some(log.salt),
+        is_written: walk.written > HEADER as u64,
     })
 }
 

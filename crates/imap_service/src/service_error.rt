@@ -61,6 +61,12 @@ pub enum StoreFault {
     NotADatabase,
     #[error("its folder is missing, or it may not be read and written")]
     CannotOpen,
+    /// There is no file, or it has no octet, and its log has frames.
+    #[error("it is missing or empty, and the log beside it is not")]
+    Lost,
+    /// The log was begun over another store.
+    #[error("the log beside it is that of another store")]
+    StrayLog,
     #[error("its disk is full")]
     Full,
     #[error("its disk failed")]

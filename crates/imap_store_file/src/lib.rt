@@ -5,12 +5,17 @@
 #![tactic(auto)]
 
 mod checking;
+mod database_file;
 mod dumping;
 mod loading;
+mod pair;
+mod salts;
 mod serving;
 mod store;
+mod store_look;
 mod tasks;
 mod told_progress;
+mod unchanged;
 
 pub use serving::serve;
 pub use tasks::{StoreTask, perform};

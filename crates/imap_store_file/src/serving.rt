@@ -2,8 +2,9 @@
 
 ghost use Rattle.std.specs.Prelude.{◌≡◌};
 
-use crate::store::{end, open};
-use imap_options::Service;
+use crate::pair::{real_path, report_fault_at};
+use crate::store::{FileKeeper, end, open};
+use imap_options::{LogLevel, Service};
 use imap_service::{ServiceError, report_service_error, run};
 use imap_sql_keeper::SqlKeeper;
 use sqlite::Alter;
@@ -41,15 +42,27 @@ pub fn serve<
     requires name { blank.name ≡ L.name }
     requires parts { (blank.parts ≡ L.parts) × (blank.parts ≡ 1048576) }
 {
-    match open(files, path.as_str(), service.log) {
+    match open_at(files, path.as_str(), service.log) {
         Ok(keeper) => {
             let error = serve_from::<_, L, R>(threads, keeper, service, since, blank);
             report_service_error(files, error)
         }
-        Err(error) => {
+        Err(status) => {
             drop(service);
-            report_service_error(files, error)
+            status
         }
+    }
+}
+
+/// Opens the store in the file. If it can't be used, tells standard error why, and returns the exit status.
+fn open_at(rt: &HostRuntime, path: &str, level: LogLevel) -> Result<FileKeeper, ExitCode> {
+    let real = match real_path(rt, path) {
+        Ok(real) => real,
+        Err(error) => return Err(report_service_error(rt, error)),
+    };
+    match open(rt, real.as_str(), level) {
+        Ok(keeper) => Ok(keeper),
+        Err(error) => Err(report_fault_at(rt, real.as_str(), error)),
     }
 }
 

@@ -3,12 +3,14 @@
 use crate::checking::{load, report_fault, report_store};
 use crate::dumping::report_dump;
 use crate::loading::report_load;
-use crate::store::{FileKeeper, close, open};
+use crate::pair::{real_path, report_fault_at};
+use crate::store::{close, open};
 use crate::told_progress::ToldProgress;
+use crate::unchanged::{Unchanged, open_unchanged};
 use imap_maildir::{Loaded, MaildirError, dump};
 use imap_names::UserName;
 use imap_options::LogLevel;
-use imap_service::{ServiceError, StoreFault, report_service_error};
+use imap_service::{ServiceError, StoreFault, remove_made, report_service_error};
 use imap_sql_keeper::SqlKeeper;
 use sqlite::{Alter, Connection, FileStore};
 use sqlite_disk::Disk;
@@ -34,20 +36,42 @@ pub enum StoreTask<'a> {
 /// status: 0, 3 if a file or a folder can't be made or read or standard output failed, 4 for want of memory, and 5 if the
 /// store can't be used.
 pub fn perform(rt: &HostRuntime, path: &str, task: StoreTask<'_>) -> ExitCode {
-    let progress = ToldProgress::new(rt, &rt.stderr());
-    match open_for(rt, path, task) {
-        Ok(keeper) => perform_over(rt, path, keeper, task, progress),
-        Err(error) => report_service_error(rt, error),
+    let real = match real_path(rt, path) {
+        Ok(real) => real,
+        Err(error) => return report_service_error(rt, error),
+    };
+    match perform_at(rt, path, real.as_str(), task) {
+        Ok(status) => status,
+        Err(error) => report_fault_at(rt, real.as_str(), error),
     }
 }
 
-/// Takes the database in the file over.
-fn open_for(rt: &HostRuntime, path: &str, task: StoreTask<'_>) -> Result<FileKeeper, ServiceError> {
-    match task {
-        StoreTask::Check | StoreTask::Dump(_) => present(rt, path)?,
-        StoreTask::Load(..) => {}
+/// Does the task over the store whose file, named `path`, lies at `real`.
+fn perform_at(
+    rt: &HostRuntime,
+    path: &str,
+    real: &str,
+    task: StoreTask<'_>,
+) -> Result<ExitCode, ServiceError> {
+    let progress = ToldProgress::new(rt, &rt.stderr());
+    let (keeper, made) = match task {
+        StoreTask::Load(..) => (open(rt, real, LogLevel::Errors)?, None),
+        StoreTask::Check | StoreTask::Dump(_) => {
+            present(rt, real)?;
+            match open_unchanged(rt, real, LogLevel::Errors)? {
+                Unchanged::InFile(keeper, made) => (keeper, Some(made)),
+                Unchanged::InMemory(keeper) => {
+                    return Ok(perform_over(rt, path, keeper, task, progress));
+                }
+            }
+        }
+    };
+    let status = perform_over(rt, path, keeper, task, progress);
+    match made {
+        Some(made) => remove_made(rt, real, made)?,
+        None => {}
     }
-    open(rt, path, LogLevel::Errors)
+    Ok(status)
 }
 
 /// Fails if the file isn't there: `open` would make it.

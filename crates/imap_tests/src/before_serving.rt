@@ -115,21 +115,25 @@ fn looked_at(alloc: Global, length: usize, at: Option<usize>) -> Option<LogLook>
 
 #[test]
 fn looks_at_a_log(rt: HostRuntime) {
-    const ROWS: &[(usize, Option<usize>, u64)] = &[
-        (1640, None, 0),
-        (568, None, 0),
-        (1104, None, 536),
-        (1300, None, 732),
-        (1640, Some(3), 1640),
-        (1640, Some(40), 1608),
-        (1640, Some(600), 1072),
-        (1640, Some(1639), 1072),
-        (41, Some(3), 0),
+    const SALTS: Option<(u32, u32)> = Some((0x0102_0304, 0x0a0b_0c0d));
+    const ROWS: &[(usize, Option<usize>, u64, Option<(u32, u32)>, bool)] = &[
+        (1640, None, 0, SALTS, true),
+        (568, None, 0, SALTS, true),
+        (1104, None, 536, SALTS, true),
+        (1300, None, 732, SALTS, true),
+        (1640, Some(3), 1640, None, false),
+        (1640, Some(40), 1608, SALTS, true),
+        (1640, Some(600), 1072, SALTS, true),
+        (1640, Some(1639), 1072, SALTS, true),
+        (41, None, 0, SALTS, false),
+        (41, Some(3), 0, None, false),
     ];
-    for &(length, at, unread) in ROWS {
+    for &(length, at, unread, salts, is_written) in ROWS {
         let wanted = LogLook {
             length: length as u64,
             unread,
+            salts,
+            is_written,
         };
         assert!(rt;
             looked_at(rt.alloc(), length, at) == Some(wanted),
