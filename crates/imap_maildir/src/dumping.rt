@@ -1,13 +1,14 @@
 //! Mailboxes written as folders of messages.
 
-use crate::file_names::message_file;
-use crate::files::{make_file, make_folder, make_folders, moment_of};
-use crate::folder_names::mailbox_folder;
-use crate::keyword_letters::KeywordLetters;
+use crate::faults::{pass_over, pass_over_failed};
+use crate::files::{make_file, make_folder, make_folders};
 use crate::lists::push_list;
 use crate::maildir_error::MaildirError;
+use crate::moments::{seconds_of, time_of};
 use crate::progress::Progress;
+use crate::state::state_lines;
 use imap_mailbox::{Mailbox, Near, Row};
+use imap_maildir_names::{KeywordLetters, mailbox_folder, message_file};
 use imap_names::Name;
 use imap_world::{MailboxEntry, World};
 use std::alloc::Global;
@@ -22,14 +23,27 @@ const PARTS: &[&str] = &["cur", "new", "tmp"];
 /// How much was written.
 #[derive(Clone, Copy)]
 pub struct Dumped {
-    pub mailboxes: usize,
+    pub mailboxes: u64,
     pub messages: u64,
+    /// How many mailboxes, lists and messages couldn't be written.
+    pub faults: u64,
+}
+
+impl Dumped {
+    /// Counts a message that was written.
+    fn count_message<P: Progress>(&mut self, progress: &mut P) {
+        self.messages = self.messages.saturating_add(1);
+        if self.messages % STRIDE == 0 {
+            progress.done(self.messages);
+        }
+    }
 }
 
 /// Writes all mailboxes below a folder, which is made: each as a folder by its name in full, with the folders `cur`, `new` and
 /// `tmp`, each message as a file in `cur`, and its keywords in `dovecot-keywords`. `\Seen` is that of the mailbox's owner, and
-/// of nobody in the Shared tree. The file `acl` has all access control lists. Fails if the folder is there, or a file or
-/// folder can't be made.
+/// of nobody in the Shared tree. The file `acl` has the access control lists of what was written, the file `state` all
+/// subscriptions. What can't be written is left out: `progress` is told of it. Fails if the folder is there or can't be made,
+/// and once the disk is full.
 pub fn dump<R: Files + AllocGlobal, P: Progress>(
     rt: &R,
     world: &World,
@@ -38,16 +52,20 @@ pub fn dump<R: Files + AllocGlobal, P: Progress>(
 ) -> Result<Dumped, MaildirError> {
     make_folder(rt, folder)?;
     let mut lists = Vec::new(rt.alloc());
-    let mut messages = 0;
+    let mut dumped = Dumped {
+        mailboxes: 0,
+        messages: 0,
+        faults: 0,
+    };
     for (name, entry) in world.mailboxes().entries() {
-        dump_mailbox(rt, folder, name, entry, &mut messages, progress)?;
-        push_mailbox(&mut lists, rt.alloc(), name, entry)?;
+        if dump_mailbox(rt, folder, name, entry, &mut dumped, progress)? {
+            push_mailbox(&mut lists, rt.alloc(), name, entry)?;
+        }
     }
     make_file_in(rt, folder, "acl", lists.as_slice())?;
-    Ok(Dumped {
-        mailboxes: world.mailboxes().len(),
-        messages,
-    })
+    let state = state_lines(rt.alloc(), world)?;
+    make_file_in(rt, folder, "state", state.as_slice())?;
+    Ok(dumped)
 }
 
 /// Appends the access control list of a mailbox to the lines of the file `acl`.
@@ -73,21 +91,34 @@ fn make_file_in<R: Files + AllocGlobal>(
     make_file(rt, path.as_str(), octets, None)
 }
 
-/// Writes a mailbox. `messages` is how many messages were written so far.
+/// Writes a mailbox. Returns whether its folder could be made.
 fn dump_mailbox<R: Files + AllocGlobal, P: Progress>(
     rt: &R,
     below: &str,
     name: &Name,
     entry: &MailboxEntry,
-    messages: &mut u64,
+    dumped: &mut Dumped,
     progress: &mut P,
-) -> Result<(), MaildirError> {
+) -> Result<bool, MaildirError> {
     let folder = mailbox_folder(rt.alloc(), below, name)?;
-    make_maildir(rt, folder.as_str())?;
+    if let Err(error) = make_maildir(rt, folder.as_str()) {
+        pass_over(progress, &mut dumped.faults, error)?;
+        return Ok(false);
+    }
+    dumped.mailboxes = dumped.mailboxes.saturating_add(1);
     let mailbox = entry.messages.as_ref();
-    let owner = owner_of(name);
-    let keywords = dump_messages(rt, folder.as_str(), mailbox, owner, messages, progress)?;
-    dump_keywords(rt, folder.as_str(), &keywords)
+    let keywords = dump_messages(
+        rt,
+        folder.as_str(),
+        mailbox,
+        owner_of(name),
+        dumped,
+        progress,
+    )?;
+    let done = dump_keywords(rt, folder.as_str(), &keywords);
+    drop(keywords);
+    pass_over_failed(progress, &mut dumped.faults, done)?;
+    Ok(true)
 }
 
 /// Makes the folders of a mailbox.
@@ -126,7 +157,7 @@ fn dump_messages<R: Files + AllocGlobal, P: Progress>(
     folder: &str,
     mailbox: &Mailbox,
     user: &str,
-    messages: &mut u64,
+    dumped: &mut Dumped,
     progress: &mut P,
 ) -> Result<KeywordLetters, MaildirError> {
     let mut keywords = KeywordLetters::new(rt.alloc());
@@ -135,10 +166,9 @@ fn dump_messages<R: Files + AllocGlobal, P: Progress>(
     for place in 0..rows.len() {
         let row = rows.get_near(place, &mut near);
         keywords.learn(row.flags.keywords.as_slice())?;
-        dump_message(rt, folder, &row, &keywords)?;
-        *messages = messages.saturating_add(1);
-        if *messages % STRIDE == 0 {
-            progress.done(*messages);
+        match dump_message(rt, folder, &row, &keywords) {
+            Ok(()) => dumped.count_message(progress),
+            Err(error) => pass_over(progress, &mut dumped.faults, error)?,
         }
     }
     Ok(keywords)
@@ -150,11 +180,7 @@ fn dump_message<R: Files + AllocGlobal>(
     row: &Row<'_>,
     keywords: &KeywordLetters,
 ) -> Result<(), MaildirError> {
-    let path = message_file(rt.alloc(), folder, row, keywords)?;
-    make_file(
-        rt,
-        path.as_str(),
-        row.octets.as_slice(),
-        moment_of(row.date),
-    )
+    let moment = seconds_of(row.date);
+    let path = message_file(rt.alloc(), folder, row, moment, keywords)?;
+    make_file(rt, path.as_str(), row.octets.as_slice(), time_of(moment))
 }

@@ -1,6 +1,8 @@
 //! Folders that are read.
 
+use crate::faults::pass_over;
 use crate::maildir_error::MaildirError;
+use crate::progress::Progress;
 use std::alloc::Global;
 use std::fs::{self, DirEntry};
 use std::io::{self, ErrorKind};
@@ -9,24 +11,27 @@ use std::rt::Files;
 /// How many folders are looked at.
 const MAX_FOLDERS: usize = 1_000_000;
 
-/// Returns the names of what is in the folder, in the order of their octets. Fails with `File` if it can't be read.
-pub(crate) fn names_in<R: Files + AllocGlobal + Clone + Drop>(
+/// Returns the names of what is in the folder, in the order of their octets. Names that aren't UTF-8 are passed over. Fails
+/// with `File` if the folder can't be read.
+pub(crate) fn names_in<R: Files + AllocGlobal + Clone + Drop, P: Progress>(
     rt: &R,
     path: &str,
+    faults: &mut u64,
+    progress: &mut P,
 ) -> Result<Vec<String>, MaildirError> {
-    match read_names(rt, path) {
-        Ok(names) => Ok(names),
-        Err(error) => Err(MaildirError::of_file(rt.alloc(), path, error.kind())),
-    }
-}
-
-fn read_names<R: Files + AllocGlobal + Clone + Drop>(
-    rt: &R,
-    path: &str,
-) -> io::Result<Vec<String>> {
+    let entries = match fs::read_dir(rt, path) {
+        Ok(entries) => entries,
+        Err(error) => return Err(MaildirError::of_file(rt.alloc(), path, error.kind())),
+    };
     let mut names = Vec::new(rt.alloc());
-    for entry in fs::read_dir(rt, path)? {
-        push_name(&mut names, rt.alloc(), entry)?;
+    for entry in entries {
+        if let Err(kind) = push_name(&mut names, rt.alloc(), entry) {
+            pass_over(
+                progress,
+                faults,
+                MaildirError::of_file(rt.alloc(), path, kind),
+            )?;
+        }
     }
     names.sort_unstable();
     Ok(names)
@@ -37,36 +42,50 @@ fn push_name<R: Files + Drop>(
     names: &mut Vec<String>,
     alloc: Global,
     entry: io::Result<DirEntry<R>>,
-) -> io::Result<()> {
-    let name = String::from_str(alloc, entry?.file_name())?;
-    names.push(name)?;
-    Ok(())
+) -> Result<(), ErrorKind> {
+    match entry {
+        Ok(entry) => push_text(names, alloc, entry.file_name()),
+        Err(error) => Err(error.kind()),
+    }
+}
+
+fn push_text(names: &mut Vec<String>, alloc: Global, name: &str) -> Result<(), ErrorKind> {
+    let Ok(name) = String::from_str(alloc, name) else {
+        return Err(ErrorKind::OutOfMemory);
+    };
+    match names.push(name) {
+        Ok(()) => Ok(()),
+        Err(_) => Err(ErrorKind::OutOfMemory),
+    }
 }
 
 /// Returns whether a folder is at the path, or what a link there leads to is one.
 fn is_folder<R: Files + AllocGlobal>(rt: &R, path: &str) -> Result<bool, MaildirError> {
     match fs::metadata(rt, path) {
         Ok(found) => Ok(found.is_dir()),
-        Err(error) => match error.kind() {
-            ErrorKind::NotFound => Ok(false),
-            kind => Err(MaildirError::of_file(rt.alloc(), path, kind)),
-        },
+        Err(error) => Err(MaildirError::of_file(rt.alloc(), path, error.kind())),
     }
 }
 
 /// Returns the paths of the Maildirs in a folder and in those below it, in the order of their octets: of all folders that
-/// have a `cur`. Fails with `File` if one can't be read, or if there are more than a million.
-pub(crate) fn find_maildirs<R: Files + AllocGlobal + Clone + Drop>(
+/// have a `cur`. Folders that can't be read are passed over. Fails with `File` if the first can't be read, or if there are
+/// more than a million.
+pub(crate) fn find_maildirs<R: Files + AllocGlobal + Clone + Drop, P: Progress>(
     rt: &R,
     folder: &str,
+    faults: &mut u64,
+    progress: &mut P,
 ) -> Result<Vec<String>, MaildirError> {
     let mut left = Vec::new(rt.alloc());
     let mut found = Vec::new(rt.alloc());
+    if let Err(error) = fs::read_dir(rt, folder) {
+        return Err(MaildirError::of_file(rt.alloc(), folder, error.kind()));
+    }
     let top = String::from_str(rt.alloc(), folder)?;
     left.push(top)?;
     for _ in 0..MAX_FOLDERS {
         match left.pop() {
-            Some(path) => look_into(rt, path, &mut left, &mut found)?,
+            Some(path) => look_into(rt, path, &mut left, &mut found, faults, progress)?,
             None => {
                 found.sort_unstable();
                 return Ok(found);
@@ -77,25 +96,47 @@ pub(crate) fn find_maildirs<R: Files + AllocGlobal + Clone + Drop>(
 }
 
 /// Appends the folder to `found` if it is a Maildir, and the folders in it to `left`.
-fn look_into<R: Files + AllocGlobal + Clone + Drop>(
+fn look_into<R: Files + AllocGlobal + Clone + Drop, P: Progress>(
     rt: &R,
     path: String,
     left: &mut Vec<String>,
     found: &mut Vec<String>,
+    faults: &mut u64,
+    progress: &mut P,
 ) -> Result<(), MaildirError> {
-    let names = names_in(rt, path.as_str())?;
+    match names_in(rt, path.as_str(), faults, progress) {
+        Ok(names) => {
+            if push_folders(rt, path.as_str(), &names, left, faults, progress)? {
+                found.push(path)?;
+            }
+            Ok(())
+        }
+        Err(error) => pass_over(progress, faults, error),
+    }
+}
+
+/// Appends the paths of the folders among what has these names in the folder. Returns whether a `cur` is there.
+fn push_folders<R: Files + AllocGlobal, P: Progress>(
+    rt: &R,
+    folder: &str,
+    names: &[String],
+    folders: &mut Vec<String>,
+    faults: &mut u64,
+    progress: &mut P,
+) -> Result<bool, MaildirError> {
     let mut is_maildir = false;
-    for name in &names {
+    for name in names {
         match name.as_str() {
             "cur" => is_maildir = true,
             "new" | "tmp" => {}
-            name => push_folder(rt, path.as_str(), name, left)?,
+            name => {
+                if let Err(error) = push_folder(rt, folder, name, folders) {
+                    pass_over(progress, faults, error)?;
+                }
+            }
         }
     }
-    if is_maildir {
-        found.push(path)?;
-    }
-    Ok(())
+    Ok(is_maildir)
 }
 
 /// Appends the path of what has this name in the folder, if it is a folder.

@@ -1,6 +1,6 @@
 //! Messages that a mailbox has already.
 
-use crate::files::seconds_of;
+use crate::moments::seconds_of;
 use imap_batch::NewMessage;
 use imap_lex::Octets;
 use imap_mailbox::{Mailbox, Near};

@@ -2,31 +2,31 @@
 #![tactic(auto)]
 
 mod dumping;
-mod file_flags;
-mod file_names;
+mod faults;
 mod files;
-mod folder_names;
 mod folders;
 mod held_messages;
 mod kept_mailboxes;
-mod keyword_letters;
+mod layout;
 mod lists;
 mod loading;
 mod maildir_error;
 mod message_files;
 mod message_reading;
+mod moments;
 mod pending;
 mod progress;
 mod reading;
+mod state;
+mod subscribing;
 
 pub use dumping::{Dumped, dump};
-pub use file_flags::{MessageFlags, message_flags};
-pub use file_names::message_file;
-pub use folder_names::{mailbox_folder, mailbox_name};
 pub use kept_mailboxes::KeptMailboxes;
-pub use keyword_letters::{KeywordLetters, LetteredKeyword, read_keywords};
+pub use layout::Layout;
 pub use lists::{MailboxList, read_lists};
 pub use loading::{Loaded, load};
 pub use maildir_error::MaildirError;
-pub use message_reading::with_line_ends;
+pub use message_reading::{with_line_ends, without_nul};
+pub use moments::{date_at, seconds_of};
 pub use progress::Progress;
+pub use state::{SubscribedName, read_state_line};

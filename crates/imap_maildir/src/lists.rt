@@ -1,10 +1,12 @@
 //! Access control lists as a text.
 
-use crate::folder_names::mailbox_name;
+use crate::faults::pass_over_failed;
 use crate::kept_mailboxes::KeptMailboxes;
 use crate::maildir_error::MaildirError;
+use crate::progress::Progress;
 use bitflags::Flags;
 use imap_keeper::Keeper;
+use imap_maildir_names::mailbox_name;
 use imap_names::Name;
 use imap_rights::{Acl, Entry, Identifier, IdentifierError, Rights, RightsChange, read_rights};
 use imap_values::beside;
@@ -116,15 +118,18 @@ fn read_entry(alloc: Global, entries: &mut Vec<Entry>, text: &str) -> Result<boo
     }
 }
 
-/// Gives each mailbox of the folder's file `acl` the list that it has there. Changes nothing if there is no such file.
-pub(crate) fn load_lists<R: Files + AllocGlobal, K: Keeper>(
+/// Gives each mailbox of the folder's file `acl` the list that it has there. Changes nothing if there is no such file, or
+/// if one of its lines has another form. Lists of mailboxes that are missing are passed over.
+pub(crate) fn load_lists<R: Files + AllocGlobal, K: Keeper, P: Progress>(
     rt: &R,
     kept: &mut KeptMailboxes<K>,
     folder: &str,
+    faults: &mut u64,
+    progress: &mut P,
 ) -> Result<(), MaildirError> {
     let path = format!(in rt.alloc(); "{folder}/acl")?;
     match fs::read_to_string(rt, path.as_str()) {
-        Ok(text) => set_lists(rt.alloc(), kept, text.as_str()),
+        Ok(text) => set_lists(rt.alloc(), kept, text.as_str(), faults, progress),
         Err(error) => match error.kind() {
             ErrorKind::NotFound => Ok(()),
             kind => Err(MaildirError::of_file(rt.alloc(), path.as_str(), kind)),
@@ -133,14 +138,17 @@ pub(crate) fn load_lists<R: Files + AllocGlobal, K: Keeper>(
 }
 
 /// Gives each mailbox of the lines the list that it has there.
-fn set_lists<K: Keeper>(
+fn set_lists<K: Keeper, P: Progress>(
     alloc: Global,
     kept: &mut KeptMailboxes<K>,
     text: &str,
+    faults: &mut u64,
+    progress: &mut P,
 ) -> Result<(), MaildirError> {
     let lists = read_lists(alloc, text)?;
     for list in &lists {
-        set_list(alloc, kept, list)?;
+        let done = set_list(alloc, kept, list);
+        pass_over_failed(progress, faults, done)?;
     }
     Ok(())
 }

@@ -1,14 +1,17 @@
 //! Mailboxes read from folders of messages.
 
-use crate::folder_names::mailbox_name;
+use crate::faults::{pass_over, pass_over_failed};
 use crate::folders::find_maildirs;
 use crate::kept_mailboxes::KeptMailboxes;
+use crate::layout::{Found, Layout, find_name};
 use crate::lists::load_lists;
 use crate::maildir_error::MaildirError;
 use crate::message_files::{MessageFile, message_files};
 use crate::pending::Pending;
 use crate::progress::Progress;
 use crate::reading::Reading;
+use crate::state::load_state;
+use crate::subscribing::load_subscriptions;
 use imap_batch::{Batch, NewMessage};
 use imap_keeper::Keeper;
 use imap_names::{Name, UserName};
@@ -20,11 +23,22 @@ use std::rt::Files;
 /// How much was read.
 #[derive(Clone, Copy)]
 pub struct Loaded {
-    pub mailboxes: usize,
+    pub mailboxes: u64,
     /// How many messages were added.
     pub added: u64,
     /// How many were there already.
     pub met: u64,
+    /// How many files, folders and lines were passed over, or read with a change.
+    pub faults: u64,
+}
+
+impl Loaded {
+    /// Counts a message that was read.
+    fn count_met(&mut self, is_met: bool) {
+        if is_met {
+            self.met = self.met.saturating_add(1);
+        }
+    }
 }
 
 /// A Maildir, and the mailbox that it is.
@@ -32,54 +46,116 @@ pub struct Loaded {
 struct Maildir {
     path: String,
     name: Name,
+    /// Whether it is one of Maildir++.
+    is_maildirpp: bool,
 }
 
-/// Reads all mailboxes below a folder, as [`dump`](crate::dump) writes them: each Maildir there is the mailbox of its path,
-/// with its messages, their flags and moments, and the lists of the file `acl`. A mailbox that is missing is made; in the
-/// Shared tree the administrator owns it. A message that a mailbox has, with these octets and this moment, isn't added
-/// again, so that a load that was ended may be begun once more. Each change is saved before the next is begun. Lines end
-/// with CRLF afterwards, but in files that `dump` wrote, which are taken as they are.
+/// Reads all mailboxes below a folder, as [`dump`](crate::dump) or Maildir++ has them: each Maildir there is the mailbox of
+/// its path, with its messages, their flags and moments, the lists of the file `acl`, and the
+/// subscriptions of the file `state`. A mailbox that is missing is made;
+/// in the Shared tree the administrator owns it. A message that a mailbox has, with these octets and this moment, isn't
+/// added again, so that a load that was ended may be begun once more. Each change is saved before the next is begun. Lines
+/// end with CRLF afterwards, but in files that `dump` wrote, which are taken as they are. What can't be read is passed over:
+/// `progress` is told of it. Fails if the folder can't be read, a line of `acl` has another form, or the store refuses.
 pub fn load<R: Files + AllocGlobal + Clone + Drop, K: Keeper, P: Progress>(
     rt: &R,
     kept: &mut KeptMailboxes<K>,
     administrator: &UserName,
     folder: &str,
+    layout: Layout,
     progress: &mut P,
 ) -> Result<Loaded, MaildirError> {
-    let maildirs = named_maildirs(rt, folder)?;
-    for maildir in &maildirs {
-        make_missing(rt.alloc(), kept, administrator, maildir)?;
-    }
-    load_lists(rt, kept, folder)?;
     let mut loaded = Loaded {
-        mailboxes: maildirs.len(),
+        mailboxes: 0,
         added: 0,
         met: 0,
+        faults: 0,
     };
+    let faults = &mut loaded.faults;
+    let found = named_maildirs(rt, folder, layout, faults, progress)?;
+    let maildirs = made_maildirs(rt.alloc(), kept, administrator, found, faults, progress)?;
+    load_lists(rt, kept, folder, faults, progress)?;
     for maildir in &maildirs {
         load_messages(rt, kept, administrator, maildir, &mut loaded, progress)?;
+        loaded.mailboxes = loaded.mailboxes.saturating_add(1);
     }
+    for maildir in &maildirs {
+        if maildir.is_maildirpp && maildir.name.is_inbox() {
+            load_subscriptions(
+                rt,
+                kept,
+                maildir.path.as_str(),
+                &maildir.name,
+                &mut loaded.faults,
+                progress,
+            )?;
+        }
+    }
+    load_state(rt, kept, folder, &mut loaded.faults, progress)?;
     Ok(loaded)
 }
 
-fn named_maildirs<R: Files + AllocGlobal + Clone + Drop>(
+/// Finds the Maildirs below the folder. Those of no mailbox are passed over.
+fn named_maildirs<R: Files + AllocGlobal + Clone + Drop, P: Progress>(
     rt: &R,
     folder: &str,
+    layout: Layout,
+    faults: &mut u64,
+    progress: &mut P,
 ) -> Result<Vec<Maildir>, MaildirError> {
     let mut maildirs = Vec::new(rt.alloc());
-    for path in find_maildirs(rt, folder)? {
-        let maildir = named(rt.alloc(), folder, path)?;
-        maildirs.push(maildir)?;
+    for path in find_maildirs(rt, folder, faults, progress)? {
+        let found = find_name(rt.alloc(), below(folder, path.as_str()), layout)?;
+        match named(path, found) {
+            Ok(maildir) => maildirs.push(maildir)?,
+            Err(error) => pass_over(progress, faults, error)?,
+        }
     }
     Ok(maildirs)
 }
 
-fn named(alloc: Global, folder: &str, path: String) -> Result<Maildir, MaildirError> {
-    let below = path.strip_prefix(folder).unwrap_or("");
-    match mailbox_name(alloc, below.trim_start_matches('/'))? {
-        Some(name) => Ok(Maildir { path, name }),
+/// The rest of a path below the folder.
+fn below<'a>(folder: &str, path: &'a str) -> &'a str {
+    path.strip_prefix(folder)
+        .unwrap_or("")
+        .trim_start_matches('/')
+}
+
+fn named(path: String, found: Found) -> Result<Maildir, MaildirError> {
+    let Found { name, is_maildirpp } = found;
+    match name {
+        Some(name) => Ok(Maildir {
+            path,
+            name,
+            is_maildirpp,
+        }),
         None => Err(MaildirError::Name { path }),
     }
+}
+
+/// Makes the mailboxes of Maildirs that are missing, and returns the Maildirs. One whose mailbox can't be made is passed
+/// over.
+fn made_maildirs<K: Keeper, P: Progress>(
+    alloc: Global,
+    kept: &mut KeptMailboxes<K>,
+    administrator: &UserName,
+    found: Vec<Maildir>,
+    faults: &mut u64,
+    progress: &mut P,
+) -> Result<Vec<Maildir>, MaildirError> {
+    let mut made = Vec::new(alloc);
+    for maildir in found {
+        match make_missing(alloc, kept, administrator, &maildir) {
+            Ok(()) => {
+                if maildir.is_maildirpp && maildir.name.is_inbox() {
+                    progress.found_maildirpp(maildir.path.as_str());
+                }
+                made.push(maildir)?;
+            }
+            Err(error) => pass_over(progress, faults, error)?,
+        }
+    }
+    Ok(made)
 }
 
 /// Makes the mailbox of a Maildir if it is missing.
@@ -117,7 +193,7 @@ fn change<K: Keeper>(
     }
 }
 
-/// Adds the messages of a Maildir that its mailbox hasn't.
+/// Adds the messages of a Maildir that its mailbox hasn't. What its mailbox doesn't take is passed over.
 fn load_messages<R: Files + AllocGlobal + Clone + Drop, K: Keeper, P: Progress>(
     rt: &R,
     kept: &mut KeptMailboxes<K>,
@@ -126,11 +202,13 @@ fn load_messages<R: Files + AllocGlobal + Clone + Drop, K: Keeper, P: Progress>(
     loaded: &mut Loaded,
     progress: &mut P,
 ) -> Result<(), MaildirError> {
-    let files = message_files(rt, maildir.path.as_str())?;
-    load_files(rt, kept, administrator, maildir, &files, loaded, progress)
+    let files = message_files(rt, maildir.path.as_str(), &mut loaded.faults, progress)?;
+    let done = load_files(rt, kept, administrator, maildir, &files, loaded, progress);
+    drop(files);
+    pass_over_failed(progress, &mut loaded.faults, done)
 }
 
-/// Adds the messages in files of a Maildir that its mailbox hasn't.
+/// Adds the messages in files of a Maildir that its mailbox hasn't. A file that can't be read is passed over.
 fn load_files<R: Files + AllocGlobal + Clone + Drop, K: Keeper, P: Progress>(
     rt: &R,
     kept: &mut KeptMailboxes<K>,
@@ -140,10 +218,12 @@ fn load_files<R: Files + AllocGlobal + Clone + Drop, K: Keeper, P: Progress>(
     loaded: &mut Loaded,
     progress: &mut P,
 ) -> Result<(), MaildirError> {
-    let mut reading = Reading::begin(rt, kept, maildir.path.as_str(), &maildir.name)?;
+    let (path, name) = (maildir.path.as_str(), &maildir.name);
+    let mut reading = Reading::begin(rt, kept, path, name, &mut loaded.faults, progress)?;
     for file in files {
-        if reading.read(rt, file)? {
-            loaded.met = loaded.met.saturating_add(1);
+        match reading.read(rt, file, &mut loaded.faults, progress) {
+            Ok(is_met) => loaded.count_met(is_met),
+            Err(error) => pass_over(progress, &mut loaded.faults, error)?,
         }
         if reading.pending.is_full() {
             save(

@@ -19,15 +19,43 @@ pub enum MaildirError {
     /// A line of the file of access control lists, counted from 1, is no entry of a mailbox's list.
     #[error("line {line} of the file acl: it is no entry of a mailbox's list")]
     List { line: usize },
+    /// A line of the file of states, counted from 1, has another form.
+    #[error("line {line} of the file state: it has another form")]
+    State { line: usize },
     /// The mailbox of a folder can't be changed.
     #[error("{path}: {error}")]
     Change { path: String, error: WorldError },
+    /// A message has NUL, which stands in no message of IMAP (RFC 9051, section 4.3.1).
+    #[error("{path}: each NUL is replaced by the octet 0x80")]
+    Nul { path: String },
     /// The store refused.
     #[error("the store refused")]
     Refused,
 }
 
 impl MaildirError {
+    /// Whether nothing can be written or read after it.
+    pub(crate) fn is_last(&self) -> bool {
+        match self {
+            MaildirError::Memory | MaildirError::Refused => true,
+            MaildirError::File { kind, .. } => matches!(
+                kind,
+                io::ErrorKind::StorageFull
+                    | io::ErrorKind::QuotaExceeded
+                    | io::ErrorKind::ReadOnlyFilesystem
+            ),
+            _ => false,
+        }
+    }
+
+    /// A message at the path has NUL.
+    pub(crate) fn of_nul(alloc: Global, path: &str) -> MaildirError {
+        match String::from_str(alloc, path) {
+            Ok(path) => MaildirError::Nul { path },
+            Err(_) => MaildirError::Memory,
+        }
+    }
+
     /// Why the file or folder at the path can't be made or read.
     pub(crate) fn of_file(alloc: Global, path: &str, kind: io::ErrorKind) -> MaildirError {
         if kind == io::ErrorKind::OutOfMemory {

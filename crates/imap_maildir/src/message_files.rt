@@ -1,7 +1,9 @@
 //! The files of a Maildir's messages.
 
+use crate::faults::pass_over;
 use crate::folders::names_in;
 use crate::maildir_error::MaildirError;
+use crate::progress::Progress;
 use std::alloc::AllocError;
 use std::io::ErrorKind;
 use std::rt::Files;
@@ -18,25 +20,29 @@ impl MessageFile {
     pub(crate) fn path(&self) -> &str {
         self.path.as_str()
     }
+
+    /// The file's own name, without the folders above it.
+    pub(crate) fn name(&self) -> &str {
+        match self.path.as_str().rsplit_once('/') {
+            Some((_, name)) => name,
+            None => self.path.as_str(),
+        }
+    }
 }
 
 /// Returns the files in `new` and `cur` of the Maildir, in the order of the numbers with which their names begin, and of
-/// their paths.
-pub(crate) fn message_files<R: Files + AllocGlobal + Clone + Drop>(
+/// their paths. A folder that can't be read is passed over.
+pub(crate) fn message_files<R: Files + AllocGlobal + Clone + Drop, P: Progress>(
     rt: &R,
     maildir: &str,
+    faults: &mut u64,
+    progress: &mut P,
 ) -> Result<Vec<MessageFile>, MaildirError> {
     let mut files = Vec::new(rt.alloc());
-    push_files(rt, maildir, "cur", &mut files)?;
-    match push_files(rt, maildir, "new", &mut files) {
-        Ok(()) => {}
-        Err(
-            MaildirError::File {
-                kind: ErrorKind::NotFound,
-                ..
-            },
-        ) => {}
-        Err(error) => return Err(error),
+    for part in ["cur", "new"] {
+        if let Err(error) = push_files(rt, maildir, part, &mut files, faults, progress) {
+            pass_over_part(part, faults, progress, error)?;
+        }
     }
     files
         .as_mut_slice()
@@ -44,15 +50,38 @@ pub(crate) fn message_files<R: Files + AllocGlobal + Clone + Drop>(
     Ok(files)
 }
 
+/// Passes over a folder that can't be read. A `new` may be missing.
+fn pass_over_part<P: Progress>(
+    part: &str,
+    faults: &mut u64,
+    progress: &mut P,
+    error: MaildirError,
+) -> Result<(), MaildirError> {
+    let is_missing = matches!(
+        &error,
+        MaildirError::File {
+            kind: ErrorKind::NotFound,
+            ..
+        }
+    );
+    if part == "new" && is_missing {
+        drop(error);
+        return Ok(());
+    }
+    pass_over(progress, faults, error)
+}
+
 /// Appends the files in a folder of the Maildir, but for those whose names begin with a dot.
-fn push_files<R: Files + AllocGlobal + Clone + Drop>(
+fn push_files<R: Files + AllocGlobal + Clone + Drop, P: Progress>(
     rt: &R,
     maildir: &str,
     part: &str,
     files: &mut Vec<MessageFile>,
+    faults: &mut u64,
+    progress: &mut P,
 ) -> Result<(), MaildirError> {
     let folder = format!(in rt.alloc(); "{maildir}/{part}")?;
-    let names = names_in(rt, folder.as_str())?;
+    let names = names_in(rt, folder.as_str(), faults, progress)?;
     for name in &names {
         if !name.starts_with('.') {
             push_file(rt, folder.as_str(), name.as_str(), files)?;

@@ -1,13 +1,15 @@
 //! The files of a Maildir, read one after another.
 
+use crate::faults::pass_over;
 use crate::held_messages::HeldMessages;
 use crate::kept_mailboxes::KeptMailboxes;
-use crate::keyword_letters::{LetteredKeyword, read_keywords};
 use crate::maildir_error::MaildirError;
 use crate::message_files::MessageFile;
 use crate::message_reading::read_message;
 use crate::pending::Pending;
+use crate::progress::Progress;
 use imap_keeper::Keeper;
+use imap_maildir_names::{LetteredKeyword, read_keywords};
 use imap_names::Name;
 use imap_values::beside;
 use std::alloc::{AllocError, Global};
@@ -25,14 +27,23 @@ pub(crate) struct Reading {
 }
 
 impl Reading {
-    /// Begins to read the files of the Maildir at the path, which is the mailbox of this name.
-    pub(crate) fn begin<R: Files + AllocGlobal, K: Keeper>(
+    /// Begins to read the files of the Maildir at the path, which is the mailbox of this name. Keywords that can't be read
+    /// are passed over.
+    pub(crate) fn begin<R: Files + AllocGlobal, K: Keeper, P: Progress>(
         rt: &R,
         kept: &KeptMailboxes<K>,
         maildir: &str,
         name: &Name,
+        faults: &mut u64,
+        progress: &mut P,
     ) -> Result<Reading, MaildirError> {
-        let keywords = keywords_of(rt, maildir)?;
+        let keywords = match keywords_of(rt, maildir) {
+            Ok(keywords) => keywords,
+            Err(error) => {
+                pass_over(progress, faults, error)?;
+                Vec::new(rt.alloc())
+            }
+        };
         let (held, keywords) = beside(held_in(rt.alloc(), kept, name), keywords)?;
         Ok(Reading {
             keywords,
@@ -42,16 +53,25 @@ impl Reading {
     }
 
     /// Reads the message in a file. Returns whether the mailbox has it: otherwise it waits to be saved.
-    pub(crate) fn read<R: Files + AllocGlobal>(
+    pub(crate) fn read<R: Files + AllocGlobal, P: Progress>(
         &mut self,
         rt: &R,
         file: &MessageFile,
+        faults: &mut u64,
+        progress: &mut P,
     ) -> Result<bool, MaildirError> {
-        let message = read_message(rt, file.path(), self.keywords.as_slice())?;
-        if self.held.meet(&message) {
+        let read = read_message(rt, file, self.keywords.as_slice())?;
+        if read.had_nul {
+            pass_over(
+                progress,
+                faults,
+                MaildirError::of_nul(rt.alloc(), file.path()),
+            )?;
+        }
+        if self.held.meet(&read.message) {
             return Ok(true);
         }
-        self.pending.push(message)?;
+        self.pending.push(read.message)?;
         Ok(false)
     }
 }
@@ -65,7 +85,7 @@ fn keywords_of<R: Files + AllocGlobal>(
     match fs::read_to_string(rt, path.as_str()) {
         Ok(text) => Ok(read_keywords(rt.alloc(), text.as_str())?),
         Err(error) => match error.kind() {
-            ErrorKind::NotFound => Ok(Vec::new(rt.alloc())),
+            ErrorKind::NotFound | ErrorKind::IsADirectory => Ok(Vec::new(rt.alloc())),
             kind => Err(MaildirError::of_file(rt.alloc(), path.as_str(), kind)),
         },
     }

@@ -2,6 +2,7 @@
 
 use crate::command_line_error::CommandLineError;
 use crate::config_file::ConfigFile;
+use crate::layout_name::LayoutName;
 use crate::secret::{SecretFiles, why_unread};
 use crate::serve_options::{read_service, read_user, value_of};
 use crate::service::Service;
@@ -36,6 +37,7 @@ pub enum Task {
         folder: String,
         /// The owner of the Shared tree.
         administrator: UserName,
+        layout: LayoutName,
     },
     /// Runs the script on standard input.
     Script,
@@ -233,12 +235,21 @@ fn read_dump(file: &ConfigFile<'_>, found: &ArgMatches<'_>) -> Result<Task, Comm
 fn read_load(file: &ConfigFile<'_>, found: &ArgMatches<'_>) -> Result<Task, CommandLineError> {
     let database = read_path(file, found, "db")?;
     let folder = read_path(file, found, "from")?;
+    let layout = read_layout(file, value_of(found, "layout", ""))?;
     let administrator = read_user(file, "admin", 0, value_of(found, "admin", ""))?;
     Ok(Task::Load {
         database,
         folder,
         administrator,
+        layout,
     })
+}
+
+fn read_layout(file: &ConfigFile<'_>, text: &str) -> Result<LayoutName, CommandLineError> {
+    match LayoutName::read(text) {
+        Some(layout) => Ok(layout),
+        None => Err(file.fault("layout", 0, text, "dump or maildir++ is wanted")),
+    }
 }
 
 fn read_serve<S: SecretFiles>(

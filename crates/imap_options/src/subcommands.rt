@@ -95,6 +95,13 @@ const LOAD: &[OptionRow] = &[
         is_required: true,
         may_repeat: false,
     },
+    OptionRow {
+        name: "layout",
+        value: "LAYOUT",
+        help: "How folders stand for mailboxes: dump, or maildir++ (Dovecot, Courier); without it as each folder shows",
+        is_required: false,
+        may_repeat: false,
+    },
 ];
 
 const SERVE: &[OptionRow] = &[

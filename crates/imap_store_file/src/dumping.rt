@@ -16,12 +16,22 @@ pub(crate) fn report_dump<R: Print + Eprint>(
             Dumped {
                 mailboxes,
                 messages,
+                faults,
             },
         ) => match println!(rt; "{folder}: {mailboxes} mailboxes, {messages} messages") {
-            Ok(()) => ExitCode::SUCCESS,
+            Ok(()) => status_of(faults),
             Err(_) => report_service_error(rt, ServiceError::Output),
         },
         Err(error) => report_maildir_error(rt, error),
+    }
+}
+
+/// Returns the exit status of a task that passed over so many files and folders.
+pub(crate) fn status_of(faults: u64) -> ExitCode {
+    if faults == 0 {
+        ExitCode::SUCCESS
+    } else {
+        ExitCode::from(3)
     }
 }
 

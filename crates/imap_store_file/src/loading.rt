@@ -1,6 +1,6 @@
 //! Folders of messages, read into the mailboxes of a store.
 
-use crate::dumping::report_maildir_error;
+use crate::dumping::{report_maildir_error, status_of};
 use imap_maildir::{Loaded, MaildirError};
 use imap_service::{ServiceError, report_service_error};
 use std::process::ExitCode;
@@ -17,6 +17,7 @@ pub(crate) fn report_load<R: Print + Eprint>(
         mailboxes,
         added,
         met,
+        faults,
     } = match ended {
         Ok(loaded) => loaded,
         Err(error) => return report_maildir_error(rt, error),
@@ -27,7 +28,7 @@ pub(crate) fn report_load<R: Print + Eprint>(
     match println!(rt;
         "{folder}: {mailboxes} mailboxes, {added} messages added, {met} were there"
     ) {
-        Ok(()) => ExitCode::SUCCESS,
+        Ok(()) => status_of(faults),
         Err(_) => report_service_error(rt, ServiceError::Output),
     }
 }

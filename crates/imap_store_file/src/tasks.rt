@@ -7,9 +7,9 @@ use crate::pair::{real_path, report_fault_at};
 use crate::store::{close, open};
 use crate::told_progress::ToldProgress;
 use crate::unchanged::{Unchanged, open_unchanged};
-use imap_maildir::{Loaded, MaildirError, dump};
+use imap_maildir::{Layout, Loaded, MaildirError, dump};
 use imap_names::UserName;
-use imap_options::LogLevel;
+use imap_options::{LayoutName, LogLevel};
 use imap_service::{ServiceError, StoreFault, remove_made, report_service_error};
 use imap_sql_keeper::SqlKeeper;
 use sqlite::{Alter, Connection, FileStore};
@@ -28,7 +28,7 @@ pub enum StoreTask<'a> {
     Dump(&'a str),
     /// Adds the messages in a folder to its mailboxes, as this administrator. Prints how many there are. What was added
     /// stays if the task fails later.
-    Load(&'a str, &'a UserName),
+    Load(&'a str, &'a UserName, LayoutName),
 }
 
 /// Does the task over the store in the file, which `Load` alone makes if it is missing. If the store can't be used, tells
@@ -86,6 +86,14 @@ fn present(rt: &impl Files, path: &str) -> Result<(), ServiceError> {
     }
 }
 
+fn layout_of(name: LayoutName) -> Layout {
+    match name {
+        LayoutName::Recognised => Layout::Recognised,
+        LayoutName::Dump => Layout::Dump,
+        LayoutName::Maildirpp => Layout::Maildirpp,
+    }
+}
+
 /// What came of a task.
 enum Performed<'a, S: Alter> {
     /// The exit status.
@@ -134,8 +142,16 @@ fn perform_in<'a, R: Files + Print + Eprint + AllocGlobal + Clone + Drop, S: Alt
             drop(kept);
             Performed::Ended(status)
         }
-        StoreTask::Load(folder, administrator) => {
-            let ended = imap_maildir::load(rt, &mut kept, administrator, folder, &mut progress);
+        StoreTask::Load(folder, administrator, name) => {
+            let layout = layout_of(name);
+            let ended = imap_maildir::load(
+                rt,
+                &mut kept,
+                administrator,
+                folder,
+                layout,
+                &mut progress,
+            );
             progress.end();
             Performed::Loaded(folder, ended, kept.into_keeper().release())
         }

@@ -1,9 +1,9 @@
 //! What a terminal is told of work that takes long.
 
-use imap_maildir::Progress;
+use imap_maildir::{MaildirError, Progress};
 use std::io::IsTerminal;
 
-/// Tells standard error how far it is, if that is a terminal.
+/// Tells standard error what is left out, and how far it is if that is a terminal.
 #[derive(Drop)]
 pub(crate) struct ToldProgress<'a, R: Eprint> {
     rt: &'a R,
@@ -32,5 +32,13 @@ impl<R: Eprint> Progress for ToldProgress<'_, R> {
         if self.is_terminal {
             let _said = eprint!(self.rt; "\rimapd: {messages} messages");
         }
+    }
+
+    fn passed_over(&mut self, error: &MaildirError) {
+        let _said = eprintln!(self.rt; "imapd: {error}");
+    }
+
+    fn found_maildirpp(&mut self, path: &str) {
+        let _said = eprintln!(self.rt; "imapd: {path}: read as Maildir++");
     }
 }

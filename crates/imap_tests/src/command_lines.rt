@@ -3,7 +3,8 @@
 use crate::wanted::{expect, expect_text};
 use imap_keeper::RowFault;
 use imap_options::{
-    CommandLineError, DialectName, LogLevel, SecretFault, SecretFiles, Service, Task, read_words,
+    CommandLineError, DialectName, LayoutName, LogLevel, SecretFault, SecretFiles, Service, Task,
+    read_words,
 };
 use imap_script::{ScriptError, report_script_error};
 use imap_service::{ServiceError, StoreFault, StoreTable, report_misuse, report_service_error};
@@ -94,11 +95,33 @@ fn text_of(alloc: Global, task: &Task) -> Result<Vec<u8>, AllocError> {
             database,
             folder,
             administrator,
-        } => octets_of(format!(in alloc; "load {database} {folder} {}", administrator.as_str())),
+            layout,
+        } => shown_load(
+            alloc,
+            database.as_str(),
+            folder.as_str(),
+            administrator.as_str(),
+            *layout,
+        ),
         Task::Script => Vec::from_slice(alloc, b"script"),
         Task::Version => Vec::from_slice(alloc, b"version"),
         Task::Serve { database, service } => shown_service(alloc, database.as_str(), service),
     }
+}
+
+fn shown_load(
+    alloc: Global,
+    database: &str,
+    folder: &str,
+    administrator: &str,
+    layout: LayoutName,
+) -> Result<Vec<u8>, AllocError> {
+    let layout = match layout {
+        LayoutName::Recognised => "",
+        LayoutName::Dump => " dump",
+        LayoutName::Maildirpp => " maildir++",
+    };
+    octets_of(format!(in alloc; "load {database} {folder} {administrator}{layout}"))
 }
 
 fn octets_of(text: Result<String, AllocError>) -> Result<Vec<u8>, AllocError> {
@@ -124,6 +147,17 @@ fn reads_command_lines(rt: HostRuntime) {
                 "--admin=root",
             ],
             b"load mail.db mail root",
+        ),
+        (
+            &[
+                "imapd",
+                "load",
+                "--from=mail",
+                "--db=mail.db",
+                "--admin=root",
+                "--layout=maildir++",
+            ],
+            b"load mail.db mail root maildir++",
         ),
         (
             &[
@@ -235,6 +269,17 @@ fn refuses_command_lines(rt: HostRuntime) {
         (&["imapd", "load", "--db", "x", "--from", "y"], true),
         (
             &["imapd", "load", "--db=x", "--from=y", "--admin=a/b"],
+            false,
+        ),
+        (
+            &[
+                "imapd",
+                "load",
+                "--db=x",
+                "--from=y",
+                "--admin=a",
+                "--layout=fs",
+            ],
             false,
         ),
         (&["imapd", "check", "--db", "x", "--admin", "ann"], true),

@@ -6,9 +6,13 @@ use imap_keeper::ListKeeper;
 use imap_lex::Octets;
 use imap_mailbox::{Row, SharedFlags};
 use imap_maildir::{
-    KeptMailboxes, KeywordLetters, Loaded, MailboxList, MessageFlags, Progress, dump, load,
-    mailbox_folder, mailbox_name, message_file, message_flags, read_keywords, read_lists,
-    with_line_ends,
+    KeptMailboxes, Layout, Loaded, MailboxList, MaildirError, Progress, date_at, dump, load,
+    read_lists, read_state_line, seconds_of, with_line_ends, without_nul,
+};
+use imap_maildir_names::{
+    KeywordLetters, MessageFlags, file_moment, is_own_file, mailbox_folder, mailbox_name,
+    message_file, message_flags, name_of_levels, read_courier_subscriptions, read_keywords,
+    read_subscriptions,
 };
 use imap_names::{Name, UserName, read_full, show_name};
 use imap_rights::{Acl, Identifier, read_rights};
@@ -28,6 +32,10 @@ const FOLDERS: &[(&str, &str)] = &[
     ("Other Users/.a/.../new", "to/Other Users/%2Ea/%2E../%6Eew"),
     ("Shared/50%/a.b/tmp", "to/Shared/50%25/a.b/%74mp"),
     ("Shared/\u{e9}", "to/Shared/\u{e9}"),
+    (
+        "Other Users/ann/INBOX/dovecot-keywords",
+        "to/Other Users/ann/INBOX/%64ovecot-keywords",
+    ),
 ];
 
 fn user(alloc: Global, text: &str) -> Result<UserName, AllocError> {
@@ -63,6 +71,66 @@ fn names_folders(rt: HostRuntime) {
         read_back(rt.alloc(), "to/Shared/%zz%2"),
         "Shared/%zz%2",
     );
+}
+
+/// A level and the folders that it has below `to`, in each of which `~` stands for 30 letters `a`.
+fn long_level(alloc: Global, text: &str) -> Result<String, AllocError> {
+    let mut long = String::new(alloc);
+    for letter in text.chars() {
+        if letter == '~' {
+            long.push_str("aaaaaaaaaaaaaaaaaaaaaaaaaaaaaa")?;
+        } else {
+            long.push(letter)?;
+        }
+    }
+    Ok(long)
+}
+
+/// The folder of a mailbox, if it has this one and is found again from it.
+fn long_folder(alloc: Global, text: &str) -> Result<String, AllocError> {
+    let long = long_level(alloc, text)?;
+    let folder = folder(alloc, long.as_str())?;
+    let back = read_back(alloc, folder.as_str())?;
+    if back.as_str() == long.as_str() {
+        Ok(folder)
+    } else {
+        Ok(back)
+    }
+}
+
+fn wanted_folder(alloc: Global, text: &str) -> Result<Vec<u8>, AllocError> {
+    Ok(long_level(alloc, text)?.into_bytes())
+}
+
+#[test]
+fn continues_long_levels(rt: HostRuntime) {
+    const ROWS: &[(&str, &str)] = &[
+        ("Shared/~~~~~~~~bbbbbbb", "to/Shared/~~~~~~~~bbbbbbb"),
+        ("Shared/.~~~~~~~~bbbb", "to/Shared/%2E~~~~~~~~bbbb"),
+        (
+            "Shared/.~~~~~~~~bbbbbcc/x",
+            "to/Shared/%2E~~~~~~~~bbbbbcc/x",
+        ),
+        ("Shared/%%%~~~~~~~~.cd", "to/Shared/%25%25%25~~~~~~~~.cd"),
+        (
+            "Shared/%%%%~~~~~~~~.cd",
+            "to/Shared/%25%25%25%25~~~~~~~~.cd",
+        ),
+        (
+            "Shared/%%%%%~~~~~~~~.cd",
+            "to/Shared/%25%25%25%25%25~~~~~~~aaaaaaaaaaaaaaaaaaaaaaaaaa%/%61aaa.cd",
+        ),
+    ];
+    for &(text, wanted) in ROWS {
+        match wanted_folder(rt.alloc(), wanted) {
+            Ok(wanted) => expect_text(
+                &rt,
+                long_folder(rt.alloc(), text),
+                str::from_utf8(wanted.as_slice()).unwrap_or(""),
+            ),
+            Err(_) => expect_text(&rt, Err(AllocError), wanted),
+        }
+    }
 }
 
 /// The name of the mailbox whose folder this is below `to`, as the administrator sees it.
@@ -124,19 +192,140 @@ fn file_of(alloc: Global, octets: &Octets, flags: &SharedFlags) -> Result<String
         flags,
         number: 2,
     };
-    let file = message_file(alloc, "to", &row, &letters);
+    let file = message_file(alloc, "to", &row, -1, &letters);
     drop(letters);
     file
 }
 
 #[test]
 fn names_files(rt: HostRuntime) {
-    expect_text(&rt, file(rt.alloc(), &[]), "to/cur/7.imapd,S=4:2,DFRST");
+    expect_text(
+        &rt,
+        file(rt.alloc(), &[]),
+        "to/cur/7.imapd,S=4,T=-1:2,DFRST",
+    );
     expect_text(
         &rt,
         file(rt.alloc(), &["b", "a"]),
-        "to/cur/7.imapd,S=4:2,DFRSTab",
+        "to/cur/7.imapd,S=4,T=-1:2,DFRSTab",
     );
+}
+
+#[test]
+fn reads_moments_of_files(rt: HostRuntime) {
+    const ROWS: &[(&str, &str)] = &[
+        ("7.imapd,S=4,T=-1:2,S", "true -1"),
+        ("7.imapd,S=4,T=253402300799", "true 253402300799"),
+        ("7.imapd,S=4:2,T=5", "true none"),
+        ("7.imapd,T=x:2,", "true none"),
+        ("a7.imapd,S=4,T=1:2,", "false none"),
+        (".imapd,S=4,T=1:2,", "false none"),
+        ("1700000000.M2P3.host,S=4,T=1:2,", "false none"),
+    ];
+    for &(name, wanted) in ROWS {
+        expect_text(&rt, shown_moment(rt.alloc(), name), wanted);
+    }
+}
+
+fn shown_moment(alloc: Global, name: &str) -> Result<String, AllocError> {
+    let is_own = is_own_file(name);
+    match file_moment(name) {
+        Some(moment) => format!(in alloc; "{is_own} {moment}"),
+        None => format!(in alloc; "{is_own} none"),
+    }
+}
+
+/// The date of a moment, and the moment of that date.
+fn shown_date(alloc: Global, moment: i64) -> Result<Vec<u8>, AllocError> {
+    let mut text = Vec::new(alloc);
+    if let Some(date) = date_at(moment) {
+        date.print(&mut text)?;
+        if seconds_of(date) != moment {
+            text.clear();
+        }
+    }
+    Ok(text)
+}
+
+#[test]
+fn dates_moments(rt: HostRuntime) {
+    const ROWS: &[(i64, &[u8])] = &[
+        (0, b" 1-Jan-1970 00:00:00 +0000"),
+        (-1, b"31-Dec-1969 23:59:59 +0000"),
+        (-2_203_891_200, b" 1-Mar-1900 00:00:00 +0000"),
+        (-62_167_219_200, b" 1-Jan-0000 00:00:00 +0000"),
+        (-62_167_219_201, b" 1-Jan-0000 23:58:59 +2359"),
+        (253_402_300_800, b"31-Dec-9999 00:01:00 -2359"),
+        (253_402_400_000, b""),
+        (i64::MIN, b""),
+    ];
+    for &(moment, wanted) in ROWS {
+        expect(&rt, shown_date(rt.alloc(), moment), wanted);
+    }
+}
+
+/// The names that the levels have for ann.
+fn maildirpp(alloc: Global, levels: &str) -> Result<String, AllocError> {
+    let root = user(alloc, "root")?;
+    match name_of_levels(alloc, Some("ann"), levels, '.')? {
+        Some(name) => show_name(alloc, &root, &name),
+        None => String::from_str(alloc, "none"),
+    }
+}
+
+#[test]
+fn reads_levels(rt: HostRuntime) {
+    const ROWS: &[(&str, &str)] = &[
+        ("Sent", "Other Users/ann/Sent"),
+        ("Entw&APw-rfe.a", "Other Users/ann/Entw\u{fc}rfe/a"),
+        ("INBOX.Work", "Other Users/ann/INBOX/Work"),
+        ("Entw\u{fc}rfe", "Other Users/ann/Entw\u{fc}rfe"),
+        ("a..b", "none"),
+        ("", "none"),
+    ];
+    for &(levels, wanted) in ROWS {
+        expect_text(&rt, maildirpp(rt.alloc(), levels), wanted);
+    }
+}
+
+/// The names to which ann subscribed in a file of Dovecot, or else of Courier.
+fn subscriptions(alloc: Global, text: &str, is_courier: bool) -> Result<String, AllocError> {
+    let root = user(alloc, "root")?;
+    let names = if is_courier {
+        read_courier_subscriptions(alloc, "ann", text)?
+    } else {
+        read_subscriptions(alloc, "ann", text)?
+    };
+    let mut shown = String::new(alloc);
+    for name in &names {
+        shown.push_str(show_name(alloc, &root, name)?.as_str())?;
+        shown.push(';')?;
+    }
+    Ok(shown)
+}
+
+#[test]
+fn reads_subscriptions(rt: HostRuntime) {
+    const ROWS: &[(&str, bool, &str)] = &[
+        (
+            "V\t2\n\nSent\nA.b\tC/d\n",
+            false,
+            "Other Users/ann/Sent;Other Users/ann/A.b/C/d;",
+        ),
+        (
+            "Sent\nA.B\nC/D.e\n",
+            false,
+            "Other Users/ann/Sent;Other Users/ann/A/B;Other Users/ann/C/D.e;",
+        ),
+        (
+            "INBOX.Entw&APw-rfe\nINBOX\n",
+            true,
+            "Other Users/ann/Entw\u{fc}rfe;Other Users/ann/INBOX;",
+        ),
+    ];
+    for &(text, is_courier, wanted) in ROWS {
+        expect_text(&rt, subscriptions(rt.alloc(), text, is_courier), wanted);
+    }
 }
 
 fn lines(alloc: Global) -> Result<Vec<u8>, AllocError> {
@@ -215,6 +404,41 @@ fn ends_lines(rt: HostRuntime) {
     }
 }
 
+/// The user and the name of a line of the file `state`.
+fn state_line(alloc: Global, line: &str) -> Result<String, AllocError> {
+    let root = user(alloc, "root")?;
+    match read_state_line(alloc, line)? {
+        Some(subscribed) => {
+            let name = show_name(alloc, &root, &subscribed.name)?;
+            format!(in alloc; "{} {name}", subscribed.user.as_str())
+        }
+        None => String::from_str(alloc, "none"),
+    }
+}
+
+#[test]
+fn reads_states(rt: HostRuntime) {
+    const ROWS: &[(&str, &str)] = &[
+        ("subscribed\tann\t./Shared/50%25", "ann Shared/50%"),
+        ("subscribed\tann", "none"),
+        ("subscribed\ta b\t./Shared/A", "none"),
+        ("subscribed\tann\t./A", "none"),
+        ("seen\tann\t./Shared/A", "none"),
+    ];
+    for &(line, wanted) in ROWS {
+        expect_text(&rt, state_line(rt.alloc(), line), wanted);
+    }
+}
+
+#[test]
+fn replaces_nul(rt: HostRuntime) {
+    let octets = match Vec::from_slice(rt.alloc(), b"a\0\0b") {
+        Ok(octets) => Ok(without_nul(octets)),
+        Err(_) => Err(AllocError),
+    };
+    expect(&rt, octets, b"a\x80\x80b");
+}
+
 /// The lists in a text: line, name and number of entries.
 fn lists(alloc: Global, text: &str) -> Result<String, AllocError> {
     match read_lists(alloc, text) {
@@ -281,6 +505,10 @@ struct Quiet;
 
 impl Progress for Quiet {
     fn done(&mut self, _messages: u64) {}
+
+    fn passed_over(&mut self, _error: &MaildirError) {}
+
+    fn found_maildirpp(&mut self, _path: &str) {}
 }
 
 fn place(alloc: Global, world: &mut World, text: &str) -> Result<(), WorldError> {
@@ -368,7 +596,7 @@ fn loaded<R: Files + AllocGlobal + Clone + Drop>(
     path: &str,
 ) -> Result<String, AllocError> {
     let root = user(rt.alloc(), "root")?;
-    let loaded = load(rt, kept, &root, path, &mut Quiet);
+    let loaded = load(rt, kept, &root, path, Layout::Recognised, &mut Quiet);
     drop(root);
     match loaded {
         Ok(
@@ -376,8 +604,9 @@ fn loaded<R: Files + AllocGlobal + Clone + Drop>(
                 mailboxes,
                 added,
                 met,
+                faults,
             },
-        ) => format!(in rt.alloc(); "{mailboxes} {added} {met} "),
+        ) => format!(in rt.alloc(); "{mailboxes} {added} {met} {faults} "),
         Err(error) => {
             let text = format!(in rt.alloc(); "{error}");
             drop(error);
@@ -446,6 +675,6 @@ fn moves_mailboxes(rt: HostRuntime) {
     expect_text(
         &rt,
         moved(&rt),
-        "true true true ./Shared/A\n./Shared/A/B\tbob\tlr\n2 1 0 2 0 1 1 true Subject: x\\r\\n\\r\\ny\\r\\n",
+        "true true true ./Shared/A\n./Shared/A/B\tbob\tlr\n2 1 0 0 2 0 1 0 1 true Subject: x\\r\\n\\r\\ny\\r\\n",
     );
 }

@@ -27,11 +27,12 @@ fn main(rt: HostRuntime) -> ExitCode {
                 database,
                 folder,
                 administrator,
+                layout,
             },
         ) => perform(
             &rt,
             database.as_str(),
-            StoreTask::Load(folder.as_str(), &administrator),
+            StoreTask::Load(folder.as_str(), &administrator, layout),
         ),
         Ok(Task::Script) => match script(&rt, rt.stdin(), rt.stdout()) {
             Ok(()) => ExitCode::SUCCESS,

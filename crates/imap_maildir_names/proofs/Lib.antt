@@ -1,0 +1,4 @@
+pub mod Found
+pub mod Paths
+pub mod Pushes
+pub mod RoundTrip
