@@ -3,17 +3,17 @@
 //! The socket stays blocking, since a writer's `WouldBlock` is a failed write. Its reads end after a
 //! millisecond by a timeout of their own, and its writes after minutes in which the client took nothing.
 
+use crate::arrival::Arrival;
 use crate::connection::Connection;
+use crate::greetings::leave_out_greeting;
 use crate::guarded_stream::GuardedStream;
 use crate::idle_waker::{IdleWaker, IdleWakers};
-use crate::logging_in::{LOGIN_SECONDS, log_in};
 use crate::owned::{beside, shared};
 use crate::reception::Reception;
 use crate::report::Report;
 use crate::shared_stream::SharedStream;
 use crate::wakeable_stream::WakeableStream;
 use imap_host::{Door, End, ServeError};
-use imap_login::Credentials;
 use imap_names::UserName;
 use imap_options::DialectName;
 use std::alloc::Global;
@@ -37,8 +37,6 @@ pub struct ClientDoor<
     pub waker: &'a IdleWaker,
     pub report: &'a Report<'a, R>,
     pub user: &'a UserName,
-    /// What clients log in with, if they are to.
-    pub credentials: &'a Option<Credentials>,
     /// What clients are spoken to in.
     pub dialect: DialectName,
     /// The number of the worker's session.
@@ -88,39 +86,21 @@ impl<'a, R: Net<Listener = TcpListener, Stream = TcpStream> + Wait + Clock + Epr
         Ok(GuardedStream::new(self.alloc, input, stream))
     }
 
-    /// Returns what is read of a client and what is written to it, if the client may be served.
-    fn admitted(&self, client: Connection) -> Option<(GuardedStream<'a, R>, SharedStream)> {
-        let (mut input, mut output) = self.connect(client).ok()?;
-        self.report.opened(self.user, self.number);
-        let is_admitted = self.admits(&mut input, &mut output).unwrap_or(false);
-        if !is_admitted {
-            self.report.ended(self.user, self.number, "no login");
+    /// Returns what is read of a client and what is written to it, if the client can be served.
+    fn admitted(&self, client: Arrival) -> Option<(GuardedStream<'a, R>, SharedStream)> {
+        let Arrival {
+            connection,
+            after_login,
+        } = client;
+        let peer = connection.peer();
+        let (mut input, mut output) = self.connect(connection).ok()?;
+        if let Some(octets) = after_login {
+            leave_out_greeting(self.alloc, self.dialect, &mut output).ok()?;
+            input.go_on_with(octets);
         }
-        is_admitted.then_some((input, output))
-    }
-
-    /// Returns whether the client may be served: whether it has logged in, if it is to.
-    fn admits(
-        &self,
-        input: &mut GuardedStream<'a, R>,
-        output: &mut SharedStream,
-    ) -> io::Result<bool> {
-        match self.credentials {
-            Some(credentials) => {
-                output.set_timeout(Duration::from_secs(LOGIN_SECONDS))?;
-                let has_entered = log_in(
-                    self.rt,
-                    self.alloc,
-                    credentials,
-                    self.dialect,
-                    input,
-                    output,
-                )?;
-                output.set_timeout(self.write_timeout)?;
-                Ok(has_entered)
-            }
-            None => Ok(true),
-        }
+        let sessions = self.reception.taken(self.rt);
+        self.report.opened(self.user, self.number, sessions, peer);
+        Some((input, output))
     }
 }
 
@@ -131,7 +111,7 @@ impl<'a, R: Net<Listener = TcpListener, Stream = TcpStream> + Wait + Clock + Epr
     type Out = SharedStream;
 
     /// Returns the next client, or `None` if none comes any more. A client that can't be served, for want of
-    /// descriptors or memory, is let go, and so is one that doesn't log in if it is to.
+    /// descriptors or memory, is let go.
     fn next(&mut self) -> Option<(GuardedStream<'a, R>, SharedStream)> {
         for _ in self.rt.forever() {
             self.let_go();
@@ -145,7 +125,8 @@ impl<'a, R: Net<Listener = TcpListener, Stream = TcpStream> + Wait + Clock + Epr
     }
 
     fn ended(&mut self, end: Result<End, ServeError>) {
-        self.report.ended(self.user, self.number, why(end));
+        let others = self.reception.taken(self.rt).saturating_sub(1);
+        self.report.ended(self.user, self.number, others, why(end));
     }
 }
 

@@ -4,7 +4,7 @@ ghost use Rattle.std.specs.Counts.{IsPrefixLen};
 ghost use Rattle.std.specs.Prelude.{IfOk};
 
 use std::io::{self, Read, Write};
-use std::net::TcpStream;
+use std::net::{SocketAddr, TcpStream};
 use std::os::fd::{AsRawFd, RawFd};
 use std::os::unix::net::UnixStream;
 use std::time::Duration;
@@ -39,6 +39,22 @@ impl Connection {
         match self {
             Connection::Tcp(stream) => stream.set_write_timeout(Some(timeout)),
             Connection::Unix(stream) => stream.set_write_timeout(Some(timeout)),
+        }
+    }
+
+    /// Lets reads and writes that would wait fail with `WouldBlock`, or wait again.
+    pub(crate) fn set_nonblocking(&self, is_nonblocking: bool) -> io::Result<()> {
+        match self {
+            Connection::Tcp(stream) => stream.set_nonblocking(is_nonblocking),
+            Connection::Unix(stream) => stream.set_nonblocking(is_nonblocking),
+        }
+    }
+
+    /// The address and port of the client. One over a socket file has none.
+    pub(crate) fn peer(&self) -> Option<SocketAddr> {
+        match self {
+            Connection::Tcp(stream) => stream.peer_addr().ok(),
+            Connection::Unix(_) => None,
         }
     }
 

@@ -1,5 +1,6 @@
 //! How many descriptors the program may have open, and how many it needs.
 
+use crate::pending_logins::MAX_LOGINS;
 use std::fs;
 use std::rt::Files;
 
@@ -10,10 +11,17 @@ const SPARE: u64 = 16;
 /// what it is waited for by, and its waker.
 const PER_PORT: u64 = 1 + 3 * 16;
 
-/// Returns how many descriptors are needed to serve this many ports.
-pub fn needed(ports: usize) -> u64 {
+/// What a port needs besides whose clients log in: the connections that wait for their logins and one too many, and
+/// what they are waited for by.
+const PER_LOGIN_PORT: u64 = MAX_LOGINS as u64 + 2;
+
+/// Returns how many descriptors are needed to serve this many ports, at as many of which as `login_ports` says clients
+/// log in.
+pub fn needed(ports: usize, login_ports: usize) -> u64 {
+    let for_logins = (login_ports as u64).saturating_mul(PER_LOGIN_PORT);
     (ports as u64)
         .saturating_mul(PER_PORT)
+        .saturating_add(for_logins)
         .saturating_add(SPARE)
 }
 

@@ -1,7 +1,7 @@
-//! Connections that are ended when their first line is an HTTP request line.
+//! Connections that are ended when their first line is no command of IMAP.
 
 use crate::connection::Connection;
-use crate::http_request::RequestLine;
+use crate::first_line::{FirstLine, Opening};
 use crate::refusing::say_goodbye;
 use crate::wakeable_stream::WakeableStream;
 use std::alloc::Global;
@@ -10,13 +10,15 @@ use std::net::{Net, TcpListener, TcpStream};
 use std::rt::Clock;
 use std::sync::{Arc, Wait};
 
-/// A connection as it is read. If its first line is an HTTP request line, it is answered by a BYE, and the input is at
-/// its end: what comes with that line and after it is not handed on.
+/// A connection as it is read. If its first line is no command of IMAP, it is answered by a BYE, and the input is at
+/// its end: what comes with the octet that shows it and after it is not handed on. What comes before it is no whole
+/// line.
 #[derive(Drop)]
 pub struct GuardedStream<'a, R: Net<Listener = TcpListener, Stream = TcpStream> + Wait + Clock> {
     input: WakeableStream<'a, R>,
     stream: Arc<Connection>,
-    line: RequestLine,
+    /// The first line, unless it was looked at before.
+    line: Option<FirstLine>,
     /// The octets that are read before anything else.
     first: Cursor<Vec<u8>>,
 }
@@ -31,17 +33,28 @@ impl<'a, R: Net<Listener = TcpListener, Stream = TcpStream> + Wait + Clock> Guar
         GuardedStream {
             input,
             stream,
-            line: RequestLine::new(),
+            line: Some(FirstLine::new(alloc)),
             first: Cursor::new(Vec::new(alloc)),
         }
     }
 
-    /// Lets these octets be read before all that is still to come.
-    pub(crate) fn read_first(&mut self, alloc: Global, octets: &[u8]) -> io::Result<()> {
-        let mut first = Vec::new(alloc);
-        first.extend_from_slice(octets)?;
-        self.first = Cursor::new(first);
-        Ok(())
+    /// Lets these octets be read before all that is still to come. The first line of the connection was looked at.
+    pub(crate) fn go_on_with(&mut self, octets: Vec<u8>) {
+        self.first = Cursor::new(octets);
+        self.line = None;
+    }
+
+    /// Looks at what was read. Returns whether it may be handed on.
+    fn is_passed(&mut self, octets: &[u8]) -> io::Result<bool> {
+        match &mut self.line {
+            Some(line) => {
+                if line.opening() == Opening::Open {
+                    line.take(octets)?;
+                }
+                Ok(line.opening() != Opening::Refused)
+            }
+            None => Ok(true),
+        }
     }
 }
 
@@ -53,10 +66,10 @@ impl<'a, R: Net<Listener = TcpListener, Stream = TcpStream> + Wait + Clock> Read
             return Ok(count);
         }
         let count = self.input.read(buf)?;
-        if self.line.is_open() && self.line.look_at(&buf[..count]) {
-            say_goodbye(&self.stream);
-            return Ok(0);
+        if self.is_passed(&buf[..count])? {
+            return Ok(count);
         }
-        Ok(count)
+        say_goodbye(&self.stream);
+        Ok(0)
     }
 }

@@ -15,7 +15,7 @@ pub enum Listener {
 }
 
 impl Listener {
-    /// Waits for the next connection.
+    /// Returns the next connection, for which it waits unless the listener doesn't.
     pub(crate) fn accept(&self) -> io::Result<Connection> {
         match self {
             Listener::Tcp(listener) => {
@@ -26,6 +26,14 @@ impl Listener {
                 let (stream, _) = listener.accept()?;
                 Ok(Connection::Unix(stream))
             }
+        }
+    }
+
+    /// Lets an `accept` that would wait fail with `WouldBlock`.
+    pub(crate) fn set_nonblocking(&self) -> io::Result<()> {
+        match self {
+            Listener::Tcp(listener) => listener.set_nonblocking(true),
+            Listener::Unix(listener) => listener.set_nonblocking(true),
         }
     }
 

@@ -16,7 +16,7 @@ use std::rt::Files;
 pub(crate) fn listen<
     R: Net<Listener = TcpListener, Stream = TcpStream> + Print + Files + AllocGlobal,
 >(rt: &R, ports: &[Port]) -> Result<Vec<Reception>, ServiceError> {
-    let needed = needed(ports.len());
+    let needed = needed(ports.len(), login_ports(ports));
     if let Some(allowed) = allowed(rt) {
         if allowed < needed {
             return Err(ServiceError::Descriptors { needed, allowed });
@@ -27,6 +27,14 @@ pub(crate) fn listen<
     let (_, receptions) = beside(opened, receptions)?;
     let (_, receptions) = beside(print_all(rt, ports), receptions)?;
     Ok(receptions)
+}
+
+/// At how many ports clients log in.
+fn login_ports(ports: &[Port]) -> usize {
+    ports
+        .iter()
+        .filter(|port| port.credentials.is_some())
+        .count()
 }
 
 /// Appends a reception for each port.

@@ -5,11 +5,15 @@
 
 use crate::client_door::ClientDoor;
 use crate::guarded_stream::GuardedStream;
+use crate::pending_logins::{LoginPort, PendingLogins};
 use crate::reception::Reception;
 use crate::report::Report;
 use crate::shared_stream::SharedStream;
 use imap_host::{Door, End, ServeError};
+use imap_login::Credentials;
 use imap_names::UserName;
+use imap_options::DialectName;
+use std::alloc::Global;
 use std::net::{Net, TcpListener, TcpStream};
 use std::rt::Clock;
 use std::sync::Wait;
@@ -27,9 +31,47 @@ pub enum PortDoor<'a, R: Net<Listener = TcpListener, Stream = TcpStream> + Wait 
 #[derive(Drop)]
 pub struct Receptionist<'a, R: Wait + Clock + Eprint> {
     pub rt: &'a R,
+    pub alloc: Global,
     pub reception: &'a Reception,
     pub user: &'a UserName,
+    /// What clients log in with, if they are to.
+    pub credentials: &'a Option<Credentials>,
+    /// What clients who log in are spoken to in.
+    pub dialect: DialectName,
     pub report: &'a Report<'a, R>,
+}
+
+impl<'a, R: Net<Listener = TcpListener, Stream = TcpStream> + Wait + Clock + Eprint> Receptionist<
+    'a,
+    R,
+> {
+    /// Receives clients until no more can be had.
+    fn receive(&self) {
+        match self.credentials {
+            Some(credentials) => self.receive_logins(&LoginPort {
+                rt: self.rt,
+                alloc: self.alloc,
+                reception: self.reception,
+                user: self.user,
+                credentials,
+                dialect: self.dialect,
+                report: self.report,
+            }),
+            None => self.reception.receive(self.rt, self.user, self.report),
+        }
+    }
+
+    /// Receives clients who log in until no more can be had.
+    fn receive_logins(&self, port: &LoginPort<'_, R>) {
+        if let Ok(mut logins) = PendingLogins::new(port) {
+            for _ in self.rt.forever() {
+                if logins.turn(port).is_err() {
+                    break;
+                }
+            }
+        }
+        self.reception.close(self.rt);
+    }
 }
 
 impl<'a, R: Net<Listener = TcpListener, Stream = TcpStream> + Wait + Clock + Eprint + Sync> Door
@@ -42,7 +84,7 @@ impl<'a, R: Net<Listener = TcpListener, Stream = TcpStream> + Wait + Clock + Epr
         match self {
             PortDoor::Serving(door) => door.next(),
             PortDoor::Receiving(door) => {
-                door.reception.receive(door.rt, door.user, door.report);
+                door.receive();
                 None
             }
         }

@@ -4,6 +4,7 @@
 //! has one descriptor. A connection that comes while the last busy worker becomes free may still be refused.
 
 use crate::accept_faults::AcceptFaults;
+use crate::arrival::Arrival;
 use crate::connection::Connection;
 use crate::listener::Listener;
 use crate::refusing::say_goodbye;
@@ -14,7 +15,7 @@ use std::collections::VecDeque;
 use std::os::fd::RawFd;
 use std::rt::Clock;
 use std::sync::{Condvar, Mutex, Wait};
-use std::thread;
+use std::{io, thread};
 
 /// How many connections a user may have at once.
 pub const SEATS: usize = 16;
@@ -22,7 +23,7 @@ pub const SEATS: usize = 16;
 /// Clients who wait for a worker, and how many workers have one.
 #[derive(Drop)]
 struct Queue {
-    clients: VecDeque<Connection>,
+    clients: VecDeque<Arrival>,
     /// How many clients wait or are served.
     taken: usize,
     /// Whether no client comes any more.
@@ -57,7 +58,22 @@ impl Reception {
         self.listener.descriptor()
     }
 
-    /// Receives clients until no more can be had. Refuses a client if as many are served as may be.
+    /// Lets an accept that would wait fail with `WouldBlock`.
+    pub(crate) fn set_nonblocking(&self) -> io::Result<()> {
+        self.listener.set_nonblocking()
+    }
+
+    /// Returns the next connection.
+    pub(crate) fn accept(&self) -> io::Result<Connection> {
+        self.listener.accept()
+    }
+
+    /// How many clients wait or are served.
+    pub fn taken<R: Wait>(&self, rt: &R) -> usize {
+        self.queue.lock(rt).taken
+    }
+
+    /// Receives clients who don't log in until no more can be had. Refuses a client if as many are served as may be.
     pub fn receive<R: Wait + Clock + Eprint>(
         &self,
         rt: &R,
@@ -82,25 +98,40 @@ impl Reception {
         self.close(rt);
     }
 
-    /// Hands a client to the workers, or refuses it.
+    /// Hands a client who doesn't log in to the workers, or refuses it.
     pub fn admit<R: Wait + Eprint>(
         &self,
         rt: &R,
         user: &UserName,
         report: &Report<'_, R>,
-        client: Connection,
+        connection: Connection,
+    ) {
+        let client = Arrival {
+            connection,
+            after_login: None,
+        };
+        self.admit_arrival(rt, user, report, client);
+    }
+
+    /// Hands a client to the workers, or refuses it.
+    pub(crate) fn admit_arrival<R: Wait + Eprint>(
+        &self,
+        rt: &R,
+        user: &UserName,
+        report: &Report<'_, R>,
+        client: Arrival,
     ) {
         match self.enter(rt, client) {
             None => self.arrived.notify_one(),
             Some(client) => {
-                report.refused(user);
-                say_goodbye(&client);
+                report.refused(user, client.connection.peer());
+                say_goodbye(&client.connection);
             }
         }
     }
 
     /// Puts a client where a worker takes it from. Hands it back if as many are served as may be.
-    fn enter<R: Wait>(&self, rt: &R, client: Connection) -> Option<Connection> {
+    fn enter<R: Wait>(&self, rt: &R, client: Arrival) -> Option<Arrival> {
         let mut queue = self.queue.lock(rt);
         if queue.taken >= SEATS {
             return Some(client);
@@ -113,7 +144,7 @@ impl Reception {
     }
 
     /// Waits for the next client. Returns `None` if none comes any more.
-    pub fn take<R: Wait>(&self, rt: &R) -> Option<Connection> {
+    pub(crate) fn take<R: Wait>(&self, rt: &R) -> Option<Arrival> {
         let queue = self.queue.lock(rt);
         let mut queue = self
             .arrived

@@ -9,17 +9,18 @@ use crate::report::Report;
 use imap_keeper::{KeepError, Keeper};
 use imap_world::{Change, World};
 use std::alloc::Global;
+use std::sync::Wait;
 
 /// Passes all on to its keeper. Says when that refuses, and when it saves again.
 #[derive(Drop)]
-pub(crate) struct ReportingKeeper<'a, K: Keeper, R: Eprint> {
+pub(crate) struct ReportingKeeper<'a, K: Keeper, R: Eprint + Wait> {
     pub(crate) keeper: K,
     pub(crate) report: &'a Report<'a, R>,
     /// Whether the last save was refused.
     pub(crate) is_refusing: bool,
 }
 
-impl<'a, K: Keeper, R: Eprint> ReportingKeeper<'a, K, R> {
+impl<'a, K: Keeper, R: Eprint + Wait> ReportingKeeper<'a, K, R> {
     /// Hands the keeper back.
     pub(crate) fn into_inner(self) -> K {
         let ReportingKeeper {
@@ -31,7 +32,7 @@ impl<'a, K: Keeper, R: Eprint> ReportingKeeper<'a, K, R> {
     }
 }
 
-impl<'a, K: Keeper, R: Eprint> Keeper for ReportingKeeper<'a, K, R> {
+impl<'a, K: Keeper, R: Eprint + Wait> Keeper for ReportingKeeper<'a, K, R> {
     ghost content = { λ r. K.content r.keeper };
 
     ghost failed = { λ r. K.failed r.keeper };
@@ -60,14 +61,16 @@ impl<'a, K: Keeper, R: Eprint> Keeper for ReportingKeeper<'a, K, R> {
 }
 
 /// Says what is new of a save. Returns whether it was refused.
-fn note<R: Eprint>(
+fn note<R: Eprint + Wait>(
     report: &Report<'_, R>,
     was_refusing: bool,
     saved: &Result<(), KeepError>,
 ) -> bool {
     match saved {
         Err(KeepError::Refused | KeepError::Damaged) => {
-            report.save_refused();
+            if !was_refusing {
+                report.save_refused();
+            }
             true
         }
         Err(KeepError::Memory) => was_refusing,

@@ -164,7 +164,7 @@ fn serve_hall<
 }
 
 /// Reports of how many users, mailboxes and messages mail is served.
-fn report_start<R: Clock + Eprint>(setting: &Setting<'_, R>, world: &World) {
+fn report_start<R: Wait + Clock + Eprint>(setting: &Setting<'_, R>, world: &World) {
     let millis = match &setting.since {
         Some(since) => since.elapsed(setting.rt).map_or(0, |time| time.as_millis()),
         None => 0,
@@ -360,7 +360,6 @@ pub fn posts<
                 waker,
                 report,
                 user: &port.user,
-                credentials: &port.credentials,
                 dialect,
                 number: index % SEATS + 1,
                 write_timeout: Duration::from_secs(WRITE_SECONDS),
@@ -372,8 +371,11 @@ pub fn posts<
     for (reception, port) in receptions.iter().zip(ports) {
         let door = PortDoor::Receiving(Receptionist {
             rt,
+            alloc,
             reception,
             user: &port.user,
+            credentials: &port.credentials,
+            dialect,
             report,
         });
         posts = with_post(posts, seat(alloc, host, &port.user), door)?;

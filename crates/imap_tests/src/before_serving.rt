@@ -1,42 +1,85 @@
 //! What the program looks at before it serves, or while it waits for clients.
 
-use imap_service::{AcceptFaults, LogLook, RequestLine, look_at, needed, read_limit};
+ghost use Rattle.std.specs.Prelude.{◌<◌};
+
+use imap_service::{
+    AcceptFaults, FirstLine, LogLook, Opening, WrongLogins, look_at, needed, read_limit,
+};
 use std::alloc::{AllocError, Global};
 use std::io::{self, ErrorKind};
 use std::time::Duration;
 
-/// Whether a first line is an HTTP request line, whole and octet by octet.
-fn is_request(text: &[u8]) -> (bool, bool) {
-    let mut whole = RequestLine::new();
-    let mut cut = RequestLine::new();
-    let mut is_cut = false;
-    for octet in text {
-        is_cut = cut.look_at(&[*octet]) || is_cut;
+/// What a line begins that has these octets, in pieces of this size.
+fn opening(alloc: Global, text: &[u8], size: usize) -> Option<Opening>
+    requires { 0 < size }
+{
+    let mut line = FirstLine::new(alloc);
+    for piece in text.chunks(size) {
+        line.take(piece).ok()?;
     }
-    (whole.look_at(text), is_cut)
+    Some(line.opening())
 }
 
 #[test]
-fn tells_requests_from_commands(rt: HostRuntime) {
-    const ROWS: &[(&[u8], bool)] = &[
-        (b"GET / HTTP/1.1\r\n", true),
-        (b"POST /x?y=z HTTP/1.0\r\nHost: x\r\n", true),
-        (b"OPTIONS * HTTP/1.1\r\n", true),
-        (b"GET / HTTP/1 HTTP/1.1\r\n", true),
-        (b"a1 NOOP\r\n", false),
-        (b"A NOOP\r\n", false),
-        (b"GET /\r\nX / HTTP/1.1\r\n", false),
-        (b"GET  / HTTP/1.1\r\n", false),
-        (b"get / HTTP/1.1\r\n", false),
-        (b"GET / HTTP/2\r\n", false),
-        (b"A1 / HTTP/1.1\r\n", false),
-        (b" / HTTP/1.1\r\n", false),
-        (b"a1 NOOP\r\nGET / HTTP/1.1\r\n", false),
+fn tells_commands_from_other_protocols(rt: HostRuntime) {
+    const ROWS: &[(&[u8], Opening)] = &[
+        (b"a1 NOOP\r\n", Opening::Command),
+        (b"A NOOP\n", Opening::Command),
+        (b"1] capability\r", Opening::Command),
+        (
+            b"a Login ann s3cret\r\nGET / HTTP/1.1\r\n",
+            Opening::Command,
+        ),
+        (b"x.1 XAPPLEPUSHSERVICE aps", Opening::Command),
+        (b". UNAUTHENTICATE\r\n", Opening::Command),
+        (b"LIST LIST \"\" *", Opening::Command),
+        (b"", Opening::Open),
+        (b"a1", Opening::Open),
+        (b"a1 ", Opening::Open),
+        (b"a1 NOOP", Opening::Open),
+        (b"GET /", Opening::Open),
+        (b"GET / HTTP/1.1\r\n", Opening::Refused),
+        (b"GET / HTTP/2\r\n", Opening::Refused),
+        (b"POST /x?y=z HTTP/1.0\r\na CREATE x\r\n", Opening::Refused),
+        (b"OPTIONS * HTTP/1.1\r\n", Opening::Refused),
+        (b"get /\r\n", Opening::Refused),
+        (b"PRI * HTTP/2.0\r\n", Opening::Refused),
+        (b"SSH-2.0-OpenSSH_9.6\r\n", Opening::Refused),
+        (b"EHLO host\r\n", Opening::Refused),
+        (b"EHLO xhost\r\n", Opening::Refused),
+        (b"USER ann\r\n", Opening::Refused),
+        (b"PROXY TCP4 127.0.0.1", Opening::Refused),
+        (b"\x16\x03\x01\x02\x00", Opening::Refused),
+        (b"\r\na1 NOOP\r\n", Opening::Refused),
+        (b" NOOP\r\n", Opening::Refused),
+        (b"NOOP\r\n", Opening::Refused),
+        (b"a1  NOOP\r\n", Opening::Refused),
+        (b"a1\tNOOP\r\n", Opening::Refused),
+        (b"a1 NOOPS\r\n", Opening::Refused),
+        (b"a1 NOOP\t", Opening::Open),
+        (b"a1 NOOP\t\r\n", Opening::Refused),
+        (b"a+1 NOOP\r\n", Opening::Refused),
+        (b"a1 XAPPLEPUSHSERVICES", Opening::Refused),
     ];
     for &(text, wanted) in ROWS {
-        let (whole, cut) = is_request(text);
-        assert!(rt; whole == wanted && cut == wanted, "{text:?}");
+        let found = (
+            opening(rt.alloc(), text, 1),
+            opening(rt.alloc(), text, 1000),
+        );
+        assert!(rt; found == (Some(wanted), Some(wanted)), "{text:?}");
     }
+}
+
+/// The answer to a wrong login waits longer from one to the next, and at once again after a right one.
+#[test]
+fn answers_to_wrong_logins_wait(rt: HostRuntime) {
+    const MILLIS: &[u64] = &[0, 250, 500, 1000, 2000, 4000, 5000, 5000];
+    let mut wrong = WrongLogins::new();
+    for &millis in MILLIS {
+        assert!(rt; wrong.add() == Duration::from_millis(millis));
+    }
+    wrong.clear();
+    assert!(rt; wrong.add() == Duration::ZERO);
 }
 
 /// Limits as Linux shows them.
@@ -50,7 +93,8 @@ fn reads_how_many_files_may_be_open(rt: HostRuntime) {
         "Max open files            unlimited            unlimited            files     \n";
     assert!(rt; read_limit(LIMITED) == Some(1024));
     assert!(rt; read_limit(UNLIMITED).is_none() && read_limit("").is_none());
-    assert!(rt; needed(20) <= 1024 && needed(21) > 1024);
+    assert!(rt; needed(20, 0) <= 1024 && needed(21, 0) > 1024);
+    assert!(rt; needed(8, 8) <= 1024 && needed(9, 9) > 1024);
 }
 
 /// Returns after how many failing accepts a listener is given up, of 40.

@@ -11,8 +11,8 @@ use imap_login::Credentials;
 use imap_names::UserName;
 use imap_options::{DialectName, LogLevel, Port, Task};
 use imap_service::{
-    ClientDoor, Connection, IdleWakers, Listener, PortDoor, Reception, Report, SEATS, listen_at,
-    posts,
+    ClientDoor, Connection, IdleWakers, Listener, LoginPort, PendingLogins, PortDoor, Reception,
+    Report, SEATS, listen_at, posts,
 };
 use std::alloc::{AllocError, Global};
 use std::io::{self, Read, Write};
@@ -85,6 +85,43 @@ impl Place {
         self.reception.admit(rt, &self.user, &report, stream);
     }
 
+    /// Lets a client log in who has connected and sent all, if clients are to. Returns whether there is a client for a
+    /// worker then.
+    pub(crate) fn log_in<
+        R: Net<Listener = TcpListener, Stream = TcpStream> + Wait + Clock + Eprint + AllocGlobal,
+    >(&self, rt: &R, dialect: DialectName) -> io::Result<bool> {
+        let Some(credentials) = &self.credentials else {
+            return Ok(false);
+        };
+        let report = Report::new(rt, LogLevel::Off);
+        let port = LoginPort {
+            rt,
+            alloc: rt.alloc(),
+            reception: &self.reception,
+            user: &self.user,
+            credentials,
+            dialect,
+            report: &report,
+        };
+        self.log_in_at(rt, &port)
+    }
+
+    /// The same at this port.
+    fn log_in_at<R: Net<Listener = TcpListener, Stream = TcpStream> + Wait + Clock + Eprint>(
+        &self,
+        rt: &R,
+        port: &LoginPort<'_, R>,
+    ) -> io::Result<bool> {
+        let mut logins = PendingLogins::new(port)?;
+        for _ in 0..8 {
+            logins.turn(port)?;
+            if self.reception.taken(rt) > 0 {
+                return Ok(true);
+            }
+        }
+        Ok(false)
+    }
+
     /// The worker's door, or `None` if there is no waker. A client may keep a reply from being written for 100
     /// milliseconds.
     pub(crate) fn door<
@@ -105,7 +142,6 @@ impl Place {
             waker,
             report,
             user: &self.user,
-            credentials: &self.credentials,
             dialect,
             number: 1,
             write_timeout: Duration::from_millis(100),

@@ -3,7 +3,7 @@
 ghost use Rattle.std.specs.Prelude.{◌≡◌};
 
 use crate::hosts::{new_host, post};
-use crate::peers::{Place, connection, listener, told};
+use crate::peers::{Place, listener, told};
 use crate::wanted::expect;
 use imap_host::{Host, PARTS};
 use imap_keeper::Keeper;
@@ -93,6 +93,28 @@ fn is_served<
     true
 }
 
+/// The connection of the client, if the client doesn't log in.
+fn accepted(listener: &TcpListener, is_asked: bool) -> Option<TcpStream> {
+    if is_asked {
+        return None;
+    }
+    let (stream, _) = listener.accept().ok()?;
+    Some(stream)
+}
+
+/// Lets the client in whose connection this is, or who logs in. Returns whether there is one.
+fn has_come<
+    R: Net<Listener = TcpListener, Stream = TcpStream> + Wait + Clock + Eprint + AllocGlobal,
+>(rt: &R, place: &Place, stream: Option<TcpStream>, dialect: DialectName) -> bool {
+    match stream {
+        Some(stream) => {
+            place.admit(rt, Connection::from(stream));
+            true
+        }
+        None => place.log_in(rt, dialect).unwrap_or(false),
+    }
+}
+
 /// What the client is told who comes to ann's port.
 fn told_over<
     K: Keeper + Send,
@@ -106,13 +128,14 @@ fn told_over<
         + AllocGlobal,
 >(rt: &R, host: &mut Host<K, L>, visit: Visit) -> io::Result<Vec<u8>> {
     let listener = listener(rt)?;
-    let (mut client, stream) = connection(rt, &listener)?;
+    let mut client = TcpStream::connect(rt, listener.local_addr()?)?;
     let sent = client.write_all(visit.sent);
+    let stream = accepted(&listener, visit.is_asked);
     let is_served = match Place::new(rt.alloc(), Listener::from(listener), visit.is_asked) {
         Ok(place) => {
-            place.admit(rt, Connection::from(stream));
+            let has_come = has_come(rt, &place, stream, visit.dialect);
             place.reception.close(rt);
-            let is_served = is_served(rt, host, &place, visit.dialect);
+            let is_served = has_come && is_served(rt, host, &place, visit.dialect);
             drop(place);
             is_served
         }

@@ -1,0 +1,3 @@
+-- How a connection begins.
+pub mod FirstLine
+pub mod Laws
