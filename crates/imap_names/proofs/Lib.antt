@@ -22,3 +22,7 @@ pub mod MatchLaws
 pub mod PatternLaws
 pub mod ShownLetters
 pub mod CaseLaws
+pub mod CondensedLaws
+pub mod BitLaws
+pub mod PlaceLaws
+pub mod MarkLaws

@@ -13,3 +13,5 @@ pub mod Pattern
 pub mod MatchTest
 pub mod Namespace
 pub mod Walk
+pub mod Condensed
+pub mod Places

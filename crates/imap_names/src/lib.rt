@@ -6,6 +6,7 @@
 //! and one in the tree that all share as `Shared/PATH`. A [`Pattern`] of LIST is compared with these texts.
 #![tactic(auto)]
 
+mod condensed;
 pub mod error;
 pub mod laws;
 pub mod letters;
@@ -14,6 +15,7 @@ pub mod name;
 pub mod name_ref;
 pub mod namespace;
 pub mod pattern;
+mod places;
 pub mod read;
 pub mod show;
 pub mod token;

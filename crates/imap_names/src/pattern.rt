@@ -1,29 +1,43 @@
 //! Patterns of LIST.
 ghost use Rattle.std.specs.Prelude.{◌≡◌, ◌++◌, map, IfOk};
-ghost use Rattle.imap_names.specs.MatchTest.{is_match, is_percent, ends_in_percent};
+ghost use Rattle.imap_names.specs.MatchTest.{is_match, letters_match, is_percent, ends_in_percent};
 ghost use Rattle.imap_names.specs.Pattern.{pattern_read, token_of};
 
+use crate::condensed::{condense, literals_of};
 use crate::letters::Letters;
+use crate::places::{MAX_LETTERS, match_places};
 use crate::token::Token;
-use crate::wildcards::match_letters;
+use crate::wildcards::{Stop, match_letters, meet};
 use std::alloc::{AllocError, Global};
 use std::marker::Model;
 use std::str;
 use unicode_normalization::to_nfc;
 
+/// How many steps of a walk take about as long as the tables of a text's letters.
+const FEW_STEPS: usize = 512;
+
 /// The pattern of a command LIST (RFC 9051, section 6.3.9), with its reference. Contracts see its tokens.
 #[derive(Drop)]
 pub struct Pattern {
     tokens: Vec<Token>,
+    /// Matches the same names, and has each run of wildcards as one.
+    condensed: Vec<Token>,
+    /// How many of the tokens stand for one letter each.
+    literals: usize,
 }
 
 impl Model for Pattern {
-    ghost use Rattle.std.specs.Prelude.{List};
+    ghost use Rattle.std.specs.Prelude.{◌≡◌, List};
+    ghost use Rattle.imap_names.specs.Condensed.{literals_of};
     ghost use Rattle.imap_names.specs.declared.token.Token.{Token};
+    ghost use Rattle.imap_names.specs.MatchTest.{letters_match};
 
     ghost Value = { List Token };
 
     ghost view = { λ pattern. pattern.tokens.items };
+
+    ghost invariant = { λ pattern. (letters_match pattern.condensed.items ≡ letters_match pattern.tokens.items)
+        × (pattern.literals ≡ literals_of pattern.tokens.items) };
 }
 
 impl Pattern {
@@ -42,7 +56,13 @@ impl Pattern {
         };
         let composed = to_nfc(alloc, text)?;
         let tokens = read_tokens(alloc, composed.as_bytes())?;
-        Ok(Some(Pattern { tokens }))
+        let condensed = condense(alloc, tokens.as_slice())?;
+        let literals = literals_of(tokens.as_slice());
+        Ok(Some(Pattern {
+            tokens,
+            condensed,
+            literals,
+        }))
     }
 
     /// Whether a name matches, by the text that shows it to the reader. If the first component of its path
@@ -50,7 +70,10 @@ impl Pattern {
     pub fn matches(&self, text: &str) -> bool
         ensures { result ≡ is_match self.now text.now }
     {
-        match_letters(self.tokens.as_slice(), &Letters::of(text))
+        if text.len() < self.literals {
+            return false;
+        }
+        match_tokens(self.condensed.as_slice(), &Letters::of(text))
     }
 
     /// Whether the last octet is the wildcard `%`: the pattern then lists levels of hierarchy too (section
@@ -63,6 +86,21 @@ impl Pattern {
             None => false,
         }
     }
+}
+
+/// Whether the letters match the whole pattern. A long one is matched by places, if its first octets begin
+/// the text.
+fn match_tokens(pattern: &[Token], text: &Letters<'_>) -> bool
+    ensures { result ≡ letters_match pattern.now text.now }
+{
+    if let Stop::Differs = meet(pattern, text) {
+        return false;
+    }
+    let is_long = pattern.len().saturating_mul(text.len()) > FEW_STEPS;
+    if is_long && text.len() <= MAX_LETTERS {
+        return match_places(pattern, text);
+    }
+    match_letters(pattern, text)
 }
 
 fn is_percent(token: Token) -> bool

@@ -127,7 +127,7 @@ fn level_end(text: &Letters<'_>, from: usize) -> usize
 }
 
 /// Matches the tokens before the first wildcard.
-fn meet(pattern: &[Token], text: &Letters<'_>) -> Stop
+pub(crate) fn meet(pattern: &[Token], text: &Letters<'_>) -> Stop
     ensures { Stops pattern.now text.now result }
 {
     let n = spelled(pattern, text);
@@ -182,7 +182,7 @@ fn is_letter(octet: u8, letter: Letter) -> bool
     }
 }
 
-fn ends_level(letter: Letter) -> bool
+pub(crate) fn ends_level(letter: Letter) -> bool
     ensures { result ≡ ends_level letter }
 {
     letter.octet == b'/'
