@@ -9,7 +9,7 @@ use imap_lex::Octets;
 use imap_print::{FetchedSection, LiteralParts};
 use imap_query::{BodySection, Partial, Section};
 use imap_syntax::{FieldName, Items};
-use imap_text::{fields, header, partial, text};
+use imap_text::{HeaderFields, header, partial, text};
 use imap_values::{Same, TryCopy};
 use std::alloc::{AllocError, Global};
 
@@ -66,21 +66,26 @@ pub(crate) fn fetched_sections(
 ) -> Result<Items<FetchedSection>, AllocError>
     ensures { IfOk result (λ fetched. fetched ≡ map (specs.fetched_section message.now) sections.now) }
 {
+    let mut lookup = HeaderFields::new(message.as_slice());
     let mut fetched = Vec::with_capacity(alloc, sections.len())?;
     for body in sections {
-        fetched.push(fetched_section(alloc, message, body)?)?;
+        fetched.push(fetched_section(alloc, message, &mut lookup, body)?)?;
     }
     Ok(Items::from_vec(fetched))
 }
 
+/// Returns a section of the message, whose header fields `lookup` finds.
 fn fetched_section(
     alloc: Global,
     message: &Octets,
+    lookup: &mut HeaderFields<'_>,
     body: &BodySection,
 ) -> Result<FetchedSection, AllocError>
-    ensures { IfOk result (λ fetched. fetched ≡ specs.fetched_section message.now body.now) }
+    requires { message.now ≡ lookup.old }
+    ensures lookup { lookup.new ≡ lookup.old }
+    ensures section { IfOk result (λ fetched. fetched ≡ specs.fetched_section message.now body.now) }
 {
-    let whole = section_octets(alloc, message, &body.section)?;
+    let whole = section_octets(alloc, message, lookup, &body.section)?;
     let octets = octets_in(body.partial, whole)?;
     Ok(FetchedSection {
         section: body.section.try_copy(alloc)?,
@@ -89,15 +94,22 @@ fn fetched_section(
     })
 }
 
-fn section_octets(alloc: Global, message: &Octets, section: &Section) -> Result<Octets, AllocError>
-    ensures { IfOk result (λ octets. octets ≡ specs.section_octets message.now section.now) }
+fn section_octets(
+    alloc: Global,
+    message: &Octets,
+    lookup: &mut HeaderFields<'_>,
+    section: &Section,
+) -> Result<Octets, AllocError>
+    requires { message.now ≡ lookup.old }
+    ensures lookup { lookup.new ≡ lookup.old }
+    ensures octets { IfOk result (λ octets. octets ≡ specs.section_octets message.now section.now) }
 {
     match section {
         Section::Whole => message.try_copy(),
         Section::Header => header(message),
         Section::Text => text(message),
-        Section::Fields(names) => joined_fields(alloc, message, names.as_slice(), false),
-        Section::FieldsNot(names) => joined_fields(alloc, message, names.as_slice(), true),
+        Section::Fields(names) => joined_fields(alloc, message, lookup, names.as_slice(), false),
+        Section::FieldsNot(names) => joined_fields(alloc, message, lookup, names.as_slice(), true),
     }
 }
 
@@ -105,12 +117,15 @@ fn section_octets(alloc: Global, message: &Octets, section: &Section) -> Result<
 fn joined_fields(
     alloc: Global,
     message: &Octets,
+    lookup: &mut HeaderFields<'_>,
     names: &[FieldName],
     not: bool,
 ) -> Result<Octets, AllocError>
-    ensures { IfOk result (λ octets. octets ≡ text_specs.fields names.now not message.now) }
+    requires { message.now ≡ lookup.old }
+    ensures lookup { lookup.new ≡ lookup.old }
+    ensures octets { IfOk result (λ octets. octets ≡ text_specs.fields names.now not message.now) }
 {
-    let parts = fields(alloc, message, names, not)?;
+    let parts = lookup.fields(alloc, message, names, not)?;
     joined(alloc, parts.as_slice())
 }
 

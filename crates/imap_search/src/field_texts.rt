@@ -8,7 +8,7 @@ ghost use Rattle.imap_text.specs.Fields.{field_texts};
 ghost use Rattle.imap_text.specs.Folds.{fold};
 
 use crate::needles::Needles;
-use imap_text::{Folded, field_texts};
+use imap_text::{Folded, HeaderFields};
 use std::alloc::{AllocError, Global};
 use std::collections::BTreeMap;
 use std::marker::Model;
@@ -17,7 +17,7 @@ use std::marker::Model;
 /// for, and not again for the next key. Contracts see the message's octets.
 #[derive(Drop)]
 pub(crate) struct FieldTexts<'a> {
-    octets: &'a [u8],
+    lookup: HeaderFields<'a>,
     named: BTreeMap<Vec<u8>, Vec<Folded>>,
 }
 
@@ -27,9 +27,9 @@ impl<'a> Model for FieldTexts<'a> {
 
     ghost Value = { List ℕ };
 
-    ghost view = { λ f. f.octets.now };
+    ghost view = { λ f. f.lookup };
 
-    ghost invariant = { λ f. AreFieldFolds f.octets.now f.named.entries };
+    ghost invariant = { λ f. AreFieldFolds f.lookup f.named.entries };
 }
 
 impl<'a> FieldTexts<'a> {
@@ -38,7 +38,7 @@ impl<'a> FieldTexts<'a> {
         ensures { result ≡ octets.now }
     {
         FieldTexts {
-            octets,
+            lookup: HeaderFields::new(octets),
             named: BTreeMap::new(alloc),
         }
     }
@@ -72,7 +72,7 @@ impl<'a> FieldTexts<'a> {
         ensures found { IfOk result (λ found. found ≡ has_field name.now wanted.now self.old) }
     {
         let key = Vec::from_slice(alloc, name)?;
-        let texts = folded_fields(alloc, name, self.octets)?;
+        let texts = folded_fields(alloc, &mut self.lookup, name)?;
         let found = any_has(alloc, needles, wanted, texts.as_slice())?;
         self.named.insert(key, texts)?;
         Ok(found)
@@ -80,10 +80,15 @@ impl<'a> FieldTexts<'a> {
 }
 
 /// Returns the folds of the header fields with this name.
-fn folded_fields(alloc: Global, name: &[u8], octets: &[u8]) -> Result<Vec<Folded>, AllocError>
-    ensures { IfOk result (λ texts. texts.items ≡ map fold (field_texts name.now octets.now)) }
+fn folded_fields(
+    alloc: Global,
+    lookup: &mut HeaderFields<'_>,
+    name: &[u8],
+) -> Result<Vec<Folded>, AllocError>
+    ensures lookup { lookup.new ≡ lookup.old }
+    ensures folds { IfOk result (λ texts. texts.items ≡ map fold (field_texts name.now lookup.old)) }
 {
-    let fields = field_texts(alloc, octets, name)?;
+    let fields = lookup.texts(alloc, name)?;
     let mut texts = Vec::with_capacity(alloc, fields.len())?;
     for field in fields.as_slice() {
         texts.push(Folded::new(alloc, field)?)?;

@@ -124,7 +124,7 @@ IsGathered-end names others message parts more start len rest none pushed so_far
 
 -- ---- the texts of fields
 
-named_has_colon : (names : List (List ℕ)) (line : List ℕ) → is_named names line ≡ true → position_or_len is_colon line + 1 ≤ length line
+pub named_has_colon : (names : List (List ℕ)) (line : List ℕ) → is_named names line ≡ true → position_or_len is_colon line + 1 ≤ length line
 named_has_colon names line e = by (nat_lt (position_or_len is_colon line) (length line)) refl
   where
     by : (has : Bool) → nat_lt (position_or_len is_colon line) (length line) ≡ has → position_or_len is_colon line + 1 ≤ length line
@@ -156,7 +156,7 @@ lines-among (line ∷ later) = by (is_continuation line) refl (lines-among later
     by true e ih = rw (take_while-cons is_continuation line later, e) (ap (λ (l : List (List ℕ)). line ∷ l) ih)
     by false e ih = rw (take_while-cons is_continuation line later, e) (ap (λ (l : List (List ℕ)). line ∷ l) ih)
 
-lines-fields : (all : List (List ℕ)) → flat_map field_lines (fields_of all) ≡ all
+pub lines-fields : (all : List (List ℕ)) → flat_map field_lines (fields_of all) ≡ all
 lines-fields [] = refl
 lines-fields (line ∷ later) = ap (λ (l : List (List ℕ)). line ∷ l) (lines-among later)
 

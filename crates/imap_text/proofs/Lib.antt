@@ -2,6 +2,11 @@ pub mod LinesFound
 pub mod Cuts
 pub mod FieldsFound
 pub mod Chosen
+pub mod PlacesByName
+pub mod AtPlaces
+pub mod Bounds
+pub mod AskedNames
+pub mod Cutting
 pub mod Within
 pub mod Names
 pub mod Shortest

@@ -4,4 +4,5 @@ pub mod Sections
 pub mod Fields
 pub mod Found
 pub mod Folds
+pub mod Places
 pub mod Runs

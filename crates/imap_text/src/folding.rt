@@ -24,6 +24,15 @@ pub(crate) fn fold_runs(alloc: Global, text: &str) -> Result<Vec<u8>, AllocError
     Ok(folded)
 }
 
+/// Returns a copy with the letters of ASCII in lower case.
+pub(crate) fn lower_case(alloc: Global, octets: &[u8]) -> Result<Vec<u8>, AllocError>
+    ensures { IfOk result (λ lower. lower.items ≡ map to_ascii_lowercase octets.now) }
+{
+    let mut lower = Vec::with_capacity(alloc, octets.len())?;
+    push_ascii(&mut lower, octets)?;
+    Ok(lower)
+}
+
 /// Appends ASCII in lower case.
 fn push_ascii(folded: &mut Vec<u8>, ascii: &[u8]) -> Result<(), AllocError>
     ensures { OnOk result (folded.new.items ≡ folded.old.items ++ map to_ascii_lowercase ascii.now) }

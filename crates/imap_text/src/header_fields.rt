@@ -13,7 +13,7 @@ use imap_syntax::{FieldName, Items};
 use std::alloc::{AllocError, Global};
 
 /// Appends to `parts` the octets of `message` from `start` up to `end`, if there are any.
-fn push_part(
+pub(crate) fn push_part(
     parts: &mut Vec<Octets>,
     message: &Octets,
     start: usize,

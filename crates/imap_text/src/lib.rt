@@ -6,14 +6,19 @@
 
 mod composing;
 mod field;
+mod field_index;
+mod field_lookup;
+mod field_places;
 mod folded;
 mod folding;
 mod header_fields;
 pub mod laws;
 mod line;
+mod placed;
 mod runs;
 mod section;
 
+pub use field_lookup::HeaderFields;
 pub use folded::{Folded, Needle, contains_fold};
 pub use header_fields::{field_texts, fields};
 pub use imap_syntax::DateTime as InternalDate;
