@@ -13,13 +13,13 @@ use std::alloc::{AllocError, Global};
 /// The identifier that stands for every user (RFC 4314, section 2).
 const ANYONE: &'static str = "anyone";
 
-/// From which part of all mailboxes on a walk of all is quicker than a look-up of each by its name: a look-up takes as
-/// long as some fifty steps of a walk.
-const WALK_FROM: usize = 64;
+/// Of how many mailboxes one has to be found for a walk of all: a walk passes what is hidden too, so that its time would
+/// tell of that.
+const WALK_FROM: usize = 2;
 
 impl<'a> View<'a> {
-    /// Names among which are those of all mailboxes that the user sees, in no order. `None` if a walk of all
-    /// mailboxes is quicker.
+    /// Names among which are those of all mailboxes that the user sees, in no order. `None` if the user sees most of
+    /// all mailboxes: then a walk is quicker, and passes little that is hidden.
     pub fn starts(&self, alloc: Global) -> Result<Option<Vec<&'a Name>>, AllocError>
         ensures { IfOk result (λ found. IfSome found (λ names.
             HaveAllSeen self.now (map (λ name. name.now) names.items))) }
