@@ -1,5 +1,5 @@
 -- The numbers of the mailboxes whose lists have an entry of an identifier.
-use Rattle.std.specs.Prelude.{◌≡◌, ℕ, ◌==◌, Bool, false, ◌&&◌, ◌||◌, not, List, Option, Some, None, bytes_eq}
+use Rattle.std.specs.Prelude.{◌≡◌, ℕ, ◌==◌, Bool, false, ◌&&◌, ◌||◌, not, List, Option, Some, None, bytes_eq, length}
 use Rattle.std.specs.FinMap as map
 use Rattle.std.specs.List.{list_any}
 use Rattle.imap_rights.specs.declared.acl.Entry.{Entry}
@@ -15,6 +15,11 @@ is_numbered number (Some numbers) = has_number number numbers
 -- the number is in the identifier's set
 abbrev pub is_in : Users (List ℕ) → (identifier : List ℕ) → ℕ → Bool
 is_in sets identifier number = is_numbered number (map.get sets identifier)
+
+-- how many numbers a set has
+abbrev pub set_length : Option (List ℕ) → ℕ
+set_length None = 0
+set_length (Some numbers) = length numbers
 
 abbrev pub AreSame : (old new : Users (List ℕ)) → Type 0
 AreSame old new =

@@ -6,7 +6,7 @@ ghost use Rattle.imap_names.specs.Order.{moved};
 ghost use Rattle.imap_identifier_index.specs.Index.{IsIndexOf, IsKept, Lists, moved_lists, with_list};
 ghost use Rattle.imap_identifier_index.specs.Index.{IsRun, PushesNames};
 ghost use Rattle.imap_identifier_index.specs.Names.{IsPut};
-ghost use Rattle.imap_identifier_index.specs.Sets.{IsAdded};
+ghost use Rattle.imap_identifier_index.specs.Sets.{IsAdded, set_length};
 
 use crate::names::{copy_names, has_name, move_names, push_named, put_new, take_name};
 use crate::numbers::Numbers;
@@ -185,8 +185,10 @@ impl IdentifierIndex {
         }
     }
 
-    /// The length of the set of a text.
-    pub fn count(&self, text: &str) -> usize {
+    /// The length of the set of a text: at least as many mailboxes as the text finds.
+    pub fn count(&self, text: &str) -> usize
+        ensures { result ≡ set_length (map.get self.now.sets text.now) }
+    {
         match self.sets.get(text) {
             Some(numbers) => numbers.as_slice().len(),
             None => 0,
