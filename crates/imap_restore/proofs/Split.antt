@@ -12,6 +12,7 @@ use Rattle.imap_message_tables.proofs.Fitting.{fits_one}
 use Rattle.imap_message_tables.proofs.Indexed.{indexes_key}
 use Rattle.imap_message_tables.proofs.Places.{ne}
 use Rattle.imap_message_tables.proofs.Shown.{split_shows}
+use Rattle.imap_records.proofs.OneWorld.{stand_for_one}
 use Rattle.imap_records.specs.Standing.{AreRows, Child, IsUnder, StandFor, tree_of}
 use Rattle.imap_records.specs.Standing.{entries, messages, gone, marks}
 use Rattle.imap_restore.specs.Holding.{AreRowsOf, AreSplitRowsOf, Hold, HoldSplit, MetaShows, Stand}
@@ -55,6 +56,13 @@ stand_alike one other world same s = record {
 -- the one table that fits stands for the world
 pub stand_in : (db one : Trees) (world : World) → IsSplit db one → (other : Trees) × IsSplit db other × Stand other world → Stand one world
 stand_in db one world split (other, fits, s) = record { stands = stand_alike other one world (fits_one db other one fits split) s.stands; values = s.values; sound = s.sound; kept = s.kept }
+
+-- so of two worlds that the tables hold both are the one that it stands for
+pub one_is_held : (db : Trees) (s t : World) → HoldSplit db s → HoldSplit db t → s ≡ t
+one_is_held db s t h k =
+    let (one, split, first) = h.0 in
+    let second = stand_in db one t split k.0 in
+    stand_for_one one s t first.kept second.kept first.values second.values first.stands second.stands
 
 -- ---- order, here and there
 

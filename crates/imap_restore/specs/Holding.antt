@@ -56,6 +56,10 @@ pub record AreKeptRows (db : Trees) : Type 0 where
 abbrev pub HoldSplit : (db : Trees) (world : World) → Type 0
 HoldSplit db world = ((one : Trees) × IsSplit db one × Stand one world) × IsOrderly db × MetaShows db
 
+-- a database keeps one world at most
+abbrev pub OneIsHeld : Type 0
+OneIsHeld = (db : Trees) (s t : World) → HoldSplit db s → HoldSplit db t → s ≡ t
+
 -- A database of the first version keeps the world, each message in one row. It has none of the tables that
 -- were added.
 abbrev pub HoldFirst : (db : Trees) (world : World) → Type 0

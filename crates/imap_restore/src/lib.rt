@@ -4,6 +4,7 @@
 mod below;
 mod diagnosing;
 mod grouping;
+pub mod laws;
 mod making;
 mod message_rows;
 mod parts;
