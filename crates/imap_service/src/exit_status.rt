@@ -1,6 +1,8 @@
-//! How the program ends: its exit statuses, and what standard error is told.
+//! How the program ends: its exit statuses, and what standard error is told. A reader of standard error that is behind for
+//! over a second is told nothing: the program ends.
 
 use crate::service_error::ServiceError;
+use crate::standard_error::takes_last_lines;
 use imap_options::{CommandLineError, VERSION};
 use std::fmt::Display;
 use std::process::ExitCode;
@@ -28,13 +30,17 @@ pub fn report_misuse(rt: &impl Eprint, error: &CommandLineError) -> ExitCode {
         CommandLineError::Memory => OUT_OF_MEMORY,
         _ => MISUSED,
     };
-    let _ = rt.eprint(error);
+    if takes_last_lines() {
+        let _ = rt.eprint(error);
+    }
     ExitCode::from(status)
 }
 
 /// Tells standard error, as far as it takes it, which file or folder can't be used, and why. Returns the exit status 3.
 pub fn report_file_fault<E: Display>(rt: &impl Eprint, fault: &E) -> ExitCode {
-    let _ = eprintln!(rt; "imapd: {fault}");
+    if takes_last_lines() {
+        let _ = eprintln!(rt; "imapd: {fault}");
+    }
     ExitCode::from(BROKEN_STREAM)
 }
 
@@ -48,11 +54,15 @@ pub fn report_service_error(rt: &impl Eprint, error: ServiceError) -> ExitCode {
         | ServiceError::Port { .. }
         | ServiceError::SocketFile { .. }
         | ServiceError::Descriptors { .. } => {
-            let _ = eprintln!(rt; "imapd: {error}");
+            if takes_last_lines() {
+                let _ = eprintln!(rt; "imapd: {error}");
+            }
             ExitCode::from(BROKEN_STREAM)
         }
         ServiceError::Memory => {
-            let _ = eprintln!(rt; "imapd: out of memory");
+            if takes_last_lines() {
+                let _ = eprintln!(rt; "imapd: out of memory");
+            }
             ExitCode::from(OUT_OF_MEMORY)
         }
         ServiceError::Store(fault) => report_store_fault(rt, &fault),
@@ -62,6 +72,8 @@ pub fn report_service_error(rt: &impl Eprint, error: ServiceError) -> ExitCode {
 /// Tells standard error, as far as it takes it, why the store can't be used: in words after the line that says so.
 /// Returns the exit status 5.
 pub fn report_store_fault<E: Display>(rt: &impl Eprint, fault: &E) -> ExitCode {
-    let _ = eprintln!(rt; "imapd: store unusable\nimapd: {fault}");
+    if takes_last_lines() {
+        let _ = eprintln!(rt; "imapd: store unusable\nimapd: {fault}");
+    }
     ExitCode::from(NO_STORE)
 }
