@@ -6,7 +6,7 @@ use crate::lists::push_list;
 use crate::maildir_error::MaildirError;
 use crate::moments::{seconds_of, time_of};
 use crate::progress::Progress;
-use crate::state::state_lines;
+use crate::state_lines::{push_unlettered, state_lines};
 use imap_mailbox::{Mailbox, Near, Row};
 use imap_maildir_names::{KeywordLetters, mailbox_folder, message_file};
 use imap_names::Name;
@@ -39,11 +39,21 @@ impl Dumped {
     }
 }
 
+/// What the files beside the folders of mailboxes say of them.
+#[derive(Drop)]
+struct Beside {
+    /// The lines of the file `acl`.
+    lists: Vec<u8>,
+    /// Lines of the file `state`, of keywords that have no letter.
+    keywords: Vec<u8>,
+}
+
 /// Writes all mailboxes below a folder, which is made: each as a folder by its name in full, with the folders `cur`, `new` and
 /// `tmp`, each message as a file in `cur`, and its keywords in `dovecot-keywords`. `\Seen` is that of the mailbox's owner, and
-/// of nobody in the Shared tree. The file `acl` has the access control lists of what was written, the file `state` all
-/// subscriptions. What can't be written is left out: `progress` is told of it. Fails if the folder is there or can't be made,
-/// and once the disk is full.
+/// of nobody in the Shared tree. The file `acl` has the access control lists of what was written; the file `state` all
+/// subscriptions, how far UIDs and mod-sequences had come, others' `\Seen`, and keywords for which no letter is left. What
+/// can't be written is left out: `progress` is told of it. Fails if the folder is there or can't be made, and once the disk is
+/// full.
 pub fn dump<R: Files + AllocGlobal, P: Progress>(
     rt: &R,
     world: &World,
@@ -51,21 +61,33 @@ pub fn dump<R: Files + AllocGlobal, P: Progress>(
     progress: &mut P,
 ) -> Result<Dumped, MaildirError> {
     make_folder(rt, folder)?;
-    let mut lists = Vec::new(rt.alloc());
+    let mut beside = Beside {
+        lists: Vec::new(rt.alloc()),
+        keywords: Vec::new(rt.alloc()),
+    };
     let mut dumped = Dumped {
         mailboxes: 0,
         messages: 0,
         faults: 0,
     };
     for (name, entry) in world.mailboxes().entries() {
-        if dump_mailbox(rt, folder, name, entry, &mut dumped, progress)? {
-            push_mailbox(&mut lists, rt.alloc(), name, entry)?;
-        }
+        dump_mailbox(rt, folder, name, entry, &mut beside, &mut dumped, progress)?;
     }
-    make_file_in(rt, folder, "acl", lists.as_slice())?;
-    let state = state_lines(rt.alloc(), world)?;
-    make_file_in(rt, folder, "state", state.as_slice())?;
+    make_file_in(rt, folder, "acl", beside.lists.as_slice())?;
+    dump_state(rt, folder, world, beside.keywords.as_slice())?;
     Ok(dumped)
+}
+
+/// Writes the file `state`, with these lines of keywords.
+fn dump_state<R: Files + AllocGlobal>(
+    rt: &R,
+    folder: &str,
+    world: &World,
+    keywords: &[u8],
+) -> Result<(), MaildirError> {
+    let mut lines = state_lines(rt.alloc(), world)?;
+    lines.extend_from_slice(keywords)?;
+    make_file_in(rt, folder, "state", lines.as_slice())
 }
 
 /// Appends the access control list of a mailbox to the lines of the file `acl`.
@@ -91,21 +113,22 @@ fn make_file_in<R: Files + AllocGlobal>(
     make_file(rt, path.as_str(), octets, None)
 }
 
-/// Writes a mailbox. Returns whether its folder could be made.
+/// Writes a mailbox. One whose folder can't be made is passed over.
 fn dump_mailbox<R: Files + AllocGlobal, P: Progress>(
     rt: &R,
     below: &str,
     name: &Name,
     entry: &MailboxEntry,
+    beside: &mut Beside,
     dumped: &mut Dumped,
     progress: &mut P,
-) -> Result<bool, MaildirError> {
+) -> Result<(), MaildirError> {
     let folder = mailbox_folder(rt.alloc(), below, name)?;
     if let Err(error) = make_maildir(rt, folder.as_str()) {
-        pass_over(progress, &mut dumped.faults, error)?;
-        return Ok(false);
+        return pass_over(progress, &mut dumped.faults, error);
     }
     dumped.mailboxes = dumped.mailboxes.saturating_add(1);
+    push_mailbox(&mut beside.lists, rt.alloc(), name, entry)?;
     let mailbox = entry.messages.as_ref();
     let keywords = dump_messages(
         rt,
@@ -115,10 +138,10 @@ fn dump_mailbox<R: Files + AllocGlobal, P: Progress>(
         dumped,
         progress,
     )?;
+    push_unlettered(&mut beside.keywords, rt.alloc(), name, mailbox, &keywords)?;
     let done = dump_keywords(rt, folder.as_str(), &keywords);
     drop(keywords);
-    pass_over_failed(progress, &mut dumped.faults, done)?;
-    Ok(true)
+    pass_over_failed(progress, &mut dumped.faults, done)
 }
 
 /// Makes the folders of a mailbox.

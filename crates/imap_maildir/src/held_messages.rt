@@ -9,6 +9,7 @@ use std::alloc::{AllocError, Global};
 /// A message that a mailbox has.
 #[derive(Drop)]
 struct HeldMessage {
+    uid: u32,
     octets: Octets,
     /// The moment of its internal date, in seconds from the beginning of 1970.
     moment: i64,
@@ -36,6 +37,7 @@ impl HeldMessages {
             let octets = row.octets.try_copy()?;
             let moment = seconds_of(row.date);
             held.push(HeldMessage {
+                uid: row.uid,
                 octets,
                 moment,
                 is_met: false,
@@ -48,8 +50,8 @@ impl HeldMessages {
         Ok(HeldMessages(held))
     }
 
-    /// Whether a message with these octets and this moment is there that no file met before. It is met then.
-    pub(crate) fn meet(&mut self, message: &NewMessage) -> bool {
+    /// The UID of a message with these octets and this moment that no file met before. It is met then.
+    pub(crate) fn meet(&mut self, message: &NewMessage) -> Option<u32> {
         let octets = message.octets.as_slice();
         let moment = seconds_of(message.date);
         let start = self
@@ -58,13 +60,13 @@ impl HeldMessages {
             .partition_point(|held| held.octets.as_slice() < octets);
         for held in self.0.as_mut_slice().iter_mut().skip(start) {
             if held.octets.as_slice() != octets {
-                return false;
+                return None;
             }
             if held.moment == moment && !held.is_met {
                 held.is_met = true;
-                return true;
+                return Some(held.uid);
             }
         }
-        false
+        None
     }
 }

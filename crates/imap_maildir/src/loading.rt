@@ -1,22 +1,22 @@
 //! Mailboxes read from folders of messages.
 
-use crate::faults::{pass_over, pass_over_failed};
+use crate::faults::pass_over;
 use crate::folders::find_maildirs;
 use crate::kept_mailboxes::KeptMailboxes;
+use crate::kept_uids::wanted_validity;
 use crate::layout::{Found, Layout, find_name};
 use crate::lists::load_lists;
+use crate::mailbox_loading::load_messages;
 use crate::maildir_error::MaildirError;
-use crate::message_files::{MessageFile, message_files};
-use crate::pending::Pending;
 use crate::progress::Progress;
-use crate::reading::Reading;
-use crate::state::load_state;
+use crate::reading::Goal;
+use crate::states::States;
 use crate::subscribing::load_subscriptions;
-use imap_batch::{Batch, NewMessage};
+use crate::uid_pairs::{LoadedUids, UidEntries};
 use imap_keeper::Keeper;
 use imap_names::{Name, UserName};
 use imap_values::beside;
-use imap_world::{Effect, NamedBatch};
+use imap_world::Effect;
 use std::alloc::{AllocError, Global};
 use std::rt::Files;
 
@@ -34,7 +34,7 @@ pub struct Loaded {
 
 impl Loaded {
     /// Counts a message that was read.
-    fn count_met(&mut self, is_met: bool) {
+    pub(crate) fn count_met(&mut self, is_met: bool) {
         if is_met {
             self.met = self.met.saturating_add(1);
         }
@@ -51,9 +51,9 @@ struct Maildir {
 }
 
 /// Reads all mailboxes below a folder, as [`dump`](crate::dump) or Maildir++ has them: each Maildir there is the mailbox of
-/// its path, with its messages, their flags and moments, the lists of the file `acl`, and the
-/// subscriptions of the file `state`. A mailbox that is missing is made;
-/// in the Shared tree the administrator owns it. A message that a mailbox has, with these octets and this moment, isn't
+/// its path, with its messages, their flags and moments, the lists of the file `acl`, and what the file `state` says. A mailbox
+/// that is missing is made, and keeps UIDVALIDITY and UIDs if the file has them, and mod-sequences that are greater than all
+/// of before; in the Shared tree the administrator owns it. A message that a mailbox has, with these octets and this moment, isn't
 /// added again, so that a load that was ended may be begun once more. Each change is saved before the next is begun. Lines
 /// end with CRLF afterwards, but in files that `dump` wrote, which are taken as they are. What can't be read is passed over:
 /// `progress` is told of it. Fails if the folder can't be read, a line of `acl` has another form, or the store refuses.
@@ -72,27 +72,115 @@ pub fn load<R: Files + AllocGlobal + Clone + Drop, K: Keeper, P: Progress>(
         faults: 0,
     };
     let faults = &mut loaded.faults;
+    let states = States::read(rt, folder, faults, progress)?;
     let found = named_maildirs(rt, folder, layout, faults, progress)?;
-    let maildirs = made_maildirs(rt.alloc(), kept, administrator, found, faults, progress)?;
+    let maildirs = made_maildirs(
+        rt.alloc(),
+        kept,
+        administrator,
+        &states,
+        found,
+        faults,
+        progress,
+    )?;
+    let folders = user_folders(rt.alloc(), maildirs.as_slice())?;
+    for folder in &folders {
+        progress.found_maildirpp(folder.path);
+    }
     load_lists(rt, kept, folder, faults, progress)?;
-    for maildir in &maildirs {
-        load_messages(rt, kept, administrator, maildir, &mut loaded, progress)?;
+    let uids = load_all_messages(
+        rt,
+        kept,
+        administrator,
+        &states,
+        maildirs.as_slice(),
+        &mut loaded,
+        progress,
+    )?;
+    for folder in &folders {
+        load_subscriptions(
+            rt,
+            kept,
+            folder.path,
+            folder.owner,
+            &mut loaded.faults,
+            progress,
+        )?;
+    }
+    states.load(
+        rt.alloc(),
+        kept,
+        administrator,
+        &uids,
+        &mut loaded.faults,
+        progress,
+    )?;
+    Ok(loaded)
+}
+
+/// Adds the messages of all Maildirs. Returns the UIDs that they had and have.
+fn load_all_messages<R: Files + AllocGlobal + Clone + Drop, K: Keeper, P: Progress>(
+    rt: &R,
+    kept: &mut KeptMailboxes<K>,
+    administrator: &UserName,
+    states: &States,
+    maildirs: &[Maildir],
+    loaded: &mut Loaded,
+    progress: &mut P,
+) -> Result<LoadedUids, MaildirError> {
+    let mut entries = UidEntries::new(rt.alloc());
+    for maildir in maildirs {
+        let name = &maildir.name;
+        let goal = Goal {
+            path: maildir.path.as_str(),
+            name,
+            user: name.owner().unwrap_or(administrator),
+        };
+        let state = states.uids(&name.as_ref());
+        let pairs = load_messages(rt, kept, goal, state, loaded, progress)?;
+        let (name, pairs) = beside(name.try_copy(), pairs)?;
+        entries.push(name, pairs)?;
         loaded.mailboxes = loaded.mailboxes.saturating_add(1);
     }
-    for maildir in &maildirs {
-        if maildir.is_maildirpp && maildir.name.is_inbox() {
-            load_subscriptions(
-                rt,
-                kept,
-                maildir.path.as_str(),
-                &maildir.name,
-                &mut loaded.faults,
-                progress,
-            )?;
+    Ok(entries.into_map(rt.alloc()))
+}
+
+/// A user's folder in Maildir++.
+#[derive(Clone, Copy)]
+struct UserFolder<'a> {
+    path: &'a str,
+    owner: &'a UserName,
+}
+
+/// Returns the folders of the users whose mailboxes are Maildirs of Maildir++, in the order of their paths. That of a user may
+/// have no `cur`, and then is no mailbox.
+fn user_folders(alloc: Global, maildirs: &[Maildir]) -> Result<Vec<UserFolder<'_>>, AllocError> {
+    let mut folders = Vec::new(alloc);
+    for maildir in maildirs {
+        if maildir.is_maildirpp {
+            if let Some(owner) = maildir.name.owner() {
+                let path = user_path(maildir);
+                folders.push(UserFolder { path, owner })?;
+            }
         }
     }
-    load_state(rt, kept, folder, &mut loaded.faults, progress)?;
-    Ok(loaded)
+    folders
+        .as_mut_slice()
+        .sort_unstable_by(|one, other| one.path.cmp(other.path));
+    folders.dedup_by(|one, other| one.path == other.path);
+    Ok(folders)
+}
+
+/// The path of the user's folder: an INBOX is the folder itself.
+fn user_path(maildir: &Maildir) -> &str {
+    let path = maildir.path.as_str();
+    if maildir.name.is_inbox() {
+        return path;
+    }
+    match path.rsplit_once('/') {
+        Some((folder, _)) => folder,
+        None => path,
+    }
 }
 
 /// Finds the Maildirs below the folder. Those of no mailbox are passed over.
@@ -139,36 +227,45 @@ fn made_maildirs<K: Keeper, P: Progress>(
     alloc: Global,
     kept: &mut KeptMailboxes<K>,
     administrator: &UserName,
+    states: &States,
     found: Vec<Maildir>,
     faults: &mut u64,
     progress: &mut P,
 ) -> Result<Vec<Maildir>, MaildirError> {
     let mut made = Vec::new(alloc);
     for maildir in found {
-        match make_missing(alloc, kept, administrator, &maildir) {
-            Ok(()) => {
-                if maildir.is_maildirpp && maildir.name.is_inbox() {
-                    progress.found_maildirpp(maildir.path.as_str());
-                }
-                made.push(maildir)?;
-            }
+        match make_missing(alloc, kept, administrator, states, &maildir) {
+            Ok(()) => made.push(maildir)?,
             Err(error) => pass_over(progress, faults, error)?,
         }
     }
     Ok(made)
 }
 
-/// Makes the mailbox of a Maildir if it is missing.
+/// Makes the mailbox of a Maildir if it is missing, with the UIDVALIDITY that it had, if that can be.
 fn make_missing<K: Keeper>(
     alloc: Global,
     kept: &mut KeptMailboxes<K>,
     administrator: &UserName,
+    states: &States,
     maildir: &Maildir,
 ) -> Result<(), MaildirError> {
-    if kept.world().mailbox(&maildir.name.as_ref()).is_some() {
+    let name = &maildir.name;
+    if kept.world().mailbox(&name.as_ref()).is_some() {
         return Ok(());
     }
-    let effect = creation(administrator, &maildir.name)?;
+    let wanted = wanted_validity(states.uids(&name.as_ref()));
+    let first = kept.world().next_validity(&name.as_ref()).unwrap_or(wanted);
+    if !name.is_inbox() {
+        // No UIDVALIDITY is given twice under a name: those before are used up.
+        for _ in first..wanted {
+            let effect = creation(administrator, name)?;
+            change(alloc, kept, maildir, effect)?;
+            let effect = Effect::Delete(name.try_copy()?);
+            change(alloc, kept, maildir, effect)?;
+        }
+    }
+    let effect = creation(administrator, name)?;
     change(alloc, kept, maildir, effect)
 }
 
@@ -191,95 +288,4 @@ fn change<K: Keeper>(
         Ok(()) => Ok(()),
         Err(fault) => Err(fault.of_folder(alloc, maildir.path.as_str())),
     }
-}
-
-/// Adds the messages of a Maildir that its mailbox hasn't. What its mailbox doesn't take is passed over.
-fn load_messages<R: Files + AllocGlobal + Clone + Drop, K: Keeper, P: Progress>(
-    rt: &R,
-    kept: &mut KeptMailboxes<K>,
-    administrator: &UserName,
-    maildir: &Maildir,
-    loaded: &mut Loaded,
-    progress: &mut P,
-) -> Result<(), MaildirError> {
-    let files = message_files(rt, maildir.path.as_str(), &mut loaded.faults, progress)?;
-    let done = load_files(rt, kept, administrator, maildir, &files, loaded, progress);
-    drop(files);
-    pass_over_failed(progress, &mut loaded.faults, done)
-}
-
-/// Adds the messages in files of a Maildir that its mailbox hasn't. A file that can't be read is passed over.
-fn load_files<R: Files + AllocGlobal + Clone + Drop, K: Keeper, P: Progress>(
-    rt: &R,
-    kept: &mut KeptMailboxes<K>,
-    administrator: &UserName,
-    maildir: &Maildir,
-    files: &[MessageFile],
-    loaded: &mut Loaded,
-    progress: &mut P,
-) -> Result<(), MaildirError> {
-    let (path, name) = (maildir.path.as_str(), &maildir.name);
-    let mut reading = Reading::begin(rt, kept, path, name, &mut loaded.faults, progress)?;
-    for file in files {
-        match reading.read(rt, file, &mut loaded.faults, progress) {
-            Ok(is_met) => loaded.count_met(is_met),
-            Err(error) => pass_over(progress, &mut loaded.faults, error)?,
-        }
-        if reading.pending.is_full() {
-            save(
-                rt.alloc(),
-                kept,
-                administrator,
-                maildir,
-                &mut reading.pending,
-                loaded,
-            )?;
-            progress.done(loaded.added.saturating_add(loaded.met));
-        }
-    }
-    save(
-        rt.alloc(),
-        kept,
-        administrator,
-        maildir,
-        &mut reading.pending,
-        loaded,
-    )
-}
-
-/// Adds the messages to the mailbox of the Maildir, in one change.
-fn save<K: Keeper>(
-    alloc: Global,
-    kept: &mut KeptMailboxes<K>,
-    administrator: &UserName,
-    maildir: &Maildir,
-    pending: &mut Pending,
-    loaded: &mut Loaded,
-) -> Result<(), MaildirError> {
-    let count = pending.len() as u64;
-    if count == 0 {
-        return Ok(());
-    }
-    let effect = adding(alloc, administrator, &maildir.name, pending.take(alloc))?;
-    change(alloc, kept, maildir, effect)?;
-    loaded.added = loaded.added.saturating_add(count);
-    Ok(())
-}
-
-/// Returns the change that adds the messages. `\Seen` is that of the mailbox's owner, and of nobody in the Shared tree.
-fn adding(
-    alloc: Global,
-    administrator: &UserName,
-    name: &Name,
-    mut messages: Vec<NewMessage>,
-) -> Result<Effect, AllocError> {
-    if name.owner().is_none() {
-        for message in messages.as_mut_slice() {
-            message.seen = false;
-        }
-    }
-    let user = name.owner().unwrap_or(administrator);
-    let batch = Batch::adding(alloc, user, messages)?;
-    let (name, batch) = beside(name.try_copy(), batch)?;
-    Ok(Effect::Messages(NamedBatch { name, batch }, None))
 }

@@ -28,6 +28,9 @@ pub enum MaildirError {
     /// A message has NUL, which stands in no message of IMAP (RFC 9051, section 4.3.1).
     #[error("{path}: each NUL is replaced by the octet 0x80")]
     Nul { path: String },
+    /// Another file of the folder has the UID of a file.
+    #[error("{path}: another file here has its UID")]
+    Twice { path: String },
     /// The store refused.
     #[error("the store refused")]
     Refused,
@@ -52,6 +55,14 @@ impl MaildirError {
     pub(crate) fn of_nul(alloc: Global, path: &str) -> MaildirError {
         match String::from_str(alloc, path) {
             Ok(path) => MaildirError::Nul { path },
+            Err(_) => MaildirError::Memory,
+        }
+    }
+
+    /// Another file has the UID of the file at the path.
+    pub(crate) fn of_twice(alloc: Global, path: &str) -> MaildirError {
+        match String::from_str(alloc, path) {
+            Ok(path) => MaildirError::Twice { path },
             Err(_) => MaildirError::Memory,
         }
     }

@@ -4,6 +4,7 @@ use crate::faults::pass_over;
 use crate::folders::names_in;
 use crate::maildir_error::MaildirError;
 use crate::progress::Progress;
+use imap_maildir_names::is_own_file;
 use std::alloc::AllocError;
 use std::io::ErrorKind;
 use std::rt::Files;
@@ -14,11 +15,22 @@ pub(crate) struct MessageFile {
     path: String,
     /// The number with which its name begins: a UID, or the second in which it came. 0 if it begins with none.
     number: u64,
+    /// Whether `dump` wrote it.
+    is_own: bool,
 }
 
 impl MessageFile {
     pub(crate) fn path(&self) -> &str {
         self.path.as_str()
+    }
+
+    /// The UID that the message had, if `dump` wrote the file.
+    pub(crate) fn uid(&self) -> Option<u32> {
+        if self.is_own {
+            u32::try_from(self.number).ok()
+        } else {
+            None
+        }
     }
 
     /// The file's own name, without the folders above it.
@@ -30,8 +42,8 @@ impl MessageFile {
     }
 }
 
-/// Returns the files in `new` and `cur` of the Maildir, in the order of the numbers with which their names begin, and of
-/// their paths. A folder that can't be read is passed over.
+/// Returns the files in `new` and `cur` of the Maildir, first those that `dump` wrote, in the order of the numbers with which
+/// their names begin, and of their paths. A folder that can't be read is passed over.
 pub(crate) fn message_files<R: Files + AllocGlobal + Clone + Drop, P: Progress>(
     rt: &R,
     maildir: &str,
@@ -46,7 +58,7 @@ pub(crate) fn message_files<R: Files + AllocGlobal + Clone + Drop, P: Progress>(
     }
     files
         .as_mut_slice()
-        .sort_by_key(rt.alloc(), |file| file.number)?;
+        .sort_by_key(rt.alloc(), |file| (!file.is_own, file.number))?;
     Ok(files)
 }
 
@@ -98,7 +110,11 @@ fn push_file<R: AllocGlobal>(
 ) -> Result<(), AllocError> {
     let path = format!(in rt.alloc(); "{folder}/{name}")?;
     let number = number_of(name);
-    files.push(MessageFile { path, number })?;
+    files.push(MessageFile {
+        path,
+        number,
+        is_own: is_own_file(name),
+    })?;
     Ok(())
 }
 

@@ -15,6 +15,8 @@ const MAX_OCTETS: usize = 1 << 26;
 pub(crate) struct Pending {
     messages: Vec<NewMessage>,
     octets: usize,
+    /// How many of them stand in the places of others.
+    in_place: usize,
 }
 
 impl Pending {
@@ -22,6 +24,7 @@ impl Pending {
         Pending {
             messages: Vec::new(alloc),
             octets: 0,
+            in_place: 0,
         }
     }
 
@@ -29,6 +32,17 @@ impl Pending {
         self.octets = self.octets.saturating_add(message.octets.as_slice().len());
         self.messages.push(message)?;
         Ok(())
+    }
+
+    /// Adds what stands in the place of a message that is gone.
+    pub(crate) fn push_in_place(&mut self, message: NewMessage) -> Result<(), AllocError> {
+        self.in_place = self.in_place.saturating_add(1);
+        self.push(message)
+    }
+
+    /// How many messages of files there are.
+    pub(crate) fn count(&self) -> usize {
+        self.messages.len().saturating_sub(self.in_place)
     }
 
     pub(crate) fn len(&self) -> usize {
@@ -42,6 +56,7 @@ impl Pending {
     /// Takes the messages.
     pub(crate) fn take(&mut self, alloc: Global) -> Vec<NewMessage> {
         self.octets = 0;
+        self.in_place = 0;
         mem::replace(&mut self.messages, Vec::new(alloc))
     }
 }

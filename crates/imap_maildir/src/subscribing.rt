@@ -14,19 +14,16 @@ use std::fs;
 use std::io::ErrorKind;
 use std::rt::Files;
 
-/// Subscribes the owner of an INBOX to the names in the files `subscriptions` and `courierimapsubscribed` of its folder. A
+/// Subscribes the owner of a folder to the names in its files `subscriptions` and `courierimapsubscribed`. A
 /// file that can't be read is passed over.
 pub(crate) fn load_subscriptions<R: Files + AllocGlobal, K: Keeper, P: Progress>(
     rt: &R,
     kept: &mut KeptMailboxes<K>,
     folder: &str,
-    inbox: &Name,
+    owner: &UserName,
     faults: &mut u64,
     progress: &mut P,
 ) -> Result<(), MaildirError> {
-    let Some(owner) = inbox.owner() else {
-        return Ok(());
-    };
     for file in ["subscriptions", "courierimapsubscribed"] {
         match subscribed_names(rt, folder, file, owner) {
             Ok(names) => subscribe_all(rt.alloc(), kept, folder, owner, &names, faults, progress)?,

@@ -33,8 +33,14 @@ impl KeywordLetters {
         Ok(())
     }
 
-    fn contains(&self, keyword: &Atom) -> bool {
+    /// Whether the keyword has a letter.
+    pub fn contains(&self, keyword: &Atom) -> bool {
         contains(self.words.as_slice(), keyword)
+    }
+
+    /// Whether no letter is left, so that a keyword may have none.
+    pub fn are_all_used(&self) -> bool {
+        self.words.len() >= MOST
     }
 
     /// Appends the letters of the keywords, in the order of the alphabet.
