@@ -6,8 +6,9 @@ use imap_keeper::ListKeeper;
 use imap_lex::Octets;
 use imap_mailbox::{Row, SharedFlags};
 use imap_maildir::{
-    KeptMailboxes, Layout, Loaded, MailboxList, MaildirError, Progress, date_at, dump, load,
-    read_lists, read_state_line, seconds_of, with_line_ends, without_nul,
+    KeptMailboxes, Layout, Loaded, MailboxList, MaildirError, Progress, StateLine, UidRange,
+    UidState, date_at, dump, load, read_lists, read_state_line, seconds_of, with_line_ends,
+    without_nul,
 };
 use imap_maildir_names::{
     KeywordLetters, MessageFlags, file_moment, is_own_file, mailbox_folder, mailbox_name,
@@ -404,13 +405,42 @@ fn ends_lines(rt: HostRuntime) {
     }
 }
 
-/// The user and the name of a line of the file `state`.
+/// The ranges, as they are written.
+fn ranges_text(alloc: Global, ranges: &[UidRange]) -> Result<String, AllocError> {
+    let mut text = String::new(alloc);
+    for range in ranges {
+        let part = format!(in alloc; " {}-{}", range.first, range.last)?;
+        text.push_str(part.as_str())?;
+    }
+    Ok(text)
+}
+
+/// What a line of the file `state` says.
 fn state_line(alloc: Global, line: &str) -> Result<String, AllocError> {
     let root = user(alloc, "root")?;
     match read_state_line(alloc, line)? {
-        Some(subscribed) => {
-            let name = show_name(alloc, &root, &subscribed.name)?;
-            format!(in alloc; "{} {name}", subscribed.user.as_str())
+        Some(StateLine::Subscribed(user, name)) => {
+            let name = show_name(alloc, &root, &name)?;
+            format!(in alloc; "{} subscribed {name}", user.as_str())
+        }
+        Some(StateLine::Uids(name, state)) => {
+            let name = show_name(alloc, &root, &name)?;
+            let UidState {
+                validity,
+                next,
+                highest,
+            } = state;
+            format!(in alloc; "{name} {validity} {next} {highest}")
+        }
+        Some(StateLine::Seen(user, name, ranges)) => {
+            let name = show_name(alloc, &root, &name)?;
+            let ranges = ranges_text(alloc, ranges.as_slice())?;
+            format!(in alloc; "{} saw {name}{ranges}", user.as_str())
+        }
+        Some(StateLine::Keyword(_, name, ranges)) => {
+            let name = show_name(alloc, &root, &name)?;
+            let ranges = ranges_text(alloc, ranges.as_slice())?;
+            format!(in alloc; "keyword {name}{ranges}")
         }
         None => String::from_str(alloc, "none"),
     }
@@ -419,11 +449,31 @@ fn state_line(alloc: Global, line: &str) -> Result<String, AllocError> {
 #[test]
 fn reads_states(rt: HostRuntime) {
     const ROWS: &[(&str, &str)] = &[
-        ("subscribed\tann\t./Shared/50%25", "ann Shared/50%"),
+        (
+            "subscribed\tann\t./Shared/50%25",
+            "ann subscribed Shared/50%",
+        ),
         ("subscribed\tann", "none"),
         ("subscribed\ta b\t./Shared/A", "none"),
         ("subscribed\tann\t./A", "none"),
-        ("seen\tann\t./Shared/A", "none"),
+        (
+            "mailbox\t./Shared/A\t7\t12\t90000000000",
+            "Shared/A 7 12 90000000000",
+        ),
+        ("mailbox\t./Shared/A\t7\t12", "none"),
+        ("mailbox\t./Shared/A\t7\t-1\t2", "none"),
+        ("seen\tbob\t./Shared/A\t1:3,5", "bob saw Shared/A 1-3 5-5"),
+        ("seen\tbob\t./Shared/A\t3:1", "none"),
+        ("seen\tbob\t./Shared/A\t5,1:3", "none"),
+        ("seen\tbob\t./Shared/A\t0", "none"),
+        ("seen\tbob\t./Shared/A\t", "none"),
+        ("seen\tbob\t./Shared/A", "none"),
+        (
+            "keyword\tkey\t./Shared/A\t4294967295",
+            "keyword Shared/A 4294967295-4294967295",
+        ),
+        ("keyword\ta b\t./Shared/A\t1", "none"),
+        ("other\tann\t./Shared/A", "none"),
     ];
     for &(line, wanted) in ROWS {
         expect_text(&rt, state_line(rt.alloc(), line), wanted);
