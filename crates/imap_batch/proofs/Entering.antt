@@ -9,7 +9,7 @@ use Rattle.imap_mailbox.specs.declared.message.Message.{Message}
 use Rattle.imap_mailbox.specs.declared.own.SeenChange.{SeenChange}
 use Rattle.imap_mailbox.specs.Calls.{arrival, if_there}
 use Rattle.imap_mailbox.specs.Expunging.{without_all, uids_there, gone_at}
-use Rattle.imap_mailbox.specs.History.{own_at}
+use Rattle.imap_mailbox.specs.Own.{Own, own_at, with_change, with_changes}
 use Rattle.imap_mailbox.specs.Rows.{Added, FlagsSet, is_among}
 use Rattle.imap_mailbox.specs.Summary.{Summary, flags_in, is_there, uids_in, with_flags, with_seen}
 use Rattle.imap_mailbox.proofs.ExpungedAll.{by_lists, by_lists_of}
@@ -19,52 +19,49 @@ use Rattle.imap_batch.specs.declared.batch.NewMessage.{NewMessage}
 use Rattle.imap_batch.specs.declared.batch.FlagUpdate.{FlagUpdate}
 use Rattle.imap_batch.specs.declared.batch.Batch.{Batch}
 use Rattle.imap_batch.specs.declared.write.BatchWrite.{BatchWrite}
-use Rattle.imap_batch.specs.Batch.{one_if, flag_count, are_known, has_messages, mark_uids, write_of}
+use Rattle.imap_batch.specs.Batch.{one_if, flag_count, are_known, has_messages, mark_uids, own_added, own_change, own_marked, write_of}
 use Rattle.imap_batch.specs.Written.{with_own, with_message, with_new, with_added, with_new_flags, with_new_seen, with_mark, with_marks, with_batch}
-use Rattle.imap_batch.specs.Entered.{FlagChange, messages_from, flag_change, flags_from, own_added, own_change, own_marked, with_flag_changes, IsEntered, WritesAreEntered}
+use Rattle.imap_batch.specs.Entered.{FlagChange, messages_from, flag_change, flags_from, with_flag_changes, IsEntered, WritesAreEntered}
 use Rattle.imap_batch.proofs.Steps.{known_rise, own_by, own_stays, seen_by, new_seen_stays, new_by, flags_by, all_added}
 use Rattle.imap_batch.proofs.Known.{among_last, known_append}
 
 -- ---- own changes
 
 -- each is made if the user has an event left
-abbrev put : List SeenChange → List SeenChange → List SeenChange
+abbrev put : List SeenChange → Own → Own
 put [] own = own
-put (c ∷ changes) own = put changes (cond (nat_lt (length own) max_events) (own ++ c ∷ []) own)
+put (c ∷ changes) own = put changes (cond (nat_lt (length own.befores) max_events) (with_change c own) own)
 
-put_append : (a b own : List SeenChange) → put (a ++ b) own ≡ put b (put a own)
+put_append : (a b : List SeenChange) (own : Own) → put (a ++ b) own ≡ put b (put a own)
 put_append [] b own = refl
-put_append (c ∷ a) b own = put_append a b (cond (nat_lt (length own) max_events) (own ++ c ∷ []) own)
+put_append (c ∷ a) b own = put_append a b (cond (nat_lt (length own.befores) max_events) (with_change c own) own)
 
 take_none : (n : ℕ) → take {A = SeenChange} n [] ≡ []
 take_none zero = refl
 take_none (suc n) = refl
 
-put_is : (changes own : List SeenChange) → put changes own ≡ own ++ take (max_events - length own) changes
-put_is [] own = sym (append-nil own) ∙ ap (λ cs. own ++ cs) (sym (take_none (max_events - length own)))
-put_is (c ∷ changes) own = by (nat_lt (length own) max_events) refl (λ own. put_is changes own)
+put_is : (changes : List SeenChange) (own : Own) → put changes own ≡ with_changes (take (max_events - length own.befores) changes) own
+put_is [] own = ap (λ cs. with_changes cs own) (sym (take_none (max_events - length own.befores)))
+put_is (c ∷ changes) own = by (nat_lt (length own.befores) max_events) refl (λ own. put_is changes own)
   where
-    by : (x : Bool) → nat_lt (length own) max_events ≡ x → ((own : List SeenChange) → put changes own ≡ own ++ take (max_events - length own) changes)
-        → put changes (cond x (own ++ c ∷ []) own) ≡ own ++ take (max_events - length own) (c ∷ changes)
+    by : (x : Bool) → nat_lt (length own.befores) max_events ≡ x → ((own : Own) → put changes own ≡ with_changes (take (max_events - length own.befores) changes) own)
+        → put changes (cond x (with_change c own) own) ≡ with_changes (take (max_events - length own.befores) (c ∷ changes)) own
     by true lt rest =
-        let less = ltb-true (length own) max_events lt in
-        let left : max_events - length own ≡ suc (max_events - (length own + 1)) = omega (arith, less) in
-        rest (own ++ c ∷ []) ∙ ap (λ n. (own ++ c ∷ []) ++ take (max_events - n) changes) (length_push own c)
-        ∙ append_assoc own (c ∷ []) (take (max_events - (length own + 1)) changes)
-        ∙ ap (λ n. own ++ take n (c ∷ changes)) (sym left)
+        let less = ltb-true (length own.befores) max_events lt in
+        let left : max_events - length own.befores ≡ suc (max_events - (length own.befores + 1)) = omega (arith, less) in
+        rest (with_change c own) ∙ ap (λ n. with_changes (take (max_events - n) changes) (with_change c own)) (length_push own.befores c.before)
+        ∙ ap (λ n. with_changes (take n (c ∷ changes)) own) (sym left)
     by false full rest =
-        let most = ltb-false (length own) max_events full in
-        let none : max_events - length own ≡ 0 = omega (arith, most) in
-        rest own ∙ ap (λ n. own ++ take n changes) none ∙ ap (λ n. own ++ take n (c ∷ changes)) (sym none)
+        let most = ltb-false (length own.befores) max_events full in
+        let none : max_events - length own.befores ≡ 0 = omega (arith, most) in
+        rest own ∙ ap (λ n. with_changes (take n changes) own) none ∙ ap (λ n. with_changes (take n (c ∷ changes)) own) (sym none)
 
 own_put : (user : List ℕ) (uid : ℕ) (seen : Bool) (s : Summary) → is_there uid s ≡ true
     → own_at (with_own user uid seen s).own user ≡ put (record { before = s.shared; uid = uid; seen = seen } ∷ []) (own_at s.own user)
-own_put user uid seen s there = by (nat_lt (length (own_at s.own user)) max_events)
+own_put user uid seen s there = by (nat_lt (length (own_at s.own user).befores) max_events)
   where
-    c : SeenChange
-    c = record { before = s.shared; uid = uid; seen = seen }
-
-    by : (x : Bool) → own_at (cond x (if_there uid (with_seen user uid seen s) s) s).own user ≡ cond x (own_at s.own user ++ record { before = s.shared; uid = uid; seen = seen } ∷ []) (own_at s.own user)
+    by : (x : Bool) → own_at (cond x (if_there uid (with_seen user uid seen s) s) s).own user
+        ≡ cond x (with_change (record { before = s.shared; uid = uid; seen = seen }) (own_at s.own user)) (own_at s.own user)
     by true = ap (λ z. own_at (cond z (with_seen user uid seen s) s).own user) there ∙ own_at-same s.own user s.shared uid seen
     by false = refl
 

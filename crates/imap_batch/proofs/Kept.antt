@@ -9,7 +9,7 @@ use Rattle.imap_modseq.specs.Numbers.{max_events}
 use Rattle.imap_mailbox.specs.declared.flags.SharedFlags.{SharedFlags}
 use Rattle.imap_mailbox.specs.Brought.{IsBrought}
 use Rattle.imap_mailbox.specs.Flags.{has_too_many}
-use Rattle.imap_mailbox.specs.History.{own_at}
+use Rattle.imap_mailbox.specs.Own.{own_at}
 use Rattle.imap_mailbox.specs.Held.{IsKept, SetsFewKeywords}
 use Rattle.imap_mailbox.specs.Rows.{Event, Added, FlagsSet, Expunged, Shared, IsGiven, IsPresent}
 use Rattle.imap_mailbox.specs.Summary.{Summary, step, with_expunge, with_seen, is_there, uids_in, row_in, gone_in}
@@ -73,7 +73,7 @@ other_sees : (q user : List ℕ) (uid : ℕ) (seen : Bool) (s : Summary) → q �
 other_sees q user uid seen s apart = ap (λ own. record {
   next = s.next;
   shared = s.shared;
-  own = length own;
+  own = length own.befores;
   rows = map (row_in own) s.messages;
   gone = map (gone_in own) s.gone;
 }) (own_at-other s.own q user s.shared uid seen apart)
@@ -91,7 +91,7 @@ later_seen q user uid seen s kept up_to known h = by (bytes_eq q user) refl
     by false other =
         subst (IsBrought up_to known) (sym (other_sees q user uid seen s (λ is. absurd (cc (sym ((bytes_eq-Decides q user).1 is) ∙ other))))) h
 
-seen_keeps : (user : List ℕ) (uid : ℕ) (seen : Bool) (s : Summary) → is_there uid s ≡ true → length (own_at s.own user) < max_events → IsKept s → Keeps s (with_seen user uid seen s)
+seen_keeps : (user : List ℕ) (uid : ℕ) (seen : Bool) (s : Summary) → is_there uid s ≡ true → length (own_at s.own user).befores < max_events → IsKept s → Keeps s (with_seen user uid seen s)
 seen_keeps user uid seen s there lt kept = record {
   kept = kept_marked user uid seen s (given_there uid s kept.sound there) lt kept;
   grown = record { next = omega arith; shared = omega arith; later = λ q up_to known h. later_seen q user uid seen s kept up_to known h };

@@ -4,6 +4,8 @@ pub mod Kept
 pub mod Sights
 pub mod Planning
 pub mod Entering
+pub mod OwnRows
+mod Dropping
 pub mod Walking
 pub mod Untouched
 pub mod Events

@@ -7,7 +7,7 @@ use Rattle.imap_mailbox.specs.declared.flags.SharedFlags.{SharedFlags}
 use Rattle.imap_mailbox.specs.Rows.{Row, Expunged, FlagsSet, row_of, at_uid, is_among, first_uid}
 use Rattle.imap_mailbox.specs.Held.{IsKept}
 use Rattle.imap_mailbox.specs.Lent.{row_uids}
-use Rattle.imap_mailbox.specs.History.{own_at}
+use Rattle.imap_mailbox.specs.Own.{own_at}
 use Rattle.imap_mailbox.specs.Calls.{arrival}
 use Rattle.imap_mailbox.specs.Summary.{Summary, Rises, rows_of, uids_in}
 use Rattle.imap_mailbox.specs.Shown.{Content, content_of, content_after, content_with_seen, if_shown, content_without, content_expunged}

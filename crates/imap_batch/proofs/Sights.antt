@@ -5,7 +5,8 @@ use Rattle.std.specs.List.{list_all}
 use Rattle.std.proofs.lemmas.Bool.{and_parts, and_from, le-leb, eq-eqb}
 use Rattle.imap_modseq.specs.Numbers.{max_events}
 use Rattle.imap_mailbox.specs.declared.flags.SharedFlags.{SharedFlags}
-use Rattle.imap_mailbox.specs.History.{end_uid, own_at, room_by}
+use Rattle.imap_mailbox.specs.History.{end_uid, room_by}
+use Rattle.imap_mailbox.specs.Own.{own_at}
 use Rattle.imap_mailbox.specs.Held.{IsKept}
 use Rattle.imap_mailbox.specs.Rows.{Added, FlagsSet}
 use Rattle.imap_mailbox.specs.Summary.{Summary, IsSound, with_seen, uids_in, room_of}
@@ -58,7 +59,7 @@ sound_marks user (k ∷ marks) s h = sound_marks user marks (with_mark user k s)
 
 module _ (user : List ℕ) where
   shows_own : (uid : ℕ) (seen : Bool) (s : Summary) → IsSound s → content_of user (with_own user uid seen s) ≡ own_seen uid seen (content_of user s)
-  shows_own uid seen s h = by (nat_lt (length (own_at s.own user)) max_events)
+  shows_own uid seen s h = by (nat_lt (length (own_at s.own user).befores) max_events)
     where
       by : (b : Bool) → content_of user (cond b (if_there uid (with_seen user uid seen s) s) s)
           ≡ cond b (if_shown uid (content_with_seen uid seen (content_of user s)) (content_of user s)) (content_of user s)

@@ -6,7 +6,8 @@ use Rattle.std.proofs.lemmas.List.{length_push}
 use Rattle.imap_modseq.specs.Numbers.{max_events}
 use Rattle.imap_mailbox.specs.declared.flags.SharedFlags.{SharedFlags}
 use Rattle.imap_mailbox.specs.Flags.{HasFewKeywords, has_too_many}
-use Rattle.imap_mailbox.specs.History.{end_uid, own_at}
+use Rattle.imap_mailbox.specs.History.{end_uid}
+use Rattle.imap_mailbox.specs.Own.{own_at}
 use Rattle.imap_mailbox.specs.Rows.{WasGiven, first_uid, is_among}
 use Rattle.imap_mailbox.specs.Summary.{Summary, Rises, AreRising, IsSound, is_there, uids_in, with_flags, with_seen}
 use Rattle.imap_mailbox.specs.Calls.{if_there}
@@ -62,15 +63,15 @@ seen_stays user uid seen s = record { messages = refl; gone = refl; next = refl;
 
 -- by each case of a change that is made only if there is a message and an own event
 pub own_by : (P : Summary → Type 0) (user : List ℕ) (uid : ℕ) (seen : Bool) (s : Summary)
-    → (length (own_at s.own user) < max_events → is_there uid s ≡ true → P (with_seen user uid seen s)) → P s → P (with_own user uid seen s)
-own_by P user uid seen s made left = by (nat_lt (length (own_at s.own user)) max_events) refl
+    → (length (own_at s.own user).befores < max_events → is_there uid s ≡ true → P (with_seen user uid seen s)) → P s → P (with_own user uid seen s)
+own_by P user uid seen s made left = by (nat_lt (length (own_at s.own user).befores) max_events) refl
   where
-    there : (b : Bool) → is_there uid s ≡ b → length (own_at s.own user) < max_events → P (cond b (with_seen user uid seen s) s)
+    there : (b : Bool) → is_there uid s ≡ b → length (own_at s.own user).befores < max_events → P (cond b (with_seen user uid seen s) s)
     there true t lt = made lt t
     there false f lt = left
 
-    by : (b : Bool) → nat_lt (length (own_at s.own user)) max_events ≡ b → P (cond b (if_there uid (with_seen user uid seen s) s) s)
-    by true t = there (is_there uid s) refl (ltb-true (length (own_at s.own user)) max_events t)
+    by : (b : Bool) → nat_lt (length (own_at s.own user).befores) max_events ≡ b → P (cond b (if_there uid (with_seen user uid seen s) s) s)
+    by true t = there (is_there uid s) refl (ltb-true (length (own_at s.own user).befores) max_events t)
     by false f = left
 
 pub own_stays : (user : List ℕ) (uid : ℕ) (seen : Bool) (s : Summary) → StaysShared s (with_own user uid seen s)

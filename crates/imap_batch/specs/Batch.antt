@@ -1,12 +1,16 @@
 -- What is asked of the messages of one mailbox, and the numbers that are found for it.
-use Rattle.std.specs.Prelude.{◌≡◌, ℕ, ◌+◌, nat_le, ◌==◌, not, Bool, true, ◌&&◌, ◌||◌, if◌then◌else◌}
-use Rattle.std.specs.Prelude.{List, [], ◌∷◌, length, map, Option, Some, None, is_some, Result, Ok, Err}
+use Rattle.std.specs.Prelude.{◌≡◌, ℕ, ◌+◌, ◌-◌, nat_le, nat_lt, ◌==◌, not, Bool, true, ◌&&◌, ◌||◌}
+use Rattle.std.specs.Prelude.{if◌then◌else◌, List, [], ◌∷◌, ◌++◌, length, map, take, Option, Some, None}
+use Rattle.std.specs.Prelude.{is_some, Result, Ok, Err}
 use Rattle.std.specs.List.{list_all}
 use Rattle.imap_modseq.specs.Numbers.{max_events}
 use Rattle.imap_mailbox.specs.declared.flags.SharedFlags.{SharedFlags}
+use Rattle.imap_mailbox.specs.declared.own.SeenChange.{SeenChange}
 use Rattle.imap_mailbox.specs.Flags.{has_too_many}
 use Rattle.imap_mailbox.specs.Rows.{is_among}
-use Rattle.imap_mailbox.specs.History.{end_uid, own_at}
+use Rattle.imap_mailbox.specs.History.{end_uid}
+use Rattle.imap_mailbox.specs.KeptRows.{dropped_for}
+use Rattle.imap_mailbox.specs.Own.{Own, own_at}
 use Rattle.imap_mailbox.specs.Summary.{Summary, uids_in}
 use Rattle.imap_batch.specs.declared.batch.NewMessage.{NewMessage}
 use Rattle.imap_batch.specs.declared.batch.FlagUpdate.{FlagUpdate}
@@ -85,6 +89,54 @@ abbrev pub has_messages : Batch → Summary → Bool
 has_messages b s =
     are_known 0 (mark_uids b.marks) (uids_in s.messages) && are_known 0 b.expunged (uids_in s.messages)
 
+-- ---- own changes, each after the shared events of its message
+
+abbrev pub own_added : (uid place : ℕ) → List NewMessage → List SeenChange
+own_added uid place [] = []
+own_added uid place (m ∷ added) =
+    (if m.seen then record { before = place + 1; uid = uid; seen = true } ∷ [] else [])
+    ++ own_added (uid + 1) (place + 1) added
+
+abbrev pub own_change : (place uid : ℕ) → Option Bool → List SeenChange
+own_change place uid None = []
+own_change place uid (Some seen) = record { before = place; uid = uid; seen = seen } ∷ []
+
+abbrev pub own_marked : (place : ℕ) → List FlagUpdate → List SeenChange
+own_marked place [] = []
+own_marked place (k ∷ marks) =
+    own_change (place + one_if (is_some k.flags)) k.uid k.seen
+    ++ own_marked (place + one_if (is_some k.flags)) marks
+
+-- all that are asked for, if the first message that is added has the UID, and the first event has the place
+abbrev pub own_asked : (uid place : ℕ) → Batch → List SeenChange
+own_asked uid place b = own_added uid place b.added ++ own_marked (place + length b.added) b.marks
+
+-- those past the user's events are left away
+abbrev pub own_made : (uid place own : ℕ) → Batch → List SeenChange
+own_made uid place own b = take (max_events - own) (own_asked uid place b)
+
+-- ---- own changes that go
+
+-- a place past the user's events is that of no change
+abbrev pub place_list : Option ℕ → List ℕ
+place_list None = []
+place_list (Some place) = if nat_lt place max_events then place ∷ [] else []
+
+-- the number of shared events before the first of the changes
+abbrev pub before_first : List SeenChange → ℕ
+before_first [] = 0
+before_first (s ∷ changes) = s.before
+
+-- the places of those that go with these changes of different messages, if the next change of the user has
+-- `before` shared events before it
+abbrev pub dropped_from : (before : ℕ) → Own → List SeenChange → List ℕ
+dropped_from before own [] = []
+dropped_from before own (s ∷ changes) =
+    place_list (dropped_for s.uid before own) ++ dropped_from before own changes
+
+abbrev pub dropped_with : List SeenChange → Own → List ℕ
+dropped_with changes own = dropped_from (before_first changes) own changes
+
 -- ---- what is found
 
 abbrev pub write_of : Batch → Summary → BatchWrite
@@ -92,7 +144,9 @@ write_of b s = record {
   batch = b;
   first_uid = s.next;
   first_place = s.shared;
-  own_before = length (own_at s.own b.user);
+  own_before = length (own_at s.own b.user).befores;
+  dropped =
+      dropped_with (own_made s.next s.shared (length (own_at s.own b.user).befores) b) (own_at s.own b.user);
 }
 
 abbrev pub write_for : Batch → Summary → Result BatchWrite BatchError

@@ -2,17 +2,19 @@
 use Rattle.std.specs.Prelude.{◌≡◌, ◌≢◌, ℕ, ◌+◌, ◌-◌, Bool, true, is_some, if◌then◌else◌}
 use Rattle.std.specs.Prelude.{List, [], ◌∷◌, ◌++◌, length, map, take, Option, Some, None}
 use Rattle.imap_modseq.specs.Numbers.{max_events}
+use Rattle.imap_mailbox.specs.declared.kept_change.KeptChange.{KeptChange}
 use Rattle.imap_mailbox.specs.declared.own.SeenChange.{SeenChange}
 use Rattle.imap_mailbox.specs.declared.message.Message.{Message}
 use Rattle.imap_mailbox.specs.declared.message.GoneMessage.{GoneMessage}
 use Rattle.imap_mailbox.specs.declared.flags.SharedFlags.{SharedFlags}
 use Rattle.imap_mailbox.specs.Expunging.{without_all, gone_at}
-use Rattle.imap_mailbox.specs.History.{own_at}
+use Rattle.imap_mailbox.specs.KeptRows.{AreKept, without_row}
+use Rattle.imap_mailbox.specs.Own.{found_in, numbered, own_at, with_changes}
 use Rattle.imap_mailbox.specs.Summary.{Summary, flags_in}
 use Rattle.imap_batch.specs.declared.batch.NewMessage.{NewMessage}
 use Rattle.imap_batch.specs.declared.batch.FlagUpdate.{FlagUpdate}
 use Rattle.imap_batch.specs.declared.write.BatchWrite.{BatchWrite}
-use Rattle.imap_batch.specs.Batch.{one_if, flag_count, event_count}
+use Rattle.imap_batch.specs.Batch.{one_if, flag_count, event_count, own_made}
 use Rattle.imap_batch.specs.Written.{with_batch, MayWrite}
 
 -- ---- messages that are added, with UIDs and places in turn
@@ -49,29 +51,11 @@ mark_place w = w.first_place + length w.batch.added
 abbrev pub flag_changes : BatchWrite → List FlagChange
 flag_changes w = flags_from (mark_place w) w.batch.marks
 
--- ---- own changes, each after the shared events of its message
-
-abbrev pub own_added : (uid place : ℕ) → List NewMessage → List SeenChange
-own_added uid place [] = []
-own_added uid place (m ∷ added) =
-    (if m.seen then record { before = place + 1; uid = uid; seen = true } ∷ [] else [])
-    ++ own_added (uid + 1) (place + 1) added
-
-abbrev pub own_change : (place uid : ℕ) → Option Bool → List SeenChange
-own_change place uid None = []
-own_change place uid (Some seen) = record { before = place; uid = uid; seen = seen } ∷ []
-
-abbrev pub own_marked : (place : ℕ) → List FlagUpdate → List SeenChange
-own_marked place [] = []
-own_marked place (k ∷ marks) =
-    own_change (place + one_if (is_some k.flags)) k.uid k.seen
-    ++ own_marked (place + one_if (is_some k.flags)) marks
+-- ---- own changes
 
 -- those past the user's events are left away
 abbrev pub own_changes : BatchWrite → List SeenChange
-own_changes w =
-    take (max_events - w.own_before)
-    (own_added w.first_uid w.first_place w.batch.added ++ own_marked (mark_place w) w.batch.marks)
+own_changes w = own_made w.first_uid w.first_place w.own_before w.batch
 
 -- ---- messages that are expunged, with the place of each event
 
@@ -93,8 +77,25 @@ pub record IsEntered (w : BatchWrite) (s t : Summary) : Type 0 where
   pub gone : t.gone ≡ s.gone ++ gone_added w
   pub next : t.next ≡ s.next + length w.batch.added
   pub shared : t.shared ≡ s.shared + event_count w.batch
-  pub own : own_at t.own w.batch.user ≡ own_at s.own w.batch.user ++ own_changes w
+  pub own : own_at t.own w.batch.user ≡ with_changes (own_changes w) (own_at s.own w.batch.user)
   pub others : (user : List ℕ) → user ≢ w.batch.user → own_at t.own user ≡ own_at s.own user
 
 abbrev pub WritesAreEntered : Type 0
 WritesAreEntered = (s : Summary) (w : BatchWrite) → MayWrite w s → IsEntered w s (with_batch w.batch s)
+
+-- ---- the rows of the user's own changes
+
+abbrev pub without_rows : (places : List ℕ) → List KeptChange → List KeptChange
+without_rows [] kept = kept
+without_rows (place ∷ places) kept = without_rows places (without_row (Some place) kept)
+
+-- those that go are taken out, and then the new ones come
+abbrev pub own_rows : BatchWrite → List KeptChange → List KeptChange
+own_rows w rows = without_rows w.dropped rows ++ numbered w.own_before (own_changes w)
+
+-- The rows that stand for the user's own changes are in order afterwards, and stand for those after the batch.
+abbrev pub OwnRowsFollow : Type 0
+OwnRowsFollow = (s : Summary) (w : BatchWrite) (rows : List KeptChange) → MayWrite w s
+    → AreKept 0 0 s.shared rows → found_in rows ≡ own_at s.own w.batch.user →
+    let t = with_batch w.batch s in
+    AreKept 0 0 t.shared (own_rows w rows) × (found_in (own_rows w rows) ≡ own_at t.own w.batch.user)

@@ -9,14 +9,13 @@ pub mod Untouched
 pub mod Events
 -- what those above say of mailboxes
 pub use Rattle.imap_mailbox.specs.Held
+pub use Rattle.imap_mailbox.specs.Own
 pub use Rattle.imap_mailbox.specs.Parts
 pub use Rattle.imap_mailbox.specs.Summary
 pub use Rattle.imap_mailbox.specs.contracts.message.GoneMessage as GoneMessageType
 pub use Rattle.imap_mailbox.specs.contracts.message.Message as MessageType
-pub use Rattle.imap_mailbox.specs.contracts.own.SeenChange as SeenChangeType
 pub use Rattle.imap_mailbox.specs.declared.message.GoneMessage
 pub use Rattle.imap_mailbox.specs.declared.message.Message
-pub use Rattle.imap_mailbox.specs.declared.own.SeenChange
 pub use Rattle.imap_mailbox.specs.declared.parts.PartsError
 pub use Rattle.imap_mailbox.specs.Brought
 pub use Rattle.imap_mailbox.specs.Lent

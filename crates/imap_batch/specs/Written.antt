@@ -4,7 +4,7 @@ use Rattle.std.specs.Prelude.{List, [], ◌∷◌, length, Option, Some, None}
 use Rattle.imap_modseq.specs.Numbers.{max_events}
 use Rattle.imap_mailbox.specs.declared.flags.SharedFlags.{SharedFlags}
 use Rattle.imap_mailbox.specs.Held.{Held, own_room}
-use Rattle.imap_mailbox.specs.History.{own_at}
+use Rattle.imap_mailbox.specs.Own.{own_at}
 use Rattle.imap_mailbox.specs.Calls.{arrival, if_there}
 use Rattle.imap_mailbox.specs.Expunging.{with_expunges}
 use Rattle.imap_mailbox.specs.Summary.{Summary, with_arrival, with_flags, with_seen}
@@ -19,7 +19,7 @@ use Rattle.imap_batch.specs.Batch.{seen_count, write_of, has_few_keywords, has_n
 -- an own change past the user's events is left away
 abbrev pub with_own : List ℕ → (uid : ℕ) → Bool → Summary → Summary
 with_own user uid seen s =
-    if nat_lt (length (own_at s.own user)) max_events then if_there uid (with_seen user uid seen s) s else s
+    if nat_lt (length (own_at s.own user).befores) max_events then if_there uid (with_seen user uid seen s) s else s
 
 abbrev pub with_message : NewMessage → Summary → Summary
 with_message m s = with_arrival (arrival s.next m.date m.octets m.flags) s

@@ -2,7 +2,7 @@
 
 ghost use Rattle.imap_batch.specs.Laws.{WritesMayBeMade, BatchesKeep, BatchIsSeen, PossibleIsMade};
 ghost use Rattle.imap_batch.specs.Laws.{AnothersSeenIsHidden, EmptyChangesNothing};
-ghost use Rattle.imap_batch.specs.Entered.{WritesAreEntered};
+ghost use Rattle.imap_batch.specs.Entered.{OwnRowsFollow, WritesAreEntered};
 ghost use Rattle.imap_batch.specs.Events.{BatchesAreEvents};
 ghost use Rattle.imap_batch.specs.Planned.{BatchIsPlanned};
 
@@ -53,4 +53,9 @@ pub fn writes_are_entered()
 /// So what holds of all that may have happened to a mailbox holds after a batch.
 pub fn batches_are_events()
     ensures { BatchesAreEvents }
+{}
+
+/// The rows of the user's own changes after a batch: those that go are taken out, and the new ones come.
+pub fn own_rows_follow()
+    ensures { OwnRowsFollow }
 {}

@@ -1,20 +1,25 @@
 //! What is written for a batch, by the mailbox as it is.
 
-ghost use Rattle.std.specs.Prelude.{◌≡◌, ◌≤◌, not, length, IfOk, None, Ok};
+ghost use Rattle.std.specs.Prelude.{◌≡◌, ◌≤◌, ◌-◌, ◌++◌, not, length, take, true, IfOk, None, Ok, OnOk};
 ghost use Rattle.std.specs.List.{list_all};
 ghost use Rattle.std.specs.Result.{result_err};
 ghost use Rattle.imap_mailbox.specs.Flags.{has_too_many};
 ghost use Rattle.imap_mailbox.specs.Held.{summary_in};
+ghost use Rattle.imap_mailbox.specs.Own.{own_at};
 ghost use Rattle.imap_mailbox.specs.Summary.{uids_in};
+ghost use Rattle.imap_modseq.specs.Numbers.{max_events};
 ghost use Rattle.imap_batch.specs.Batch.{are_few, has_few_keywords, has_numbers, has_uids, has_messages};
-ghost use Rattle.imap_batch.specs.Batch.{are_known, flag_count, mark_uids, write_for, Finds};
+ghost use Rattle.imap_batch.specs.Batch.{are_known, before_first, dropped_from, flag_count, mark_uids};
+ghost use Rattle.imap_batch.specs.Batch.{place_list, write_for, write_of, Finds};
 ghost use Rattle.imap_batch.specs.Written.{MayWrite};
 
 use crate::batch::{Batch, FlagUpdate, NewMessage};
 use crate::error::BatchError;
+use crate::own::own_changes;
 use crate::write::BatchWrite;
-use imap_mailbox::{MAX_KEYWORDS, Mailbox, SharedFlags};
+use imap_mailbox::{Items, MAX_KEYWORDS, Mailbox, SeenChange, SharedFlags};
 use imap_modseq::MAX_EVENTS;
+use imap_values::beside;
 use std::alloc::{AllocError, Global};
 
 /// Returns why [`resolve`] refuses a batch, or `None` if only memory can run out: `Limit` if a message would
@@ -32,7 +37,7 @@ pub fn refusal(mailbox: &Mailbox, batch: &Batch) -> Option<BatchError>
     None
 }
 
-/// Finds the numbers by which a batch is written. Fails with what [`refusal`] returns, and else only for
+/// Finds the numbers by which a batch is written, and the own changes that go. Fails with what [`refusal`] returns, and else only for
 /// want of memory.
 pub fn resolve(alloc: Global, mailbox: &Mailbox, batch: &Batch) -> Result<BatchWrite, BatchError>
     ensures result { Finds result (write_for batch.now (summary_in mailbox.now)) }
@@ -50,14 +55,78 @@ fn write_of(alloc: Global, mailbox: &Mailbox, batch: &Batch) -> Result<BatchWrit
     ensures write { IfOk result (λ write. write_for batch.now (summary_in mailbox.now) ≡ Ok write) }
     ensures may { IfOk result (λ write. MayWrite write (summary_in mailbox.now)) }
 {
-    let copy = batch.try_copy(alloc)?;
+    let dropped = dropped_by(alloc, mailbox, batch)?;
+    let (copy, dropped) = beside(batch.try_copy(alloc), dropped)?;
     let own_before = mailbox.own_len(copy.user.as_str());
     Ok(BatchWrite {
         batch: copy,
         first_uid: mailbox.next_uid(),
         first_place: mailbox.shared_len(),
         own_before,
+        dropped: Items::from_vec(dropped),
     })
+}
+
+/// Finds the places of the user's own changes that go with those of a batch.
+fn dropped_by(alloc: Global, mailbox: &Mailbox, batch: &Batch) -> Result<Vec<u64>, AllocError>
+    requires { has_numbers batch.now (summary_in mailbox.now) ≡ true }
+    ensures { IfOk result (λ dropped.
+        dropped.items ≡ (write_of batch.now (summary_in mailbox.now)).dropped) }
+{
+    let changes = own_changes(alloc, batch, mailbox.next_uid(), mailbox.shared_len())?;
+    let changes = changes.as_slice();
+    let mut dropped = Vec::new(alloc);
+    let before = before_first(changes);
+    push_dropped(&mut dropped, mailbox, batch.user.as_str(), before, changes)?;
+    Ok(dropped)
+}
+
+/// Returns the number of shared events before the first of the changes, or 0 if there is none.
+fn before_first(changes: &[SeenChange]) -> u64
+    ensures { result ≡ before_first changes.now }
+{
+    match changes.first() {
+        Some(first) => first.before,
+        None => 0,
+    }
+}
+
+/// Appends the places of the user's own changes that go with these, before the first of which there are
+/// `before` shared events. Those past the user's events are left away.
+fn push_dropped(
+    dropped: &mut Vec<u64>,
+    mailbox: &Mailbox,
+    user: &str,
+    before: u64,
+    changes: &[SeenChange],
+) -> Result<(), AllocError>
+    ensures { let own = own_at (summary_in mailbox.now).own user.now in
+        OnOk result (dropped.new.items ≡ dropped.old.items
+        ++ dropped_from before own (take (max_events - length own.befores) changes.now)) }
+{
+    let mut at = mailbox.own_len(user);
+    for change in changes {
+        if at >= MAX_EVENTS {
+            return Ok(());
+        }
+        push_place(dropped, mailbox.dropped_by(user, change.uid, before))?;
+        at += 1;
+    }
+    Ok(())
+}
+
+fn push_place(places: &mut Vec<u64>, place: Option<u64>) -> Result<(), AllocError>
+    ensures { OnOk result (places.new.items ≡ places.old.items ++ place_list place) }
+{
+    match place {
+        Some(place) => {
+            if place < MAX_EVENTS {
+                places.push(place)?;
+            }
+            Ok(())
+        }
+        None => Ok(()),
+    }
 }
 
 fn is_few(flags: &SharedFlags) -> bool

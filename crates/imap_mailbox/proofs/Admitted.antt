@@ -4,15 +4,17 @@ use Rattle.std.proofs.lemmas.List.{take-append-drop}
 use Rattle.imap_modseq.specs.Merge.{merge_from, befores, AreInOrder}
 use Rattle.imap_mailbox.specs.declared.own.SeenChange.{SeenChange}
 use Rattle.imap_mailbox.specs.Rows.{Event, Entry, Shared, SeenSet, next_step, entry_next, IsGiven, AreGiven, ArePresent}
-use Rattle.imap_mailbox.specs.History.{own_at, own_entry, events_of}
-use Rattle.imap_mailbox.specs.Summary.{Summary, step, steps, new_summary, summary_of, uids_in, gone_uids, places_in, AreApart, Rises, ArePlacesBelow, AreOfGiven, Fits}
+use Rattle.imap_mailbox.specs.History.{changes_at, own_entry, events_of}
+use Rattle.imap_mailbox.specs.Own.{own_at}
+use Rattle.imap_mailbox.specs.Summary.{Summary, step, steps, new_summary, summary_of, found_of, uids_in, gone_uids, places_in, AreApart, Rises, ArePlacesBelow, Fits}
 use Rattle.imap_mailbox.specs.Bridge.{SummariesAreAdmitted}
 use Rattle.imap_mailbox.proofs.Apart.{apart_step}
 use Rattle.imap_mailbox.proofs.Accounts.{IsAccounted}
 use Rattle.imap_mailbox.proofs.Counts.{none_given}
 use Rattle.imap_mailbox.proofs.Rising.{entries_next, rises_step}
 use Rattle.imap_mailbox.proofs.Fitting.{accounted_after, next_after, next_rises, last_step, places_step, uids_step}
-use Rattle.imap_mailbox.proofs.Bridge.{steps_next, steps_own, shared_of}
+use Rattle.imap_mailbox.proofs.Bridge.{own_is_found, steps_next, shared_of}
+use Rattle.imap_mailbox.proofs.Changes.{AllAreGiven, found_befores, given_found}
 use Rattle.imap_mailbox.proofs.Lawful.{next_of}
 
 given_split : (a b : List Entry) (next : ℕ) → AreGiven next (a ++ b) → AreGiven next a × AreGiven (entries_next a next) b
@@ -43,7 +45,7 @@ unmerged (s ∷ own) k shared next h =
     subst (AreGiven next) (take-append-drop (s.before - k) shared) (given_join (take (s.before - k) shared) (drop (s.before - k) shared) next parts.0 (unmerged own s.before (drop (s.before - k) shared) (entries_next (take (s.before - k) shared) next) parts.1.1))
 
 -- own changes are of UIDs below the next
-known : (own : List SeenChange) (k : ℕ) (shared : List Entry) (next : ℕ) → AreGiven next (merge_from k shared (map own_entry own)) → AreOfGiven (entries_next (merge_from k shared (map own_entry own)) next) own
+known : (own : List SeenChange) (k : ℕ) (shared : List Entry) (next : ℕ) → AreGiven next (merge_from k shared (map own_entry own)) → AllAreGiven (entries_next (merge_from k shared (map own_entry own)) next) own
 known [] k shared next h = tt
 known (s ∷ own) k shared next h =
     let front = take (s.before - k) shared in
@@ -51,7 +53,7 @@ known (s ∷ own) k shared next h =
     let parts = given_split front (SeenSet s.uid s.seen ∷ rest) next h in
     let lt : s.uid < entries_next front next = parts.1.0.1 in
     let up = entries_rise rest (entries_next front next) parts.1.1 in
-    subst (λ n. AreOfGiven n (s ∷ own)) (sym (next_append front (SeenSet s.uid s.seen ∷ rest) next)) ((parts.1.0.0, omega (arith, lt, up)), known own s.before (drop (s.before - k) shared) (entries_next front next) parts.1.1)
+    subst (λ n. AllAreGiven n (s ∷ own)) (sym (next_append front (SeenSet s.uid s.seen ∷ rest) next)) ((parts.1.0.0, omega (arith, lt, up)), known own s.before (drop (s.before - k) shared) (entries_next front next) parts.1.1)
 
 record IsCounted (s : Summary) : Type 0 where
   uids : Rises 1 s.next (uids_in s.messages)
@@ -74,13 +76,15 @@ pub summaries_are_admitted : SummariesAreAdmitted
 summaries_are_admitted history lawful = record { uids = three.uids; once = three.once; apart = three.apart; place = three.place; places = three.places; fits = fits }
   where
     three : IsCounted (summary_of history)
-    three = kept_steps history.shared (new_summary history.own) (unmerged (own_at history.own []) 0 (map Shared history.shared) 1 (lawful []).given) (lawful []).present (record { uids = omega arith; once = λ uid. none_given uid; apart = λ place. omega arith; place = tt; places = omega arith })
+    three = kept_steps history.shared (new_summary (found_of history.own)) (unmerged (changes_at history.own []) 0 (map Shared history.shared) 1 (lawful []).given) (lawful []).present (record { uids = omega arith; once = λ uid. none_given uid; apart = λ place. omega arith; place = tt; places = omega arith })
 
     next_is : (user : List ℕ) → entries_next (events_of history user) 1 ≡ (summary_of history).next
-    next_is user = next_of history user ∙ sym (steps_next history.shared (new_summary history.own))
+    next_is user = next_of history user ∙ sym (steps_next history.shared (new_summary (found_of history.own)))
 
     fits : (user : List ℕ) → Fits (summary_of history).shared (summary_of history).next (own_at (summary_of history).own user)
-    fits user = subst (λ own. Fits (summary_of history).shared (summary_of history).next (own_at own user)) (sym (steps_own history.shared (new_summary history.own))) (record {
-      order = subst (λ n. AreInOrder 0 n (befores (map own_entry (own_at history.own user)))) (sym (shared_of history)) (lawful user).order;
-      known = subst (λ n. AreOfGiven n (own_at history.own user)) (next_is user) (known (own_at history.own user) 0 (map Shared history.shared) 1 (lawful user).given);
+    fits user = subst (Fits (summary_of history).shared (summary_of history).next) (sym (own_is_found history user)) (record {
+      order = subst (AreInOrder 0 (summary_of history).shared) (sym (found_befores (changes_at history.own user)))
+          (subst (λ n. AreInOrder 0 n (befores (map own_entry (changes_at history.own user)))) (sym (shared_of history)) (lawful user).order);
+      known = given_found (summary_of history).next (changes_at history.own user)
+          (subst (λ n. AllAreGiven n (changes_at history.own user)) (next_is user) (known (changes_at history.own user) 0 (map Shared history.shared) 1 (lawful user).given));
     })

@@ -9,10 +9,9 @@ use Rattle.imap_user_map.specs.Finite.{map_values}
 use Rattle.imap_user_map.proofs.Changed.{get-map_values}
 use Rattle.imap_user_map.proofs.Entries.{same_answers}
 use Rattle.imap_mailbox.specs.declared.message.Message.{Message}
-use Rattle.imap_mailbox.specs.declared.own.SeenChange.{SeenChange}
 use Rattle.imap_mailbox.specs.Counted.{seen_among, without_gone, with_count, IsCounted, AreCounted}
 use Rattle.imap_mailbox.specs.Held.{lists, list_room, own_room}
-use Rattle.imap_mailbox.specs.History.{own_at}
+use Rattle.imap_mailbox.specs.Own.{Own, no_own, own_at}
 use Rattle.imap_mailbox.specs.Owned.{Owned, if_any, owned_changes}
 use Rattle.imap_mailbox.specs.Summary.{AreOfGiven, Fits, uids_in}
 use Rattle.imap_mailbox.proofs.Keeping.{own_in}
@@ -24,7 +23,7 @@ module _ (own new : Rows Owned) (f : Owned → Owned) (is : new.map ≡ map_valu
   found : (user : List ℕ) → fin.get new.map user ≡ option_map f (fin.get own.map user)
   found user = ap (λ (m : Users Owned). fin.get m user) is ∙ get-map_values f own.map user
 
-  lists_stay : ((o : Owned) → (f o).list ≡ o.list) → lists new ≡ lists own
+  lists_stay : ((o : Owned) → (f o).own ≡ o.own) → lists new ≡ lists own
   lists_stay same = same_answers _ _ (λ q. get_changes new.map q ∙ ap (option_and_then (owned_changes q)) (found q) ∙ by q (fin.get own.map q) ∙ sym (get_changes own.map q))
     where
       by : (q : List ℕ) (o : Option Owned) → option_and_then (owned_changes q) (option_map f o) ≡ option_and_then (owned_changes q) o
@@ -49,13 +48,13 @@ module _ (own new : Rows Owned) (uids : List ℕ) (is : new.map ≡ map_values (
   pub gone_room : (user : List ℕ) → own_room new user ≡ own_room own user
   gone_room = room_stays own new (without_gone uids) is (λ o. refl)
 
-  pub gone_counted : (old messages : List Message) → ((list : List SeenChange) → seen_among list (uids_in messages) ≡ seen_among list (uids_in old) - seen_among list uids)
+  pub gone_counted : (old messages : List Message) → ((list : Own) → seen_among list (uids_in messages) ≡ seen_among list (uids_in old) - seen_among list uids)
       → AreCounted old own → AreCounted messages new
   gone_counted old messages fewer h = counted_by own new (without_gone uids) is messages (λ user. by (fin.get own.map user) (h user))
     where
       by : (o : Option Owned) → IsCounted old o → IsCounted messages (option_map (without_gone uids) o)
       by None h = tt
-      by (Some o) h = ap (λ n. n - seen_among o.list uids) h ∙ sym (fewer o.list)
+      by (Some o) h = ap (λ n. n - seen_among o.own uids) h ∙ sym (fewer o.own)
 
 -- all are counted
 module _ (own new : Rows Owned) (messages : List Message) (is : new.map ≡ map_values (with_count (uids_in messages)) own.map) where
@@ -75,7 +74,7 @@ same_counted own old messages is h user = by (fin.get own.map user) (h user)
   where
     by : (o : Option Owned) → IsCounted old o → IsCounted messages o
     by None h = tt
-    by (Some o) h = h ∙ ap (seen_among o.list) (sym is)
+    by (Some o) h = h ∙ ap (seen_among o.own) (sym is)
 
 -- one message more, which nobody has seen
 pub new_counted : (own : Rows Owned) (next shared : ℕ) (messages : List Message) (m : Message) → ((user : List ℕ) → Fits shared next (own_at (lists own) user)) → next ≤ m.uid
@@ -85,8 +84,8 @@ new_counted own next shared messages m fits le h user = by (fin.get own.map user
     by : (p : Option Owned) → fin.get own.map user ≡ p → IsCounted messages p → IsCounted (messages ++ m ∷ []) p
     by None e h = tt
     by (Some o) e h =
-        let given : AreOfGiven next o.list = subst (AreOfGiven next) (own_in own user ∙ ap (λ p. unwrap_or (option_map (λ (o : Owned). o.list) p) []) e) (fits user).known in
-        h ∙ sym (seen_new o.list next messages m given le)
+        let given : AreOfGiven next o.own = subst (AreOfGiven next) (own_in own user ∙ ap (λ p. unwrap_or (option_map (λ (o : Owned). o.own) p) no_own) e) (fits user).known in
+        h ∙ sym (seen_new o.own next messages m given le)
 
 -- one user's changes are others
 pub put_counted : (messages : List Message) (old : Users Owned) (new : Users Owned) (user : List ℕ) (o : Owned) → new ≡ fin.insert old user o → IsCounted messages (Some o)
@@ -99,7 +98,7 @@ put_counted messages old new user o is here h other =
     by false = h other
 
 -- a user without changes has seen none
-pub none_counted : (messages : List Message) (o : Owned) → o.list ≡ [] → o.seen ≡ 0 → IsCounted messages (Some o)
+pub none_counted : (messages : List Message) (o : Owned) → o.own ≡ no_own → o.seen ≡ 0 → IsCounted messages (Some o)
 none_counted messages o empty zero = zero ∙ sym (ap (λ l. seen_among l (uids_in messages)) empty ∙ none_seen (uids_in messages))
 
 pub nobody_counted : (own : Rows Owned) (messages : List Message) → own.map ≡ fin.empty → AreCounted messages own

@@ -7,7 +7,8 @@ use Rattle.imap_mailbox.specs.declared.message.Message.{Message}
 use Rattle.imap_mailbox.specs.declared.error.MailboxError.{MailboxError}
 use Rattle.imap_mailbox.specs.declared.error.MailboxError.TheVariants.{Full, Limit}
 use Rattle.imap_mailbox.specs.Rows.{Event, Added, FlagsSet, Expunged, Shared, IsGiven, IsPresent, WasGiven, is_among}
-use Rattle.imap_mailbox.specs.History.{History, own_at, uids, next_uid, with_event, with_own_change}
+use Rattle.imap_mailbox.specs.History.{History, uids, next_uid, with_event, with_own_change}
+use Rattle.imap_mailbox.specs.Own.{own_at}
 use Rattle.imap_mailbox.specs.Summary.{Summary, step, with_seen, room_of, latest, latest_seen, uids_in, IsSound}
 use Rattle.imap_mailbox.specs.Flags.{has_too_many}
 use Rattle.imap_mailbox.specs.Calls.{is_same, same_flags, message_at, arrival, add_result, set_flags_case, expunge_case, mark_seen_case}
@@ -105,7 +106,7 @@ module _ (s new : Summary) (history : History) (h : IsHistoryOf s history) where
       → IsHistoryOf new (cond (is_same (latest_seen (latest uid (own_at s.own user))) seen) history (with_own_change user uid seen history))
   mark_made user uid seen None is e = absurd (cc e)
   mark_made user uid seen (Some m) is e =
-      mark_case (is_same (latest_seen (latest uid (own_at s.own user))) seen) (eqb (length (own_at s.own user)) max_events) s (with_seen user uid seen s) new history (with_own_change user uid seen history)
+      mark_case (is_same (latest_seen (latest uid (own_at s.own user))) seen) (eqb (length (own_at s.own user).befores) max_events) s (with_seen user uid seen s) new history (with_own_change user uid seen history)
       h (by_change s history h user uid seen (among_there uid s.messages m is)) e
 
 pub calls_are_events : CallsAreEvents

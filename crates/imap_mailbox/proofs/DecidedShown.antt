@@ -1,7 +1,7 @@
 -- How changes that are decided already show to a user.
 use Rattle.std.proofs.Common.{◌≡◌, ℕ, Bool, true, false, cond, ◌||◌, List, [], ◌∷◌, Some, None, refl, sym, ap, ◌∙◌, arith}
 use Rattle.imap_mailbox.specs.Rows.{FlagsSet, Expunged, is_among}
-use Rattle.imap_mailbox.specs.History.{own_at}
+use Rattle.imap_mailbox.specs.Own.{own_at}
 use Rattle.imap_mailbox.specs.Summary.{Summary, with_flags, with_expunge, with_seen, is_there, IsSound}
 use Rattle.imap_mailbox.specs.Calls.{if_there}
 use Rattle.imap_mailbox.specs.Expunging.{with_expunges}

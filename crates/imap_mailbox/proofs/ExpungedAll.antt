@@ -11,7 +11,7 @@ use Rattle.imap_modseq.specs.Numbers.{max_events}
 use Rattle.imap_mailbox.specs.declared.message.Message.{Message}
 use Rattle.imap_mailbox.specs.declared.message.GoneMessage.{GoneMessage}
 use Rattle.imap_user_map.specs.Rows.{Users}
-use Rattle.imap_mailbox.specs.declared.own.SeenChange.{SeenChange}
+use Rattle.imap_mailbox.specs.Own.{Own}
 use Rattle.imap_mailbox.specs.Rows.{Expunged, is_among}
 use Rattle.imap_mailbox.specs.Summary.{Summary, Rises, AreRising, uids_in, with_expunge, without, is_there}
 use Rattle.imap_mailbox.specs.Held.{IsKept}
@@ -209,7 +209,7 @@ by_lists low high (uid ∷ uids) s h = by (is_there uid s) refl (λ s. by_lists 
     by false f rest = rest s ∙ absent_gone uid uids s f
 
 -- as the code makes it: `read` are the messages that it looked through
-pub made_by : (low high : ℕ) (uids : List ℕ) (s : Summary) (read messages : List Message) (gone : List GoneMessage) (next : ℕ) (own : Users (List SeenChange)) → Rises low high uids → read ≡ s.messages
+pub made_by : (low high : ℕ) (uids : List ℕ) (s : Summary) (read messages : List Message) (gone : List GoneMessage) (next : ℕ) (own : Users Own) → Rises low high uids → read ≡ s.messages
     → messages ≡ without_all uids s.messages → gone ≡ s.gone ++ gone_at s.shared (uids_there uids read) → next ≡ s.shared + length (uids_there uids read) → own ≡ s.own
     → with_expunges uids s ≡ record { messages = messages; gone = gone; next = s.next; shared = next; own = own }
 made_by low high uids s read messages gone next own h is left went count same = by_lists low high uids s h ∙ λ i. record {

@@ -1,19 +1,19 @@
 -- The first row above a mod-sequence, found by the UIDs of last events.
 use Rattle.std.proofs.Common.{◌≡◌, ◌⊎◌, inl, inr, ℕ, zero, suc, ◌+◌, ◌-◌, ◌<◌, ◌≤◌, eqb, leb, ltb, Bool, true, false, ◌||◌, ◌&&◌, List, [], ◌∷◌, ◌++◌, length, map, take, get_or, Option, Some, None, IfSome, refl, sym, ap, subst, ◌∙◌, arith}
 use Rattle.std.proofs.lemmas.Bool.{cases_lt, eq-eqb, eqb-true, leb-true, le-leb, lt-ltb, ltb-true, ltb-false}
-use Rattle.std.proofs.lemmas.List.{get_or-map, length-map, map_more, take_more}
+use Rattle.std.proofs.lemmas.List.{get_or-map, length-map, take_more}
+use Rattle.std.specs.FinMap.{get-empty}
+use Rattle.std.specs.Option.{option_map}
+use Rattle.std.specs.Ordering.{nat_cmp}
 use Rattle.imap_modseq.proofs.Order.{before_most}
-use Rattle.imap_modseq.specs.Merge.{befores}
 use Rattle.imap_mailbox.specs.Above.{IsFirstAbove}
-use Rattle.imap_mailbox.specs.History.{own_entry}
+use Rattle.imap_mailbox.specs.Own.{Own, no_own}
 use Rattle.imap_mailbox.specs.Lent.{place_in, row_uids}
-use Rattle.imap_mailbox.specs.Looked.{AreAmong, IsFirstOf, change_uids}
+use Rattle.imap_mailbox.specs.Looked.{AreAmong, IsFirstOf}
 use Rattle.imap_mailbox.specs.Recent.{Recent, AreRecent, IsRecent}
 use Rattle.imap_mailbox.specs.Rows.{Row, is_among}
-use Rattle.imap_mailbox.specs.Summary.{Rises, AreRising, latest, latest_number, row_in}
+use Rattle.imap_mailbox.specs.Summary.{Rises, AreRising, shown, latest, latest_number, row_in}
 use Rattle.imap_mailbox.specs.declared.message.Message.{Message}
-use Rattle.imap_mailbox.specs.declared.own.SeenChange.{SeenChange}
-use Rattle.imap_mailbox.proofs.Bounds.{length-bs}
 use Rattle.imap_mailbox.proofs.Finding.{at_least, number_there, among_nowhere}
 
 -- ---- one UID
@@ -165,14 +165,6 @@ first_with_more number start end middle place i rows uids lt first next =
     first_joined (λ u. is_among u (take i uids)) (λ u. eqb u (get_or uids i 0)) (λ u. is_among u (take (i + 1) uids)) number start end middle place rows
     (λ u e. among_more u (get_or uids i 0) (take i uids) (subst (λ l. is_among u l ≡ true) (take_more uids i 0 lt) e)) first next
 
-pub first_with_change : (number start end middle place i : ℕ) (rows : List Row) (changes : List SeenChange) (d : SeenChange) → i < length changes
-    → IsFirstOf (λ u. is_among u (change_uids (take i changes))) number start end middle rows → IsFirstOf (λ u. eqb u (get_or changes i d).uid) number start middle place rows
-    → IsFirstOf (λ u. is_among u (change_uids (take (i + 1) changes))) number start end place rows
-first_with_change number start end middle place i rows changes d lt first next =
-    first_joined (λ u. is_among u (change_uids (take i changes))) (λ u. eqb u (get_or changes i d).uid) (λ u. is_among u (change_uids (take (i + 1) changes))) number start end middle place rows
-    (λ u e. among_more u (get_or changes i d).uid (change_uids (take i changes))
-    (subst (λ l. is_among u l ≡ true) (map_more (λ (c : SeenChange). c.uid) changes i d lt) e)) first next
-
 -- if all that are above the number are among them, it is the first of all
 pub first_of_all : (test : ℕ → Bool) (number start end place : ℕ) (rows : List Row) → end ≤ length rows → AreAmong test number rows → IsFirstOf test number start end place rows → IsFirstAbove number start end place rows
 first_of_all test number start end place rows within among first = record {
@@ -188,7 +180,7 @@ first_of_all test number start end place rows within among first = record {
 
 -- ---- rows above the number have UIDs of last events
 
-pub rows_among : (test : ℕ → Bool) (number : ℕ) (own : List SeenChange) (recent : Recent) (messages : List Message) → AreRecent recent messages
+pub rows_among : (test : ℕ → Bool) (number : ℕ) (own : Own) (recent : Recent) (messages : List Message) → AreRecent recent messages
     → ((m : Message) → IsRecent recent m → number < (row_in own m).number → test m.uid ≡ true) → AreAmong test number (map (row_in own) messages)
 rows_among test number own recent [] were has i r lt shown above = absurd (omega (arith, lt))
 rows_among test number own recent (m ∷ messages) were has zero r lt shown above =
@@ -196,14 +188,13 @@ rows_among test number own recent (m ∷ messages) were has zero r lt shown abov
 rows_among test number own recent (m ∷ messages) were has (suc i) r lt shown above = rows_among test number own recent messages were.1 has i r (omega (arith, lt)) shown above
 
 -- its last shared event is above the number, if its last own change isn't
-pub shared_late : (number quiet : ℕ) (own : List SeenChange) (m : Message) → quiet ≡ number - (1 + length own) → latest_number (latest m.uid own) ≤ number → number < (row_in own m).number → quiet ≤ m.place
+pub shared_late : (number quiet : ℕ) (own : Own) (m : Message) → quiet ≡ number - (1 + length own.befores) → latest_number (latest m.uid own) ≤ number → number < (row_in own m).number → quiet ≤ m.place
 shared_late number quiet own m is early above =
-    let before = before_most (befores (map own_entry own)) m.place in
-    let len = length-bs own in
-    omega (arith, is, above, early, before, len)
+    let before = before_most own.befores m.place in
+    omega (arith, is, above, early, before)
 
-pub plain_late : (number quiet : ℕ) (m : Message) → quiet ≡ number - 1 → number < (row_in [] m).number → quiet ≤ m.place
-plain_late number quiet m is above = shared_late number quiet [] m is (omega (arith)) above
+pub plain_late : (number quiet : ℕ) (m : Message) → quiet ≡ number - 1 → number < (row_in no_own m).number → quiet ≤ m.place
+plain_late number quiet m is above = shared_late number quiet no_own m is (let none : latest_number (latest m.uid no_own) ≡ 0 = ap (λ o. latest_number (option_map shown o)) (get-empty nat_cmp m.uid) in omega (arith, none)) above
 
 pub if_some_weaker : {X : Type 0} (o : Option X) (P Q : X → Type 0) → ((x : X) → P x → Q x) → IfSome o P → IfSome o Q
 if_some_weaker None P Q f h = tt
@@ -214,7 +205,7 @@ if_some_weaker (Some x) P Q f h = f x h
 abbrev among_either : (uids others : List ℕ) → ℕ → Bool
 among_either uids others uid = is_among uid uids || is_among uid others
 
-module _ (number start end : ℕ) (own : List SeenChange) (recent : Recent) (messages : List Message) (within : end ≤ length messages) (noted : AreRecent recent messages) where
+module _ (number start end : ℕ) (own : Own) (recent : Recent) (messages : List Message) (within : end ≤ length messages) (noted : AreRecent recent messages) where
   rows_within : end ≤ length (map (row_in own) messages)
   rows_within = omega (arith, within, length-map messages (row_in own))
 

@@ -1,16 +1,18 @@
 -- What the steps of a summary keep.
 use Rattle.std.proofs.Common.{◌≡◌, ◌≢◌, ⊎_elim, ℕ, ◌+◌, ◌<◌, ◌≤◌, eqb, not, Bool, true, false, cond, List, [], ◌∷◌, ◌++◌, length, map, filter, refl, sym, ap, subst, ◌∙◌, arith}
 use Rattle.std.proofs.lemmas.List.{map-append}
-use Rattle.imap_modseq.specs.Merge.{befores, AreInOrder}
-use Rattle.imap_modseq.proofs.Order.{order_more, order_push}
+use Rattle.imap_modseq.specs.Merge.{AreInOrder}
+use Rattle.imap_modseq.proofs.Order.{order_more}
 use Rattle.imap_mailbox.specs.declared.flags.SharedFlags.{SharedFlags}
 use Rattle.imap_mailbox.specs.declared.own.SeenChange.{SeenChange}
 use Rattle.imap_mailbox.specs.declared.message.Message.{Message}
 use Rattle.imap_mailbox.specs.declared.message.GoneMessage.{GoneMessage}
 use Rattle.imap_mailbox.specs.Rows.{Event, Added, FlagsSet, Expunged, Shared, row_step, gone_step, next_step, uid_step, IsGiven, IsPresent, WasGiven}
-use Rattle.imap_mailbox.specs.History.{own_entry, own_at, own_with}
-use Rattle.imap_mailbox.specs.Summary.{Summary, message_of, flags_in, without, step, row_in, gone_in, ArePlacesBelow, AreOfGiven, Fits, Rises, places_in, uids_in, gone_uids, count_of, given_once, IsSound, with_seen}
+use Rattle.imap_mailbox.specs.Latest.{AreLast}
+use Rattle.imap_mailbox.specs.Own.{Own, own_at, with_change}
+use Rattle.imap_mailbox.specs.Summary.{Summary, message_of, flags_in, without, step, row_in, gone_in, ArePlacesBelow, AreOfGiven, Fits, Rises, places_in, uids_in, gone_uids, count_of, given_once, IsSound, with_seen, own_with}
 use Rattle.imap_mailbox.proofs.Apart.{apart_step}
+use Rattle.imap_mailbox.proofs.Changes.{fits_change}
 use Rattle.imap_mailbox.proofs.Accounts.{IsAccounted, gone_after, accounted_step}
 use Rattle.imap_mailbox.proofs.Rising.{rises_upper, rises_push, rises_step}
 use Rattle.std.proofs.lemmas.Bool.{cases_Bool}
@@ -44,29 +46,20 @@ next_rises (Expunged uid) next h = omega arith
 
 -- ---- own changes
 
-pub of_more : (next more : ℕ) (own : List SeenChange) → next ≤ more → AreOfGiven next own → AreOfGiven more own
-of_more next more [] le h = tt
-of_more next more (s ∷ own) le h = let here : s.uid < next = h.0.1 in ((h.0.0, omega arith), of_more next more own le h.1)
+pub of_more : (next more : ℕ) (own : Own) → next ≤ more → AreOfGiven next own → AreOfGiven more own
+of_more next more own le h uid k e = let here = h uid k e in let lt : uid < next = here.0.1 in ((here.0.0, omega (arith, lt, le)), here.1)
 
-of_push : (next : ℕ) (own : List SeenChange) (s : SeenChange) → WasGiven next s.uid → AreOfGiven next own → AreOfGiven next (own ++ s ∷ [])
-of_push next [] s lt h = (lt, tt)
-of_push next (x ∷ own) s lt h = (h.0, of_push next own s lt h.1)
+pub last_of_fits : (shared next : ℕ) (own : Own) → Fits shared next own → AreLast own
+last_of_fits shared next own h uid k e = (h.known uid k e).1
 
-pub fits_step : (e : Event) (s : Summary) (own : List SeenChange) → IsGiven s.next (Shared e) → Fits s.shared s.next own → Fits (step e s).shared (step e s).next own
+pub fits_step : (e : Event) (s : Summary) (own : Own) → IsGiven s.next (Shared e) → Fits s.shared s.next own → Fits (step e s).shared (step e s).next own
 fits_step e s own given h = record {
-  order = subst (λ n. AreInOrder 0 n (befores (map own_entry own))) (sym (shared_after e s)) (order_more 0 s.shared (befores (map own_entry own)) h.order);
+  order = subst (λ n. AreInOrder 0 n own.befores) (sym (shared_after e s)) (order_more 0 s.shared own.befores h.order);
   known = subst (λ n. AreOfGiven n own) (sym (next_after e s)) (of_more s.next (next_step e s.next) own (next_rises e s.next given) h.known);
 }
 
-pub bs_pushed : (own : List SeenChange) (s : SeenChange) → befores (map own_entry (own ++ s ∷ [])) ≡ befores (map own_entry own) ++ s.before ∷ []
-bs_pushed [] s = refl
-bs_pushed (x ∷ own) s = ap (λ t. x.before ∷ t) (bs_pushed own s)
-
-pub fits_push : (shared next : ℕ) (own : List SeenChange) (s : SeenChange) → s.before ≡ shared → WasGiven next s.uid → Fits shared next own → Fits shared next (own ++ s ∷ [])
-fits_push shared next own s at lt h = record {
-  order = subst (AreInOrder 0 shared) (sym (bs_pushed own s ∙ ap (λ n. befores (map own_entry own) ++ n ∷ []) at)) (order_push 0 shared (befores (map own_entry own)) (omega arith) h.order);
-  known = of_push next own s lt h.known;
-}
+pub fits_push : (shared next : ℕ) (own : Own) (s : SeenChange) → s.before ≡ shared → WasGiven next s.uid → Fits shared next own → Fits shared next (with_change s own)
+fits_push shared next own s at lt h = fits_change shared next s own (subst (λ n. AreInOrder 0 n own.befores) (sym at) h.order) (omega (arith, at)) lt h
 
 -- ---- places
 
@@ -107,17 +100,19 @@ places_step (Expunged uid) s h =
 
 -- ---- what is shown_to
 
-pub rows_step : (e : Event) (s : Summary) (own : List SeenChange) → IsGiven s.next (Shared e) → Fits s.shared s.next own
-    → row_step (2 + (s.shared + length own)) (Shared e) (map (row_in own) s.messages) ≡ map (row_in own) (step e s).messages
-rows_step (Added m) s own given h = let is : m.uid ≡ s.next = given in added_all own s.shared h.order s.next m s.messages h.known (omega arith)
-rows_step (FlagsSet uid flags) s own given h = flag_all own s.shared h.order uid flags s.messages
-rows_step (Expunged uid) s own given h = gone_all own s.shared h.order uid s.messages
+pub rows_step : (e : Event) (s : Summary) (own : Own) → IsGiven s.next (Shared e) → Fits s.shared s.next own
+    → row_step (2 + (s.shared + length own.befores)) (Shared e) (map (row_in own) s.messages) ≡ map (row_in own) (step e s).messages
+rows_step (Added m) s own given h =
+    let is : m.uid ≡ s.next = given in
+    added_all own s.shared h.order (last_of_fits s.shared s.next own h) s.next m s.messages h.known (omega arith)
+rows_step (FlagsSet uid flags) s own given h = flag_all own s.shared h.order (last_of_fits s.shared s.next own h) uid flags s.messages
+rows_step (Expunged uid) s own given h = gone_all own s.shared h.order (last_of_fits s.shared s.next own h) uid s.messages
 
-pub taken_step : (e : Event) (s : Summary) (own : List SeenChange) → Fits s.shared s.next own
-    → gone_step (2 + (s.shared + length own)) (Shared e) (map (gone_in own) s.gone) ≡ map (gone_in own) (step e s).gone
+pub taken_step : (e : Event) (s : Summary) (own : Own) → Fits s.shared s.next own
+    → gone_step (2 + (s.shared + length own.befores)) (Shared e) (map (gone_in own) s.gone) ≡ map (gone_in own) (step e s).gone
 taken_step (Added m) s own h = refl
 taken_step (FlagsSet uid flags) s own h = refl
-taken_step (Expunged uid) s own h = taken_all own s.shared h.order uid s.gone
+taken_step (Expunged uid) s own h = taken_all own s.shared h.order (last_of_fits s.shared s.next own h) uid s.gone
 
 -- ---- uids
 

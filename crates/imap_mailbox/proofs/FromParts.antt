@@ -1,5 +1,5 @@
 -- The mailbox that is made of parts, and what a mailbox says of its parts.
-use Rattle.std.proofs.Common.{◌≡◌, ◌≢◌, ◌⊎◌, ℕ, Bool, true, false, cond, eqb, ◌+◌, ◌<◌, ◌≤◌, List, [], ◌∷◌, length, Option, Some, None, Result, Ok, Err, refl, sym, ap, ◌∙◌, subst, arith, inl, inr, IsPermutation, unwrap_or, IsErr, IsErrAnd}
+use Rattle.std.proofs.Common.{◌≡◌, ◌≢◌, ◌⊎◌, ℕ, Bool, true, false, cond, eqb, ◌+◌, ◌<◌, ◌≤◌, List, [], ◌∷◌, Option, Some, None, Result, Ok, Err, refl, sym, ap, ◌∙◌, subst, arith, inl, inr, IsPermutation, unwrap_or, IsErr, IsErrAnd}
 use Rattle.std.specs.Prelude.{option_and_then}
 use Rattle.std.specs.FinMap as fin
 use Rattle.std.proofs.lemmas.Bool.{cases_lt, eqb-true}
@@ -8,12 +8,12 @@ use Rattle.std.proofs.lemmas.List.Sorted.{IsPermutation-map, IsPermutation-sym}
 use Rattle.imap_user_map.specs.Rows as table
 use Rattle.imap_mailbox.specs.declared.message.GoneMessage.{GoneMessage}
 use Rattle.imap_mailbox.specs.declared.message.Message.{Message}
-use Rattle.imap_mailbox.specs.declared.own.SeenChange.{SeenChange}
 use Rattle.imap_mailbox.specs.declared.parts.MailboxParts.{MailboxParts}
 use Rattle.imap_mailbox.specs.declared.parts.PartsError.{PartsError}
 use Rattle.imap_mailbox.specs.declared.parts.PartsError.TheVariants.{Bad, Memory}
 use Rattle.imap_mailbox.specs.Flags.{HasFewKeywords}
 use Rattle.imap_mailbox.specs.Held.{HaveFewKeywords, IsKept, lists, summary_with}
+use Rattle.imap_mailbox.specs.Own.{no_own}
 use Rattle.imap_mailbox.specs.Owned.{Owned, if_any, owned_changes}
 use Rattle.imap_mailbox.specs.Parts.{Restores, StandFor}
 use Rattle.imap_mailbox.specs.Restored.{AreMessages, Checks, FitAll, RestoresOwn}
@@ -21,7 +21,7 @@ use Rattle.imap_mailbox.specs.Summary.{Summary, ArePlacesBelow, Rises, count_of,
 use Rattle.imap_mailbox.proofs.Counts.{one_same, count_more}
 use Rattle.imap_mailbox.proofs.Reordered.{Has, count_moved, given_most, given_within, has_moved, ordered_by, rises_ordered, within_risen}
 use Rattle.imap_mailbox.proofs.Rising.{rises_end}
-use Rattle.imap_mailbox.proofs.Values.{get_changes}
+use Rattle.imap_mailbox.proofs.Values.{any_none, any_or, get_changes}
 
 -- ---- lists by their elements
 
@@ -51,16 +51,12 @@ below_places n p (m ∷ messages) h lt = by (eqb m.place p) refl lt (below_place
     by true e lt rest = let is = eqb-true m.place p e in let at : m.place < n = h.0 in omega (arith, is, at)
     by false e lt rest = rest lt
 
-never_empty : (own : table.Rows Owned) (user : List ℕ) → fin.get (lists own) user ≢ Some []
+never_empty : (own : table.Rows Owned) (user : List ℕ) → fin.get (lists own) user ≢ Some no_own
 never_empty own user e = by (fin.get own.map user) (sym (get_changes own.map user) ∙ e)
   where
-    none : (list : List SeenChange) → if_any list ≢ Some []
-    none [] e = absurd (cc e)
-    none (s ∷ list) e = let len = ap (λ o. length (unwrap_or o [])) e in absurd (omega (arith, len))
-
-    by : (o : Option Owned) → option_and_then (owned_changes user) o ≡ Some [] → ⊥
+    by : (o : Option Owned) → option_and_then (owned_changes user) o ≡ Some no_own → ⊥
     by None e = absurd (cc e)
-    by (Some o) e = none o.list e
+    by (Some o) e = let none : None ≡ Some no_own = sym (ap if_any (sym (any_or o.own) ∙ ap (λ p. unwrap_or p no_own) e) ∙ any_none) ∙ e in cc none
 
 -- ---- what is made
 

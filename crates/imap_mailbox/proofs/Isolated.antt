@@ -2,20 +2,21 @@
 use Rattle.std.proofs.Common.{◌≡◌, ℕ, ◌+◌, ◌-◌, Bool, true, false, cond, ◌||◌, List, length, map, Some, None, option_map, refl, sym, ap, ◌∙◌, arith}
 use Rattle.std.proofs.lemmas.List.{length_push, length-map}
 use Rattle.imap_mailbox.specs.Rows.{Arrival, Event, Shared, SeenSet, row_step, gone_step, IsGiven}
-use Rattle.imap_mailbox.specs.History.{own_at, own_with, room_by}
-use Rattle.imap_mailbox.specs.Summary.{Summary, message_of, with_arrival, step, with_seen, rows_of, gone_of, room_of, row_in, gone_in, IsSound}
+use Rattle.imap_mailbox.specs.History.{room_by}
+use Rattle.imap_mailbox.specs.Own.{Own, own_at}
+use Rattle.imap_mailbox.specs.Summary.{Summary, message_of, with_arrival, step, with_seen, rows_of, gone_of, room_of, row_in, gone_in, own_with, IsSound}
 use Rattle.imap_mailbox.specs.Shown.{content_of, shown_to, content_after, content_with_seen, room_in, AnothersSeenIsHidden, AddIsSeenAsRoom, event_seen, EventIsSeen, OwnSeenIsSeen}
 use Rattle.imap_mailbox.proofs.Merged.{own_at-same, own_at-other}
 use Rattle.imap_mailbox.proofs.Rising.{taken_below}
 use Rattle.imap_mailbox.proofs.Joined.{mark_all, taken_stay}
-use Rattle.imap_mailbox.proofs.Fitting.{next_after, shared_after, own_after, rows_step, taken_step}
+use Rattle.imap_mailbox.proofs.Fitting.{next_after, shared_after, own_after, last_of_fits, rows_step, taken_step}
 
 pub anothers_seen_is_hidden : AnothersSeenIsHidden
 anothers_seen_is_hidden most user other r s uid seen apart = λ i. record {
   content = cond (r.read || r.admin) (Some (record {
     next = s.next;
     shared = s.shared;
-    own = length (own_at-other s.own user other s.shared uid seen apart i);
+    own = length (own_at-other s.own user other s.shared uid seen apart i).befores;
     rows = map (row_in (own_at-other s.own user other s.shared uid seen apart i)) s.messages;
     gone = map (gone_in (own_at-other s.own user other s.shared uid seen apart i)) s.gone;
   })) None;
@@ -29,15 +30,15 @@ pub shows_after : (user : List ℕ) (s : Summary) (e : Event) → IsSound s → 
 shows_after user s e h given = λ i. record {
   next = next_after e s i;
   shared = shared_after e s i;
-  own = length (own_stays e s user i);
+  own = length (own_stays e s user i).befores;
   rows = new_rows i;
   gone = new_gone i;
 }
   where
-    new_rows : rows_of (step e s) user ≡ row_step (2 + (s.shared + length (own_at s.own user))) (Shared e) (rows_of s user)
+    new_rows : rows_of (step e s) user ≡ row_step (2 + (s.shared + length (own_at s.own user).befores)) (Shared e) (rows_of s user)
     new_rows = ap (λ own. map (row_in own) (step e s).messages) (own_stays e s user) ∙ sym (rows_step e s (own_at s.own user) given (h.fits user))
 
-    new_gone : gone_of (step e s) user ≡ gone_step (2 + (s.shared + length (own_at s.own user))) (Shared e) (gone_of s user)
+    new_gone : gone_of (step e s) user ≡ gone_step (2 + (s.shared + length (own_at s.own user).befores)) (Shared e) (gone_of s user)
     new_gone = ap (λ own. map (gone_in own) (step e s).gone) (own_stays e s user) ∙ sym (taken_step e s (own_at s.own user) (h.fits user))
 
 pub shows_marked : (user : List ℕ) (s : Summary) (uid : ℕ) (seen : Bool) → IsSound s → content_of user (with_seen user uid seen s) ≡ content_with_seen uid seen (content_of user s)
@@ -49,14 +50,14 @@ shows_marked user s uid seen h = λ i. record {
   gone = new_gone i;
 }
   where
-    new_own : length (own_at (own_with s.own user s.shared uid seen) user) ≡ length (own_at s.own user) + 1
-    new_own = ap length (own_at-same s.own user s.shared uid seen) ∙ length_push (own_at s.own user) _
+    new_own : length (own_at (own_with s.own user s.shared uid seen) user).befores ≡ length (own_at s.own user).befores + 1
+    new_own = ap (λ (o : Own). length o.befores) (own_at-same s.own user s.shared uid seen) ∙ length_push (own_at s.own user).befores s.shared
 
-    new_rows : rows_of (with_seen user uid seen s) user ≡ row_step (2 + (s.shared + length (own_at s.own user))) (SeenSet uid seen) (rows_of s user)
-    new_rows = ap (λ own. map (row_in own) s.messages) (own_at-same s.own user s.shared uid seen) ∙ sym (mark_all (own_at s.own user) s.shared (h.fits user).order uid seen s.messages h.place)
+    new_rows : rows_of (with_seen user uid seen s) user ≡ row_step (2 + (s.shared + length (own_at s.own user).befores)) (SeenSet uid seen) (rows_of s user)
+    new_rows = ap (λ own. map (row_in own) s.messages) (own_at-same s.own user s.shared uid seen) ∙ sym (mark_all (own_at s.own user) s.shared (h.fits user).order (last_of_fits s.shared s.next (own_at s.own user) (h.fits user)) uid seen s.messages h.place)
 
     new_gone : gone_of (with_seen user uid seen s) user ≡ gone_of s user
-    new_gone = ap (λ own. map (gone_in own) s.gone) (own_at-same s.own user s.shared uid seen) ∙ sym (taken_stay (own_at s.own user) s.shared (h.fits user).order uid seen s.gone (taken_below 0 s.shared s.gone h.places))
+    new_gone = ap (λ own. map (gone_in own) s.gone) (own_at-same s.own user s.shared uid seen) ∙ sym (taken_stay (own_at s.own user) s.shared (h.fits user).order (last_of_fits s.shared s.next (own_at s.own user) (h.fits user)) uid seen s.gone (taken_below 0 s.shared s.gone h.places))
 
 pub room_seen : (most : ℕ) (user : List ℕ) (s : Summary) → room_of most s ≡ room_in most (content_of user s)
 room_seen most user s = ap (λ n. room_by most n s.next s.shared) (sym (length-map s.messages (row_in (own_at s.own user))))

@@ -8,17 +8,16 @@ use Rattle.std.specs.Cmp.Lexicographic.{nat_list_cmp_total}
 use Rattle.imap_user_map.specs.Rows as table
 use Rattle.imap_user_map.specs.Rows.{Users}
 use Rattle.imap_mailbox.proofs.Values.{changes_empty, changes_in, same_bytes}
-use Rattle.imap_modseq.specs.Merge.{befores, AreInOrder}
 use Rattle.imap_modseq.specs.Numbers.{max_events}
-use Rattle.imap_mailbox.specs.declared.own.SeenChange.{SeenChange}
 use Rattle.imap_mailbox.specs.declared.message.Message.{Message}
 use Rattle.imap_mailbox.specs.Owned.{Owned}
 use Rattle.imap_mailbox.specs.declared.flags.SharedFlags.{SharedFlags}
 use Rattle.imap_mailbox.specs.Flags.{HasFewKeywords}
 use Rattle.imap_mailbox.specs.Rows.{Event, Added, FlagsSet, Expunged, Shared, Row, WasGiven, IsGiven, IsPresent}
-use Rattle.imap_mailbox.specs.History.{own_at, own_entry}
+use Rattle.imap_mailbox.specs.Own.{Own, no_own, own_at, with_change}
 use Rattle.imap_mailbox.specs.Summary.{Summary, message_of, flags_in, without, step, with_seen, new_summary, rows_of, row_in, uids_in, ArePlacesBelow, Fits}
 use Rattle.imap_mailbox.specs.Held.{list_at, summary_with, HaveFewKeywords, SetsFewKeywords, IsKept}
+use Rattle.imap_mailbox.proofs.Changes.{fits_none}
 use Rattle.imap_mailbox.proofs.Counts.{none_given}
 use Rattle.imap_mailbox.proofs.Fitting.{shared_after, own_after, sound_step, sound_marked}
 
@@ -54,44 +53,44 @@ few_step (Expunged uid) s few h = few_without uid s.messages h
 pub kept_step : (e : Event) (s : Summary) → IsGiven s.next (Shared e) → IsPresent (uids_in s.messages) e → SetsFewKeywords e → s.shared < max_events → IsKept s → IsKept (step e s)
 kept_step e s given present keywords lt h = record {
   keywords = few_step e s keywords h.keywords;
-  filled = λ user. subst (λ own. fin.get own user ≢ Some []) (sym (own_after e s)) (h.filled user);
+  filled = λ user. subst (λ own. fin.get own user ≢ Some no_own) (sym (own_after e s)) (h.filled user);
   sound = sound_step e s given present h.sound;
   few = omega (arith, shared_after e s);
-  own_few = λ user. subst (λ own. length (own_at own user) ≤ max_events) (sym (own_after e s)) (h.own_few user);
+  own_few = λ user. subst (λ own. length (own_at own user).befores ≤ max_events) (sym (own_after e s)) (h.own_few user);
 }
 
-own_put : (own : Users (List SeenChange)) (user other : List ℕ) (list : List SeenChange) → own_at (fin.insert own user list) other ≡ cond (same_bytes other user) list (own_at own other)
-own_put own user other list = ap (λ o. unwrap_or o []) (fin.get-insert nat_list_cmp_total own user list other) ∙ moved (same_bytes other user)
+own_put : (own : Users Own) (user other : List ℕ) (list : Own) → own_at (fin.insert own user list) other ≡ cond (same_bytes other user) list (own_at own other)
+own_put own user other list = ap (λ o. unwrap_or o no_own) (fin.get-insert nat_list_cmp_total own user list other) ∙ moved (same_bytes other user)
   where
-    moved : (b : Bool) → unwrap_or (cond b (Some list) (fin.get own other)) [] ≡ cond b list (own_at own other)
+    moved : (b : Bool) → unwrap_or (cond b (Some list) (fin.get own other)) no_own ≡ cond b list (own_at own other)
     moved true = refl
     moved false = refl
 
-pub kept_marked : (user : List ℕ) (uid : ℕ) (seen : Bool) (s : Summary) → WasGiven s.next uid → length (own_at s.own user) < max_events → IsKept s → IsKept (with_seen user uid seen s)
+pub kept_marked : (user : List ℕ) (uid : ℕ) (seen : Bool) (s : Summary) → WasGiven s.next uid → length (own_at s.own user).befores < max_events → IsKept s → IsKept (with_seen user uid seen s)
 kept_marked user uid seen s known lt h = record {
   keywords = h.keywords;
-  filled = λ other. subst (λ o. o ≢ Some []) (sym (fin.get-insert nat_list_cmp_total s.own user more other)) (some other (same_bytes other user));
+  filled = λ other. subst (λ o. o ≢ Some no_own) (sym (fin.get-insert nat_list_cmp_total s.own user more other)) (some other (same_bytes other user));
   sound = sound_marked user uid seen s known h.sound;
   few = h.few;
-  own_few = λ other. subst (λ (l : List SeenChange). length l ≤ max_events) (sym (own_put s.own user other more)) (most other (same_bytes other user));
+  own_few = λ other. subst (λ (l : Own). length l.befores ≤ max_events) (sym (own_put s.own user other more)) (most other (same_bytes other user));
 }
   where
-    more : List SeenChange
-    more = own_at s.own user ++ record { before = s.shared; uid = uid; seen = seen } ∷ []
+    more : Own
+    more = with_change (record { before = s.shared; uid = uid; seen = seen }) (own_at s.own user)
 
-    len : length more ≡ length (own_at s.own user) + 1
-    len = length_push (own_at s.own user) (record { before = s.shared; uid = uid; seen = seen })
+    len : length more.befores ≡ length (own_at s.own user).befores + 1
+    len = length_push (own_at s.own user).befores s.shared
 
-    most : (other : List ℕ) (b : Bool) → length (cond b more (own_at s.own other)) ≤ max_events
+    most : (other : List ℕ) (b : Bool) → length (cond b more (own_at s.own other)).befores ≤ max_events
     most other true = omega (arith, len)
     most other false = h.own_few other
 
-    some : (other : List ℕ) (b : Bool) → cond b (Some more) (fin.get s.own other) ≢ Some []
-    some other true = λ e. let none = ap (λ o. length (unwrap_or o [])) e in omega (arith, len, none)
+    some : (other : List ℕ) (b : Bool) → cond b (Some more) (fin.get s.own other) ≢ Some no_own
+    some other true = λ e. let none = ap (λ o. length (unwrap_or o no_own).befores) e in omega (arith, len, none)
     some other false = h.filled other
 
-pub nobody : (own : table.Rows Owned) → own.map ≡ fin.empty → (user : List ℕ) → list_at own user ≡ []
-nobody own empty user = ap (λ m. unwrap_or (fin.get m user) []) (changes_empty own.map empty) ∙ ap (λ o. unwrap_or o []) (fin.get-empty _ user)
+pub nobody : (own : table.Rows Owned) → own.map ≡ fin.empty → (user : List ℕ) → list_at own user ≡ no_own
+nobody own empty user = ap (λ m. unwrap_or (fin.get m user) no_own) (changes_empty own.map empty) ∙ ap (λ o. unwrap_or o no_own) (fin.get-empty _ user)
 
 pub kept_fresh : (own : table.Rows Owned) → own.map ≡ fin.empty → IsKept (summary_with [] [] 1 0 own)
 kept_fresh own empty = record {
@@ -101,22 +100,18 @@ kept_fresh own empty = record {
     apart = λ place. omega arith;
     place = tt;
     places = omega arith;
-    fits = λ user. subst (Fits 0 1) (sym (nobody own empty user)) (record { order = tt; known = tt });
+    fits = λ user. subst (Fits 0 1) (sym (nobody own empty user)) (fits_none 0 1);
   };
   few = omega arith;
-  own_few = λ user. omega (arith, ap length (nobody own empty user));
+  own_few = λ user. omega (arith, ap (λ (o : Own). length o.befores) (nobody own empty user));
   keywords = tt;
-  filled = λ user. subst (λ m. fin.get m user ≢ Some []) (sym (changes_empty own.map empty)) (λ e. absurd (cc (sym (fin.get-empty _ user) ∙ e)));
+  filled = λ user. subst (λ m. fin.get m user ≢ Some no_own) (sym (changes_empty own.map empty)) (λ e. absurd (cc (sym (fin.get-empty _ user) ∙ e)));
 }
 
 pub summed_fresh : (own : table.Rows Owned) → own.map ≡ fin.empty → summary_with [] [] 1 0 own ≡ new_summary fin.empty
 summed_fresh own empty = ap new_summary (changes_empty own.map empty)
 
 -- ---- what is read
-
-wider : (low high more : ℕ) (bs : List ℕ) → high ≤ more → AreInOrder low high bs → AreInOrder low more bs
-wider low high more [] le h = tt
-wider low high more (b ∷ bs) le h = let here : b ≤ high = h.1 in (h.0, omega arith, wider b high more bs le h.2)
 
 pub last_in : (n : ℕ) (messages : List Message) (i : ℕ) (x : Message) → ArePlacesBelow n messages → i < length messages → (get_or messages i x).place < n
 last_in n [] i x h lt = absurd (omega arith)
@@ -128,29 +123,23 @@ get_mapped f [] i x d lt = absurd (omega arith)
 get_mapped f (y ∷ xs) zero x d lt = refl
 get_mapped f (y ∷ xs) (suc i) x d lt = get_mapped f xs i x d (omega arith)
 
-pub own_in : (own : table.Rows Owned) (user : List ℕ) → list_at own user ≡ unwrap_or (option_map (λ (o : Owned). o.list) (fin.get own.map user)) []
+pub own_in : (own : table.Rows Owned) (user : List ℕ) → list_at own user ≡ unwrap_or (option_map (λ (o : Owned). o.own) (fin.get own.map user)) no_own
 own_in own user = changes_in own.map user
 
-pub found_is : (own : table.Rows Owned) (user : List ℕ) (r : Option (Bor Owned)) (found : Bor Owned) → r ≡ Some found → option_copied r ≡ fin.get own.map user → list_at own user ≡ found.now.list
-found_is own user r found is value = own_in own user ∙ ap (λ o. unwrap_or (option_map (λ (o : Owned). o.list) o) []) (sym value ∙ ap option_copied is)
+pub found_is : (own : table.Rows Owned) (user : List ℕ) (r : Option (Bor Owned)) (found : Bor Owned) → r ≡ Some found → option_copied r ≡ fin.get own.map user → list_at own user ≡ found.now.own
+found_is own user r found is value = own_in own user ∙ ap (λ o. unwrap_or (option_map (λ (o : Owned). o.own) o) no_own) (sym value ∙ ap option_copied is)
 
-pub absent_is : (own : table.Rows Owned) (user : List ℕ) (r : Option (Bor Owned)) → r ≡ None → option_copied r ≡ fin.get own.map user → list_at own user ≡ []
-absent_is own user r is value = own_in own user ∙ ap (λ o. unwrap_or (option_map (λ (o : Owned). o.list) o) []) (sym value ∙ ap option_copied is)
+pub absent_is : (own : table.Rows Owned) (user : List ℕ) (r : Option (Bor Owned)) → r ≡ None → option_copied r ≡ fin.get own.map user → list_at own user ≡ no_own
+absent_is own user r is value = own_in own user ∙ ap (λ o. unwrap_or (option_map (λ (o : Owned). o.own) o) no_own) (sym value ∙ ap option_copied is)
 
 module _ (s : Summary) (h : IsKept s) (user : List ℕ) where
-  pub order_of : (list : List SeenChange) → own_at s.own user ≡ list → AreInOrder 0 max_events (befores (map own_entry list))
-  order_of list e = subst (λ (l : List SeenChange). AreInOrder 0 max_events (befores (map own_entry l))) e (wider 0 s.shared max_events (befores (map own_entry (own_at s.own user))) h.few (h.sound.fits user).order)
-
-  pub few_of : (list : List SeenChange) → own_at s.own user ≡ list → length list ≤ max_events
-  few_of list e = subst (λ (l : List SeenChange). length l ≤ max_events) e (h.own_few user)
-
   pub last_of : (i : ℕ) (x : Message) → i < length s.messages → x ≡ get_or s.messages i x → x.place ≤ max_events
   last_of i x lt is =
       let below = last_in s.shared s.messages i x h.sound.place lt in
       let some = h.few in
       subst (λ (k : Message). k.place ≤ max_events) (sym is) (omega (arith, below, some))
 
-  pub row_read : (i : ℕ) (x : Message) (list : List SeenChange) (row : Row) → i < length s.messages → x ≡ get_or s.messages i x → own_at s.own user ≡ list → row ≡ row_in list x → row ≡ get_or (rows_of s user) i row
+  pub row_read : (i : ℕ) (x : Message) (list : Own) (row : Row) → i < length s.messages → x ≡ get_or s.messages i x → own_at s.own user ≡ list → row ≡ row_in list x → row ≡ get_or (rows_of s user) i row
   row_read i x list row lt is e made = made ∙ (λ j. row_in (sym e j) (is j)) ∙ sym (get_mapped (row_in (own_at s.own user)) s.messages i x row lt)
 
 -- a mailbox without messages

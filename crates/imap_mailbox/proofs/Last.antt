@@ -1,58 +1,45 @@
 -- The last of own changes has the greatest mod-sequence.
-use Rattle.std.proofs.Common.{◌≡◌, ℕ, zero, suc, ◌+◌, ◌-◌, ◌<◌, ◌≤◌, max, ltb, false, List, [], ◌∷◌, length, map, get_or, None, sym, ap, subst, ◌∙◌, arith}
+use Rattle.std.proofs.Common.{◌≡◌, ℕ, ◌+◌, ◌-◌, ◌<◌, ◌≤◌, max, ltb, false, List, length, Option, Some, None, option_map, refl, arith}
 use Rattle.std.proofs.lemmas.Bool.{le-ltb}
-use Rattle.imap_modseq.specs.Merge.{befores, AreInOrder}
-use Rattle.imap_modseq.proofs.Order.{before_most}
-use Rattle.imap_mailbox.specs.declared.own.SeenChange.{SeenChange}
+use Rattle.std.specs.FinMap.{get}
+use Rattle.imap_modseq.specs.Merge.{AreInOrder}
+use Rattle.imap_modseq.specs.Numbers.{own_number_at}
+use Rattle.imap_modseq.proofs.Order.{before_most, order_rises}
+use Rattle.imap_mailbox.specs.declared.kept_change.KeptChange.{KeptChange}
 use Rattle.imap_mailbox.specs.declared.message.Message.{Message}
-use Rattle.imap_mailbox.specs.History.{own_entry}
-use Rattle.imap_mailbox.specs.Summary.{latest, latest_number, row_in, number_at}
-use Rattle.imap_mailbox.proofs.Bounds.{length-bs, latest_most}
+use Rattle.imap_mailbox.specs.Latest.{AreLast}
+use Rattle.imap_mailbox.specs.Own.{Own}
+use Rattle.imap_mailbox.specs.Summary.{IsLast, shown, latest, latest_number, row_in, number_at}
 
--- the last is the greatest
-order_last : (low high : ℕ) (own : List SeenChange) (i : ℕ) (d : SeenChange) → i + 1 ≡ length own → AreInOrder low high (befores (map own_entry own))
-    → AreInOrder low (get_or own i d).before (befores (map own_entry own)) × (low ≤ (get_or own i d).before) × ((get_or own i d).before ≤ high)
-order_last low high [] i d e h = absurd (omega arith)
-order_last low high (s ∷ []) zero d e h = let first : low ≤ s.before = h.0 in ((first, omega arith, tt), first, h.1)
-order_last low high (s ∷ []) (suc i) d e h = absurd (omega arith)
-order_last low high (s ∷ t ∷ own) zero d e h = absurd (omega arith)
-order_last low high (s ∷ t ∷ own) (suc i) d e h =
-    let rest = order_last s.before high (t ∷ own) i d (omega arith) h.2 in
-    let first : low ≤ s.before = h.0 in
-    let later : s.before ≤ (get_or (t ∷ own) i d).before = rest.1 in
-    ((first, later, rest.0), omega arith, rest.2)
+-- a last change has the number of the change at its place
+pub number_there : (uid : ℕ) (own : Own) (k : KeptChange) → IsLast own.befores uid k → (shown k).0 ≡ own_number_at own.befores k.place
+number_there uid own k last = let before = last.before in omega (arith, before)
 
-pub latest_below_last : (high uid i : ℕ) (own : List SeenChange) (d : SeenChange) → i + 1 ≡ length own → AreInOrder 0 high (befores (map own_entry own))
-    → latest_number (latest uid own) ≤ 2 + ((get_or own i d).before + i)
-latest_below_last high uid i own d e h =
-    let last = order_last 0 high own i d e h in
-    let most = latest_most 0 (get_or own i d).before 0 uid own None last.0 (omega arith) in
-    omega (arith, most, e)
+-- later changes have greater numbers
+pub numbers_rise : (high i j : ℕ) (bs : List ℕ) → AreInOrder 0 high bs → i ≤ j → j < length bs → own_number_at bs i ≤ own_number_at bs j
+numbers_rise high i j bs order le lt = let rises = order_rises 0 high bs i j order le lt in omega (arith, rises, le)
 
-pub not_above : (n last : ℕ) (own : List SeenChange) (m : Message) → ((uid : ℕ) → latest_number (latest uid own) ≤ last) → last ≤ n → 2 + (m.place + length own) ≤ n
-    → ltb n (row_in own m).number ≡ false
-not_above n last own m bound le fits =
-    let late = bound m.uid in
-    let before = before_most (befores (map own_entry own)) m.place in
-    let len = length-bs own in
-    le-ltb n (max (number_at own m.place) (latest_number (latest m.uid own))) (omega (arith, late, before, len))
-
-pub last_is_early : (high i : ℕ) (own : List SeenChange) (d : SeenChange) → i + 1 ≡ length own → AreInOrder 0 high (befores (map own_entry own)) → (get_or own i d).before ≤ high
-last_is_early high i own d e h = (order_last 0 high own i d e h).2
-
-pub record IsLast (high : ℕ) (own : List SeenChange) (x : SeenChange) (n : ℕ) : Type 0 where
-  pub early : x.before ≤ high
-  pub bound : (uid : ℕ) → latest_number (latest uid own) ≤ 2 + (x.before + (n - 1))
-
-pub last_is : (high : ℕ) (own xs : List SeenChange) (x : SeenChange) (n : ℕ) → xs ≡ own → 0 < length xs → x ≡ get_or xs (length xs - 1) x → n ≡ length own
-    → AreInOrder 0 high (befores (map own_entry own)) → IsLast high own x n
-last_is high own xs x n same some is len order = record {
-  early = subst (λ (y : SeenChange). y.before ≤ high) (sym at) (last_is_early high (n - 1) own x (omega (arith, len, count, some)) order);
-  bound = λ uid. subst (λ (y : SeenChange). latest_number (latest uid own) ≤ 2 + (y.before + (n - 1))) (sym at) (latest_below_last high uid (n - 1) own x (omega (arith, len, count, some)) order);
-}
+pub latest_below_last : (high uid : ℕ) (own : Own) → AreInOrder 0 high own.befores → AreLast own → 0 < length own.befores
+    → latest_number (latest uid own) ≤ own_number_at own.befores (length own.befores - 1)
+latest_below_last high uid own order last some = by (get own.latest uid) refl
   where
-    count : length xs ≡ length own
-    count = ap length same
+    by : (o : Option KeptChange) → get own.latest uid ≡ o → latest_number (option_map shown o) ≤ own_number_at own.befores (length own.befores - 1)
+    by None e = omega arith
+    by (Some k) e =
+        let place = (last uid k e).place in
+        let rises = numbers_rise high k.place (length own.befores - 1) own.befores order (omega (arith, place)) (omega (arith, some)) in
+        omega (arith, rises, number_there uid own k (last uid k e))
 
-    at : x ≡ get_or own (n - 1) x
-    at = is ∙ (λ i. get_or (same i) (length (same i) - 1) x) ∙ ap (λ m. get_or own (m - 1) x) (sym len)
+pub latest_of_none : (uid : ℕ) (own : Own) → AreLast own → length own.befores ≤ 0 → latest_number (latest uid own) ≤ 0
+latest_of_none uid own last none = by (get own.latest uid) refl
+  where
+    by : (o : Option KeptChange) → get own.latest uid ≡ o → latest_number (option_map shown o) ≤ 0
+    by None e = omega arith
+    by (Some k) e = let place = (last uid k e).place in absurd (omega (arith, place, none))
+
+pub not_above : (n late : ℕ) (own : Own) (m : Message) → ((uid : ℕ) → latest_number (latest uid own) ≤ late) → late ≤ n → 2 + (m.place + length own.befores) ≤ n
+    → ltb n (row_in own m).number ≡ false
+not_above n late own m bound le fits =
+    let last = bound m.uid in
+    let before = before_most own.befores m.place in
+    le-ltb n (max (number_at own m.place) (latest_number (latest m.uid own))) (omega (arith, last, before, le, fits))

@@ -11,11 +11,11 @@ use Rattle.imap_modseq.proofs.Merge.{merge_from-own, merge_from-shared}
 use Rattle.imap_modseq.proofs.Order.{order_more, order_push}
 use Rattle.imap_mailbox.specs.declared.own.SeenChange.{SeenChange}
 use Rattle.imap_mailbox.specs.Rows.{Event, Entry, Shared, SeenSet, next_from, uids_from, uid_step, entry_next, WasGiven, IsGiven, AreGiven, IsPresent, ArePresent}
-use Rattle.imap_mailbox.specs.History.{History, own_at, own_with, own_entry, events_of, uids, next_uid, IsLawful, with_event, with_own_change}
+use Rattle.imap_mailbox.specs.History.{History, changes_at, changes_with, own_entry, events_of, uids, next_uid, IsLawful, with_event, with_own_change}
 use Rattle.imap_mailbox.specs.Bridge.{LawfulStays}
-use Rattle.imap_mailbox.proofs.Merged.{own_at-same, own_at-other}
+use Rattle.imap_mailbox.proofs.Merged.{changes_at-same, changes_at-other}
 use Rattle.imap_mailbox.proofs.Rising.{entries_next}
-use Rattle.imap_mailbox.proofs.Fitting.{bs_pushed}
+use Rattle.imap_mailbox.proofs.Changes.{befores_push}
 
 given_push : (es : List Entry) (e : Entry) (next : ℕ) → AreGiven next es → IsGiven (entries_next es next) e → AreGiven next (es ++ e ∷ [])
 given_push [] e next h given = (given, tt)
@@ -38,13 +38,13 @@ next_merged k shared (s ∷ own) next =
     ∙ ap (λ l. entries_next l next) (take-append-drop (s.before - k) shared)
 
 pub next_of : (history : History) (user : List ℕ) → entries_next (events_of history user) 1 ≡ next_uid history
-next_of history user = next_merged 0 (map Shared history.shared) (own_at history.own user) 1 ∙ next_shared history.shared 1
+next_of history user = next_merged 0 (map Shared history.shared) (changes_at history.own user) 1 ∙ next_shared history.shared 1
 
 after_event : (history : History) (user : List ℕ) (e : Event) → IsLawful history user → events_of (with_event e history) user ≡ events_of history user ++ Shared e ∷ []
 after_event history user e h =
-    ap (λ s. merge s (map own_entry (own_at history.own user))) (map-append Shared history.shared (e ∷ []))
-    ∙ merge_from-shared 0 (map Shared history.shared) (map own_entry (own_at history.own user)) (Shared e)
-    (subst (λ n. AreInOrder 0 n (befores (map own_entry (own_at history.own user)))) (sym (length-map history.shared Shared) ∙ (let z : length (map Shared history.shared) ≡ 0 + length (map Shared history.shared) = omega arith in z)) h.order)
+    ap (λ s. merge s (map own_entry (changes_at history.own user))) (map-append Shared history.shared (e ∷ []))
+    ∙ merge_from-shared 0 (map Shared history.shared) (map own_entry (changes_at history.own user)) (Shared e)
+    (subst (λ n. AreInOrder 0 n (befores (map own_entry (changes_at history.own user)))) (sym (length-map history.shared Shared) ∙ (let z : length (map Shared history.shared) ≡ 0 + length (map Shared history.shared) = omega arith in z)) h.order)
 
 present_push : (es : List Event) (e : Event) (us : List ℕ) → ArePresent us es → IsPresent (uids_from es us) e → ArePresent us (es ++ e ∷ [])
 present_push [] e us h here = (here, tt)
@@ -53,7 +53,7 @@ present_push (x ∷ es) e us h here = (h.0, present_push es e (uid_step x us) h.
 event_stays : (history : History) (user : List ℕ) (e : Event) → IsLawful history user → IsGiven (next_uid history) (Shared e) → IsPresent (uids history) e → IsLawful (with_event e history) user
 event_stays history user e h given there = record {
   present = present_push history.shared e [] h.present there;
-  order = subst (λ n. AreInOrder 0 n (befores (map own_entry (own_at history.own user)))) (sym (length_push history.shared e)) (order_more 0 (length history.shared) (befores (map own_entry (own_at history.own user))) h.order);
+  order = subst (λ n. AreInOrder 0 n (befores (map own_entry (changes_at history.own user)))) (sym (length_push history.shared e)) (order_more 0 (length history.shared) (befores (map own_entry (changes_at history.own user))) h.order);
   given = subst (AreGiven 1) (sym (after_event history user e h)) (given_push (events_of history user) (Shared e) 1 h.given (subst (λ n. IsGiven n (Shared e)) (sym (next_of history user)) given));
 }
 
@@ -61,14 +61,14 @@ module _ (history : History) (user : List ℕ) (uid : ℕ) (seen : Bool) (h : Is
   abbrev change : SeenChange
   change = record { before = length history.shared; uid = uid; seen = seen }
 
-  order_mine : AreInOrder 0 (length history.shared) (befores (map own_entry (own_at history.own user ++ change ∷ [])))
-  order_mine = subst (AreInOrder 0 (length history.shared)) (sym (bs_pushed (own_at history.own user) change)) (order_push 0 (length history.shared) (befores (map own_entry (own_at history.own user))) (omega arith) h.order)
+  order_mine : AreInOrder 0 (length history.shared) (befores (map own_entry (changes_at history.own user ++ change ∷ [])))
+  order_mine = subst (AreInOrder 0 (length history.shared)) (sym (befores_push (changes_at history.own user) change)) (order_push 0 (length history.shared) (befores (map own_entry (changes_at history.own user))) (omega arith) h.order)
 
-  events_mine : merge (map Shared history.shared) (map own_entry (own_at history.own user ++ change ∷ [])) ≡ events_of history user ++ SeenSet uid seen ∷ []
-  events_mine = ap (merge (map Shared history.shared)) (map-append own_entry (own_at history.own user) (change ∷ []))
-      ∙ merge_from-own 0 (length history.shared) (map Shared history.shared) (map own_entry (own_at history.own user)) (SeenSet uid seen) (omega (arith, length-map history.shared Shared))
+  events_mine : merge (map Shared history.shared) (map own_entry (changes_at history.own user ++ change ∷ [])) ≡ events_of history user ++ SeenSet uid seen ∷ []
+  events_mine = ap (merge (map Shared history.shared)) (map-append own_entry (changes_at history.own user) (change ∷ []))
+      ∙ merge_from-own 0 (length history.shared) (map Shared history.shared) (map own_entry (changes_at history.own user)) (SeenSet uid seen) (omega (arith, length-map history.shared Shared))
 
-  given_mine : AreGiven 1 (merge (map Shared history.shared) (map own_entry (own_at history.own user ++ change ∷ [])))
+  given_mine : AreGiven 1 (merge (map Shared history.shared) (map own_entry (changes_at history.own user ++ change ∷ [])))
   given_mine = subst (AreGiven 1) (sym events_mine) (given_push (events_of history user) (SeenSet uid seen) 1 h.given (subst (λ n. WasGiven n uid) (sym (next_of history user)) lt))
 
 -- of a list of own changes
@@ -84,14 +84,14 @@ change_stays history user other uid seen h lt = record { order = both.0; given =
     apart : same_bytes user other ≡ false → user ≢ other
     apart not_it = λ e. absurd (cc (sym not_it ∙ is_eq-slice_cmp user other ∙ (bytes_eq-Decides user other).1 e))
 
-    both : LawfulOwn history (own_at (own_with history.own other (length history.shared) uid seen) user)
+    both : LawfulOwn history (changes_at (changes_with history.own other (length history.shared) uid seen) user)
     both = ⊎_elim
-        (λ is. subst (λ o. LawfulOwn history (own_at (own_with history.own o (length history.shared) uid seen) user)) (is_user is)
-        (subst (LawfulOwn history) (sym (own_at-same history.own user (length history.shared) uid seen)) (order_mine history user uid seen h lt, given_mine history user uid seen h lt)))
-        (λ not_it. subst (LawfulOwn history) (sym (own_at-other history.own user other (length history.shared) uid seen (apart not_it))) (h.order, h.given))
+        (λ is. subst (λ o. LawfulOwn history (changes_at (changes_with history.own o (length history.shared) uid seen) user)) (is_user is)
+        (subst (LawfulOwn history) (sym (changes_at-same history.own user (length history.shared) uid seen)) (order_mine history user uid seen h lt, given_mine history user uid seen h lt)))
+        (λ not_it. subst (LawfulOwn history) (sym (changes_at-other history.own user other (length history.shared) uid seen (apart not_it))) (h.order, h.given))
         (cases_Bool (same_bytes user other))
 
-nothing_own : (user : List ℕ) → [] ≡ own_at fin.empty user
+nothing_own : (user : List ℕ) → [] ≡ changes_at fin.empty user
 nothing_own user = ap (λ o. unwrap_or o []) (sym (fin.get-empty _ user))
 
 nothing : (user : List ℕ) → IsLawful (record { shared = []; own = fin.empty }) user

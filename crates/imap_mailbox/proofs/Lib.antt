@@ -1,12 +1,17 @@
 pub mod Values
 pub mod Sameness
 pub mod Steps
+pub mod Found
+pub mod Following
+pub mod Few
+pub mod Short
+pub mod Changes
 pub mod Merged
 pub mod Uids
 pub mod Joined
-pub mod Ordered
 pub mod Fitting
 pub mod Bridge
+pub mod KeptShown
 pub mod Counts
 pub mod Passing
 pub mod Accounts
@@ -22,6 +27,7 @@ pub mod ExpungedAll
 pub mod Lending
 pub mod Bounds
 pub mod Last
+pub mod OwnTables
 pub mod LatestUids
 pub mod FirstAbove
 pub mod Recently

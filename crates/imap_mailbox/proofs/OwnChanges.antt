@@ -1,196 +1,220 @@
 -- Own changes of all users, from a list in the order of their places.
-use Rattle.std.proofs.Common.{◌≡◌, ℕ, zero, suc, ◌+◌, ◌-◌, ◌<◌, ◌≤◌, Bool, true, false, cond, List, [], ◌∷◌, ◌++◌, length, get_or, drop, map, Err, sum_by, Some, unwrap_or, refl, sym, ap, ◌∙◌, subst, arith, append_assoc, inl, inr, IsPermutation, length-append}
+use Rattle.std.proofs.Common.{◌≡◌, ℕ, zero, suc, ◌+◌, ◌-◌, ◌<◌, ◌≤◌, Bool, true, false, cond, List, [], ◌∷◌, ◌++◌, length, replicate, map, Option, Some, None, Err, sum_by, refl, sym, ap, ◌∙◌, subst, arith, inl, inr, IsPermutation, ◌↔◌, IsTrue}
 use Rattle.std.specs.Prelude.{bytes_eq}
 use Rattle.std.specs.FinMap as fin
-use Rattle.std.specs.Cmp.Lexicographic.{nat_list_cmp_total}
+use Rattle.std.specs.FinMap.{get}
 use Rattle.std.specs.List.Sorted.{IsNonDecreasingBy}
-use Rattle.std.proofs.lemmas.Map.Text.{is_eq-slice_cmp}
 use Rattle.std.proofs.lemmas.Slice.Eq.{bytes_eq-Decides}
+use Rattle.std.proofs.lemmas.List.{append_assoc, map-append}
 use Rattle.std.proofs.lemmas.List.Sums.{sum_by-cons}
 use Rattle.std.proofs.lemmas.List.Sorted.{sum_by-IsPermutation, IsPermutation-sym, IsPermutation-trans}
-use Rattle.imap_modseq.specs.Merge.{befores, AreInOrder}
+use Rattle.imap_modseq.specs.Merge.{AreInOrder}
 use Rattle.imap_modseq.specs.Numbers.{max_events}
 use Rattle.imap_user_map.specs.Rows as table
 use Rattle.imap_user_map.specs.Rows.{Users}
+use Rattle.imap_mailbox.specs.declared.kept_change.KeptChange.{KeptChange}
 use Rattle.imap_mailbox.specs.declared.parts.PartsError.{PartsError}
 use Rattle.imap_mailbox.specs.declared.parts.PartsError.TheVariants.{Bad, Memory}
-use Rattle.imap_mailbox.specs.Held.{list_at, lists}
+use Rattle.imap_mailbox.specs.Held.{lists}
+use Rattle.imap_mailbox.specs.KeptRows.{MayStand, AreKept}
+use Rattle.imap_mailbox.specs.Own.{Own, own_at, filled, found_in, with_kept}
 use Rattle.imap_mailbox.specs.Owned.{Owned}
-use Rattle.imap_mailbox.specs.declared.own.SeenChange.{SeenChange}
-use Rattle.imap_mailbox.specs.History.{own_at, own_entry}
-use Rattle.imap_mailbox.specs.Restored.{Appends, AppendsAll, AreInPlace, FitAll, MayFollow, RestoresOwn, last_before}
+use Rattle.imap_mailbox.specs.Parts.{AreInPlace}
+use Rattle.imap_mailbox.specs.Restored.{Appends, AppendsAll, FitAll, MayFollow, RestoresOwn}
 use Rattle.imap_mailbox.specs.Rows.{WasGiven}
-use Rattle.imap_mailbox.specs.Summary.{AreOfGiven, Fits, Rises, count_of}
-use Rattle.imap_mailbox.specs.UserChange.{UserChange, of_user, changes_from}
+use Rattle.imap_mailbox.specs.Summary.{Fits, Rises, count_of}
+use Rattle.imap_mailbox.specs.UserChange.{UserChange, of_user, row_of, rows_of_user}
+use Rattle.imap_mailbox.proofs.Changes.{fits_put, len_put}
 use Rattle.imap_mailbox.proofs.Counts.{one, count_more}
+use Rattle.imap_mailbox.proofs.Following.{end_of, front_kept, found_push, length-filled}
+use Rattle.imap_mailbox.proofs.Merged.{own_at-put, own_at-apart}
 use Rattle.imap_mailbox.proofs.Reordered.{Has, has_moved, ordered_by, ordered_kept, once_risen, rises_ordered, same_rising, within_risen}
-use Rattle.imap_mailbox.proofs.Values.{get_set, same_bytes}
+use Rattle.imap_mailbox.proofs.Short.{has_overtaken, none_found}
 
--- ---- one change more
+-- ---- one row more
 
-order_pushed : (low high : ℕ) (own : List SeenChange) (s : SeenChange) → AreInOrder low high (befores (map own_entry own))
-    → last_before low own ≤ s.before → s.before ≤ high → AreInOrder low high (befores (map own_entry (own ++ s ∷ [])))
-order_pushed low high [] s h from to = (from, to, tt)
-order_pushed low high (x ∷ own) s h from to = (h.0, h.1, order_pushed x.before high own s h.2 from to)
+-- the number of shared events before the last row, or `low`
+abbrev last_of : (low : ℕ) → List KeptChange → ℕ
+last_of low [] = low
+last_of low (k ∷ kept) = last_of k.before kept
 
-order_last : (low high : ℕ) (own : List SeenChange) (s : SeenChange) → AreInOrder low high (befores (map own_entry (own ++ s ∷ [])))
-    → (last_before low own ≤ s.before) × (s.before ≤ high)
-order_last low high [] s h = (h.0, h.1)
-order_last low high (x ∷ own) s h = order_last x.before high own s h.2
+last_rises : (kept : List KeptChange) (done low high : ℕ) → AreKept done low high kept → low ≤ last_of low kept
+last_rises [] done low high h = omega arith
+last_rises (k ∷ kept) done low high h = let after = h.0.after in omega (arith, after, last_rises kept (k.place + 1) k.before high h.1)
 
-known_pushed : (next : ℕ) (own : List SeenChange) (s : SeenChange) → AreOfGiven next own → WasGiven next s.uid → AreOfGiven next (own ++ s ∷ [])
-known_pushed next [] s h given = (given, tt)
-known_pushed next (x ∷ own) s h given = (h.0, known_pushed next own s h.1 given)
+kept_join : (kept : List KeptChange) (k : KeptChange) (done low high : ℕ) → AreKept done low high kept → MayStand (end_of done kept) (last_of low kept) high k → AreKept done low high (kept ++ k ∷ [])
+kept_join [] k done low high h may = (may, tt)
+kept_join (r ∷ kept) k done low high h may = (h.0, kept_join kept k (r.place + 1) r.before high h.1 may)
 
-known_last : (next : ℕ) (own : List SeenChange) (s : SeenChange) → AreOfGiven next (own ++ s ∷ []) → WasGiven next s.uid
-known_last next [] s h = h.0
-known_last next (x ∷ own) s h = known_last next own s h.1
+kept_last : (kept : List KeptChange) (k : KeptChange) (done low high : ℕ) → AreKept done low high (kept ++ k ∷ []) → MayStand (end_of done kept) (last_of low kept) high k
+kept_last [] k done low high h = h.0
+kept_last (r ∷ kept) k done low high h = kept_last kept k (r.place + 1) r.before high h.1
 
-pub fits_pushed : (shared next : ℕ) (own : List SeenChange) (s : SeenChange) → Fits shared next own
-    → last_before 0 own ≤ s.before → s.before ≤ shared → WasGiven next s.uid → Fits shared next (own ++ s ∷ [])
-fits_pushed shared next own s h from to given = record {
-  order = order_pushed 0 shared own s h.order from to;
-  known = known_pushed next own s h.known given;
-}
+-- ---- the order of what is found
 
-pub fits_last : (shared next : ℕ) (own : List SeenChange) (s : SeenChange) → Fits shared next (own ++ s ∷ [])
-    → (last_before 0 own ≤ s.before) × (s.before ≤ shared) × WasGiven next s.uid
-fits_last shared next own s h =
-    let at = order_last 0 shared own s h.order in
-    (at.0, at.1, known_last next own s h.known)
+lower : (from low high : ℕ) (bs : List ℕ) → from ≤ low → AreInOrder low high bs → AreInOrder from high bs
+lower from low high [] le h = tt
+lower from low high (b ∷ bs) le h = let first : low ≤ b = h.0 in (omega (arith, first, le), h.1, h.2)
 
-last_at : (low k : ℕ) (own : List SeenChange) (d : SeenChange) → length own ≡ suc k → last_before low own ≡ (get_or own k d).before
-last_at low k [] d e = absurd (omega (arith, e))
-last_at low zero (s ∷ []) d e = refl
-last_at low zero (s ∷ t ∷ own) d e = absurd (omega (arith, e))
-last_at low (suc k) (s ∷ []) d e = absurd (omega (arith, e))
-last_at low (suc k) (s ∷ t ∷ own) d e = last_at s.before k (t ∷ own) d (omega (arith, e))
+joined : (n b from high : ℕ) (bs : List ℕ) → from ≤ b → b ≤ high → AreInOrder b high bs → AreInOrder from high (replicate n b ++ bs)
+joined zero b from high bs le most h = lower from b high bs le h
+joined (suc n) b from high bs le most h = (le, most, joined n b b high bs (omega arith) most h)
 
-pub last_is_before : (own : List SeenChange) (i : ℕ) (s : SeenChange) → i < length own → i ≡ length own - 1 → s ≡ get_or own i s → last_before 0 own ≡ s.before
-last_is_before own i s lt at is = last_at 0 i own s (omega (arith, lt, at)) ∙ ap (λ x. x.before) (sym is)
+parted : (n b from high : ℕ) (bs : List ℕ) → 0 < n → AreInOrder from high (replicate n b ++ bs) → (b ≤ high) × AreInOrder b high bs
+parted zero b from high bs some h = absurd (omega (arith, some))
+parted (suc zero) b from high bs some h = (h.1, h.2)
+parted (suc (suc n)) b from high bs some h = parted (suc n) b b high bs (omega arith) h.2
 
-pub none_before : (own : List SeenChange) → length own ≤ 0 → last_before 0 own ≡ 0
-none_before [] le = refl
-none_before (s ∷ own) le = absurd (omega (arith, le))
+in_order : (kept : List KeptChange) (done low high b : ℕ) → AreKept done low high kept → last_of low kept ≤ b → AreInOrder low b (filled done kept)
+in_order [] done low high b h le = tt
+in_order (k ∷ kept) done low high b h le =
+    joined (k.place + 1 - done) k.before low b (filled (k.place + 1) kept) h.0.after
+    (let up = last_rises kept (k.place + 1) k.before high h.1 in omega (arith, up, le))
+    (in_order kept (k.place + 1) k.before high b h.1 le)
 
--- ---- own changes of the front of a list
+last_in : (kept : List KeptChange) (done low high b from : ℕ) → AreKept done low high kept → low ≤ b → AreInOrder from b (filled done kept) → last_of low kept ≤ b
+last_in [] done low high b from h le order = le
+last_in (k ∷ kept) done low high b from h le order =
+    let place = h.0.place in
+    let parts = parted (k.place + 1 - done) k.before from b (filled (k.place + 1) kept) (omega (arith, place)) order in
+    last_in kept (k.place + 1) k.before high b k.before h.1 parts.0 parts.1
 
-order_front : (low high : ℕ) (own more : List SeenChange) (s : SeenChange) → AreInOrder low high (befores (map own_entry (own ++ s ∷ more))) → AreInOrder low high (befores (map own_entry (own ++ s ∷ [])))
-order_front low high [] more s h = (h.0, h.1, tt)
-order_front low high (x ∷ own) more s h = (h.0, h.1, order_front x.before high own more s h.2)
+-- ---- whether a change may follow
 
-known_front : (next : ℕ) (own more : List SeenChange) (s : SeenChange) → AreOfGiven next (own ++ s ∷ more) → AreOfGiven next (own ++ s ∷ [])
-known_front next [] more s h = (h.0, tt)
-known_front next (x ∷ own) more s h = (h.0, known_front next own more s h.1)
+ends_at : (kept : List KeptChange) (shared : ℕ) → AreKept 0 0 shared kept → length (filled 0 kept) ≡ end_of 0 kept
+ends_at kept shared h = omega (arith, length-filled kept 0 0 shared h)
 
-fits_front : (shared next : ℕ) (own more : List SeenChange) (s : SeenChange) → Fits shared next (own ++ s ∷ more) → Fits shared next (own ++ s ∷ [])
-fits_front shared next own more s h = record {
-  order = order_front 0 shared own more s h.order;
-  known = known_front next own more s h.known;
-}
+follows : (kept : List KeptChange) (next shared : ℕ) (c : UserChange) → AreKept 0 0 shared kept → MayFollow next shared (found_in kept) c → AreKept 0 0 shared (kept ++ row_of c ∷ [])
+follows kept next shared c h may = kept_join kept (row_of c) 0 0 shared h (record {
+  place = let place = may.place in omega (arith, place, ends_at kept shared h);
+  few = may.few;
+  after = last_in kept 0 0 shared c.change.before 0 h (omega arith) may.order;
+  within = may.within;
+})
 
--- ---- one user's changes with their places
+may_follow : (kept : List KeptChange) (next shared : ℕ) (c : UserChange) → AreKept 0 0 shared (kept ++ row_of c ∷ []) → WasGiven next c.change.uid → MayFollow next shared (found_in kept) c
+may_follow kept next shared c h given =
+    let front = front_kept kept (row_of c) 0 0 shared h in
+    let last = kept_last kept (row_of c) 0 0 shared h in
+    record {
+      place = let place = last.place in omega (arith, place, ends_at kept shared front);
+      few = last.few;
+      order = in_order kept 0 0 shared c.change.before front last.after;
+      within = last.within;
+      given = given;
+    }
 
-changes_push : (user : List ℕ) (k : ℕ) (own : List SeenChange) (s : SeenChange)
-    → changes_from user k (own ++ s ∷ []) ≡ changes_from user k own ++ record { user = user; place = k + length own; change = s } ∷ []
-changes_push user k [] s = λ i. record { user = user; place = at i; change = s } ∷ []
+-- as the code tests it
+pub next_is : (own list : Own) (c : UserChange) (next shared len before : ℕ) (t : Bool) → own ≡ list → len ≡ length list.befores → before ≡ c.change.before → AreInOrder 0 before list.befores
+    → (IsTrue t ↔ ((len ≤ c.place) × (c.place < max_events) × (c.change.before ≤ shared) × WasGiven next c.change.uid)) → IsTrue t ↔ MayFollow next shared own c
+next_is own list c next shared len before t same count at order tested = subst (λ o. IsTrue t ↔ MayFollow next shared o c) (sym same) (
+  λ is.
+      let all = tested.0 is in
+      record { place = let place = all.0 in omega (arith, place, count); few = all.1; order = subst (λ b. AreInOrder 0 b list.befores) at order; within = all.2; given = all.3 },
+  λ may. tested.1 (let place = may.place in omega (arith, place, count), may.few, may.within, may.given),
+)
+
+pub not_next : (own list : Own) (c : UserChange) (next shared before : ℕ) (t : Bool) → own ≡ list → before ≡ c.change.before → t ≡ false → (IsTrue t ↔ AreInOrder 0 before list.befores)
+    → IsTrue t ↔ MayFollow next shared own c
+not_next own list c next shared before t same at is_false tested = subst (λ o. IsTrue t ↔ MayFollow next shared o c) (sym same) (
+  λ is. let z : true ≡ false = sym is ∙ is_false in absurd (cc z),
+  λ may. tested.1 (subst (λ b. AreInOrder 0 b list.befores) (sym at) may.order),
+)
+
+-- ---- the rows of a user
+
+of_append : (user : List ℕ) (xs ys : List UserChange) → of_user user (xs ++ ys) ≡ of_user user xs ++ of_user user ys
+of_append user [] ys = refl
+of_append user (x ∷ xs) ys = by (bytes_eq x.user user) (of_append user xs ys)
   where
-    at : k ≡ k + 0
-    at = omega arith
-changes_push user k (x ∷ own) s =
-    ap (λ l. record { user = user; place = k; change = x } ∷ l)
-    (changes_push user (k + 1) own s ∙ ap (λ n. changes_from user (k + 1) own ++ record { user = user; place = n; change = s } ∷ []) at)
-  where
-    at : k + 1 + length own ≡ k + length (x ∷ own)
-    at = omega arith
+    by : (b : Bool) → of_user user (xs ++ ys) ≡ of_user user xs ++ of_user user ys
+        → cond b (x ∷ of_user user (xs ++ ys)) (of_user user (xs ++ ys)) ≡ cond b (x ∷ of_user user xs) (of_user user xs) ++ of_user user ys
+    by true h = ap (λ l. x ∷ l) h
+    by false h = h
 
-split_there : (user : List ℕ) (k : ℕ) (all own : List SeenChange) (c : UserChange) (rest : List UserChange)
-    → changes_from user k all ≡ changes_from user k own ++ c ∷ rest
-    → (more : List SeenChange) × (all ≡ own ++ c.change ∷ more) × (c.place ≡ k + length own)
-split_there user k [] [] c rest e = absurd (cc e)
-split_there user k [] (x ∷ own) c rest e = absurd (cc e)
-split_there user k (z ∷ all) [] c rest e =
-    let head = ap (λ l. get_or l 0 c) e in
-    let place : k ≡ c.place = ap (λ (x : UserChange). x.place) head in
-    (all, ap (λ (x : UserChange). x.change ∷ all) head, omega (arith, place))
-split_there user k (z ∷ all) (x ∷ own) c rest e =
-    let head = ap (λ l. get_or l 0 c) e in
-    let later = split_there user (k + 1) all own c rest (ap (drop 1) e) in
-    let place = later.2 in
-    (later.0, ap (λ (x : UserChange). x.change ∷ all) head ∙ ap (λ l. x ∷ l) later.1, omega (arith, place))
+rows_append : (user : List ℕ) (xs ys : List UserChange) → rows_of_user user (xs ++ ys) ≡ rows_of_user user xs ++ rows_of_user user ys
+rows_append user xs ys = ap (map row_of) (of_append user xs ys) ∙ map-append row_of (of_user user xs) (of_user user ys)
+
+rows_here : (user : List ℕ) (c : UserChange) (rest : List UserChange) → bytes_eq c.user user ≡ true → rows_of_user user (c ∷ rest) ≡ row_of c ∷ rows_of_user user rest
+rows_here user c rest t = ap (λ b. map row_of (cond b (c ∷ of_user user rest) (of_user user rest))) t
+
+rows_apart : (user : List ℕ) (c : UserChange) (rest : List UserChange) → bytes_eq c.user user ≡ false → rows_of_user user (c ∷ rest) ≡ rows_of_user user rest
+rows_apart user c rest t = ap (λ b. map row_of (cond b (c ∷ of_user user rest) (of_user user rest))) t
+
+append_none : (kept : List KeptChange) → kept ++ [] ≡ kept
+append_none [] = refl
+append_none (k ∷ kept) = ap (λ l. k ∷ l) (append_none kept)
 
 -- ---- a change that is appended
 
-own_put : (own : Users (List SeenChange)) (user : List ℕ) (list : List SeenChange) → own_at (fin.insert own user list) user ≡ list
-own_put own user list = ap (λ o. unwrap_or o []) (get_set own user list)
+-- what the rows of one user say
+abbrev IsPlaced : (shared : ℕ) → List KeptChange → Own → Type 0
+IsPlaced shared kept own = AreKept 0 0 shared kept × (found_in kept ≡ own)
 
-own_other : (own : Users (List SeenChange)) (user other : List ℕ) (list : List SeenChange) → bytes_eq other user ≡ false → own_at (fin.insert own other list) user ≡ own_at own user
-own_other own user other list apart =
-    ap (λ o. unwrap_or o []) (fin.get-insert nat_list_cmp_total own other list user) ∙ by (same_bytes user other) refl
-  where
-    by : (b : Bool) → same_bytes user other ≡ b → unwrap_or (cond b (Some list) (fin.get own user)) [] ≡ own_at own user
-    by true is =
-        let same = (bytes_eq-Decides user other).0 (sym (is_eq-slice_cmp user other) ∙ is) in
-        absurd (cc (sym apart ∙ (bytes_eq-Decides other user).1 (sym same)))
-    by false is = refl
-
-module _ (next shared : ℕ) (changes rest : List UserChange) (c : UserChange) (old new : Users (List SeenChange)) (may : MayFollow next shared (own_at old c.user) c) (made : new ≡ fin.insert old c.user (own_at old c.user ++ c.change ∷ [])) where
-  own_same : (user : List ℕ) → c.user ≡ user → own_at new user ≡ own_at old user ++ c.change ∷ []
-  own_same user is = subst (λ u. own_at new u ≡ own_at old u ++ c.change ∷ []) is (ap (λ o. own_at o c.user) made ∙ own_put old c.user _)
+module _ (next shared : ℕ) (done : List UserChange) (c : UserChange) (old new : Users Own) (may : MayFollow next shared (own_at old c.user) c) (made : new ≡ fin.insert old c.user (with_kept (row_of c) (own_at old c.user))) where
+  own_same : (user : List ℕ) → c.user ≡ user → own_at new user ≡ with_kept (row_of c) (own_at old user)
+  own_same user is = subst (λ u. own_at new u ≡ with_kept (row_of c) (own_at old u)) is (ap (λ o. own_at o c.user) made ∙ own_at-put old c.user (with_kept (row_of c) (own_at old c.user)))
 
   own_kept : (user : List ℕ) → bytes_eq c.user user ≡ false → own_at new user ≡ own_at old user
-  own_kept user apart = ap (λ o. own_at o user) made ∙ own_other old user c.user _ apart
+  own_kept user apart = ap (λ o. own_at o user) made
+      ∙ own_at-apart old user c.user (with_kept (row_of c) (own_at old c.user)) (λ e. let z : true ≡ false = sym ((bytes_eq-Decides c.user user).1 (sym e)) ∙ apart in cc z)
 
-  pub appended : (user : List ℕ) → changes_from user 0 (own_at old user) ++ of_user user (c ∷ rest) ≡ of_user user changes
-      → changes_from user 0 (own_at new user) ++ of_user user rest ≡ of_user user changes
-  appended user = by (bytes_eq c.user user) refl
+  pub appended : AreInPlace shared done old → AreInPlace shared (done ++ c ∷ []) new
+  appended placed user = subst (λ l. IsPlaced shared l (own_at new user)) (sym (rows_append user done (c ∷ []))) (by (bytes_eq c.user user) refl)
     where
-      by : (b : Bool) → bytes_eq c.user user ≡ b → changes_from user 0 (own_at old user) ++ cond b (c ∷ of_user user rest) (of_user user rest) ≡ of_user user changes
-          → changes_from user 0 (own_at new user) ++ of_user user rest ≡ of_user user changes
-      by true t h =
+      rows : List KeptChange
+      rows = rows_of_user user done
+
+      by : (b : Bool) → bytes_eq c.user user ≡ b → IsPlaced shared (rows ++ rows_of_user user (c ∷ [])) (own_at new user)
+      by true t =
           let is = (bytes_eq-Decides c.user user).0 t in
-          let place : length (own_at old user) ≡ c.place = subst (λ u. length (own_at old u) ≡ c.place) is (sym may.place) in
-          ap (λ l. changes_from user 0 l ++ of_user user rest) (own_same user is)
-          ∙ ap (λ l. l ++ of_user user rest) (changes_push user 0 (own_at old user) c.change)
-          ∙ append_assoc (changes_from user 0 (own_at old user)) (record { user = user; place = 0 + length (own_at old user); change = c.change } ∷ []) (of_user user rest)
-          ∙ ap (λ x. changes_from user 0 (own_at old user) ++ x ∷ of_user user rest) (same_change user is (omega (arith, place)))
-          ∙ h
-        where
-          same_change : (user : List ℕ) → c.user ≡ user → 0 + length (own_at old user) ≡ c.place → record { user = user; place = 0 + length (own_at old user); change = c.change } ≡ c
-          same_change user is place = λ i. record { user = sym is i; place = place i; change = c.change }
-      by false t h = ap (λ l. changes_from user 0 l ++ of_user user rest) (own_kept user t) ∙ h
+          let here : MayFollow next shared (found_in rows) c =
+          subst (λ o. MayFollow next shared o c) (sym (placed user).1) (subst (λ u. MayFollow next shared (own_at old u) c) is may) in
+          let kept = follows rows next shared c (placed user).0 here in
+          subst (λ l. IsPlaced shared (rows ++ l) (own_at new user)) (sym (rows_here user c [] t))
+          (kept, found_push rows (row_of c) shared kept ∙ ap (with_kept (row_of c)) (placed user).1 ∙ sym (own_same user is))
+      by false t =
+          subst (λ l. IsPlaced shared (rows ++ l) (own_at new user)) (sym (rows_apart user c [] t))
+          (subst (λ l. IsPlaced shared l (own_at new user)) (sym (append_none rows)) ((placed user).0, (placed user).1 ∙ sym (own_kept user t)))
 
   pub fit_all : FitAll next shared old → FitAll next shared new
   fit_all h user = by (bytes_eq c.user user) refl
     where
-      by : (b : Bool) → bytes_eq c.user user ≡ b → Fits shared next (own_at new user) × (length (own_at new user) ≤ max_events)
+      by : (b : Bool) → bytes_eq c.user user ≡ b → Fits shared next (own_at new user) × (length (own_at new user).befores ≤ max_events)
       by true t =
           let is = (bytes_eq-Decides c.user user).0 t in
-          subst (λ u. Fits shared next (own_at new u) × (length (own_at new u) ≤ max_events)) is
-          (subst (λ l. Fits shared next l × (length l ≤ max_events)) (sym (own_same c.user refl)) (may.fits, grown (own_at old c.user) c.change may.few))
-        where
-          grown : (own : List SeenChange) (s : SeenChange) → length own < max_events → length (own ++ s ∷ []) ≤ max_events
-          grown own s lt = omega (arith, lt, length-append own (s ∷ []))
-      by false t = subst (λ l. Fits shared next l × (length l ≤ max_events)) (sym (own_kept user t)) (h user)
+          let len = len_put (row_of c) (own_at old c.user) may.place in
+          let few = may.few in
+          subst (λ u. Fits shared next (own_at new u) × (length (own_at new u).befores ≤ max_events)) is
+          (subst (λ (o : Own). Fits shared next o × (length o.befores ≤ max_events)) (sym (own_same c.user refl))
+          (fits_put shared next (row_of c) (own_at old c.user) may.place may.order may.within may.given (h c.user).0, omega (arith, len, few)))
+      by false t = subst (λ (o : Own). Fits shared next o × (length o.befores ≤ max_events)) (sym (own_kept user t)) (h user)
 
--- a change that may not follow is in no own changes
-pub misfit : (next shared : ℕ) (changes rest : List UserChange) (c : UserChange) (done own : Users (List SeenChange))
-    → (MayFollow next shared (own_at done c.user) c → ⊥)
-    → changes_from c.user 0 (own_at done c.user) ++ of_user c.user (c ∷ rest) ≡ of_user c.user changes
-    → AreInPlace changes own → FitAll next shared own → ⊥
-misfit next shared changes rest c done own not so_far in_place fit =
-    let first : of_user c.user (c ∷ rest) ≡ c ∷ of_user c.user rest = ap (λ b. cond b (c ∷ of_user c.user rest) (of_user c.user rest)) ((bytes_eq-Decides c.user c.user).1 refl) in
-    let all = sym (in_place c.user) ∙ sym so_far ∙ ap (λ l. changes_from c.user 0 (own_at done c.user) ++ l) first in
-    let at = split_there c.user 0 (own_at own c.user) (own_at done c.user) c (of_user c.user rest) all in
-    let has = fit c.user in
-    let len : length (own_at own c.user) ≡ length (own_at done c.user) + length (c.change ∷ at.0) = ap length at.1 ∙ length-append (own_at done c.user) (c.change ∷ at.0) in
-    let most = has.1 in
-    let place = at.2 in
-    not (record {
-      place = omega (arith, place);
-      few = omega (arith, len, most);
-      fits = fits_front shared next (own_at done c.user) at.0 c.change (subst (Fits shared next) at.1 has.0);
-    })
+-- ---- a change that may not follow is in no own changes
+
+front_all : (kept later : List KeptChange) (done low high : ℕ) → AreKept done low high (kept ++ later) → AreKept done low high kept
+front_all [] later done low high h = tt
+front_all (k ∷ kept) later done low high h = (h.0, front_all kept later (k.place + 1) k.before high h.1)
+
+-- the UID of a row was given
+given_there : (next shared : ℕ) (front back : List KeptChange) (k : KeptChange) → Fits shared next (found_in (front ++ k ∷ back)) → WasGiven next k.uid
+given_there next shared front back k fits = by (get (found_in (front ++ k ∷ back)).latest k.uid) refl
+  where
+    by : (o : Option KeptChange) → get (found_in (front ++ k ∷ back)).latest k.uid ≡ o → WasGiven next k.uid
+    by None e = let z : true ≡ false = sym (has_overtaken front back k k.uid refl) ∙ none_found (front ++ k ∷ back) fin.empty k.uid e in absurd (cc z)
+    by (Some x) e = (fits.known k.uid x e).0
+
+misfit : (next shared : ℕ) (done rest : List UserChange) (c : UserChange) (so_far own : Users Own) → AreInPlace shared done so_far
+    → (MayFollow next shared (own_at so_far c.user) c → ⊥) → AreInPlace shared (done ++ c ∷ rest) own → FitAll next shared own → ⊥
+misfit next shared done rest c so_far own before not placed fit =
+    let rows = rows_of_user c.user done in
+    let later = rows_of_user c.user rest in
+    let whole : rows_of_user c.user (done ++ c ∷ rest) ≡ rows ++ row_of c ∷ later =
+    rows_append c.user done (c ∷ rest) ∙ ap (λ l. rows ++ l) (rows_here c.user c rest ((bytes_eq-Decides c.user c.user).1 refl)) in
+    let all = subst (λ l. IsPlaced shared l (own_at own c.user)) whole (placed c.user) in
+    let given = given_there next shared rows later (row_of c) (subst (Fits shared next) (sym all.1) (fit c.user).0) in
+    let kept = front_all (rows ++ row_of c ∷ []) later 0 0 shared (subst (AreKept 0 0 shared) (sym (append_assoc rows (row_of c ∷ []) later)) all.0) in
+    not (subst (λ o. MayFollow next shared o c) (before c.user).1 (may_follow rows next shared c kept given))
 
 -- ---- the order of places is the order of each user's own changes
 
@@ -233,17 +257,24 @@ has_of user (c ∷ changes) x (inr h) t = by (bytes_eq c.user user) (has_of user
     by true h = inr h
     by false h = h
 
-pub places_rise : (user : List ℕ) (k : ℕ) (own : List SeenChange) → Rises k (k + length own) (map (λ (c : UserChange). c.place) (changes_from user k own))
-places_rise user k [] = omega arith
-places_rise user k (s ∷ own) = (omega arith, subst (λ n. Rises (k + 1) n (map (λ (c : UserChange). c.place) (changes_from user (k + 1) own))) at (places_rise user (k + 1) own))
-  where
-    at : k + 1 + length own ≡ k + length (s ∷ own)
-    at = omega arith
+-- the places of rows rise
+kept_rises : (kept : List KeptChange) (done low high : ℕ) → AreKept done low high kept → Rises done (end_of done kept) (map (λ (k : KeptChange). k.place) kept)
+kept_rises [] done low high h = omega arith
+kept_rises (k ∷ kept) done low high h = (h.0.place, kept_rises kept (k.place + 1) k.before high h.1)
+
+same_places : (changes : List UserChange) → map (λ (k : KeptChange). k.place) (map row_of changes) ≡ map (λ (c : UserChange). c.place) changes
+same_places [] = refl
+same_places (c ∷ changes) = ap (λ l. c.place ∷ l) (same_places changes)
+
+pub places_rise : (user : List ℕ) (shared : ℕ) (changes : List UserChange) → AreKept 0 0 shared (rows_of_user user changes)
+    → Rises 0 (end_of 0 (rows_of_user user changes)) (map (λ (c : UserChange). c.place) (of_user user changes))
+places_rise user shared changes h =
+    subst (Rises 0 (end_of 0 (rows_of_user user changes))) (same_places (of_user user changes)) (kept_rises (rows_of_user user changes) 0 0 shared h)
 
 -- in the order of places, the changes of a user are those of any list of the same changes in which they are in place
-pub in_place : (changes ordered other : List UserChange) (own : Users (List SeenChange)) → IsPermutation changes ordered → IsNonDecreasingBy (λ c. c.place) ordered
-    → IsPermutation changes other → AreInPlace other own → AreInPlace ordered own
-in_place changes ordered other own moved sorted also placed user = same ∙ placed user
+in_place : (shared : ℕ) (changes ordered other : List UserChange) (own : Users Own) → IsPermutation changes ordered → IsNonDecreasingBy (λ c. c.place) ordered
+    → IsPermutation changes other → AreInPlace shared other own → AreInPlace shared ordered own
+in_place shared changes ordered other own moved sorted also placed user = subst (λ l. IsPlaced shared (map row_of l) (own_at own user)) (sym same) (placed user)
   where
     between : IsPermutation ordered other
     between = IsPermutation-trans _ _ _ (IsPermutation-sym _ _ moved) also
@@ -251,38 +282,42 @@ in_place changes ordered other own moved sorted also placed user = same ∙ plac
     back : IsPermutation other ordered
     back = IsPermutation-sym _ _ between
 
-    list : List SeenChange
-    list = own_at own user
+    end : ℕ
+    end = end_of 0 (rows_of_user user other)
 
-    rising : Rises 0 (0 + length list) (places user other)
-    rising = subst (λ l. Rises 0 (0 + length list) (map (λ (c : UserChange). c.place) l)) (sym (placed user)) (places_rise user 0 list)
+    rising : Rises 0 end (places user other)
+    rising = places_rise user shared other (placed user).0
 
     counted : (m : ℕ) → count_of m (places user ordered) ≡ count_of m (places user other)
     counted m = count_there user m ordered ∙ sum_by-IsPermutation (there user m) other ordered back ∙ sym (count_there user m other)
 
-    rises : Rises 0 (0 + length list) (places user ordered)
+    rises : Rises 0 end (places user ordered)
     rises =
-        rises_ordered 0 (0 + length list) 0 (places user ordered) (omega arith)
+        rises_ordered 0 end 0 (places user ordered) (omega arith)
         (ordered_kept (λ (c : UserChange). c.place) (λ c. bytes_eq c.user user) 0 ordered (ordered_by (λ (c : UserChange). c.place) ordered sorted))
-        (λ m. omega (arith, counted m, once_risen 0 (0 + length list) (places user other) rising m))
-        (λ m lt. within_risen 0 (0 + length list) (places user other) rising m (omega (arith, counted m, lt)))
+        (λ m. omega (arith, counted m, once_risen 0 end (places user other) rising m))
+        (λ m lt. within_risen 0 end (places user other) rising m (omega (arith, counted m, lt)))
 
     same : of_user user ordered ≡ of_user user other
     same =
-        same_rising (λ (c : UserChange). c.place) 0 (0 + length list) 0 (0 + length list) (of_user user ordered) (of_user user other) rises rising
+        same_rising (λ (c : UserChange). c.place) 0 end 0 end (of_user user ordered) (of_user user other) rises rising
         (λ x h. let at = has_kept user ordered x h in has_of user other x (has_moved ordered other between x at.0) at.1)
         (λ x h. let at = has_kept user other x h in has_of user ordered x (has_moved other ordered back x at.0) at.1)
 
 -- ---- refusals
 
-pub refused : (next shared : ℕ) (changes rest : List UserChange) (c : UserChange) (old new all : table.Rows Owned) (error : PartsError)
-    → changes_from c.user 0 (list_at old c.user) ++ of_user c.user (c ∷ rest) ≡ of_user c.user changes
-    → Appends next shared c old new (Err error) → AppendsAll next shared changes all (Err error)
-refused next shared changes rest c old new all Bad so_far h = λ own placed fit. misfit next shared changes rest c (lists old) own h so_far placed fit
-refused next shared changes rest c old new all Memory so_far h = tt
+pub refused : (next shared : ℕ) (changes done rest : List UserChange) (c : UserChange) (old new all : table.Rows Owned) (error : PartsError)
+    → changes ≡ done ++ c ∷ rest → AreInPlace shared done (lists old) → Appends next shared c old new (Err error) → AppendsAll next shared changes all (Err error)
+refused next shared changes done rest c old new all Bad parts before h = λ own placed fit.
+    misfit next shared done rest c (lists old) own before h (subst (λ l. AreInPlace shared l own) parts placed) fit
+refused next shared changes done rest c old new all Memory parts before h = tt
 
 pub none_own : (next shared : ℕ) (changes ordered : List UserChange) (new : table.Rows Owned) (error : PartsError)
     → IsPermutation changes ordered → IsNonDecreasingBy (λ c. c.place) ordered
     → AppendsAll next shared ordered new (Err error) → RestoresOwn next shared changes (Err error)
-none_own next shared changes ordered new Bad moved sorted h = λ own also fit. h own (in_place changes ordered also.0 own moved sorted also.1 also.2) fit
+none_own next shared changes ordered new Bad moved sorted h = λ own also fit. h own (in_place shared changes ordered also.0 own moved sorted also.1 also.2) fit
 none_own next shared changes ordered new Memory moved sorted h = tt
+
+-- nothing is read yet
+pub none_in_place : (shared : ℕ) (own : Users Own) → ((user : List ℕ) → own_at own user ≡ found_in []) → AreInPlace shared [] own
+none_in_place shared own none user = (tt, sym (none user))

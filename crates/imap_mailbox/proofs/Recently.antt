@@ -6,7 +6,7 @@ use Rattle.imap_mailbox.specs.declared.flags.SharedFlags.{SharedFlags}
 use Rattle.imap_mailbox.specs.declared.message.Message.{Message}
 use Rattle.imap_mailbox.specs.declared.message.GoneMessage.{GoneMessage}
 use Rattle.imap_mailbox.specs.Expunging.{gone_at, uids_there}
-use Rattle.imap_mailbox.specs.Recent.{Recent, AreNoted, AreRecent, IsNoted, IsRecent, end_of}
+use Rattle.imap_mailbox.specs.Recent.{Recent, AreNoted, AreRecent, IsNoted, IsNotedAt, IsRecent, end_of}
 use Rattle.imap_mailbox.specs.Rows.{is_among}
 use Rattle.imap_mailbox.specs.Summary.{ArePlacesBelow, flags_in, uids_in}
 
@@ -41,24 +41,30 @@ module _ (old new : Recent) (uid : ℕ) (noted : IsNoted uid old new) where
       ap (drop (place - new.first)) noted.uids ∙ drop_drop (place - new.first) noted.forgotten all
       ∙ ap (λ n. drop n all) (omega (arith, within, noted.first))
 
-  pub kept_message : (m : Message) → IsRecent old m → IsRecent new m
-  kept_message m recent = record {
+  pub kept_event : (place other : ℕ) → IsNotedAt old place other → IsNotedAt new place other
+  kept_event place other recent = record {
     before = omega (arith, recent.before, one_more);
     noted = λ within.
         let there = recent.noted (omega (arith, within, noted.first)) in (
           there.0 ++ uid ∷ [],
-          at_place m.place within ∙ drop-append-le (m.place - old.first) old.uids (uid ∷ []) (omega (arith, recent.before, within, noted.first)) ∙ ap (λ l. l ++ uid ∷ []) there.1,
+          at_place place within ∙ drop-append-le (place - old.first) old.uids (uid ∷ []) (omega (arith, recent.before, within, noted.first)) ∙ ap (λ l. l ++ uid ∷ []) there.1,
         );
   }
 
-  pub new_message : (m : Message) → m.uid ≡ uid → m.place ≡ end_of old → IsRecent new m
-  new_message m named here = record {
+  pub new_event : (place other : ℕ) → other ≡ uid → place ≡ end_of old → IsNotedAt new place other
+  new_event place other named here = record {
     before = omega (arith, one_more, here);
     noted = λ within. (
       [],
-      at_place m.place within ∙ ap (λ n. drop n all) (omega (arith, here)) ∙ drop_end old.uids uid ∙ ap (λ u. u ∷ []) (sym named),
+      at_place place within ∙ ap (λ n. drop n all) (omega (arith, here)) ∙ drop_end old.uids uid ∙ ap (λ u. u ∷ []) (sym named),
     );
   }
+
+  pub kept_message : (m : Message) → IsRecent old m → IsRecent new m
+  kept_message m recent = kept_event m.place m.uid recent
+
+  pub new_message : (m : Message) → m.uid ≡ uid → m.place ≡ end_of old → IsRecent new m
+  new_message m named here = new_event m.place m.uid named here
 
   set_message : (flags : SharedFlags) (m : Message) → IsRecent old m → IsRecent new (flags_in uid flags (end_of old) m)
   set_message flags m recent = by (eqb m.uid uid) refl
@@ -142,15 +148,26 @@ among_after uid (u ∷ before) after = by (eqb u uid) (among_after uid before af
     by true e = refl
     by false e = e
 
-pub noted_since : (r : Recent) (m : Message) (mark : ℕ) → IsRecent r m → r.first ≤ mark → mark ≤ m.place → is_among m.uid (drop (mark - r.first) r.uids) ≡ true
-noted_since r m mark recent first past =
+pub event_since : (r : Recent) (place uid mark : ℕ) → IsNotedAt r place uid → r.first ≤ mark → mark ≤ place → is_among uid (drop (mark - r.first) r.uids) ≡ true
+event_since r place uid mark recent first past =
     let there = recent.noted (omega (arith, first, past)) in
     let left = drop (mark - r.first) r.uids in
-    let parts : left ≡ take (m.place - mark) left ++ m.uid ∷ there.0 =
-    sym (take-append-drop (m.place - mark) left)
-    ∙ ap (λ l. take (m.place - mark) left ++ l)
-    (drop_drop (m.place - mark) (mark - r.first) r.uids ∙ ap (λ n. drop n r.uids) (omega (arith, first, past)) ∙ there.1) in
-    ap (is_among m.uid) parts ∙ among_after m.uid (take (m.place - mark) left) there.0
+    let parts : left ≡ take (place - mark) left ++ uid ∷ there.0 =
+    sym (take-append-drop (place - mark) left)
+    ∙ ap (λ l. take (place - mark) left ++ l)
+    (drop_drop (place - mark) (mark - r.first) r.uids ∙ ap (λ n. drop n r.uids) (omega (arith, first, past)) ∙ there.1) in
+    ap (is_among uid) parts ∙ among_after uid (take (place - mark) left) there.0
+
+pub noted_since : (r : Recent) (m : Message) (mark : ℕ) → IsRecent r m → r.first ≤ mark → mark ≤ m.place → is_among m.uid (drop (mark - r.first) r.uids) ≡ true
+noted_since r m mark recent first past = event_since r m.place m.uid mark recent first past
+
+-- ---- an event after those that are forgotten
+
+pub none_noted : (r : Recent) (end place : ℕ) → r ≡ record { first = end; uids = [] } → place < end → (uid : ℕ) → IsNotedAt r place uid
+none_noted r end place is lt uid = subst (λ r. IsNotedAt r place uid) (sym is) (record {
+  before = omega (arith, lt);
+  noted = λ within. absurd (omega (arith, within, lt));
+})
 
 -- ---- messages that are expunged at once
 

@@ -2,11 +2,9 @@
 use Rattle.std.proofs.Common.{◌≡◌, ℕ, zero, suc, ◌+◌, ◌<◌, ◌≤◌, cond, List, [], ◌∷◌, length, map, drop, get_or, refl, sym, ap, ◌∙◌, arith}
 use Rattle.std.proofs.lemmas.Bool.{lt-ltb, le-ltb}
 use Rattle.std.proofs.lemmas.List.{length-map, length-drop}
-use Rattle.imap_modseq.specs.Merge.{befores}
 use Rattle.imap_modseq.proofs.Order.{before_rises}
-use Rattle.imap_mailbox.specs.declared.own.SeenChange.{SeenChange}
 use Rattle.imap_mailbox.specs.declared.message.GoneMessage.{GoneMessage}
-use Rattle.imap_mailbox.specs.History.{own_entry}
+use Rattle.imap_mailbox.specs.Own.{Own}
 use Rattle.imap_mailbox.specs.Summary.{Rises, places_in, gone_in}
 use Rattle.imap_mailbox.specs.Lent.{gone_after_number, NeverFall}
 use Rattle.imap_mailbox.proofs.Finding.{up}
@@ -60,18 +58,18 @@ cut_is n (g ∷ gs) (suc at) before after =
 
 -- ---- the gone UIDs of a mailbox
 
-mapped : (own : List SeenChange) (gone : List GoneMessage) (i e : ℕ) (d : ℕ × ℕ) → i < length gone
+mapped : (own : Own) (gone : List GoneMessage) (i e : ℕ) (d : ℕ × ℕ) → i < length gone
     → (get_or (map (gone_in own) gone) i d).1 ≡ (gone_in own (record { uid = 0; place = get_or (places_in gone) i e })).1
 mapped own [] i e d lt = absurd (omega arith)
 mapped own (g ∷ gone) zero e d lt = refl
 mapped own (g ∷ gone) (suc i) e d lt = mapped own gone i e d (omega arith)
 
-gone_rise : (own : List SeenChange) (low high : ℕ) (gone : List GoneMessage) → Rises low high (places_in gone) → NeverFall (map (gone_in own) gone)
+gone_rise : (own : Own) (low high : ℕ) (gone : List GoneMessage) → Rises low high (places_in gone) → NeverFall (map (gone_in own) gone)
 gone_rise own low high gone h i j d e le lt =
     let count = length-map gone (gone_in own) in
     let places = length-map gone (λ (g : GoneMessage). g.place) in
     let more = up low high (places_in gone) i j 0 h le (omega (arith, count, places, lt)) in
-    let earlier = before_rises (befores (map own_entry own)) (get_or (places_in gone) i 0) (get_or (places_in gone) j 0) more in
+    let earlier = before_rises own.befores (get_or (places_in gone) i 0) (get_or (places_in gone) j 0) more in
     omega (arith, more, earlier, mapped own gone i 0 d (omega (arith, count, lt)), mapped own gone j 0 e (omega (arith, count, lt)))
 
 get_dropped : (k : ℕ) (gs : List (ℕ × ℕ)) (i : ℕ) (d : ℕ × ℕ) → get_or (drop k gs) i d ≡ get_or gs (k + i) d
@@ -79,7 +77,7 @@ get_dropped zero gs i d = ap (λ k. get_or gs k d) (let z : i ≡ 0 + i = omega 
 get_dropped (suc k) [] i d = refl
 get_dropped (suc k) (g ∷ gs) i d = get_dropped k gs i d ∙ ap (λ n. get_or (g ∷ gs) n d) (let z : suc (k + i) ≡ suc k + i = omega arith in z)
 
-pub rest_rises : (own : List SeenChange) (low high first : ℕ) (gone : List GoneMessage) → Rises low high (places_in gone) → NeverFall (drop first (map (gone_in own) gone))
+pub rest_rises : (own : Own) (low high first : ℕ) (gone : List GoneMessage) → Rises low high (places_in gone) → NeverFall (drop first (map (gone_in own) gone))
 rest_rises own low high first gone h i j d e le lt =
     let count = length-drop first (map (gone_in own) gone) in
     let more = gone_rise own low high gone h (first + i) (first + j) d e (omega arith) (omega (arith, count, lt)) in

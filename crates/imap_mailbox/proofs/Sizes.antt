@@ -1,12 +1,14 @@
 -- What STATUS counts, by a walk.
-use Rattle.std.proofs.Common.{◌≡◌, ℕ, ◌+◌, ◌-◌, ◌^◌, ◌<◌, ◌≤◌, cond, List, [], ◌∷◌, length, map, drop, get_or, refl, sym, ap, ◌∙◌, arith}
+use Rattle.std.proofs.Common.{◌≡◌, ℕ, ◌+◌, ◌-◌, ◌^◌, ◌<◌, ◌≤◌, cond, not, List, [], ◌∷◌, length, map, drop, get_or, refl, sym, ap, ◌∙◌, arith}
 use Rattle.std.specs.Prelude.{min, count_by}
 use Rattle.std.specs.List.{sum_by}
 use Rattle.std.proofs.lemmas.List.{drop_all}
 use Rattle.std.proofs.lemmas.List.Sums.{sum_by-cons, sum_by-drop_more}
 use Rattle.imap_mailbox.specs.declared.message.Message.{Message}
-use Rattle.imap_mailbox.specs.Summary.{row_in}
+use Rattle.imap_mailbox.specs.Own.{no_own}
+use Rattle.imap_mailbox.specs.Summary.{latest_seen, row_in}
 use Rattle.imap_mailbox.specs.Status.{unseen_in, max_size}
+use Rattle.imap_mailbox.proofs.Joined.{none_latest}
 
 pub added : (messages : List Message) (i : ℕ) (m : Message) (size len next whole : ℕ) → i < length messages → m ≡ get_or messages i m → len ≡ length m.octets → next ≡ min (min (size + len) (2 ^ 64 - 1)) max_size
     → min max_size (size + sum_by (λ (m : Message). length m.octets) (drop i messages)) ≡ whole → min max_size (next + sum_by (λ (m : Message). length m.octets) (drop (i + 1) messages)) ≡ whole
@@ -29,9 +31,10 @@ one_more messages i m count whole lt is before =
     omega (arith, more, same, before)
 
 -- without own changes all are unseen
-pub all_unseen : (messages : List Message) → length messages ≡ unseen_in (map (row_in []) messages)
+pub all_unseen : (messages : List Message) → length messages ≡ unseen_in (map (row_in no_own) messages)
 all_unseen [] = refl
 all_unseen (m ∷ messages) =
     let rest = all_unseen messages in
-    (let z : length (m ∷ messages) ≡ 1 + unseen_in (map (row_in []) messages) = omega (arith, rest) in z)
-    ∙ sym (sum_by-cons _ (row_in [] m) (map (row_in []) messages))
+    (let z : length (m ∷ messages) ≡ 1 + unseen_in (map (row_in no_own) messages) = omega (arith, rest) in z)
+    ∙ ap (λ o. cond (not (latest_seen o)) 1 0 + unseen_in (map (row_in no_own) messages)) (sym (none_latest m.uid))
+    ∙ sym (sum_by-cons _ (row_in no_own m) (map (row_in no_own) messages))

@@ -13,7 +13,7 @@ use Rattle.imap_mailbox.specs.Lent.{place_in}
 use Rattle.imap_mailbox.specs.Rows.{is_among}
 use Rattle.imap_mailbox.specs.Status.{deleted_in, size_in, max_size}
 use Rattle.imap_mailbox.specs.Summary.{Rises, uids_in, flags_in, row_in, without}
-use Rattle.imap_mailbox.specs.declared.own.SeenChange.{SeenChange}
+use Rattle.imap_mailbox.specs.Own.{Own}
 use Rattle.imap_mailbox.specs.Totals.{AreTotals, AreOfGone, IsWith, IsWithAny, deleted_of, size_of}
 use Rattle.imap_mailbox.proofs.Accounts.{turned}
 use Rattle.imap_mailbox.proofs.ExpungedAll.{absent_stay, all_stay, filter_twice}
@@ -239,13 +239,13 @@ few_deleted messages t totals = let few = count_by-le-length (λ (m : Message). 
 
 -- ---- as a user has the messages
 
-pub deleted_shown : (own : List SeenChange) (messages : List Message) → deleted_of messages ≡ deleted_in (map (row_in own) messages)
+pub deleted_shown : (own : Own) (messages : List Message) → deleted_of messages ≡ deleted_in (map (row_in own) messages)
 deleted_shown own [] = refl
 deleted_shown own (m ∷ messages) =
     let rest = deleted_shown own messages in
     sum_by-cons is_deleted m messages ∙ ap (λ n. is_deleted m + n) rest ∙ sym (sum_by-cons _ (row_in own m) (map (row_in own) messages))
 
-pub size_shown : (own : List SeenChange) (messages : List Message) → size_of messages ≡ size_in (map (row_in own) messages)
+pub size_shown : (own : Own) (messages : List Message) → size_of messages ≡ size_in (map (row_in own) messages)
 size_shown own [] = refl
 size_shown own (m ∷ messages) =
     let rest = size_shown own messages in

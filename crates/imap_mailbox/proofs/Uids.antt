@@ -4,7 +4,7 @@ use Rattle.std.proofs.lemmas.List.{map-append, length-map, take-append-drop}
 use Rattle.imap_modseq.specs.Merge.{merge_from}
 use Rattle.imap_mailbox.specs.Rows.{Event, Added, FlagsSet, Expunged, Entry, Shared, SeenSet, Row, row_step, rows_from, at_uid, uid_step, uids_from}
 use Rattle.imap_mailbox.specs.declared.own.SeenChange.{SeenChange}
-use Rattle.imap_mailbox.specs.History.{History, own_at, own_entry, events_of, rows, uids}
+use Rattle.imap_mailbox.specs.History.{History, changes_at, own_entry, events_of, rows, uids}
 
 abbrev pub uids_of : List Row → List ℕ
 uids_of rows = map (λ r. r.uid) rows
@@ -64,7 +64,7 @@ entries_merged k shared (s ∷ own) us =
     ∙ ap (λ l. entries_uids l us) (take-append-drop (s.before - k) shared)
 
 pub uids-rows : (history : History) (user : List ℕ) → map (λ (r : Row). r.uid) (rows history user) ≡ uids history
-uids-rows history user = uids_run 2 (events_of history user) [] ∙ entries_merged 0 (map Shared history.shared) (own_at history.own user) [] ∙ entries_shared history.shared []
+uids-rows history user = uids_run 2 (events_of history user) [] ∙ entries_merged 0 (map Shared history.shared) (changes_at history.own user) [] ∙ entries_shared history.shared []
 
 pub length-rows : (history : History) (user : List ℕ) → length (rows history user) ≡ length (uids history)
 length-rows history user = sym (length-map (rows history user) (λ (r : Row). r.uid)) ∙ ap length (uids-rows history user)

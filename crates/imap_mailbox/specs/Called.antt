@@ -5,7 +5,8 @@ use Rattle.imap_mailbox.specs.declared.flags.SharedFlags.{SharedFlags}
 use Rattle.imap_mailbox.specs.declared.message.Message.{Message}
 use Rattle.imap_mailbox.specs.declared.error.MailboxError.{MailboxError}
 use Rattle.imap_mailbox.specs.Rows.{Added, FlagsSet, Expunged}
-use Rattle.imap_mailbox.specs.History.{History, own_at, IsLawful, with_event, with_own_change}
+use Rattle.imap_mailbox.specs.History.{History, IsLawful, with_event, with_own_change}
+use Rattle.imap_mailbox.specs.Own.{own_at}
 use Rattle.imap_mailbox.specs.Summary.{Summary, summary_of, latest, latest_seen}
 use Rattle.imap_mailbox.specs.Calls.{is_same, same_flags, message_at, arrival}
 use Rattle.imap_mailbox.specs.Calls.{add_result, set_flags_result, expunge_result, mark_seen_result}

@@ -10,7 +10,7 @@ use Rattle.imap_mailbox.specs.declared.error.MailboxError.{MailboxError}
 use Rattle.imap_mailbox.specs.declared.error.MailboxError.TheVariants.{Full, Limit, NoSuchUid, Memory}
 use Rattle.imap_mailbox.specs.Flags.{has_too_many}
 use Rattle.imap_mailbox.specs.Rows.{Arrival}
-use Rattle.imap_mailbox.specs.History.{own_at}
+use Rattle.imap_mailbox.specs.Own.{own_at}
 use Rattle.imap_mailbox.specs.Summary.{Summary, with_arrival, with_flags, with_expunge, with_seen, room_of}
 use Rattle.imap_mailbox.specs.Summary.{is_there}
 use Rattle.imap_mailbox.specs.Summary.{latest, latest_seen}
@@ -82,7 +82,7 @@ abbrev pub mark_seen_case : List ℕ → ℕ → Bool → Summary → Option Mes
 mark_seen_case user uid seen s None = Err NoSuchUid
 mark_seen_case user uid seen s (Some m) =
     if is_same (latest_seen (latest uid (own_at s.own user))) seen then Ok s
-    else if length (own_at s.own user) == max_events then Err Limit
+    else if length (own_at s.own user).befores == max_events then Err Limit
     else Ok (with_seen user uid seen s)
 
 abbrev pub mark_seen_result : List ℕ → ℕ → Bool → Summary → Result Summary MailboxError

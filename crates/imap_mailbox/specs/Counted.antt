@@ -3,12 +3,12 @@ use Rattle.std.specs.Prelude.{◌≡◌, ℕ, ◌+◌, ◌-◌, Bool, List, Opti
 use Rattle.std.specs.FinMap as fin
 use Rattle.imap_user_map.specs.Rows as users
 use Rattle.imap_mailbox.specs.declared.message.Message.{Message}
-use Rattle.imap_mailbox.specs.declared.own.SeenChange.{SeenChange}
+use Rattle.imap_mailbox.specs.Own.{Own}
 use Rattle.imap_mailbox.specs.Owned.{Owned}
 use Rattle.imap_mailbox.specs.Summary.{latest, latest_seen, uids_in}
 
 -- how many of the UIDs a user with these own changes has seen
-abbrev pub seen_among : List SeenChange → List ℕ → ℕ
+abbrev pub seen_among : Own → List ℕ → ℕ
 seen_among own uids = count_by (λ uid. latest_seen (latest uid own)) uids
 
 -- the count after one \Seen was set or taken away
@@ -17,18 +17,18 @@ seen_after before now seen = seen - (if before then 1 else 0) + (if now then 1 e
 
 -- messages with these UIDs are expunged
 abbrev pub without_gone : List ℕ → Owned → Owned
-without_gone uids o = record { list = o.list; room = o.room; seen = o.seen - seen_among o.list uids }
+without_gone uids o = record { own = o.own; room = o.room; seen = o.seen - seen_among o.own uids }
 
 -- the messages that are there have these UIDs
 abbrev pub with_count : List ℕ → Owned → Owned
-with_count uids o = record { list = o.list; room = o.room; seen = seen_among o.list uids }
+with_count uids o = record { own = o.own; room = o.room; seen = seen_among o.own uids }
 
 -- ---- what the types keep
 
 -- a user's count is the number of these messages that the user has seen
 abbrev pub IsCounted : List Message → Option Owned → Type 0
 IsCounted messages None = Unit {0}
-IsCounted messages (Some o) = o.seen ≡ seen_among o.list (uids_in messages)
+IsCounted messages (Some o) = o.seen ≡ seen_among o.own (uids_in messages)
 
 abbrev pub AreCounted : List Message → users.Rows Owned → Type 0
 AreCounted messages own = (user : List ℕ) → IsCounted messages (fin.get own.map user)

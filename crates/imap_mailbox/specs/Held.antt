@@ -1,18 +1,17 @@
 -- A mailbox with its room.
-use Rattle.std.specs.Prelude.{◌≢◌, ℕ, ◌≤◌, List, [], ◌∷◌, length, Option, Some, None, unwrap_or, refl}
+use Rattle.std.specs.Prelude.{◌≢◌, ℕ, ◌≤◌, List, [], ◌∷◌, length, Option, Some, None, refl}
 use Rattle.std.specs.Coded.{Coded, code_by, coded×, coded_ℕ, coded_list}
 use Rattle.std.specs.FinMap as fin
 use Rattle.imap_user_map.specs.Rows as users
 use Rattle.imap_modseq.specs.Numbers.{max_events}
 use Rattle.imap_mailbox.specs.contracts.message.Message as message
 use Rattle.imap_mailbox.specs.contracts.message.GoneMessage as gone_message
-use Rattle.imap_mailbox.specs.declared.own.SeenChange.{SeenChange}
 use Rattle.imap_mailbox.specs.declared.message.Message.{Message}
 use Rattle.imap_mailbox.specs.declared.message.GoneMessage.{GoneMessage}
 use Rattle.imap_mailbox.specs.Owned.{Owned, owned_code, changes_of}
 use Rattle.imap_mailbox.specs.Flags.{HasFewKeywords}
 use Rattle.imap_mailbox.specs.Rows.{Event, Added, FlagsSet, Expunged}
-use Rattle.imap_mailbox.specs.History.{own_at}
+use Rattle.imap_mailbox.specs.Own.{Own, no_own, own_at}
 use Rattle.imap_mailbox.specs.Summary.{Summary, IsSound}
 
 -- `add_room` is the number of messages that may be added without memory, and `expunge_room` the number of
@@ -43,11 +42,11 @@ held_code =
     }) (λ _. refl)
 
 -- each user's own changes
-abbrev pub lists : users.Rows Owned → users.Users (List SeenChange)
+abbrev pub lists : users.Rows Owned → users.Users Own
 lists own = changes_of own.map
 
-abbrev pub list_at : users.Rows Owned → List ℕ → List SeenChange
-list_at own user = unwrap_or (fin.get (lists own) user) []
+abbrev pub list_at : users.Rows Owned → List ℕ → Own
+list_at own user = own_at (lists own) user
 
 abbrev pub list_room : Option Owned → ℕ
 list_room None = 0
@@ -75,9 +74,9 @@ HaveFewKeywords (m ∷ messages) = HasFewKeywords m.flags × HaveFewKeywords mes
 pub record IsKept (s : Summary) : Type 0 where
   pub sound : IsSound s
   pub few : s.shared ≤ max_events
-  pub own_few : (user : List ℕ) → length (own_at s.own user) ≤ max_events
+  pub own_few : (user : List ℕ) → length (own_at s.own user).befores ≤ max_events
   pub keywords : HaveFewKeywords s.messages
-  pub filled : (user : List ℕ) → fin.get s.own user ≢ Some []
+  pub filled : (user : List ℕ) → fin.get s.own user ≢ Some no_own
 
 -- no message gets more keywords by the event
 abbrev pub SetsFewKeywords : Event → Type 0

@@ -14,15 +14,16 @@ pub record History : Type 0 where
   pub shared : List Event
   pub own : Users (List SeenChange)
 
-abbrev pub own_at : Users (List SeenChange) → List ℕ → List SeenChange
-own_at own user = unwrap_or (fin.get own user) []
+-- the own changes of a user, who may have none
+abbrev pub changes_at : Users (List SeenChange) → List ℕ → List SeenChange
+changes_at own user = unwrap_or (fin.get own user) []
 
 abbrev pub own_entry : SeenChange → Own Entry
 own_entry s = (s.before, SeenSet s.uid s.seen)
 
 -- the events that the user sees, in their order
 abbrev pub events_of : History → List ℕ → List Entry
-events_of history user = merge (map Shared history.shared) (map own_entry (own_at history.own user))
+events_of history user = merge (map Shared history.shared) (map own_entry (changes_at history.own user))
 
 abbrev pub rows : History → List ℕ → List Row
 rows history user = rows_after (events_of history user)
@@ -57,7 +58,7 @@ room max_messages history =
 -- that are there; UIDs are given in turn, an own change is of a UID given before it, and a message is
 -- expunged once
 pub record IsLawful (history : History) (user : List ℕ) : Type 0 where
-  pub order : AreInOrder 0 (length history.shared) (befores (map own_entry (own_at history.own user)))
+  pub order : AreInOrder 0 (length history.shared) (befores (map own_entry (changes_at history.own user)))
   pub given : AreGiven first_uid (events_of history user)
   pub present : ArePresent [] history.shared
 
@@ -66,10 +67,10 @@ pub record IsLawful (history : History) (user : List ℕ) : Type 0 where
 abbrev pub with_event : Event → History → History
 with_event e history = record { shared = history.shared ++ e ∷ []; own = history.own }
 
-abbrev pub own_with : Users (List SeenChange) → List ℕ → ℕ → ℕ → Bool → Users (List SeenChange)
-own_with own user n uid seen =
-    fin.insert own user (own_at own user ++ record { before = n; uid = uid; seen = seen } ∷ [])
+abbrev pub changes_with : Users (List SeenChange) → List ℕ → ℕ → ℕ → Bool → Users (List SeenChange)
+changes_with own user n uid seen =
+    fin.insert own user (changes_at own user ++ record { before = n; uid = uid; seen = seen } ∷ [])
 
 abbrev pub with_own_change : List ℕ → ℕ → Bool → History → History
 with_own_change user uid seen history =
-    record { shared = history.shared; own = own_with history.own user (length history.shared) uid seen }
+    record { shared = history.shared; own = changes_with history.own user (length history.shared) uid seen }

@@ -7,18 +7,16 @@ use Rattle.std.specs.Borrow.{Bor}
 use Rattle.std.specs.List.Sorted.{IsPartitionPoint}
 use Rattle.imap_syntax.specs.Moments.{Moment}
 use Rattle.imap_syntax.specs.contracts.date.DateTime as date_time
-use Rattle.imap_modseq.specs.Merge.{befores, AreInOrder}
 use Rattle.imap_modseq.specs.Numbers.{max_events}
 use Rattle.imap_mailbox.specs.declared.flags.SharedFlags.{SharedFlags}
 use Rattle.imap_mailbox.specs.contracts.flags.SharedFlags as shared_flags
-use Rattle.imap_mailbox.specs.declared.own.SeenChange.{SeenChange}
 use Rattle.imap_mailbox.specs.declared.message.Message.{Message}
 use Rattle.imap_mailbox.specs.declared.message.GoneMessage.{GoneMessage}
 use Rattle.imap_mailbox.specs.declared.row.Row as row
 use Rattle.imap_mailbox.specs.declared.gone.GoneUid as gone_uid
 use Rattle.imap_mailbox.specs.Owned.{Owned}
 use Rattle.imap_mailbox.specs.Rows.{Row}
-use Rattle.imap_mailbox.specs.History.{own_entry}
+use Rattle.imap_mailbox.specs.Own.{Own, no_own}
 use Rattle.imap_mailbox.specs.Summary.{ArePlacesBelow, Rises, uids_in, places_in}
 
 abbrev pub row_shown : row.Row → Row
@@ -47,14 +45,12 @@ row_code =
     }) (λ _. refl)
 
 -- the own changes of a user who may have none
-abbrev pub own_lent : Option (Bor Owned) → List SeenChange
-own_lent None = []
-own_lent (Some own) = own.now.list
+abbrev pub own_lent : Option (Bor Owned) → Own
+own_lent None = no_own
+own_lent (Some own) = own.now.own
 
-pub record IsLent (messages : List Message) (own : List SeenChange) : Type 0 where
+pub record IsLent (messages : List Message) : Type 0 where
   pub place : ArePlacesBelow (max_events + 1) messages
-  pub order : AreInOrder 0 max_events (befores (map own_entry own))
-  pub few : length own ≤ max_events
   pub uids : (low high : ℕ) × Rises low high (uids_in messages)
 
 -- where the number stands in the list
@@ -73,11 +69,9 @@ row_uids rows = map (λ r. r.uid) rows
 abbrev pub gone_shown : gone_uid.GoneUid → ℕ × ℕ
 gone_shown g = (g.uid, g.number)
 
-pub record AreGoneLent (gone : List GoneMessage) (first : ℕ) (own : List SeenChange) : Type 0 where
+pub record AreGoneLent (gone : List GoneMessage) (first : ℕ) : Type 0 where
   pub within : first ≤ length gone
   pub places : (low : ℕ) × Rises low max_events (places_in gone)
-  pub order : AreInOrder 0 max_events (befores (map own_entry own))
-  pub few : length own ≤ max_events
 
 -- the gone UIDs with a number greater than n
 abbrev pub gone_after_number : ℕ → List (ℕ × ℕ) → List (ℕ × ℕ)

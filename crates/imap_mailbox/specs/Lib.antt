@@ -2,7 +2,10 @@
 pub mod Flags
 pub mod Rows
 pub mod History
+pub mod Own
+pub mod KeptRows
 pub mod Summary
+pub mod KeptLaws
 pub mod Calls
 pub mod Expunging
 pub mod Called

@@ -1,10 +1,6 @@
 -- Rows above a mod-sequence, found by the UIDs of last events.
-use Rattle.std.specs.Prelude.{◌≡◌, ℕ, ◌<◌, ◌≤◌, Bool, true, List, length, map, slice_index_or}
-use Rattle.imap_mailbox.specs.declared.own.SeenChange.{SeenChange}
+use Rattle.std.specs.Prelude.{◌≡◌, ℕ, ◌<◌, ◌≤◌, Bool, true, List, length, slice_index_or}
 use Rattle.imap_mailbox.specs.Rows.{Row}
-
-abbrev pub change_uids : List SeenChange → List ℕ
-change_uids changes = map (λ c. c.uid) changes
 
 -- the rows above the number have UIDs that pass the test
 abbrev pub AreAmong : (test : ℕ → Bool) → (number : ℕ) → List Row → Type 0

@@ -1,20 +1,25 @@
 -- What a store keeps of a mailbox, and the mailbox that it stands for.
 use Rattle.std.specs.Prelude.{◌≡◌, List, ℕ, Result, Ok, Err, IsPermutation}
 use Rattle.imap_user_map.specs.Rows.{Users}
-use Rattle.imap_mailbox.specs.declared.own.SeenChange.{SeenChange}
 use Rattle.imap_mailbox.specs.declared.parts.MailboxParts.{MailboxParts}
 use Rattle.imap_mailbox.specs.declared.parts.PartsError.{PartsError}
 use Rattle.imap_mailbox.specs.declared.parts.PartsError.TheVariants.{Bad, Memory}
 use Rattle.imap_mailbox.specs.Held.{Held, IsKept, summary_in}
-use Rattle.imap_mailbox.specs.History.{own_at}
+use Rattle.imap_mailbox.specs.KeptRows.{AreKept}
+use Rattle.imap_mailbox.specs.Own.{Own, own_at, found_in}
 use Rattle.imap_mailbox.specs.Summary.{Summary}
-use Rattle.imap_mailbox.specs.UserChange.{UserChange, of_user, changes_from}
+use Rattle.imap_mailbox.specs.UserChange.{UserChange, rows_of_user}
 
--- put in some order, the changes of each user are that user's own changes, with their places
-abbrev pub AreOwn : List UserChange → Users (List SeenChange) → Type 0
-AreOwn changes own =
-    (ordered : List UserChange) × IsPermutation changes ordered
-    × ((user : List ℕ) → of_user user ordered ≡ changes_from user 0 (own_at own user))
+-- each user's changes are in order, after at most `shared` shared events, and of them the user's own changes are found
+abbrev pub AreInPlace : (shared : ℕ) → List UserChange → Users Own → Type 0
+AreInPlace shared changes own = (user : List ℕ) →
+    let kept = rows_of_user user changes in
+    AreKept 0 0 shared kept × (found_in kept ≡ own_at own user)
+
+-- put in some order, they are the own changes of all users that are kept
+abbrev pub AreOwn : (shared : ℕ) → List UserChange → Users Own → Type 0
+AreOwn shared changes own =
+    (ordered : List UserChange) × IsPermutation changes ordered × AreInPlace shared ordered own
 
 -- the parts are those of a mailbox, whatever their order
 pub record StandFor (parts : MailboxParts) (s : Summary) : Type 0 where
@@ -22,7 +27,7 @@ pub record StandFor (parts : MailboxParts) (s : Summary) : Type 0 where
   pub shared : s.shared ≡ parts.shared
   pub messages : IsPermutation parts.messages.items s.messages
   pub gone : IsPermutation parts.gone.items s.gone
-  pub own : AreOwn parts.own.items s.own
+  pub own : AreOwn parts.shared parts.own.items s.own
 
 -- the mailbox for which the parts stand; or they are bad, and stand for none; or memory ran out
 abbrev pub Restores : MailboxParts → Result Held PartsError → Type 0

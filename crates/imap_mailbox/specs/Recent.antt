@@ -24,10 +24,14 @@ pub record IsNoted (uid : ℕ) (old new : Recent) : Type 0 where
   pub uids : new.uids ≡ drop forgotten (old.uids ++ uid ∷ [])
   pub few : forgotten ≤ length old.uids + 1
 
--- the last event of the message is noted as one of its UID, if it isn't forgotten
-pub record IsRecent (r : Recent) (m : Message) : Type 0 where
-  pub before : m.place < end_of r
-  pub noted : r.first ≤ m.place → (rest : List ℕ) × (drop (m.place - r.first) r.uids ≡ m.uid ∷ rest)
+-- the event at the place is noted as one of the UID, if it isn't forgotten
+pub record IsNotedAt (r : Recent) (place uid : ℕ) : Type 0 where
+  pub before : place < end_of r
+  pub noted : r.first ≤ place → (rest : List ℕ) × (drop (place - r.first) r.uids ≡ uid ∷ rest)
+
+-- the last event of the message is noted
+abbrev pub IsRecent : Recent → Message → Type 0
+IsRecent r m = IsNotedAt r m.place m.uid
 
 abbrev pub AreRecent : Recent → List Message → Type 0
 AreRecent r [] = Unit {0}

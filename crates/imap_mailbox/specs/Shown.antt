@@ -8,7 +8,8 @@ use Rattle.imap_mailbox.specs.Rows.{gone_step}
 use Rattle.imap_mailbox.specs.Rows.{next_step, is_among, IsGiven}
 use Rattle.imap_mailbox.specs.Lent.{row_uids}
 use Rattle.imap_mailbox.specs.Expunging.{with_expunges}
-use Rattle.imap_mailbox.specs.History.{own_at, room_by}
+use Rattle.imap_mailbox.specs.History.{room_by}
+use Rattle.imap_mailbox.specs.Own.{own_at}
 use Rattle.imap_mailbox.specs.Summary.{Summary, with_arrival, with_flags, with_expunge, with_seen, step}
 use Rattle.imap_mailbox.specs.Summary.{rows_of, gone_of, room_of, IsSound}
 use Rattle.imap_mailbox.specs.Calls.{if_there}
@@ -34,7 +35,7 @@ abbrev pub content_of : List ℕ → Summary → Content
 content_of user s = record {
   next = s.next;
   shared = s.shared;
-  own = length (own_at s.own user);
+  own = length (own_at s.own user).befores;
   rows = rows_of s user;
   gone = gone_of s user;
 }

@@ -1,17 +1,21 @@
 -- A mailbox by its summary: the messages that are there, those that are gone, and what is counted.
 use Rattle.std.specs.Prelude.{◌≡◌, ℕ, ◌+◌, ◌<◌, ◌≤◌, max, nat_le, nat_lt, Bool, false, not, ◌==◌, ◌&&◌}
 use Rattle.std.specs.Prelude.{if◌then◌else◌}
-use Rattle.std.specs.Prelude.{List, [], ◌∷◌, ◌++◌, length, map, filter, Option, Some, None}
+use Rattle.std.specs.Prelude.{List, [], ◌∷◌, ◌++◌, length, map, filter, slice_index, Option, Some, None, option_map}
+use Rattle.std.specs.FinMap as fin
+use Rattle.imap_user_map.specs.Finite.{map_values}
 use Rattle.imap_user_map.specs.Rows.{Users}
-use Rattle.imap_modseq.specs.Merge.{befores, AreInOrder}
+use Rattle.imap_modseq.specs.Merge.{AreInOrder}
 use Rattle.imap_modseq.specs.Numbers.{shared_number, own_number, highest_after}
 use Rattle.imap_mailbox.specs.declared.flags.SharedFlags.{SharedFlags}
+use Rattle.imap_mailbox.specs.declared.kept_change.KeptChange.{KeptChange}
 use Rattle.imap_mailbox.specs.declared.own.SeenChange.{SeenChange}
 use Rattle.imap_mailbox.specs.declared.message.Message.{Message}
 use Rattle.imap_mailbox.specs.declared.message.GoneMessage.{GoneMessage}
 use Rattle.imap_mailbox.specs.Rows.{Arrival, Event, Added, FlagsSet, Expunged, Row, is_among, first_uid}
 use Rattle.imap_mailbox.specs.Rows.{WasGiven}
-use Rattle.imap_mailbox.specs.History.{History, own_at, own_with, own_entry, room_by}
+use Rattle.imap_mailbox.specs.History.{History, room_by}
+use Rattle.imap_mailbox.specs.Own.{Own, own_at, found_in, numbered, with_change}
 
 -- `next` is UIDNEXT, and `shared` the number of shared events
 pub record Summary : Type 0 where
@@ -19,7 +23,7 @@ pub record Summary : Type 0 where
   pub gone : List GoneMessage
   pub next : ℕ
   pub shared : ℕ
-  pub own : Users (List SeenChange)
+  pub own : Users Own
 
 -- ---- its steps
 
@@ -68,7 +72,11 @@ step (Added m) s = with_arrival m s
 step (FlagsSet uid flags) s = with_flags uid flags s
 step (Expunged uid) s = with_expunge uid s
 
--- with one more own change of the user
+-- with one more own change of the user, after n shared events
+abbrev pub own_with : Users Own → List ℕ → (n uid : ℕ) → Bool → Users Own
+own_with own user n uid seen =
+    fin.insert own user (with_change (record { before = n; uid = uid; seen = seen }) (own_at own user))
+
 abbrev pub with_seen : List ℕ → ℕ → Bool → Summary → Summary
 with_seen user uid seen s = record {
   messages = s.messages;
@@ -82,23 +90,26 @@ abbrev pub steps : List Event → Summary → Summary
 steps [] s = s
 steps (e ∷ events) s = steps events (step e s)
 
+-- of all own changes what is found of them
+abbrev pub found_of : Users (List SeenChange) → Users Own
+found_of own = map_values (λ changes. found_in (numbered 0 changes)) own
+
 -- of a mailbox without shared events
-abbrev pub new_summary : Users (List SeenChange) → Summary
+abbrev pub new_summary : Users Own → Summary
 new_summary own = record { messages = []; gone = []; next = first_uid; shared = 0; own = own }
 
 abbrev pub summary_of : History → Summary
-summary_of history = steps history.shared (new_summary history.own)
+summary_of history = steps history.shared (new_summary (found_of history.own))
 
 -- ---- what it says to a user
 
--- the last own change of the UID, if the first of the list has the place j: its number, and what it sets
-abbrev pub latest_from : ℕ → ℕ → List SeenChange → Option (ℕ × Bool) → Option (ℕ × Bool)
-latest_from j uid [] found = found
-latest_from j uid (s ∷ own) found =
-    latest_from (j + 1) uid own (if uid == s.uid then Some (own_number s.before j, s.seen) else found)
+-- the number of the change, and what it sets
+abbrev pub shown : KeptChange → ℕ × Bool
+shown k = (own_number k.before k.place, k.seen)
 
-abbrev pub latest : ℕ → List SeenChange → Option (ℕ × Bool)
-latest uid own = latest_from 0 uid own None
+-- the last own change of the UID: its number, and what it sets
+abbrev pub latest : ℕ → Own → Option (ℕ × Bool)
+latest uid own = option_map shown (fin.get own.latest uid)
 
 abbrev pub latest_number : Option (ℕ × Bool) → ℕ
 latest_number None = 0
@@ -109,11 +120,11 @@ latest_seen None = false
 latest_seen (Some f) = f.1
 
 -- the number of the shared event at the place, for a user with these own changes
-abbrev pub number_at : List SeenChange → ℕ → ℕ
-number_at own place = shared_number (befores (map own_entry own)) place
+abbrev pub number_at : Own → ℕ → ℕ
+number_at own place = shared_number own.befores place
 
 -- the message as the user with these own changes has it: its number is that of its last event, shared or own
-abbrev pub row_in : List SeenChange → Message → Row
+abbrev pub row_in : Own → Message → Row
 row_in own m = record {
   uid = m.uid;
   date = m.date;
@@ -123,7 +134,7 @@ row_in own m = record {
   number = max (number_at own m.place) (latest_number (latest m.uid own));
 }
 
-abbrev pub gone_in : List SeenChange → GoneMessage → ℕ × ℕ
+abbrev pub gone_in : Own → GoneMessage → ℕ × ℕ
 gone_in own g = (g.uid, number_at own g.place)
 
 abbrev pub rows_of : Summary → List ℕ → List Row
@@ -133,7 +144,7 @@ abbrev pub gone_of : Summary → List ℕ → List (ℕ × ℕ)
 gone_of s user = map (gone_in (own_at s.own user)) s.gone
 
 abbrev pub highest_of : Summary → List ℕ → ℕ
-highest_of s user = highest_after s.shared (length (own_at s.own user))
+highest_of s user = highest_after s.shared (length (own_at s.own user).befores)
 
 abbrev pub room_of : ℕ → Summary → ℕ
 room_of max_messages s = room_by max_messages (length s.messages) s.next s.shared
@@ -175,14 +186,20 @@ abbrev pub AreApart : List Message → List GoneMessage → Type 0
 AreApart messages gone = (place : ℕ)
     → count_of place (message_places messages) + count_of place (places_in gone) ≤ 1
 
--- they are of UIDs that were given
-abbrev pub AreOfGiven : (next : ℕ) → List SeenChange → Type 0
-AreOfGiven next [] = Unit {0}
-AreOfGiven next (s ∷ own) = WasGiven next s.uid × AreOfGiven next own
+-- the change is one of the user's, and of this UID
+pub record IsLast (befores : List ℕ) (uid : ℕ) (k : KeptChange) : Type 0 where
+  pub uid_is : k.uid ≡ uid
+  pub place : k.place < length befores
+  pub before : slice_index befores k.place ≡ k.before
+
+-- each last change is one of the user's, and of a UID that was given
+abbrev pub AreOfGiven : (next : ℕ) → Own → Type 0
+AreOfGiven next own =
+    (uid : ℕ) (k : KeptChange) → fin.get own.latest uid ≡ Some k → WasGiven next uid × IsLast own.befores uid k
 
 -- a user's own changes stand in order, after shared events that are there, and are of UIDs that were given
-pub record Fits (shared next : ℕ) (own : List SeenChange) : Type 0 where
-  pub order : AreInOrder 0 shared (befores (map own_entry own))
+pub record Fits (shared next : ℕ) (own : Own) : Type 0 where
+  pub order : AreInOrder 0 shared own.befores
   pub known : AreOfGiven next own
 
 abbrev pub is_given : ℕ → ℕ → Bool

@@ -1,7 +1,8 @@
 -- An own change of \Seen, with its user and its place among those of that user.
-use Rattle.std.specs.Prelude.{ℕ, ◌+◌, bytes_eq, List, [], ◌∷◌, filter, refl}
+use Rattle.std.specs.Prelude.{ℕ, bytes_eq, List, filter, map, refl}
 use Rattle.std.specs.Coded.{Coded, code_by, coded×, coded_ℕ, coded_list}
 use Rattle.imap_mailbox.specs.contracts.own.SeenChange as change
+use Rattle.imap_mailbox.specs.declared.kept_change.KeptChange.{KeptChange}
 use Rattle.imap_mailbox.specs.declared.own.SeenChange.{SeenChange}
 
 -- places are counted from 0
@@ -21,8 +22,9 @@ user_change_code =
 abbrev pub of_user : List ℕ → List UserChange → List UserChange
 of_user user changes = filter (λ c. bytes_eq c.user user) changes
 
--- a user's own changes, of which the first has the place
-abbrev pub changes_from : List ℕ → ℕ → List SeenChange → List UserChange
-changes_from user place [] = []
-changes_from user place (s ∷ own) =
-    record { user = user; place = place; change = s } ∷ changes_from user (place + 1) own
+abbrev pub row_of : UserChange → KeptChange
+row_of c = record { place = c.place; before = c.change.before; uid = c.change.uid; seen = c.change.seen }
+
+-- the changes of a user that are kept
+abbrev pub rows_of_user : List ℕ → List UserChange → List KeptChange
+rows_of_user user changes = map row_of (of_user user changes)

@@ -1,11 +1,10 @@
 //! Rows above a mod-sequence, by a walk.
 
-ghost use Rattle.std.specs.Prelude.{◌≡◌, ℕ, ◌+◌, ◌<◌, ◌≤◌, [], length, map, nat_lt, true};
-ghost use Rattle.imap_modseq.specs.Merge.{befores, AreInOrder};
+ghost use Rattle.std.specs.Prelude.{◌≡◌, ℕ, ◌+◌, ◌<◌, ◌≤◌, length, map, nat_lt, true};
 ghost use Rattle.imap_modseq.specs.Numbers.{max_events};
 ghost use Rattle.imap_mailbox.specs.Above.{IsFirstAbove};
-ghost use Rattle.imap_mailbox.specs.History.{own_entry};
 ghost use Rattle.imap_mailbox.specs.Late.{may_have};
+ghost use Rattle.imap_mailbox.specs.Own.{no_own};
 ghost use Rattle.imap_mailbox.specs.Summary.{latest, latest_number, row_in, ArePlacesBelow};
 
 use crate::late::{LateUids, late_uids};
@@ -24,7 +23,7 @@ pub(crate) fn first_plain_above(
     requires order { start ≤ end }
     requires within { end ≤ length messages.now }
     requires places { ArePlacesBelow (max_events + 1) messages.now }
-    ensures { IsFirstAbove number start end result (map (row_in []) messages.now) }
+    ensures { IsFirstAbove number start end result (map (row_in no_own) messages.now) }
 {
     for place in start..end {
         if number < plain_row(&messages[place]).number {
@@ -46,12 +45,10 @@ pub(crate) fn first_own_above(
     requires order { start ≤ end }
     requires within { end ≤ length messages.now }
     requires places { ArePlacesBelow (max_events + 1) messages.now }
-    requires changes { AreInOrder 0 max_events (befores (map own_entry own.now.list)) }
-    requires few { length own.now.list ≤ max_events }
-    ensures { IsFirstAbove number start end result (map (row_in own.now.list) messages.now) }
+    ensures { IsFirstAbove number start end result (map (row_in own.now.own) messages.now) }
 {
-    let quiet = number.saturating_sub(1 + own.len() as u64);
-    let late = late_uids(own.as_slice(), number);
+    let quiet = number.saturating_sub(1 + own.len());
+    let late = late_uids(own, number);
     let mut near = 0;
     for place in start..end {
         if is_own_above(&messages[place], own, number, quiet, &late, &mut near) {
@@ -72,12 +69,10 @@ fn is_own_above(
     near: &mut usize,
 ) -> bool
     requires place { message.now.place ≤ max_events }
-    requires order { AreInOrder 0 max_events (befores (map own_entry own.now.list)) }
-    requires few { length own.now.list ≤ max_events }
-    requires quiet { 0 < quiet → quiet + length own.now.list + 1 ≤ number }
-    requires late { (uid : ℕ) → number < latest_number (latest uid own.now.list)
+    requires quiet { 0 < quiet → quiet + length own.now.own.befores + 1 ≤ number }
+    requires late { (uid : ℕ) → number < latest_number (latest uid own.now.own)
         → may_have late.now uid ≡ true }
-    ensures { result ≡ nat_lt number (row_in own.now.list message.now).number }
+    ensures { result ≡ nat_lt number (row_in own.now.own message.now).number }
 {
     if message.place < quiet
         && !(late.may_have(message.uid) && own.is_later(message.uid, number, near))

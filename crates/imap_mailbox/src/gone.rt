@@ -1,9 +1,8 @@
 //! The messages that were expunged, as a user has them.
 
-ghost use Rattle.std.specs.Prelude.{◌≡◌, ◌<◌, ◌≤◌, [], length, map, drop, slice_index_or};
-ghost use Rattle.imap_modseq.specs.Merge.{befores, AreInOrder};
+ghost use Rattle.std.specs.Prelude.{◌≡◌, ◌<◌, ◌≤◌, length, drop, slice_index_or};
 ghost use Rattle.imap_modseq.specs.Numbers.{max_events};
-ghost use Rattle.imap_mailbox.specs.History.{own_entry};
+ghost use Rattle.imap_mailbox.specs.Own.{no_own};
 ghost use Rattle.imap_mailbox.specs.Summary.{gone_in};
 ghost use Rattle.imap_mailbox.specs.Lent.{gone_shown, gone_after_number, NeverFall};
 
@@ -42,7 +41,7 @@ impl<'a> Model for GoneUids<'a> {
 
     ghost view = { λ r. drop r.first (map (gone_in (own_lent r.own)) r.gone.now.items) };
 
-    ghost invariant = { λ r. AreGoneLent r.gone.now.items r.first (own_lent r.own) };
+    ghost invariant = { λ r. AreGoneLent r.gone.now.items r.first };
 }
 
 impl<'a> GoneUids<'a> {
@@ -99,7 +98,7 @@ impl<'a> GoneUids<'a> {
 
 fn plain_gone(message: &GoneMessage) -> GoneUid
     requires { message.now.place ≤ max_events }
-    ensures { gone_shown result ≡ gone_in [] message.now }
+    ensures { gone_shown result ≡ gone_in no_own message.now }
 {
     GoneUid {
         uid: message.uid,
@@ -108,13 +107,11 @@ fn plain_gone(message: &GoneMessage) -> GoneUid
 }
 
 fn own_gone(message: &GoneMessage, own: &OwnSeen) -> GoneUid
-    requires place { message.now.place ≤ max_events }
-    requires order { AreInOrder 0 max_events (befores (map own_entry own.now.list)) }
-    requires few { length own.now.list ≤ max_events }
-    ensures { gone_shown result ≡ gone_in own.now.list message.now }
+    requires { message.now.place ≤ max_events }
+    ensures { gone_shown result ≡ gone_in own.now.own message.now }
 {
     GoneUid {
         uid: message.uid,
-        number: number_after(message.place, own.count_before(message.place) as u64),
+        number: number_after(message.place, own.count_before(message.place)),
     }
 }

@@ -1,16 +1,16 @@
 //! Rows above a mod-sequence, found by the UIDs of last events.
 
-ghost use Rattle.std.specs.Prelude.{◌≡◌, ◌≤◌, ◌<◌, ◌==◌, ◌&&◌, [], true, length, nat_le, nat_lt, slice_index_or};
+ghost use Rattle.std.specs.Prelude.{◌≡◌, ◌≤◌, ◌<◌, ◌==◌, ◌&&◌, true, length, nat_le, nat_lt, slice_index_or};
 ghost use Rattle.std.specs.Prelude.{IfSome};
-ghost use Rattle.imap_modseq.specs.Numbers.{max_events};
 ghost use Rattle.imap_mailbox.specs.declared.message.Message.{Message};
 ghost use Rattle.imap_mailbox.specs.Lent.{row_uids};
-ghost use Rattle.imap_mailbox.specs.Looked.{IsFirstOf, change_uids};
+ghost use Rattle.imap_mailbox.specs.Looked.{IsFirstOf};
+ghost use Rattle.imap_mailbox.specs.Own.{no_own};
 ghost use Rattle.imap_mailbox.specs.Recent.{IsRecent};
 ghost use Rattle.imap_mailbox.specs.Rows.{Row, is_among};
 ghost use Rattle.imap_mailbox.specs.Summary.{AreRising, latest, latest_number, row_in};
 
-use crate::own::{OwnSeen, SeenChange};
+use crate::own::OwnSeen;
 use crate::recent_events::RecentEvents;
 use crate::rows::Rows;
 
@@ -32,7 +32,7 @@ fn few_since(recent: &RecentEvents, place: u64) -> Option<&[u32]>
 /// The UIDs of the last events, among which are those of all messages that are above `number` for a user without
 /// own changes. `None` if they are too many, or some were forgotten.
 pub(crate) fn last_uids(recent: &RecentEvents, number: u64) -> Option<&[u32]>
-    ensures { IfSome result (λ uids. (m : Message) → IsRecent recent.now m → number < (row_in [] m).number
+    ensures { IfSome result (λ uids. (m : Message) → IsRecent recent.now m → number < (row_in no_own m).number
         → is_among m.uid uids.now ≡ true) }
 {
     few_since(recent, number.saturating_sub(1))
@@ -45,12 +45,11 @@ pub(crate) fn last_own_uids<'a>(
     own: &OwnSeen,
     number: u64,
 ) -> Option<&'a [u32]>
-    requires { length own.now.list ≤ max_events }
     ensures { IfSome result (λ uids. (m : Message) → IsRecent recent.now m
-        → latest_number (latest m.uid own.now.list) ≤ number → number < (row_in own.now.list m).number
+        → latest_number (latest m.uid own.now.own) ≤ number → number < (row_in own.now.own m).number
         → is_among m.uid uids.now ≡ true) }
 {
-    few_since(recent, number.saturating_sub(1 + own.len() as u64))
+    few_since(recent, number.saturating_sub(1 + own.len()))
 }
 
 /// The place of the first message with one of the UIDs and above `number`, from `start` on and before `end`, or
@@ -70,26 +69,6 @@ pub(crate) fn first_of_uids(
     let mut first = end;
     for uid in uids {
         first = first_with(rows, *uid, start, first, number);
-    }
-    first
-}
-
-/// The same, of the UIDs of own changes.
-pub(crate) fn first_of_changes(
-    rows: &Rows<'_>,
-    changes: &[SeenChange],
-    start: usize,
-    end: usize,
-    number: u64,
-) -> usize
-    requires rising { AreRising (row_uids rows.now) }
-    requires order { start ≤ end }
-    requires within { end ≤ length rows.now }
-    ensures { IsFirstOf (λ uid. is_among uid (change_uids changes.now)) number start end result rows.now }
-{
-    let mut first = end;
-    for change in changes {
-        first = first_with(rows, change.uid, start, first, number);
     }
     first
 }

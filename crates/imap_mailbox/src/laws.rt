@@ -12,6 +12,8 @@ ghost use Rattle.imap_mailbox.specs.Bridge.{SummariesAreAdmitted};
 ghost use Rattle.imap_mailbox.specs.Brought.{EventsAreLater, SeenIsLater, ShownIsOrdered, AllToldIsBrought};
 ghost use Rattle.imap_mailbox.specs.Called.{CallsAreEvents, FlagsAreTested};
 ghost use Rattle.imap_mailbox.specs.Client.{ClientIsBroughtUp};
+ghost use Rattle.imap_mailbox.specs.KeptLaws.{AllRowsFollow, AnyMayGo, ChangesAreNumbered, DroppedStays, FewAreKept};
+ghost use Rattle.imap_mailbox.specs.KeptLaws.{KeptIsEnough, RowsFollow, RowsStayFew};
 ghost use Rattle.imap_mailbox.specs.Parts.{StandForOne};
 ghost use Rattle.imap_mailbox.specs.Shown.{AnothersSeenIsHidden, AddIsSeenAsRoom, EventIsSeen};
 ghost use Rattle.imap_mailbox.specs.Shown.{DecidedIsSeen, ExpungesAreSeen, OwnSeenIsSeen};
@@ -129,4 +131,46 @@ pub fn all_told_is_brought()
 /// What a store keeps of a mailbox stands for one mailbox at most, whatever the order of its parts.
 pub fn parts_stand_for_one()
     ensures { StandForOne }
+{}
+
+/// By a user's own changes that are kept the user is shown what all events tell: each message with `\Seen` and its
+/// mod-sequence, each message that went with its mod-sequence, and HIGHESTMODSEQ (RFC 7162, sections 3.1.2.1 and
+/// 3.2.10). A change is kept if it is the last one of its message, or the last one before a shared event.
+pub fn kept_is_enough()
+    ensures { KeptIsEnough }
+{}
+
+/// So it is while some that need not be kept are still there. A store in which nothing was dropped stands for the same.
+pub fn any_may_go()
+    ensures { AnyMayGo }
+{}
+
+/// The rows after a change, without the one that the change drops, stand for the changes with it.
+pub fn rows_follow()
+    ensures { RowsFollow }
+{}
+
+/// The same holds of the changes of a batch, each with the row that it drops.
+pub fn all_rows_follow()
+    ensures { AllRowsFollow }
+{}
+
+/// Changes that come after all others have the next places.
+pub fn changes_are_numbered()
+    ensures { ChangesAreNumbered }
+{}
+
+/// What a change drops may be found before the others of its batch, which are of other messages, are made.
+pub fn dropped_stays()
+    ensures { DroppedStays }
+{}
+
+/// At most as many rows are kept as messages that the user changed and shared events, and one.
+pub fn few_are_kept()
+    ensures { FewAreKept }
+{}
+
+/// A change leaves no row that may go, if none was there. So there are never more.
+pub fn rows_stay_few()
+    ensures { RowsStayFew }
 {}

@@ -5,7 +5,8 @@
 //! messages as one user has them.
 //!
 //! A mailbox keeps no list of events. Contracts speak of its summary: the messages that are there, those
-//! that are gone, UIDNEXT, the number of shared events, and each user's changes of `\Seen`. [`laws`] say
+//! that are gone, UIDNEXT, the number of shared events, and what is asked of each user's changes of `\Seen`: how many
+//! come before each shared event, and the last one of each message. [`laws`] say
 //! that the summary of events tells each user what the events tell.
 #![tactic(auto)]
 
@@ -17,6 +18,7 @@ mod error;
 mod expunging;
 mod flags;
 mod gone;
+mod kept_change;
 mod known;
 mod last_events;
 mod late;
@@ -41,6 +43,7 @@ pub use error::MailboxError;
 pub use flags::SharedFlags;
 pub use gone::{GoneUid, GoneUids};
 pub use imap_syntax::{DateTime, Items, Octets};
+pub use kept_change::KeptChange;
 pub use known::KnownMessage;
 pub use mailbox::Mailbox;
 pub use message::{GoneMessage, Message};

@@ -6,7 +6,9 @@ ghost use Rattle.std.specs.FinMap as map;
 ghost use Rattle.imap_modseq.specs.Numbers.{max_events, max_number};
 ghost use Rattle.imap_mailbox.specs.Flags.{HasFewKeywords};
 ghost use Rattle.imap_mailbox.specs.Rows.{WasGiven};
-ghost use Rattle.imap_mailbox.specs.History.{own_at, end_uid};
+ghost use Rattle.imap_mailbox.specs.History.{end_uid};
+ghost use Rattle.imap_mailbox.specs.KeptRows.{dropped_for};
+ghost use Rattle.imap_mailbox.specs.Own.{own_at};
 ghost use Rattle.imap_mailbox.specs.Summary.{new_summary, with_arrival, with_flags, with_expunge, with_seen};
 ghost use Rattle.imap_mailbox.specs.Summary.{rows_of, gone_of, highest_of, room_of, is_there, latest};
 ghost use Rattle.imap_mailbox.specs.Summary.{latest_seen, AreRising};
@@ -115,8 +117,8 @@ impl Mailbox {
     /// The mailbox for which the parts stand. Fails with `Bad` if they stand for none: if a UID below UIDNEXT
     /// is missing, or stands twice, among the messages and those that are gone; a UID is UIDNEXT or more; a
     /// place is that of two messages, or of no shared event; a message has over
-    /// [`MAX_KEYWORDS`](crate::MAX_KEYWORDS) keywords; a user's own changes are not at the places from 0 on,
-    /// are out of order, or are of a UID that was never given; or a number of events is over
+    /// [`MAX_KEYWORDS`](crate::MAX_KEYWORDS) keywords; two of a user's own changes have one place, they
+    /// are out of order, or one is of a UID that was never given; or a number of events is over
     /// [`MAX_EVENTS`](imap_modseq::MAX_EVENTS).
     pub fn from_parts(alloc: Global, parts: MailboxParts) -> Result<Mailbox, PartsError>
         ensures { Restores parts result }
@@ -286,7 +288,7 @@ impl Mailbox {
     /// Sets a user's own `\Seen` of a message or takes it away, in room that is there.
     pub fn mark_seen_reserved(&mut self, user: &str, uid: u32, seen: bool)
         requires room { 0 < own_room self.old.own user.now }
-        requires few { length (own_at (summary_in self.old).own user.now) < max_events }
+        requires few { length (own_at (summary_in self.old).own user.now).befores < max_events }
         ensures contents { summary_in self.new
             ≡ if_there uid (with_seen user.now uid seen (summary_in self.old)) (summary_in self.old) }
         ensures own_room { own_room self.old.own user.now ≤ own_room self.new.own user.now + 1 }
@@ -339,7 +341,7 @@ impl Mailbox {
     pub(crate) fn put_seen(&mut self, user: &str, uid: u32, seen: bool)
         requires room { 0 < own_room self.old.own user.now }
         requires there { is_there uid (summary_in self.old) ≡ true }
-        requires few { length (own_at (summary_in self.old).own user.now) < max_events }
+        requires few { length (own_at (summary_in self.old).own user.now).befores < max_events }
         ensures contents { summary_in self.new ≡ with_seen user.now uid seen (summary_in self.old) }
         ensures own_room { own_room self.old.own user.now ≤ own_room self.new.own user.now + 1 }
         ensures add_room { self.new.add_room ≡ self.old.add_room }
@@ -388,24 +390,25 @@ impl Mailbox {
         self.gone.as_slice()
     }
 
-    /// The user's changes of `\Seen`, in their order.
-    pub fn own_changes(&self, user: &str) -> &[SeenChange]
-        ensures changes { result.now ≡ own_at (summary_in self.now).own user.now }
-        ensures valid { IsKept (summary_in self.now) }
+    /// Of the user's own changes the place of the one that needs no more be kept once the user changes `\Seen` of this
+    /// message: the last one of the message, unless it is the last before a shared event. The next own change, of
+    /// whichever message, has `before` shared events before it.
+    pub fn dropped_by(&self, user: &str, uid: u32, before: u64) -> Option<u64>
+        ensures { result ≡ dropped_for uid before (own_at (summary_in self.now).own user.now) }
     {
         match self.own.get(user) {
-            Some(own) => own.as_slice(),
-            None => &[],
+            Some(own) => own.dropped_by(uid, before),
+            None => None,
         }
     }
 
-    /// The number of own changes of the user.
+    /// The number of own changes of the user, kept or not.
     pub fn own_len(&self, user: &str) -> u64
         ensures few { result ≤ max_events }
-        ensures events { result ≡ length (own_at (summary_in self.now).own user.now) }
+        ensures events { result ≡ length (own_at (summary_in self.now).own user.now).befores }
     {
         match self.own.get(user) {
-            Some(own) => own.len() as u64,
+            Some(own) => own.len(),
             None => 0,
         }
     }

@@ -1,12 +1,14 @@
 //! The own changes of all users.
 
-ghost use Rattle.std.specs.Prelude.{◌≡◌, ◌+◌, ◌<◌, ◌≤◌, [], ◌∷◌, ◌++◌, true, false, is_some, length, OnOk};
+ghost use Rattle.std.specs.Prelude.{◌≡◌, ◌+◌, ◌<◌, ◌≤◌, true, false, is_some, length, OnOk};
 ghost use Rattle.std.specs.Prelude.{List};
 ghost use Rattle.std.specs.FinMap as map;
+ghost use Rattle.imap_modseq.specs.Merge.{AreInOrder};
 ghost use Rattle.imap_modseq.specs.Numbers.{max_events};
 ghost use Rattle.imap_mailbox.specs.declared.message.Message.{Message};
 ghost use Rattle.imap_mailbox.specs.Counted.{StayCounted};
 ghost use Rattle.imap_mailbox.specs.Held.{lists, list_at, own_room};
+ghost use Rattle.imap_mailbox.specs.Own.{with_change};
 ghost use Rattle.imap_mailbox.specs.Rows.{is_among};
 ghost use Rattle.imap_mailbox.specs.Summary.{AreRising, uids_in};
 
@@ -18,15 +20,16 @@ use std::alloc::{AllocError, Global};
 pub(crate) fn mark_own(own: &mut UserMap<OwnSeen>, user: &str, change: SeenChange)
     requires room { 0 < own_room own.old user.now }
     requires before { change.before ≤ max_events }
-    requires few { length (list_at own.old user.now) ≤ max_events }
+    requires few { length (list_at own.old user.now).befores < max_events }
+    requires order { AreInOrder 0 change.before (list_at own.old user.now).befores }
     ensures lists { lists own.new
-        ≡ map.insert (lists own.old) user.now (list_at own.old user.now ++ change ∷ []) }
+        ≡ map.insert (lists own.old) user.now (with_change change (list_at own.old user.now)) }
     ensures room { own_room own.old user.now ≤ own_room own.new user.now + 1 }
     ensures counted { (messages : List Message) → AreRising (uids_in messages)
         → is_among change.uid (uids_in messages) ≡ true → StayCounted messages own.old own.new }
 {
     match own.get_mut(user) {
-        Some(list) => list.push_reserved(change),
+        Some(list) => list.push_next(change),
         None => {}
     }
 }

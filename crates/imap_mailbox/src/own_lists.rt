@@ -1,23 +1,24 @@
 //! The own changes of all users, from what a store keeps of them.
 
-ghost use Rattle.std.specs.Prelude.{◌≡◌, ◌↔◌, ◌≤◌, [], ◌∷◌, ◌++◌, IsPermutation, IsTrue};
+ghost use Rattle.std.specs.Prelude.{◌≡◌, ◌↔◌, ◌<◌, ◌≤◌, length, IsPermutation, IsTrue};
 ghost use Rattle.std.specs.FinMap as map;
 ghost use Rattle.std.specs.List.Sorted.{IsNonDecreasingBy};
+ghost use Rattle.imap_modseq.specs.Merge.{AreInOrder};
 ghost use Rattle.imap_modseq.specs.Numbers.{max_events};
-ghost use Rattle.imap_mailbox.specs.Held.{lists, list_at};
+ghost use Rattle.imap_mailbox.specs.Held.{lists, list_at, own_room};
+ghost use Rattle.imap_mailbox.specs.Own.{with_kept};
 ghost use Rattle.imap_mailbox.specs.Restored.{Appends, AppendsAll, FitAll, MayFollow, RestoresOwn};
-ghost use Rattle.imap_mailbox.specs.Restored.{last_before};
 ghost use Rattle.imap_mailbox.specs.Rows.{WasGiven};
-ghost use Rattle.imap_mailbox.specs.Summary.{Fits};
 
-use crate::marks::{mark_own, reserve_own};
-use crate::own::{OwnSeen, SeenChange};
+use crate::kept_change::KeptChange;
+use crate::marks::reserve_own;
+use crate::own::OwnSeen;
 use crate::parts::{PartsError, UserChange};
 use imap_modseq::MAX_EVENTS;
 use imap_user_map::UserMap;
 use std::alloc::Global;
 
-/// Each user's own changes, in their order. Fails with `Bad` if they are not those of a mailbox with this
+/// Each user's own changes, of which `changes` are kept. Fails with `Bad` if they are not those of a mailbox with this
 /// UIDNEXT and this number of shared events. Whether messages are there isn't looked at: the numbers of seen
 /// ones are to be counted once they are known.
 pub(crate) fn own_lists(
@@ -74,60 +75,54 @@ fn add_change(
     next: u32,
     shared: u64,
 ) -> Result<(), PartsError>
-    requires few { shared ≤ max_events }
-    requires fit { FitAll next shared (lists own.old) }
+    requires { shared ≤ max_events }
     ensures { Appends next shared change.now own.old own.new result }
 {
-    let user = change.user.as_str();
-    if !follows(changes_of(own, user), change, next, shared) {
+    if !may_follow(own, change, next, shared) {
         return Err(PartsError::Bad);
     }
+    let user = change.user.as_str();
     reserve_own(own, alloc, user, 1)?;
-    mark_own(own, user, change.change);
+    put_row(own, user, change.row());
     Ok(())
 }
 
-/// The changes of a user, who may have none.
-fn changes_of<'a>(own: &'a UserMap<OwnSeen>, user: &str) -> &'a [SeenChange]
-    ensures { result.now ≡ list_at own.now user.now }
+/// Puts a change at a place after all others of the user, in room that is there.
+fn put_row(own: &mut UserMap<OwnSeen>, user: &str, row: KeptChange)
+    requires room { 0 < own_room own.old user.now }
+    requires place { length (list_at own.old user.now).befores ≤ row.place }
+    requires few { row.place < max_events }
+    requires before { row.before ≤ max_events }
+    requires order { AreInOrder 0 row.before (list_at own.old user.now).befores }
+    ensures { lists own.new ≡ map.insert (lists own.old) user.now (with_kept row (list_at own.old user.now)) }
 {
-    match own.get(user) {
-        Some(list) => list.as_slice(),
-        None => &[],
+    match own.get_mut(user) {
+        Some(list) => list.push_reserved(row),
+        None => {}
     }
 }
 
-/// Whether the change may be the next after `own`.
-fn follows(own: &[SeenChange], change: &UserChange, next: u32, shared: u64) -> bool
-    requires { Fits shared next own.now }
-    ensures { IsTrue result ↔ MayFollow next shared own.now change.now }
+/// Whether the change may be the next that is kept of its user.
+fn may_follow(own: &UserMap<OwnSeen>, change: &UserChange, next: u32, shared: u64) -> bool
+    ensures { IsTrue result ↔ MayFollow next shared (list_at own.now change.now.user) change.now }
 {
-    let len = own.len() as u64;
-    len == change.place && len < MAX_EVENTS && fits(own, &change.change, next, shared)
+    match own.get(change.user.as_str()) {
+        Some(list) => {
+            list.may_follow(change.change.before) && is_next(change, list.len(), next, shared)
+        }
+        None => is_next(change, 0, next, shared),
+    }
 }
 
-/// Whether the change still fits the mailbox after `own`.
-fn fits(own: &[SeenChange], change: &SeenChange, next: u32, shared: u64) -> bool
-    requires { Fits shared next own.now }
-    ensures { IsTrue result ↔ Fits shared next (own.now ++ change.now ∷ []) }
+/// Whether the change may be the next after `len` others, whatever is before them.
+fn is_next(change: &UserChange, len: u64, next: u32, shared: u64) -> bool
+    ensures { IsTrue result ↔ ((len ≤ change.now.place) × (change.now.place < max_events)
+        × (change.now.change.before ≤ shared) × WasGiven next change.now.change.uid) }
 {
-    if change.before < last_before(own) {
-        return false;
-    }
-    if shared < change.before {
-        return false;
-    }
-    was_given(change.uid, next)
-}
-
-/// How many shared events come before the last change, and 0 if there is none.
-fn last_before(own: &[SeenChange]) -> u64
-    ensures { result ≡ last_before 0 own.now }
-{
-    match own.last() {
-        Some(last) => last.before,
-        None => 0,
-    }
+    len <= change.place
+        && change.place < MAX_EVENTS
+        && change.change.before <= shared
+        && was_given(change.change.uid, next)
 }
 
 /// Whether a message got the UID.

@@ -2,14 +2,17 @@
 
 ghost use Rattle.std.specs.Prelude.{◌≡◌};
 ghost use Rattle.std.specs.String.{string_bytes};
+ghost use Rattle.imap_mailbox.specs.UserChange.{row_of};
 
+use crate::kept_change::KeptChange;
 use crate::message::{GoneMessage, Message};
 use crate::own::SeenChange;
 use std::alloc::{AllocError, Global};
 use std::marker::Model;
 use thiserror::Error;
 
-/// An own change of a user, as a store keeps it: with its place among those of the user, from 0.
+/// An own change of a user, as a store keeps it: with its place among those of the user, from 0. Not all places have a
+/// change that is kept.
 #[derive(Drop)]
 pub struct UserChange {
     pub(crate) user: String,
@@ -39,7 +42,7 @@ pub struct MailboxParts {
     pub messages: Vec<Message>,
     /// The messages that were expunged.
     pub gone: Vec<GoneMessage>,
-    /// All users' changes of their own `\Seen`.
+    /// All users' changes of their own `\Seen` that are kept.
     pub own: Vec<UserChange>,
 }
 
@@ -73,6 +76,18 @@ impl UserChange {
             user,
             place,
             change,
+        }
+    }
+
+    /// The change with its place.
+    pub(crate) fn row(&self) -> KeptChange
+        ensures { result ≡ row_of self.now }
+    {
+        KeptChange {
+            place: self.place,
+            before: self.change.before,
+            uid: self.change.uid,
+            seen: self.change.seen,
         }
     }
 }

@@ -1,9 +1,9 @@
-//! The last shared events.
+//! The last events of a list: the shared ones, or the own changes of a user.
 
-ghost use Rattle.std.specs.Prelude.{◌≡◌, ◌+◌, ◌-◌, ◌<◌, ◌≤◌, ◌⊎◌, ◌∷◌, ◌++◌, [], drop, length, IfOk};
+ghost use Rattle.std.specs.Prelude.{◌≡◌, ℕ, ◌+◌, ◌-◌, ◌<◌, ◌≤◌, ◌⊎◌, ◌∷◌, ◌++◌, [], drop, length, IfOk};
 ghost use Rattle.std.specs.Prelude.{MatchOption};
 ghost use Rattle.imap_mailbox.specs.declared.message.Message.{Message};
-ghost use Rattle.imap_mailbox.specs.Recent.{IsNoted, IsRecent, end_of};
+ghost use Rattle.imap_mailbox.specs.Recent.{IsNoted, IsNotedAt, IsRecent, end_of};
 ghost use Rattle.imap_modseq.specs.Numbers.{max_events};
 
 use crate::copies::copy_items;
@@ -14,7 +14,7 @@ use std::marker::Model;
 /// The greatest number of events that are noted.
 const MAX_NOTED: usize = 64;
 
-/// The UIDs of the last shared events, in their order. To note one takes no memory: where there is no room,
+/// The UIDs of the last events, in their order. To note one takes no memory: where there is no room,
 /// the older half is forgotten.
 #[derive(Drop)]
 pub struct RecentEvents {
@@ -67,6 +67,30 @@ impl RecentEvents {
     {
         self.forget_if_full();
         self.push_or_forget(uid);
+    }
+
+    /// Notes the event at `place`. If it isn't the next, all before it are forgotten, and it too.
+    pub(crate) fn note_at(&mut self, place: u64, uid: u32)
+        requires after { end_of self.old ≤ place }
+        requires few { place < max_events }
+        ensures ends { end_of self.new ≡ place + 1 }
+        ensures kept { (p u : ℕ) → IsNotedAt self.old p u → IsNotedAt self.new p u }
+        ensures noted { IsNotedAt self.new place uid }
+    {
+        if place == self.end() {
+            self.note(uid);
+        } else {
+            self.first = place + 1;
+            self.uids.clear();
+        }
+    }
+
+    /// The place of the next event.
+    fn end(&self) -> u64
+        requires { end_of self.now ≤ max_events }
+        ensures { result ≡ end_of self.now }
+    {
+        self.first + self.uids.len() as u64
     }
 
     /// Notes an event of each of these messages.

@@ -1,9 +1,8 @@
 //! A message as a user has it.
 
-ghost use Rattle.std.specs.Prelude.{◌≡◌, ◌≤◌, [], length, map, nat_lt};
-ghost use Rattle.imap_modseq.specs.Merge.{befores, AreInOrder};
+ghost use Rattle.std.specs.Prelude.{◌≡◌, ◌≤◌, nat_lt};
 ghost use Rattle.imap_modseq.specs.Numbers.{max_events};
-ghost use Rattle.imap_mailbox.specs.History.{own_entry};
+ghost use Rattle.imap_mailbox.specs.Own.{no_own};
 ghost use Rattle.imap_mailbox.specs.Summary.{row_in};
 ghost use Rattle.imap_mailbox.specs.Lent.{row_shown};
 
@@ -30,7 +29,7 @@ pub struct Row<'a> {
 #[inline(always)]
 pub(crate) fn plain_row<'a>(message: &'a Message) -> Row<'a>
     requires { message.now.place ≤ max_events }
-    ensures { row_shown result ≡ row_in [] message.now }
+    ensures { row_shown result ≡ row_in no_own message.now }
 {
     Row {
         uid: message.uid,
@@ -44,13 +43,11 @@ pub(crate) fn plain_row<'a>(message: &'a Message) -> Row<'a>
 
 /// The message for a user with own changes.
 pub(crate) fn own_row<'a>(message: &'a Message, own: &OwnSeen) -> Row<'a>
-    requires place { message.now.place ≤ max_events }
-    requires order { AreInOrder 0 max_events (befores (map own_entry own.now.list)) }
-    requires few { length own.now.list ≤ max_events }
-    ensures { row_shown result ≡ row_in own.now.list message.now }
+    requires { message.now.place ≤ max_events }
+    ensures { row_shown result ≡ row_in own.now.own message.now }
 {
     let (latest, seen) = own.latest(message.uid).unwrap_or((0, false));
-    let shared = number_after(message.place, own.count_before(message.place) as u64);
+    let shared = number_after(message.place, own.count_before(message.place));
     Row {
         uid: message.uid,
         date: message.date,
@@ -82,16 +79,14 @@ impl Near {
 /// The message for a user with own changes, found from where the last one was.
 #[inline(always)]
 pub(crate) fn own_row_near<'a>(message: &'a Message, own: &OwnSeen, near: &mut Near) -> Row<'a>
-    requires place { message.now.place ≤ max_events }
-    requires order { AreInOrder 0 max_events (befores (map own_entry own.now.list)) }
-    requires few { length own.now.list ≤ max_events }
-    ensures { row_shown result ≡ row_in own.now.list message.now }
+    requires { message.now.place ≤ max_events }
+    ensures { row_shown result ≡ row_in own.now.own message.now }
 {
     let (latest, seen) = own
         .latest_near(message.uid, &mut near.latest)
         .unwrap_or((0, false));
     let before = own.count_before_near(message.place, &mut near.changes);
-    let shared = number_after(message.place, before as u64);
+    let shared = number_after(message.place, before);
     Row {
         uid: message.uid,
         date: message.date,
@@ -105,12 +100,10 @@ pub(crate) fn own_row_near<'a>(message: &'a Message, own: &OwnSeen, near: &mut N
 /// Whether the mod-sequence of the message is above `number`. Its own changes are looked up only if the last
 /// own change of the user, or the last shared event of the message, may be above `number`.
 pub(crate) fn own_is_above(message: &Message, own: &OwnSeen, number: u64) -> bool
-    requires place { message.now.place ≤ max_events }
-    requires order { AreInOrder 0 max_events (befores (map own_entry own.now.list)) }
-    requires few { length own.now.list ≤ max_events }
-    ensures { result ≡ nat_lt number (row_in own.now.list message.now).number }
+    requires { message.now.place ≤ max_events }
+    ensures { result ≡ nat_lt number (row_in own.now.own message.now).number }
 {
-    if own.last_number() <= number && number_after(message.place, own.len() as u64) <= number {
+    if own.last_number() <= number && number_after(message.place, own.len()) <= number {
         return false;
     }
     number < own_row(message, own).number

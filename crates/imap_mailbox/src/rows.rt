@@ -9,7 +9,7 @@ ghost use Rattle.imap_mailbox.specs.Status.{deleted_in, unseen_in, size_in, max_
 
 use crate::above::{first_own_above, first_plain_above};
 use crate::flags::SharedFlags;
-use crate::last_events::{first_of_changes, first_of_uids, last_own_uids, last_uids};
+use crate::last_events::{first_of_uids, last_own_uids, last_uids};
 use crate::late::last_changes;
 use crate::message::{Message, count_lower, find_message};
 use crate::own::OwnSeen;
@@ -47,7 +47,7 @@ impl<'a> Model for Rows<'a> {
 
     ghost view = { λ r. map (row_in (own_lent r.own)) r.messages.now.items };
 
-    ghost invariant = { λ r. IsLent r.messages.now.items (own_lent r.own)
+    ghost invariant = { λ r. IsLent r.messages.now.items
         × IsCounted r.messages.now.items (option_copied r.own)
         × AreRecent r.recent.now r.messages.now.items × AreTotals r.messages.now.items r.totals };
 }
@@ -152,10 +152,10 @@ impl<'a> Rows<'a> {
     {
         match self.own {
             Some(own) => {
-                let changes = last_changes(own.as_slice(), number)?;
+                let changes = last_changes(own, number)?;
                 let uids = last_own_uids(self.recent, own, number)?;
                 let first = first_of_uids(self, uids, start, end, number);
-                Some(first_of_changes(self, changes, start, first, number))
+                Some(first_of_uids(self, changes, start, first, number))
             }
             None => {
                 let uids = last_uids(self.recent, number)?;

@@ -3,11 +3,11 @@
 ghost use Rattle.std.specs.Prelude.{◌≡◌, ◌↔◌, IsTrue, Option, Some, option_and_then};
 ghost use Rattle.imap_mailbox.specs.Owned.{if_any};
 
+use crate::kept_change::KeptChange;
 use crate::message::{GoneMessage, Message};
-use crate::own::{OwnSeen, SeenChange};
-use imap_syntax::are_same;
+use crate::own::OwnSeen;
 use imap_user_map::Part;
-use imap_values::{Same, same_five, same_three, same_two};
+use imap_values::{Same, same_five, same_four, same_two};
 
 impl Same for Message {
     fn is_same(&self, other: &Message) -> bool {
@@ -32,9 +32,11 @@ impl Same for GoneMessage {
     }
 }
 
-impl Same for SeenChange {
-    fn is_same(&self, other: &SeenChange) -> bool {
-        same_three(
+impl Same for KeptChange {
+    fn is_same(&self, other: &KeptChange) -> bool {
+        same_four(
+            &self.place,
+            &other.place,
             &self.before,
             &other.before,
             &self.uid,
@@ -46,19 +48,18 @@ impl Same for SeenChange {
 }
 
 impl Part for OwnSeen {
-    ghost use Rattle.std.specs.Prelude.{List};
+    ghost use Rattle.imap_mailbox.specs.Own.{Own};
     ghost use Rattle.imap_mailbox.specs.Owned.{if_any};
-    ghost use Rattle.imap_mailbox.specs.declared.own.SeenChange.{SeenChange};
 
-    ghost Kept = { List SeenChange };
+    ghost Kept = { Own };
 
-    ghost kept = { λ o. if_any o.list };
+    ghost kept = { λ o. if_any o.own };
 
-    // An empty list only holds room.
+    // No changes only hold room.
     fn is_same_part(&self, other: Option<&OwnSeen>) -> bool {
         match other {
-            Some(other) => are_same(self.as_slice(), other.as_slice()),
-            None => self.len() == 0,
+            Some(other) => self.has_same(other),
+            None => self.is_empty(),
         }
     }
 }

@@ -8,10 +8,10 @@ use Rattle.imap_answer.specs.Fit.{is_refusal}
 use Rattle.imap_commands.specs.declared.commands.select.QresyncArg.{QresyncArg}
 use Rattle.imap_commands.specs.declared.commands.select.SelectParameters.{SelectParameters}
 use Rattle.imap_mailbox.specs.declared.message.GoneMessage.{GoneMessage}
-use Rattle.imap_mailbox.specs.declared.own.SeenChange.{SeenChange}
 use Rattle.imap_mailbox.specs.Brought.{highest_in}
 use Rattle.imap_mailbox.specs.Client.{Known, changed_since, fetch, fetch_all, known_of, vanish, vanish_all, vanished_since}
-use Rattle.imap_mailbox.specs.History.{History, IsLawful, events_of, own_at}
+use Rattle.imap_mailbox.specs.History.{History, IsLawful, events_of}
+use Rattle.imap_mailbox.specs.Own.{Own, own_at}
 use Rattle.imap_mailbox.specs.Order.{uids_gone}
 use Rattle.imap_mailbox.specs.Rows.{Row, is_among, rows_after}
 use Rattle.imap_mailbox.specs.Shown.{Content, content_of}
@@ -103,7 +103,7 @@ same_vanish us vs h client =
 
 -- ---- the lines of QRESYNC
 
-uids_shown : (own : List SeenChange) (gone : List GoneMessage) → uids_gone (map (gone_in own) gone) ≡ gone_uids gone
+uids_shown : (own : Own) (gone : List GoneMessage) → uids_gone (map (gone_in own) gone) ≡ gone_uids gone
 uids_shown own [] = refl
 uids_shown own (g ∷ gone) = ap (λ us. g.uid ∷ us) (uids_shown own gone)
 

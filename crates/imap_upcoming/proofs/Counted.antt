@@ -9,7 +9,8 @@ use Rattle.imap_mailbox.proofs.BroughtUp.{shown_is_ordered}
 use Rattle.imap_mailbox.proofs.Lending.{uids_lent}
 use Rattle.imap_mailbox.specs.declared.flags.SharedFlags.{SharedFlags}
 use Rattle.imap_mailbox.specs.Held.{IsKept}
-use Rattle.imap_mailbox.specs.History.{own_at}
+use Rattle.imap_mailbox.specs.declared.own.SeenChange.{SeenChange}
+use Rattle.imap_mailbox.specs.Own.{Own, own_at, with_change, with_changes}
 use Rattle.imap_mailbox.specs.Lent.{row_uids}
 use Rattle.imap_mailbox.specs.Rows.{Row, first_uid, is_among}
 use Rattle.imap_mailbox.specs.Summary.{Rises, Summary, row_in, rows_of, uids_in}
@@ -17,12 +18,12 @@ use Rattle.imap_batch.proofs.Entering.{writes_are_entered}
 use Rattle.imap_batch.proofs.Known.{known_drop}
 use Rattle.imap_batch.proofs.Planning.{planned_of}
 use Rattle.imap_batch.proofs.Steps.{among_given, known_rise}
-use Rattle.imap_batch.specs.Batch.{added_seen_count, are_known, has_messages, mark_seen_count, mark_uids, one_if}
+use Rattle.imap_batch.specs.Batch.{added_seen_count, are_known, has_messages, mark_seen_count, mark_uids, one_if, own_added, own_change, own_marked}
 use Rattle.imap_batch.specs.declared.batch.Batch.{Batch}
 use Rattle.imap_batch.specs.declared.batch.FlagUpdate.{FlagUpdate}
 use Rattle.imap_batch.specs.declared.batch.NewMessage.{NewMessage}
 use Rattle.imap_batch.specs.declared.write.BatchWrite.{BatchWrite}
-use Rattle.imap_batch.specs.Entered.{own_added, own_change, own_marked, own_changes}
+use Rattle.imap_batch.specs.Entered.{own_changes}
 use Rattle.imap_batch.specs.Planned.{own_after, own_after_all, row_marked, row_with_flags, row_with_seen, rows_added, rows_left, rows_marked, seen_added}
 use Rattle.imap_batch.specs.Written.{MayWrite, with_batch}
 
@@ -46,18 +47,22 @@ marked_own place (k ∷ marks) = by k.seen (marked_own (place + one_if (is_some 
     by None rest = omega (arith, rest)
     by (Some seen) rest = omega (arith, rest)
 
+length-changes : (changes : List SeenChange) (own : Own) → length (with_changes changes own).befores ≡ length own.befores + length changes
+length-changes [] own = omega arith
+length-changes (s ∷ changes) own = omega (arith, length-changes changes (with_change s own), length-append own.befores (s.before ∷ []))
+
 module _ (w : BatchWrite) (s : Summary) (may : MayWrite w s) where
-  pub own_counted : length (own_at s.own w.batch.user) ≤ max_events
-      → length (own_at (with_batch w.batch s).own w.batch.user) ≡ min (length (own_at s.own w.batch.user) + (added_seen_count w.batch.added + mark_seen_count w.batch.marks)) max_events
+  pub own_counted : length (own_at s.own w.batch.user).befores ≤ max_events
+      → length (own_at (with_batch w.batch s).own w.batch.user).befores ≡ min (length (own_at s.own w.batch.user).befores + (added_seen_count w.batch.added + mark_seen_count w.batch.marks)) max_events
   own_counted few =
       let before = own_at s.own w.batch.user in
       let added = own_added w.first_uid w.first_place w.batch.added in
       let marked = own_marked (w.first_place + length w.batch.added) w.batch.marks in
-      let is = ap length (writes_are_entered s w may).own in
-      let joined = length-append before (own_changes w) in
+      let is = ap (λ (o : Own). length o.befores) (writes_are_entered s w may).own in
+      let joined = length-changes (own_changes w) before in
       let taken = length-take (max_events - w.own_before) (added ++ marked) in
       let both = length-append added marked in
-      let start : w.own_before ≡ length before = ap (λ (x : BatchWrite). x.own_before) may.current in
+      let start : w.own_before ≡ length before.befores = ap (λ (x : BatchWrite). x.own_before) may.current in
       omega (arith, few, is, joined, taken, both, start, added_own w.first_uid w.first_place w.batch.added, marked_own (w.first_place + length w.batch.added) w.batch.marks)
 
 -- ---- rows
@@ -149,9 +154,9 @@ pub len_counted : (b : Batch) (s : Summary) → has_messages b s ≡ true → Is
 len_counted b s messages kept =
     let known = and_parts (are_known 0 (mark_uids b.marks) (uids_in s.messages)) (are_known 0 b.expunged (uids_in s.messages)) messages in
     let rows = rows_of s b.user in
-    let marked = rows_marked (s.shared + length b.added) (own_after_all (length (own_at s.own b.user)) b.added) b.marks rows in
-    let new = rows_added s.next s.shared (length (own_at s.own b.user)) b.added in
-    let uids : row_uids marked ≡ row_uids rows = marked_uids (s.shared + length b.added) (own_after_all (length (own_at s.own b.user)) b.added) b.marks rows in
+    let marked = rows_marked (s.shared + length b.added) (own_after_all (length (own_at s.own b.user).befores) b.added) b.marks rows in
+    let new = rows_added s.next s.shared (length (own_at s.own b.user).befores) b.added in
+    let uids : row_uids marked ≡ row_uids rows = marked_uids (s.shared + length b.added) (own_after_all (length (own_at s.own b.user).befores) b.added) b.marks rows in
     let left = left_counted 0 first_uid s.next b.expunged marked
     (subst (Rises first_uid s.next) (sym uids) (shown_is_ordered s b.user kept).uids)
     (ap (are_known 0 b.expunged) (uids ∙ sym (uids_lent (own_at s.own b.user) s.messages)) ∙ known.1) in
@@ -160,4 +165,4 @@ len_counted b s messages kept =
     let after = length-map (with_batch b s).messages (row_in (own_at (with_batch b s).own b.user)) in
     let before = length-map s.messages (row_in (own_at s.own b.user)) in
     let same = ap length uids in
-    omega (arith, left, planned, joined, after, before, same, length-map marked (λ (r : Row). r.uid), length-map rows (λ (r : Row). r.uid), new_rows s.next s.shared (length (own_at s.own b.user)) b.added)
+    omega (arith, left, planned, joined, after, before, same, length-map marked (λ (r : Row). r.uid), length-map rows (λ (r : Row). r.uid), new_rows s.next s.shared (length (own_at s.own b.user).befores) b.added)

@@ -1,6 +1,6 @@
 -- What a user may read of a mailbox (RFC 4314, section 2.1, of the right `r`).
 use Rattle.std.specs.Prelude.{ℕ, List, length, Option, Some, None, if◌then◌else◌}
-use Rattle.imap_mailbox.specs.History.{own_at}
+use Rattle.imap_mailbox.specs.Own.{own_at}
 use Rattle.imap_mailbox.specs.Summary.{Summary, highest_of, rows_of}
 use Rattle.imap_rights.specs.Effective.{effective}
 use Rattle.imap_rights.specs.Groups.{Members}
@@ -15,7 +15,7 @@ messages_for user validity s = record {
   validity = validity;
   next_uid = s.next;
   highest = highest_of s user;
-  own = length (own_at s.own user);
+  own = length (own_at s.own user).befores;
   rows = rows_of s user;
 }
 

@@ -3,7 +3,7 @@
 ghost use Rattle.std.specs.Prelude.{◌≡◌, ◌≤◌, ◌+◌, length, min};
 ghost use Rattle.imap_batch.specs.Written.{with_batch, MayWrite};
 ghost use Rattle.imap_mailbox.specs.Held.{summary_in};
-ghost use Rattle.imap_mailbox.specs.History.{own_at};
+ghost use Rattle.imap_mailbox.specs.Own.{own_at};
 ghost use Rattle.imap_modseq.specs.Numbers.{max_events};
 
 use imap_batch::{BatchWrite, added_seen_count, flag_count, mark_seen_count};
@@ -44,11 +44,11 @@ pub(crate) fn shared_after(mailbox: &Mailbox, write: &BatchWrite) -> u64
     shared + added + flags + expunged
 }
 
-/// The number of own changes of the batch's user.
+/// The number of own changes of the batch's user, kept or not.
 pub(crate) fn own_after(mailbox: &Mailbox, write: &BatchWrite) -> u64
     requires { MayWrite write.now (summary_in mailbox.now) }
     ensures own { let batch = write.now.batch in
-        result ≡ length (own_at (with_batch batch (summary_in mailbox.now)).own batch.user) }
+        result ≡ length (own_at (with_batch batch (summary_in mailbox.now)).own batch.user).befores }
     ensures few { result ≤ max_events }
 {
     let own = mailbox.own_len(write.batch.user.as_str());

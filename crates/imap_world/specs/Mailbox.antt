@@ -5,11 +5,10 @@ use Rattle.std.specs.Coded.{Coded, coded_ℕ, coded_list, coded×, code_by}
 use Rattle.std.specs.FinMap as map
 use Rattle.imap_batch.specs.GoneMessageType.{the_row as gone_row}
 use Rattle.imap_batch.specs.MessageType.{the_row as message_row}
-use Rattle.imap_batch.specs.SeenChangeType.{the_row as change_row}
 use Rattle.imap_batch.specs.GoneMessage.{GoneMessage}
 use Rattle.imap_batch.specs.Message.{Message}
-use Rattle.imap_batch.specs.SeenChange.{SeenChange}
 use Rattle.imap_batch.specs.Held.{summary_in}
+use Rattle.imap_batch.specs.Own.{Own, own_code}
 use Rattle.imap_batch.specs.Summary.{Summary, new_summary}
 use Rattle.imap_names.specs.Name.{Name}
 use Rattle.imap_names.specs.Order.{Names}
@@ -26,9 +25,9 @@ pub record Mailbox : Type 0 where
 
 abbrev pub summary_code : Coded Summary
 summary_code =
-    code_by (List Message × (List GoneMessage × (ℕ × (ℕ × Users (List SeenChange)))))
+    code_by (List Message × (List GoneMessage × (ℕ × (ℕ × Users Own))))
     (coded× (coded_list message_row.coded) (coded× (coded_list gone_row.coded)
-    (coded× coded_ℕ (coded× coded_ℕ (users_code (coded_list change_row.coded))))))
+    (coded× coded_ℕ (coded× coded_ℕ (users_code own_code)))))
     (λ s. (s.messages, (s.gone, (s.next, (s.shared, s.own)))))
     (λ t. record {
       messages = t.0;

@@ -19,5 +19,5 @@ pub loop-place-preserved : goal.loop-place-preserved
 loop-place-preserved c =
     let lt : c.loop-place.place < length c.args.messages.now = omega (arith, c.loop-place-test.true, c.requires.within) in
     let m = c.index-messages-place.result in
-    passed_more c.args.number c.args.start c.loop-place.place c.args.own.now.list c.args.messages.now m c.loop-place.invariant lt c.index-messages-place.is
-    (ltb-false c.args.number (row_in c.args.own.now.list m).number (sym c.is_own_above.ensures ∙ c.if-is_own_above.false))
+    passed_more c.args.number c.args.start c.loop-place.place c.args.own.now.own c.args.messages.now m c.loop-place.invariant lt c.index-messages-place.is
+    (ltb-false c.args.number (row_in c.args.own.now.own m).number (sym c.is_own_above.ensures ∙ c.if-is_own_above.false))

@@ -1,6 +1,7 @@
-use Rattle.std.proofs.Common.{◌≡◌, ◌+◌, ◌<◌, [], length, get_or, ap, arith}
+use Rattle.std.proofs.Common.{◌≡◌, ◌+◌, ◌<◌, length, get_or, ap, arith}
 use Rattle.imap_modseq.specs.Numbers.{max_events}
 use Rattle.imap_mailbox.specs.declared.message.Message.{Message}
+use Rattle.imap_mailbox.specs.Own.{no_own}
 use Rattle.imap_mailbox.specs.Rows.{Row}
 use Rattle.imap_mailbox.specs.Summary.{row_in}
 use Rattle.imap_mailbox.proofs.FirstAbove.{passed_more}
@@ -19,6 +20,6 @@ pub loop-place-preserved : goal.loop-place-preserved
 loop-place-preserved c =
     let lt : c.loop-place.place < length c.args.messages.now = omega (arith, c.loop-place-test.true, c.requires.within) in
     let m = c.index-messages-place.result in
-    let shown : c.plain_row.result.number ≡ (row_in [] m).number = ap (λ (r : Row). r.number) c.plain_row.ensures in
-    passed_more c.args.number c.args.start c.loop-place.place [] c.args.messages.now m c.loop-place.invariant lt c.index-messages-place.is
+    let shown : c.plain_row.result.number ≡ (row_in no_own m).number = ap (λ (r : Row). r.number) c.plain_row.ensures in
+    passed_more c.args.number c.args.start c.loop-place.place no_own c.args.messages.now m c.loop-place.invariant lt c.index-messages-place.is
     (omega (arith, shown, c.if-number-plain_row.false))

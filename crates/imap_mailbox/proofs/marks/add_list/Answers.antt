@@ -10,7 +10,7 @@ use Rattle.imap_mailbox.proofs.marks.add_list.Goals as goal
 
 pub returns-clause-lists : goal.returns-clause-lists
 returns-clause-lists c =
-    list_added c.args.own.now c.insert_reserved.new.self.map c.args.user.now c.new.result c.requires c.new.ensures.list
+    list_added c.args.own.now c.insert_reserved.new.self.map c.args.user.now c.new.result c.requires c.new.ensures.own
     (c.insert_reserved.ensures.map ∙ ap (λ (m : Users Owned). fin.insert m (string_bytes c.in_ok-key.key) c.new.result) c.in_ok-reserve.ensures.map ∙ ap (λ k. fin.insert c.args.own.now.map k c.new.result) c.in_ok-key.ensures.ok)
 
 pub returns-clause-ok : goal.returns-clause-ok
@@ -22,4 +22,4 @@ pub returns-clause-counted : goal.returns-clause-counted
 returns-clause-counted c messages counted =
     put_counted messages c.args.own.now.map c.insert_reserved.new.self.map c.args.user.now c.new.result
     (c.insert_reserved.ensures.map ∙ ap (λ (m : Users Owned). fin.insert m (string_bytes c.in_ok-key.key) c.new.result) c.in_ok-reserve.ensures.map ∙ ap (λ k. fin.insert c.args.own.now.map k c.new.result) c.in_ok-key.ensures.ok)
-    (none_counted messages c.new.result c.new.ensures.list c.new.ensures.seen) counted
+    (none_counted messages c.new.result c.new.ensures.own c.new.ensures.seen) counted

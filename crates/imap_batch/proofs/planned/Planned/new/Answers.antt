@@ -3,7 +3,7 @@ use Rattle.std.specs.Prelude.{nat_le}
 use Rattle.std.proofs.lemmas.Bool.{and_parts}
 use Rattle.imap_modseq.specs.Numbers.{max_events}
 use Rattle.imap_mailbox.specs.Held.{summary_in}
-use Rattle.imap_mailbox.specs.History.{own_at}
+use Rattle.imap_mailbox.specs.Own.{own_at}
 use Rattle.imap_mailbox.specs.Order.{AreRowsInOrder}
 use Rattle.imap_mailbox.specs.Summary.{AreRising, rows_of, uids_in}
 use Rattle.imap_batch.specs.Batch.{are_known, event_count, has_uids, mark_uids}
@@ -44,7 +44,7 @@ returns c =
     let b = c.args.write.now.batch in
     let s = summary_in c.args.mailbox.now in
     let user = c.as_str-user.ensures.text in
-    let own = c.own_len-own.ensures.events ∙ ap (λ u. length (own_at s.own u)) user in
+    let own = c.own_len-own.ensures.events ∙ ap (λ u. length (own_at s.own u).befores) user in
     let after = c.own_after_all.ensures.own ∙ λ i. own_after_all (own i) (c.as_slice-added.ensures i) in
     let rows = c.rows-rows.ensures.rows ∙ ap (rows_of s) user in
     ap (λ rows. rows ++ rows_added c.next_uid-uid.result c.shared_len-shared.result c.own_len-own.result c.as_slice-added.result.now) c.first_left-place.ensures.rows

@@ -7,8 +7,8 @@ use Rattle.imap_mailbox.specs.Lent.{own_lent}
 use Rattle.imap_mailbox.proofs.Lending.{gone_place}
 use Rattle.imap_mailbox.proofs.gone.GoneUids.get.Goals as goal
 
-pub own_gone-requires-clause-place : goal.own_gone-requires-clause-place
-own_gone-requires-clause-place c =
+pub own_gone-requires : goal.own_gone-requires
+own_gone-requires c =
     let count = ap length (sym c.self.view_is) ∙ length-drop c.self.inside.first (map (gone_in (own_lent c.self.inside.own)) c.self.inside.gone.now.items) in
     let whole = length-map c.self.inside.gone.now.items (gone_in (own_lent c.self.inside.own)) in
     let asked = c.requires in

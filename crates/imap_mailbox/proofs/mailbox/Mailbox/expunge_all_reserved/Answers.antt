@@ -1,6 +1,6 @@
 use Rattle.std.proofs.Common.{◌≡◌, ◌≤◌, ◌+◌, ◌∙◌, List, length, drop, sym, ap, subst, arith}
 use Rattle.imap_modseq.specs.Numbers.{max_events}
-use Rattle.imap_mailbox.specs.declared.own.SeenChange.{SeenChange}
+use Rattle.imap_mailbox.specs.Own.{Own}
 use Rattle.imap_mailbox.specs.Summary.{Summary, gone_uids}
 use Rattle.imap_mailbox.specs.Expunging.{with_expunges, without_all}
 use Rattle.imap_mailbox.specs.Held.{Held, summary_in, summary_with, IsKept}
@@ -24,7 +24,7 @@ invariant_of-self c =
       subst IsKept (made_by c.requires.rising.0 c.requires.rising.1 c.args.uids.now s c.deref.result.now _ _ _ _ c.requires.rising.2 c.deref.ensures.value c.remove_messages.ensures.items c.push_gone-next.ensures.items c.push_gone-next.ensures.next c.forget_gone.ensures.lists)
           (kept_expunges c.args.uids.now s few c.self.invariant.0),
       gone_counted c.self.inside.own c.forget_gone.new.own (gone_uids c.split_at.result.1.now) c.forget_gone.ensures.counts c.self.inside.messages.items c.remove_messages.new.messages.items
-          (λ (list : List SeenChange). seen_fewer list c.requires.rising.0 c.requires.rising.1 c.args.uids.now 1 c.self.inside.next c.self.inside.shared c.self.inside.messages.items c.deref.result.now
+          (λ (list : Own). seen_fewer list c.requires.rising.0 c.requires.rising.1 c.args.uids.now 1 c.self.inside.next c.self.inside.shared c.self.inside.messages.items c.deref.result.now
           c.remove_messages.new.messages.items c.self.inside.gone.items c.push_gone-next.new.gone.items c.split_at.result.1.now c.requires.rising.2 c.self.invariant.0.sound.uids c.deref.ensures.value
           c.remove_messages.ensures.items c.push_gone-next.ensures.items (c.split_at.ensures.back ∙ λ i. drop (first i) (c.deref-2.ensures.value i)))
           c.self.invariant.1,

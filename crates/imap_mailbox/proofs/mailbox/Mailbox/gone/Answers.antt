@@ -1,5 +1,5 @@
 use Rattle.std.proofs.Common.{◌∙◌, ℕ, List, map, ap, sym, subst}
-use Rattle.imap_mailbox.specs.declared.own.SeenChange.{SeenChange}
+use Rattle.imap_mailbox.specs.Own.{Own}
 use Rattle.imap_mailbox.specs.Summary.{gone_in, gone_of, highest_of}
 use Rattle.imap_mailbox.specs.Order.{AreGoneInOrder}
 use Rattle.imap_mailbox.specs.Held.{Held, summary_with, summary_in}
@@ -8,11 +8,11 @@ use Rattle.imap_mailbox.proofs.Bounds.{gone_in_order}
 use Rattle.imap_mailbox.proofs.mailbox.Mailbox.gone.Goals as goal
 
 pub invariant_of-result : goal.invariant_of-result
-invariant_of-result c = gone_lent (summary_with c.self.inside.messages.items c.self.inside.gone.items c.self.inside.next c.self.inside.shared c.self.inside.own) c.args.user.now _ c.self.invariant.0 (own_is c.self.inside.own c.args.user.now c.get.result c.get.ensures)
+invariant_of-result c = gone_lent (summary_with c.self.inside.messages.items c.self.inside.gone.items c.self.inside.next c.self.inside.shared c.self.inside.own) c.self.invariant.0
 
 pub returns-clause-gone : goal.returns-clause-gone
 returns-clause-gone c =
-    ap (λ (l : List SeenChange). map (gone_in l) c.self.inside.gone.items) (sym (own_is c.self.inside.own c.args.user.now c.get.result c.get.ensures))
+    ap (λ (l : Own). map (gone_in l) c.self.inside.gone.items) (sym (own_is c.self.inside.own c.args.user.now c.get.result c.get.ensures))
     ∙ ap (λ (h : Held). gone_of (summary_in h) c.args.user.now) c.self.view_is
 
 pub returns-clause-valid : goal.returns-clause-valid

@@ -2,7 +2,7 @@ use Rattle.std.proofs.Common.{◌≡◌, true, ◌<◌, ◌+◌, ◌∙◌, List
 use Rattle.imap_modseq.specs.Numbers.{max_events}
 use Rattle.imap_mailbox.specs.Rows.{Expunged}
 use Rattle.imap_mailbox.specs.declared.message.Message.{Message}
-use Rattle.imap_mailbox.specs.declared.own.SeenChange.{SeenChange}
+use Rattle.imap_mailbox.specs.Own.{Own}
 use Rattle.imap_mailbox.specs.Counted.{seen_among}
 use Rattle.imap_mailbox.specs.Summary.{is_there, uids_in}
 use Rattle.imap_mailbox.specs.Held.{Held, summary_in, summary_with, IsKept}
@@ -22,7 +22,7 @@ invariant_of-self c =
     let there : is_there c.args.uid (summary_with c.self.inside.messages.items c.self.inside.gone.items c.self.inside.next c.self.inside.shared c.self.inside.own) ≡ true =
     subst (λ (h : Held). is_there c.args.uid (summary_in h) ≡ true) (sym c.self.view_is) c.requires.there in
     let messages = c.self.inside.messages.items in
-    let fewer = λ (list : List SeenChange). ap (λ (ms : List Message). seen_among list (uids_in ms)) c.remove_message.ensures.items ∙ seen_without list c.args.uid 1 c.self.inside.next messages c.self.invariant.0.sound.uids there in (
+    let fewer = λ (list : Own). ap (λ (ms : List Message). seen_among list (uids_in ms)) c.remove_message.ensures.items ∙ seen_without list c.args.uid 1 c.self.inside.next messages c.self.invariant.0.sound.uids there in (
       subst IsKept (λ i. record { messages = sym c.remove_message.ensures.items i; gone = sym c.push_reserved.ensures.items i; next = c.self.inside.next; shared = c.self.inside.shared + 1; own = sym c.forget_gone.ensures.lists i })
           (kept_step (Expunged c.args.uid) (summary_with c.self.inside.messages.items c.self.inside.gone.items c.self.inside.next c.self.inside.shared c.self.inside.own) tt there tt few c.self.invariant.0),
       gone_counted c.self.inside.own c.forget_gone.new.own (c.args.uid ∷ []) c.forget_gone.ensures.counts messages c.remove_message.new.messages.items fewer c.self.invariant.1,

@@ -1,5 +1,5 @@
 use Rattle.std.proofs.Common.{◌∙◌, List, map, ap, sym, subst}
-use Rattle.imap_mailbox.specs.declared.own.SeenChange.{SeenChange}
+use Rattle.imap_mailbox.specs.Own.{Own}
 use Rattle.imap_mailbox.specs.Counted.{IsCounted}
 use Rattle.imap_mailbox.specs.Rows.{Row}
 use Rattle.imap_mailbox.specs.Summary.{row_in, rows_of, highest_of}
@@ -11,7 +11,7 @@ use Rattle.imap_mailbox.proofs.mailbox.Mailbox.rows.Goals as goal
 
 pub invariant_of-result : goal.invariant_of-result
 invariant_of-result c = (
-  lent (summary_with c.self.inside.messages.items c.self.inside.gone.items c.self.inside.next c.self.inside.shared c.self.inside.own) c.args.user.now _ c.self.invariant.0 (own_is c.self.inside.own c.args.user.now c.get.result c.get.ensures),
+  lent (summary_with c.self.inside.messages.items c.self.inside.gone.items c.self.inside.next c.self.inside.shared c.self.inside.own) c.self.invariant.0,
   subst (IsCounted c.self.inside.messages.items) (sym c.get.ensures) (c.self.invariant.1 c.args.user.now),
   c.self.invariant.2.recent,
   c.self.invariant.3,
@@ -19,7 +19,7 @@ invariant_of-result c = (
 
 pub returns-clause-rows : goal.returns-clause-rows
 returns-clause-rows c =
-    ap (λ (l : List SeenChange). map (row_in l) c.self.inside.messages.items) (sym (own_is c.self.inside.own c.args.user.now c.get.result c.get.ensures))
+    ap (λ (l : Own). map (row_in l) c.self.inside.messages.items) (sym (own_is c.self.inside.own c.args.user.now c.get.result c.get.ensures))
     ∙ ap (λ (h : Held). rows_of (summary_in h) c.args.user.now) c.self.view_is
 
 pub returns-clause-valid : goal.returns-clause-valid

@@ -7,6 +7,6 @@ use Rattle.imap_mailbox.proofs.own.OwnSeen.count_seen.Given as goal
 abbrev pub invariant-loop-message : goal.invariant-loop-message
 invariant-loop-message l = record {
   most : l.count ≤ l.message-index;
-  total : l.count + count_by (λ (g : GoneMessage). latest_seen (latest g.uid l.self.list)) (drop l.message-index l.gone)
-      ≡ count_by (λ (g : GoneMessage). latest_seen (latest g.uid l.self.list)) l.gone;
+  total : l.count + count_by (λ (g : GoneMessage). latest_seen (latest g.uid l.self.own)) (drop l.message-index l.gone)
+      ≡ count_by (λ (g : GoneMessage). latest_seen (latest g.uid l.self.own)) l.gone;
 }

@@ -2,8 +2,8 @@ use Rattle.imap_mailbox.specs.Lent.{own_lent}
 use Rattle.imap_mailbox.proofs.Lending.{place_lent}
 use Rattle.imap_mailbox.proofs.rows.Rows.get.Goals as goal
 
-pub own_row-requires-clause-place : goal.own_row-requires-clause-place
-own_row-requires-clause-place c =
+pub own_row-requires : goal.own_row-requires
+own_row-requires c =
     place_lent c.self.inside.messages.now.items (own_lent c.self.inside.own) c.args.self.now c.args.place c.index-message.result.now c.self.invariant.0 c.self.view_is c.requires c.index-message.ensures
 
 pub plain_row-requires : goal.plain_row-requires

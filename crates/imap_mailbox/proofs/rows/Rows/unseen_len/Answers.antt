@@ -11,7 +11,7 @@ use Rattle.imap_mailbox.proofs.rows.Rows.unseen_len.Goals as goal
 pub returns-in-Some : goal.returns-in-Some
 returns-in-Some c =
     let messages = c.self.inside.messages.now.items in
-    let list = c.in-Some.own.now.list in
+    let list = c.in-Some.own.now.own in
     let counted : c.in-Some.own.now.seen ≡ seen_among list (uids_in messages) = subst (λ own. IsCounted messages (option_copied own)) c.in-Some.is c.self.invariant.1 in
     let all : unseen_in (map (row_in list) messages) + seen_among list (uids_in messages) ≡ length messages = all_but_seen list messages in
     let rows : unseen_in (map (row_in list) messages) ≡ unseen_in c.args.self.now =
