@@ -1,5 +1,6 @@
 -- What is written is what the changes make of one table of messages.
 use Rattle.std.proofs.Common.{◌≡◌, ◌≢◌, ◌++◌, inl, inr, ℕ, ℤ, pos, List, [], ◌∷◌, map, string_bytes, refl, sym, ap, subst, ◌∙◌, arith}
+use Rattle.std.specs.Prelude.{codes}
 use Rattle.sqlite.specs.declared.types.Value.TheVariants.{Int, Text as Words}
 use Rattle.sqlite.specs.Order.{Row, column}
 use Rattle.sqlite.specs.Tree.{Trees}
@@ -14,9 +15,10 @@ use Rattle.imap_message_tables.proofs.Elsewhere.{adds_beside, removes_beside, re
 use Rattle.imap_message_tables.proofs.Flagging.{flagged_fits, removed_fits, word_at}
 use Rattle.imap_message_tables.proofs.Words.{same_words}
 use Rattle.imap_tables.specs.Changes.{Makes, MakesAll, MakesAllBelow, MakesBelow, MakesUnder, PutsEpoch, PutsSubscription}
-use Rattle.imap_tables.specs.Edits.{Adds, HasHead, IsBelow, IsEpochOf, IsIdOf, IsMessageOf, IsNamed, IsSubOf, HasId, Replaces, counted_row, flagged_row, moved_row}
+use Rattle.imap_tables.specs.Edits.{Adds, HasHead, IsBelow, IsEpochOf, IsIdOf, IsMarkOf, IsMessageOf, IsMetaOf, IsNamed, IsSubOf, HasId, Replaces, counted_row, flagged_row, moved_row, valued_row}
 use Rattle.imap_tables.specs.Rows.{acl_row, epoch_row, gone_row, mailbox_row, mark_row, message_row, sub_row}
-use Rattle.imap_tables.specs.Tables.{acl_table, epoch_table, gone_table, mailbox_table, mark_table, store_tables, sub_table}
+use Rattle.imap_tables.specs.Tables.{acl_table, epoch_table, gone_table, mailbox_table, mark_table, meta_table, store_tables, sub_table}
+use Rattle.imap_tables.specs.Steps.{gaps_version}
 use Rattle.imap_tables.specs.declared.changes.ChangeBelow.{ChangeBelow}
 use Rattle.imap_tables.specs.declared.changes.ChangeBelow.TheVariants as below
 use Rattle.imap_tables.specs.declared.changes.FlagsRow.{FlagsRow}
@@ -42,6 +44,9 @@ gone_other = other 6 (λ e. omega (arith, e)) (λ e. omega (arith, e)) (λ e. om
 mark_other : IsOther 8
 mark_other = other 8 (λ e. omega (arith, e)) (λ e. omega (arith, e)) (λ e. omega (arith, e)) (λ e. omega (arith, e))
 
+meta_other : IsOther 14
+meta_other = other 14 (λ e. omega (arith, e)) (λ e. omega (arith, e)) (λ e. omega (arith, e)) (λ e. omega (arith, e))
+
 epoch_other : IsOther 10
 epoch_other = other 10 (λ e. omega (arith, e)) (λ e. omega (arith, e)) (λ e. omega (arith, e)) (λ e. omega (arith, e))
 
@@ -65,6 +70,9 @@ epoch_listed = inr (inr (inr (inr (inr (inl refl)))))
 
 sub_listed : Has store_tables sub_table
 sub_listed = inr (inr (inr (inr (inr (inr (inl refl))))))
+
+meta_listed : Has store_tables meta_table
+meta_listed = inr (inr (inr (inr (inr (inr (inr (inl refl)))))))
 
 -- ---- below a mailbox
 
@@ -159,6 +167,7 @@ module _ (old new one : Trees) (mailbox : ℤ) (split : IsSplit old one) where
   below_fits (below.RemoveMessage uid) w = removed_fits old new one mailbox uid split w
   below_fits (below.AddGone uid place) w = adds_beside old new one gone_table gone_listed gone_other split (gone_row mailbox uid place) w
   below_fits (below.AddMark m) w = adds_beside old new one mark_table mark_listed mark_other split (mark_row mailbox (string_bytes m.user) m.own m.before m.uid m.seen) w
+  below_fits (below.RemoveMark user own) w = removes_beside old new one mark_table mark_listed mark_other split (IsMarkOf mailbox (string_bytes user) own) w
   below_fits (below.Count uidnext shared) w = replaces_beside old new one mailbox_table mailbox_listed mailbox_other split (HasId mailbox) (counted_row uidnext shared) w
 
 all_below_fit : (mailbox : ℤ) (cs : List ChangeBelow) (old new : Trees) → WritesAllBelow mailbox cs old new → MakesSplit (MakesAllBelow mailbox cs) old new
@@ -200,6 +209,8 @@ row_fits (change.PutSubscription user key) old new w one split = subscription_fi
 row_fits (change.RemoveSubscription user key) old new w one split =
     removes_beside old new one sub_table sub_listed sub_other split (IsSubOf (string_bytes user) (string_bytes key.tree) (string_bytes key.path)) w
 row_fits (change.Below key changes) old new w one split = under_fits key changes.items old new w one split
+row_fits change.AllowGaps old new w one split =
+    replaces_beside old new one meta_table meta_listed meta_other split (IsMetaOf (codes "version")) (valued_row gaps_version) w
 
 pub writing_fits : WritingFits
 writing_fits [] old new w = subst (λ db. MakesSplit (λ a b. b ≡ a) old db) (sym w) (none_split old)

@@ -5,8 +5,8 @@ use Rattle.sqlite.specs.Table.{Table}
 use Rattle.sqlite.specs.Tree.{Trees}
 use Rattle.sqlite_rules.specs.Lists.{Has}
 use Rattle.imap_tables.specs.Contents.{AllAddedShow, AllShow}
-use Rattle.imap_tables.specs.Edits.{Adds, HasId, IsBelow, IsEpochOf, IsMessageOf, IsNamed, IsSubOf}
-use Rattle.imap_tables.specs.Edits.{Removes, RemovesMailboxes, Replaces}
+use Rattle.imap_tables.specs.Edits.{Adds, HasId, IsBelow, IsEpochOf, IsMarkOf, IsMessageOf, IsMetaOf}
+use Rattle.imap_tables.specs.Edits.{IsNamed, IsSubOf, Removes, RemovesMailboxes, Replaces}
 use Rattle.imap_message_tables.specs.Parts.{AddsOne, FlagsOne, MakesParts, RemovesOne}
 use Rattle.imap_message_tables.specs.Parts.{parts_added, parts_flagged, parts_removed}
 use Rattle.imap_message_tables.specs.Split.{AreWords, IsOther, IsSplit, Stands, Whole}
@@ -66,6 +66,8 @@ pub data Test : Type 0 where
   OfId : (mailbox : ℤ) → Test
   OfEpoch : (tree path : List ℕ) → Test
   OfSub : (user tree path : List ℕ) → Test
+  OfMark : (mailbox : ℤ) (user : List ℕ) (own : ℤ) → Test
+  OfMeta : (key : List ℕ) → Test
 
 abbrev pub Passes : Test → Row → Type 0
 Passes (Below mailbox) = IsBelow mailbox
@@ -73,6 +75,8 @@ Passes (Named tree path) = IsNamed tree path
 Passes (OfId mailbox) = HasId mailbox
 Passes (OfEpoch tree path) = IsEpochOf tree path
 Passes (OfSub user tree path) = IsSubOf user tree path
+Passes (OfMark mailbox user own) = IsMarkOf mailbox user own
+Passes (OfMeta key) = IsMetaOf key
 
 -- a change of another table is one of the same table
 abbrev pub OthersFit : Type 0

@@ -3,7 +3,7 @@
 ghost use Rattle.std.specs.Prelude.{◌≡◌, ◌≢◌, [], false, IsTrue, OnErr, OnOk};
 ghost use Rattle.imap_message_tables.specs.Writing.{Writes, WritesAll, WritesAllBelow, WritesBelow};
 ghost use Rattle.imap_message_tables.specs.Writing.{WritesUnder};
-ghost use Rattle.imap_tables.specs.Changes.{PutsEpoch, PutsSubscription};
+ghost use Rattle.imap_tables.specs.Changes.{AllowsGaps, PutsEpoch, PutsSubscription};
 ghost use Rattle.imap_tables.specs.Rows.{IsOrderly};
 ghost use Rattle.imap_tables.specs.Steps.{Calls, HasSchema, IsBack, IsBegun, IsLive, IsStore, Saves, Turns};
 ghost use Rattle.imap_tables.specs.Tables.{store_schema};
@@ -13,9 +13,9 @@ ghost use Rattle.sqlite.specs.Tree.{Trees};
 
 use crate::writing::{add_message, flag_message, made, remove_message};
 use imap_tables::{
-    ChangeBelow, MailboxKey, RowChange, count_mailbox, delete_acl, delete_epoch, delete_mailbox,
-    delete_subscription, find_mailbox, insert_acl, insert_epoch, insert_gone, insert_mailbox,
-    insert_mark, insert_subscription, move_mailbox,
+    ChangeBelow, GAPS_VERSION, MailboxKey, RowChange, count_mailbox, delete_acl, delete_epoch,
+    delete_mailbox, delete_mark, delete_subscription, find_mailbox, insert_acl, insert_epoch,
+    insert_gone, insert_mailbox, insert_mark, insert_subscription, move_mailbox, update_meta,
 };
 use sqlite::{Alter, Connection, Error, Transaction};
 use std::alloc::Global;
@@ -51,6 +51,7 @@ fn make_below<S: Alter>(
             row.uid,
             row.seen,
         )),
+        ChangeBelow::RemoveMark(user, own) => made(delete_mark(tx, mailbox, user, own)),
         ChangeBelow::Count(uidnext, shared) => made(count_mailbox(tx, mailbox, *uidnext, shared)),
     }
 }
@@ -128,6 +129,16 @@ fn put_subscription<S: Alter>(
     made(insert_subscription(tx, user, tree, path))
 }
 
+/// Sets the version of tables in which own changes of a user may be missing among the others.
+fn allow_gaps<S: Alter>(tx: &mut Transaction<'_, S>) -> Result<usize, Error>
+    requires schema { HasSchema store_schema (state S.Store tx.old.conn.now) }
+    ensures same_reference { tx.new.conn.ghost_name ≡ tx.old.conn.ghost_name }
+    ensures call { Calls S.Store tx.old.conn.now tx.new.conn.now (λ old new.
+        OnOk result (Turns AllowsGaps old new)) }
+{
+    update_meta(tx, "version", GAPS_VERSION)
+}
+
 /// Makes one change.
 fn make_change<S: Alter>(
     tx: &mut Transaction<'_, S>,
@@ -154,6 +165,7 @@ fn make_change<S: Alter>(
             made(delete_subscription(tx, user, &key.tree, &key.path))
         }
         RowChange::Below(key, changes) => make_under(tx, alloc, key, changes),
+        RowChange::AllowGaps => made(allow_gaps(tx)),
     }
 }
 

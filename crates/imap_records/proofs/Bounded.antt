@@ -2,8 +2,8 @@
 use Rattle.std.proofs.Common.{◌≡◌, ◌≤◌, ◌+◌, ℕ, Bool, true, false, cond, List, [], ◌∷◌, ◌++◌, length, Option, Some, None, is_some, subst, sym, arith, All}
 use Rattle.std.specs.List.{AllByRecursion}
 use Rattle.std.proofs.lemmas.List.Elements.{All-from_recursion}
-use Rattle.imap_batch.specs.Batch.{flag_count, one_if}
-use Rattle.imap_batch.specs.Entered.{mark_place, own_added, own_change, own_marked}
+use Rattle.imap_batch.specs.Batch.{flag_count, one_if, own_added, own_asked, own_change, own_marked}
+use Rattle.imap_batch.specs.Entered.{mark_place}
 use Rattle.imap_batch.specs.declared.batch.FlagUpdate.{FlagUpdate}
 use Rattle.imap_batch.specs.declared.batch.NewMessage.{NewMessage}
 use Rattle.imap_batch.specs.declared.write.BatchWrite.{BatchWrite}
@@ -43,7 +43,7 @@ marked_low place (k ∷ marks) h =
     parts : (p a b most : ℕ) → p + (a + b) ≤ most → p + a + b ≤ most
     parts p a b most h = omega (arith, h)
 
-pub own_low : (w : BatchWrite) (own : List SeenChange) → IsBounded w → own ≡ own_added w.first_uid w.first_place w.batch.added ++ own_marked (mark_place w) w.batch.marks → All (λ s. s.before ≤ max_events) own
+pub own_low : (w : BatchWrite) (own : List SeenChange) → IsBounded w → own ≡ own_asked w.first_uid w.first_place w.batch → All (λ s. s.before ≤ max_events) own
 own_low w own bounded is =
     All-from_recursion IsLow own (subst (AllByRecursion IsLow) (sym is) (both_low (own_added w.first_uid w.first_place w.batch.added) (own_marked (mark_place w) w.batch.marks)
     (added_low w.first_uid w.first_place w.batch.added (first w.first_place (length w.batch.added) (flag_count w.batch.marks) (length w.batch.expunged) max_events bounded.places))

@@ -9,7 +9,7 @@ use Rattle.imap_names.specs.Name.{Name}
 use Rattle.imap_rights.specs.Acl.{AclMap}
 use Rattle.imap_world.specs.World.{World}
 use Rattle.imap_records.specs.Columns.{entry_values}
-use Rattle.imap_records.specs.Standing.{IsEntry}
+use Rattle.imap_records.specs.Standing.{IsEntry, Kept}
 use Rattle.imap_records.specs.Steps.{acl_steps, entry_step}
 use Rattle.imap_records.proofs.Beside.{IsBeside, alike, entry_added}
 use Rattle.imap_records.proofs.Making.{MakesBelowAll}
@@ -44,21 +44,21 @@ first_listed i x entries E v = (to, from)
     from (inl e) = inl (inl e)
     from (inr l) = found l.entry l.there l.shown
 
-module _ (B : World) (id : Name → ℤ) (i : ℤ) (own : Row) (M G K : Row → Type 0) where
-  all_listed : (entries : List (List ℕ × ℕ)) (E : Row → Type 0) (db new : Trees) → MakesBelowAll i (map entry_step entries) db new → IsBeside B id db own E M G K
-      → IsBeside B id new own (λ v. E v ⊎ IsListed i entries v) M G K
+module _ (B : World) (id : Name → ℤ) (kept : Name → Kept) (i : ℤ) (own : Row) (M G K : Row → Type 0) where
+  all_listed : (entries : List (List ℕ × ℕ)) (E : Row → Type 0) (db new : Trees) → MakesBelowAll i (map entry_step entries) db new → IsBeside B id kept db own E M G K
+      → IsBeside B id kept new own (λ v. E v ⊎ IsListed i entries v) M G K
   all_listed [] E db new made b =
-      alike B id new own E M G K (subst (λ (d : Trees). IsBeside B id d own E M G K) (sym made) b)
+      alike B id kept new own E M G K (subst (λ (d : Trees). IsBeside B id kept d own E M G K) (sym made) b)
       (λ v. E v ⊎ IsListed i [] v) M G K (none_listed i E) (λ v. (λ h. h, λ h. h)) (λ v. (λ h. h, λ h. h)) (λ v. (λ h. h, λ h. h))
   all_listed (x ∷ entries) E db new (mid, adds, rest) b =
-      alike B id new own (λ v. (E v ⊎ (v ≡ entry_values i x.0 x.1)) ⊎ IsListed i entries v) M G K
-      (all_listed entries (λ v. E v ⊎ (v ≡ entry_values i x.0 x.1)) mid new rest (entry_added B id db mid own E M G K b (entry_values i x.0 x.1) adds))
+      alike B id kept new own (λ v. (E v ⊎ (v ≡ entry_values i x.0 x.1)) ⊎ IsListed i entries v) M G K
+      (all_listed entries (λ v. E v ⊎ (v ≡ entry_values i x.0 x.1)) mid new rest (entry_added B id kept db mid own E M G K b (entry_values i x.0 x.1) adds))
       (λ v. E v ⊎ IsListed i (x ∷ entries) v) M G K (first_listed i x entries E) (λ v. (λ h. h, λ h. h)) (λ v. (λ h. h, λ h. h)) (λ v. (λ h. h, λ h. h))
 
   -- no entry, and then those of the list
-  pub list_put : (acl : AclMap) (db new : Trees) → MakesBelowAll i (acl_steps acl) db new → IsBeside B id db own (λ v. ⊥) M G K → IsBeside B id new own (IsEntry acl i) M G K
+  pub list_put : (acl : AclMap) (db new : Trees) → MakesBelowAll i (acl_steps acl) db new → IsBeside B id kept db own (λ v. ⊥) M G K → IsBeside B id kept new own (IsEntry acl i) M G K
   list_put acl db new made b =
-      alike B id new own (λ v. ⊥ ⊎ IsListed i (fin.entries acl) v) M G K (all_listed (fin.entries acl) (λ v. ⊥) db new made b)
+      alike B id kept new own (λ v. ⊥ ⊎ IsListed i (fin.entries acl) v) M G K (all_listed (fin.entries acl) (λ v. ⊥) db new made b)
       (IsEntry acl i) M G K (λ v. (to v, from v)) (λ v. (λ h. h, λ h. h)) (λ v. (λ h. h, λ h. h)) (λ v. (λ h. h, λ h. h))
     where
       to : (v : Row) → ⊥ ⊎ IsListed i (fin.entries acl) v → IsEntry acl i v

@@ -9,7 +9,7 @@ use Rattle.sqlite.specs.Order.{Row, column}
 use Rattle.imap_mailbox.specs.declared.flags.SharedFlags.{SharedFlags}
 use Rattle.imap_mailbox.specs.declared.message.GoneMessage.{GoneMessage}
 use Rattle.imap_mailbox.specs.declared.message.Message.{Message}
-use Rattle.imap_mailbox.specs.declared.own.SeenChange.{SeenChange}
+use Rattle.imap_mailbox.specs.declared.kept_change.KeptChange.{KeptChange}
 use Rattle.imap_syntax.specs.Atoms.{IsAtom}
 use Rattle.imap_syntax.specs.Dates.{date_time_read}
 use Rattle.imap_syntax.specs.Keywords.{AreAtoms}
@@ -184,18 +184,17 @@ same_gone n k x y e =
     let place = same_place x.place y.place (ap (λ (r : Row). column r 2) e) in
     λ i. record { uid = uid i; place = place i }
 
-pub record IsSameMark (user other : List ℕ) (place at : ℕ) (x y : SeenChange) : Type 0 where
+pub record IsSameMark (user other : List ℕ) (x y : KeptChange) : Type 0 where
   pub users : user ≡ other
-  pub places : place ≡ at
   pub changes : x ≡ y
 
-pub same_mark : (n k : ℤ) (user other : List ℕ) (place at : ℕ) (x y : SeenChange) → mark_values n user place x ≡ mark_values k other at y → IsSameMark user other place at x y
-same_mark n k user other place at x y e =
+pub same_mark : (n k : ℤ) (user other : List ℕ) (x y : KeptChange) → mark_values n user x ≡ mark_values k other y → IsSameMark user other x y
+same_mark n k user other x y e =
+    let place = same_place x.place y.place (ap (λ (r : Row). column r 2) e) in
     let before = same_number x.before y.before (ap (λ (r : Row). column r 3) e) in
     let uid = same_number x.uid y.uid (ap (λ (r : Row). column r 4) e) in
     let seen = same_seen x.seen y.seen (ap (λ (r : Row). column r 5) e) in
     record {
       users = same_text user other (ap (λ (r : Row). column r 1) e);
-      places = same_place place at (ap (λ (r : Row). column r 2) e);
-      changes = λ i. record { before = before i; uid = uid i; seen = seen i };
+      changes = λ i. record { place = place i; before = before i; uid = uid i; seen = seen i };
     }

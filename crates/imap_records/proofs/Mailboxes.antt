@@ -1,6 +1,6 @@
 -- Mailboxes that are made, get a list and go, by their rows.
 use Rattle.std.proofs.Common.{◌≡◌, ◌≢◌, ◌⊎◌, inl, inr, ℕ, ℤ, pos, Bool, true, false, cond, List, [], ◌∷◌, Some, None, refl, sym, ap, subst, ◌∙◌, true≢false}
-use Rattle.std.specs.Prelude.{◌↔◌, slice_get, unwrap_or}
+use Rattle.std.specs.Prelude.{◌↔◌, unwrap_or}
 use Rattle.std.specs.Cmp.Lexicographic.{slice_cmp}
 use Rattle.std.specs.Ordering.{nat_cmp}
 use Rattle.std.specs.FinMap as map
@@ -9,7 +9,7 @@ use Rattle.sqlite.specs.declared.types.Value.TheVariants.{Int, Text as Words}
 use Rattle.sqlite.specs.Order.{Row, column}
 use Rattle.sqlite.specs.Tree.{Trees}
 use Rattle.sqlite_rules.specs.Lists.{Has}
-use Rattle.imap_mailbox.specs.History.{own_at}
+use Rattle.imap_mailbox.specs.Own.{no_own}
 use Rattle.imap_names.specs.Name.{Name, path_of}
 use Rattle.imap_names.specs.Valid.{IsName}
 use Rattle.imap_names.proofs.NameLaws.{equal_names, get_without, is_name_at, is_name_at-same}
@@ -23,11 +23,11 @@ use Rattle.imap_tables.specs.Edits.{Adds, IsIdOf, IsNamed, IsUnder as IsBelowOne
 use Rattle.imap_tables.specs.Rows.{mailbox_row}
 use Rattle.imap_tables.specs.Tables.{acl_table, message_table, gone_table, mark_table}
 use Rattle.imap_records.specs.Columns.{row_of_mailbox, tree_text}
-use Rattle.imap_records.specs.Standing.{AreRows, Child, IsEntry, IsEpoch, IsGone, IsMailbox, IsMark, IsMessage, IsNumbered, IsSubscription, IsUnder, StandFor, tree_of}
+use Rattle.imap_records.specs.Standing.{AreFound, AreRows, Child, IsEntry, IsEpoch, IsGone, IsMailbox, IsMark, IsMessage, IsNumbered, IsSubscription, IsUnder, Kept, StandFor, tree_of}
 use Rattle.imap_records.specs.Standing.{entries, messages, gone, marks}
 use Rattle.imap_records.specs.Steps.{RemoveAcl, acl_steps, steps_for}
 use Rattle.imap_records.proofs.Beside.{IsBeside, IsFree, alike, entries_removed, first_of, same_id}
-use Rattle.imap_records.proofs.Closing.{none_left, others_apart, others_free, others_named, put_again, put_among, set_beside, with_mailbox}
+use Rattle.imap_records.proofs.Closing.{none_left, others_apart, others_found, others_free, others_named, put_again, put_among, set_beside, with_mailbox}
 use Rattle.imap_records.proofs.Entries.{list_put}
 use Rattle.imap_records.proofs.Keys.{IsFound, found, named_is}
 use Rattle.imap_records.proofs.Making.{MakesBelowAll, MakesOne, MakesSteps}
@@ -37,14 +37,17 @@ use Rattle.imap_records.proofs.Rows.{acl_stays, at_its_rowid, epoch_stays, gone_
 -- ---- a mailbox is made
 
 -- without own changes of users
-no_marks : (i : ℤ) (v : Row) → ⊥ ↔ IsMark map.empty i v
-no_marks i v = (λ none. absurd none, from)
-  where
-    nothing : (user : List ℕ) → own_at map.empty user ≡ []
-    nothing user = ap (λ o. unwrap_or o []) (get-empty (slice_cmp nat_cmp) user)
+abbrev pub none_kept : Kept
+none_kept user = []
 
-    from : IsMark map.empty i v → ⊥
-    from m = cc (sym (ap (λ l. slice_get l m.place) (nothing m.user)) ∙ m.there)
+no_marks : (i : ℤ) (v : Row) → ⊥ ↔ IsMark none_kept i v
+no_marks i v = (λ none. absurd none, λ m. m.there)
+
+none_found : (row : NewMailbox) → AreFound none_kept (mailbox_in row).messages
+none_found row = record {
+  order = λ user. tt;
+  found = λ user. sym (ap (λ o. unwrap_or o no_own) (get-empty (slice_cmp nat_cmp) user));
+}
 
 module _ (old new : Trees) (world : World) (stand : StandFor old world) (name : Name) (valid : IsName name) (absent : map.get world.mailboxes name ≡ None) (validity : ℕ)
     (adds : Adds old new 0 (λ id. mailbox_row id (tree_text name) (path_of name) validity 1 (pos 0))) where
@@ -57,20 +60,20 @@ module _ (old new : Trees) (world : World) (stand : StandFor old world) (name : 
       let has : Has (old 0) row = (stand.mailboxes row).1 (record { name = q; mailbox = k; there = there; shown = refl }) in
       true≢false (sym (at_its_rowid row adds.id (ap (λ n. Int n) same)) ∙ adds.free row has)
 
-  beside : (rows : List Row) (child : Child) → AreRows rows (IsUnder world stand.id child) → AreRows rows (λ v. ⊥ ⊎ IsUnder world stand.id child v)
-  beside rows child are = rows_alike rows (IsUnder world stand.id child) (λ v. ⊥ ⊎ IsUnder world stand.id child v) (λ v u. inr u) from are
+  beside : (rows : List Row) (child : Child) → AreRows rows (IsUnder world stand.id stand.kept child) → AreRows rows (λ v. ⊥ ⊎ IsUnder world stand.id stand.kept child v)
+  beside rows child are = rows_alike rows (IsUnder world stand.id stand.kept child) (λ v. ⊥ ⊎ IsUnder world stand.id stand.kept child v) (λ v u. inr u) from are
     where
-      from : (v : Row) → ⊥ ⊎ IsUnder world stand.id child v → IsUnder world stand.id child v
+      from : (v : Row) → ⊥ ⊎ IsUnder world stand.id stand.kept child v → IsUnder world stand.id stand.kept child v
       from v (inl none) = absurd none
       from v (inr u) = u
 
-  pub made : IsBeside world stand.id new own (λ v. ⊥) (λ v. ⊥) (λ v. ⊥) (λ v. ⊥)
+  pub made : IsBeside world stand.id stand.kept new own (λ v. ⊥) (λ v. ⊥) (λ v. ⊥) (λ v. ⊥)
   made = record {
     mailboxes = λ row. (λ has. to row (adds.only row has), from row);
-    acl = beside (new 2) entries (same_rows (old 2) (new 2) (IsUnder world stand.id entries) (acl_stays old new 0 adds.others refl) (stand.below entries));
-    there = beside (new 4) messages (same_rows (old 4) (new 4) (IsUnder world stand.id messages) (message_stays old new 0 adds.others refl) (stand.below messages));
-    went = beside (new 6) gone (same_rows (old 6) (new 6) (IsUnder world stand.id gone) (gone_stays old new 0 adds.others refl) (stand.below gone));
-    seen = beside (new 8) marks (same_rows (old 8) (new 8) (IsUnder world stand.id marks) (mark_stays old new 0 adds.others refl) (stand.below marks));
+    acl = beside (new 2) entries (same_rows (old 2) (new 2) (IsUnder world stand.id stand.kept entries) (acl_stays old new 0 adds.others refl) (stand.below entries));
+    there = beside (new 4) messages (same_rows (old 4) (new 4) (IsUnder world stand.id stand.kept messages) (message_stays old new 0 adds.others refl) (stand.below messages));
+    went = beside (new 6) gone (same_rows (old 6) (new 6) (IsUnder world stand.id stand.kept gone) (gone_stays old new 0 adds.others refl) (stand.below gone));
+    seen = beside (new 8) marks (same_rows (old 8) (new 8) (IsUnder world stand.id stand.kept marks) (mark_stays old new 0 adds.others refl) (stand.below marks));
     epochs = same_rows (old 10) (new 10) (IsEpoch world.epochs) (epoch_stays old new 0 adds.others refl) stand.epochs;
     subscriptions = same_rows (old 12) (new 12) (IsSubscription world) (sub_stays old new 0 adds.others refl) stand.subscriptions;
   }
@@ -99,11 +102,11 @@ pub mailbox_put : (old new : Trees) (world : World) (row : NewMailbox) → IsNam
 mailbox_put old new world row valid absent stand (a, adds, (b, (i, at, entries_made), (c, epoch, end))) =
     let m : Mailbox = mailbox_in row in
     let id : i ≡ adds.id = made_found old a world stand row.name valid absent row.validity adds i at in
-    let listed = list_put world stand.id adds.id (own old a world stand row.name valid absent row.validity adds) (λ v. ⊥) (λ v. ⊥) (λ v. ⊥) row.acl a b
+    let listed = list_put world stand.id stand.kept adds.id (own old a world stand row.name valid absent row.validity adds) (λ v. ⊥) (λ v. ⊥) (λ v. ⊥) row.acl a b
     (subst (λ n. MakesBelowAll n (acl_steps row.acl) a b) id entries_made) (made old a world stand row.name valid absent row.validity adds) in
-    let filled = alike world stand.id b (row_of_mailbox row.name m adds.id) (IsEntry row.acl adds.id) (λ v. ⊥) (λ v. ⊥) (λ v. ⊥) listed (IsEntry m.acl adds.id) (IsMessage [] adds.id) (IsGone [] adds.id) (IsMark map.empty adds.id)
+    let filled = alike world stand.id stand.kept b (row_of_mailbox row.name m adds.id) (IsEntry row.acl adds.id) (λ v. ⊥) (λ v. ⊥) (λ v. ⊥) listed (IsEntry m.acl adds.id) (IsMessage [] adds.id) (IsGone [] adds.id) (IsMark none_kept adds.id)
     (λ v. (λ h. h, λ h. h)) (λ v. (λ none. absurd none, λ h. h.there)) (λ v. (λ none. absurd none, λ h. h.there)) (no_marks adds.id) in
-    let there = put_among world stand.id row.name adds.id m absent (id_is_free old a world stand row.name valid absent row.validity adds) stand.apart stand.named valid b filled in
+    let there = put_among world stand.id stand.kept row.name adds.id none_kept m absent (id_is_free old a world stand row.name valid absent row.validity adds) stand.apart stand.named stand.found valid (none_found row) b filled in
     subst (λ (db : Trees). StandFor db (with_row world row)) (sym end) (epoch_put b c (with_mailbox world row.name m) row.name row.validity valid there epoch)
 
 -- ---- a mailbox gets a list
@@ -117,11 +120,11 @@ list_set old new world name acl valid stand (a, (i, at, (mid, removes, more)), e
     let own : Row = row_of_mailbox name m (stand.id name) in
     let free = others_free world name m f.there old stand in
     let b = set_beside world name m f.there old stand in
-    let gone_ones = entries_removed B stand.id old mid own (IsEntry m.acl (stand.id name)) (IsMessage m.messages.messages (stand.id name)) (IsGone m.messages.gone (stand.id name)) (IsMark m.messages.own (stand.id name)) b
-    (stand.id name) free (λ v e. first_of entries m (stand.id name) v e) (subst (λ k. MakesOne k RemoveAcl old mid) f.same removes) in
-    let listed = list_put B stand.id (stand.id name) own (IsMessage m.messages.messages (stand.id name)) (IsGone m.messages.gone (stand.id name)) (IsMark m.messages.own (stand.id name)) acl mid a
+    let gone_ones = entries_removed B stand.id stand.kept old mid own (IsEntry m.acl (stand.id name)) (IsMessage m.messages.messages (stand.id name)) (IsGone m.messages.gone (stand.id name)) (IsMark (stand.kept name) (stand.id name)) b
+    (stand.id name) free (λ v e. first_of entries m (stand.kept name) (stand.id name) v e) (subst (λ k. MakesOne k RemoveAcl old mid) f.same removes) in
+    let listed = list_put B stand.id stand.kept (stand.id name) own (IsMessage m.messages.messages (stand.id name)) (IsGone m.messages.gone (stand.id name)) (IsMark (stand.kept name) (stand.id name)) acl mid a
     (subst (λ k. MakesBelowAll k (acl_steps acl) mid a) f.same more) gone_ones in
-    let there = put_among B stand.id name (stand.id name) n (none_left world name m f.there) free (others_apart world name m f.there old stand) (others_named world name m f.there old stand) valid a listed in
+    let there = put_among B stand.id stand.kept name (stand.id name) (stand.kept name) n (none_left world name m f.there) free (others_apart world name m f.there old stand) (others_named world name m f.there old stand) (others_found world name m f.there old stand) valid (stand.found name m f.there) a listed in
     let whole : StandFor a (with_mailbox world name n) = subst (StandFor a) (put_again world name m f.there n) there in
     subst (λ (db : Trees). StandFor db (with_acl world name acl)) (sym end)
     (subst (StandFor a) (sym (ap (λ o. record world { mailboxes = mailboxes_with_list world.mailboxes name acl o }) f.there)) whole)
@@ -166,29 +169,29 @@ module _ (old new : Trees) (world : World) (stand : StandFor old world) (name : 
       (removes.left row).1 ((stand.mailboxes row).1 before, λ named. k.1 (named_is old world stand name valid row before named))
 
   -- the row below a mailbox of this name goes
-  under_it : (child : Child) (rowid : ℤ) (v : Row) (u : IsUnder world stand.id child v) → u.name ≡ name → IsBelowOne old new (IsNamed (tree_text name) (path_of name)) (Int rowid ∷ v)
+  under_it : (child : Child) (rowid : ℤ) (v : Row) (u : IsUnder world stand.id stand.kept child v) → u.name ≡ name → IsBelowOne old new (IsNamed (tree_text name) (path_of name)) (Int rowid ∷ v)
   under_it child rowid v u same =
       let parent : Row = row_of_mailbox u.name u.mailbox (stand.id u.name) in
       let it : IsMailbox world stand.id parent = record { name = u.name; mailbox = u.mailbox; there = u.there; shown = refl } in
-      (parent, (stand.mailboxes parent).1 it, is_named parent it same, first_of child u.mailbox (stand.id u.name) v u.shown)
+      (parent, (stand.mailboxes parent).1 it, is_named parent it same, first_of child u.mailbox (stand.kept u.name) (stand.id u.name) v u.shown)
 
   -- and no other
-  not_under : (child : Child) (rowid : ℤ) (v : Row) (u : IsUnder world stand.id child v) → u.name ≢ name → ¬ IsBelowOne old new (IsNamed (tree_text name) (path_of name)) (Int rowid ∷ v)
+  not_under : (child : Child) (rowid : ℤ) (v : Row) (u : IsUnder world stand.id stand.kept child v) → u.name ≢ name → ¬ IsBelowOne old new (IsNamed (tree_text name) (path_of name)) (Int rowid ∷ v)
   not_under child rowid v u other (parent, has, named, is) =
       let p : IsMailbox world stand.id parent = (stand.mailboxes parent).0 has in
       let ids : stand.id u.name ≡ stand.id p.name =
-      same_id (stand.id u.name) (stand.id p.name) (sym (first_of child u.mailbox (stand.id u.name) v u.shown) ∙ is ∙ ap (λ (r : Row). column r 0) p.shown) in
+      same_id (stand.id u.name) (stand.id p.name) (sym (first_of child u.mailbox (stand.kept u.name) (stand.id u.name) v u.shown) ∙ is ∙ ap (λ (r : Row). column r 0) p.shown) in
       other (stand.apart u.name p.name u.mailbox p.mailbox u.there p.there ids ∙ named_is old world stand name valid parent p named)
 
   below_left : (child : Child) → ((row : Row) → Has (new (tree_of child)) row ↔ (Has (old (tree_of child)) row × ¬ IsBelowOne old new (IsNamed (tree_text name) (path_of name)) row))
-      → AreRows (new (tree_of child)) (IsUnder (without world name) stand.id child)
+      → AreRows (new (tree_of child)) (IsUnder (without world name) stand.id stand.kept child)
   below_left child left = record { sound = sound; complete = complete }
     where
-      sound : (row : Row) → Has (new (tree_of child)) row → IsNumbered (IsUnder (without world name) stand.id child) row
+      sound : (row : Row) → Has (new (tree_of child)) row → IsNumbered (IsUnder (without world name) stand.id stand.kept child) row
       sound row has =
           let (was, not) = (left row).0 has in
           let n = (stand.below child).sound row was in
-          let u : IsUnder world stand.id child n.values = n.meant in
+          let u : IsUnder world stand.id stand.kept child n.values = n.meant in
           record {
             rowid = n.rowid;
             values = n.values;
@@ -201,16 +204,18 @@ module _ (old new : Trees) (world : World) (stand : StandFor old world) (name : 
             };
           }
 
-      complete : (v : Row) → IsUnder (without world name) stand.id child v → (rowid : ℤ) × Has (new (tree_of child)) (Int rowid ∷ v)
+      complete : (v : Row) → IsUnder (without world name) stand.id stand.kept child v → (rowid : ℤ) × Has (new (tree_of child)) (Int rowid ∷ v)
       complete v u =
           let k = among u.name u.mailbox u.there in
-          let before : IsUnder world stand.id child v = record { name = u.name; mailbox = u.mailbox; there = k.0; shown = u.shown } in
+          let before : IsUnder world stand.id stand.kept child v = record { name = u.name; mailbox = u.mailbox; there = k.0; shown = u.shown } in
           let (rowid, has) = (stand.below child).complete v before in
           (rowid, (left (Int rowid ∷ v)).1 (has, not_under child rowid v before k.1))
 
   pub mailbox_removed : StandFor new (without world name)
   mailbox_removed = record {
     id = stand.id;
+    kept = stand.kept;
+    found = λ q k is. stand.found q k (among q k is).0;
     apart = λ a b k l ka lb same. stand.apart a b k l (among a k ka).0 (among b l lb).0 same;
     named = record {
       mailboxes = λ q k is. stand.named.mailboxes q k (among q k is).0;
@@ -225,7 +230,7 @@ module _ (old new : Trees) (world : World) (stand : StandFor old world) (name : 
         (same_rows (old 12) (new 12) (IsSubscription world) removes.subs stand.subscriptions);
   }
     where
-      below : (child : Child) → AreRows (new (tree_of child)) (IsUnder (without world name) stand.id child)
+      below : (child : Child) → AreRows (new (tree_of child)) (IsUnder (without world name) stand.id stand.kept child)
       below entries = below_left entries (removes.below acl_table (inl refl))
       below messages = below_left messages (removes.below message_table (inr (inl refl)))
       below gone = below_left gone (removes.below gone_table (inr (inr (inl refl))))

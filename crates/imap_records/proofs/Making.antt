@@ -5,13 +5,13 @@ use Rattle.imap_tables.specs.declared.changes.ChangeBelow.{ChangeBelow}
 use Rattle.imap_tables.specs.declared.changes.ChangeBelow.TheVariants as below
 use Rattle.imap_tables.specs.declared.changes.RowChange.{RowChange}
 use Rattle.imap_tables.specs.declared.changes.RowChange.TheVariants as change
-use Rattle.imap_tables.specs.Changes.{Makes, MakesAll, MakesAllBelow, MakesBelow}
-use Rattle.imap_tables.specs.Edits.{Adds, HasId, IsBelow, IsEpochOf, IsIdOf, IsMessageOf, IsNamed, IsSubOf}
+use Rattle.imap_tables.specs.Changes.{AllowsGaps, Makes, MakesAll, MakesAllBelow, MakesBelow}
+use Rattle.imap_tables.specs.Edits.{Adds, HasId, IsBelow, IsEpochOf, IsIdOf, IsMarkOf, IsMessageOf, IsNamed, IsSubOf}
 use Rattle.imap_tables.specs.Edits.{Removes, RemovesMailboxes, Replaces, counted_row, flagged_row, moved_row}
 use Rattle.imap_tables.specs.Rows.{acl_row, epoch_row, gone_row, mailbox_row, mark_row, message_row, sub_row}
 use Rattle.imap_records.specs.Steps.{Step, StepBelow, below_of, step_of, steps_in}
-use Rattle.imap_records.specs.Steps.{RemoveAcl, AddEntry, AddMessage, FlagMessage, RemoveMessage, AddGone, AddMark, Count}
-use Rattle.imap_records.specs.Steps.{AddMailbox, MoveMailbox, RemoveMailbox, PutEpoch, PutSubscription, RemoveSubscription, Below}
+use Rattle.imap_records.specs.Steps.{RemoveAcl, AddEntry, AddMessage, FlagMessage, RemoveMessage, AddGone, AddMark, RemoveMark, Count}
+use Rattle.imap_records.specs.Steps.{AddMailbox, MoveMailbox, RemoveMailbox, PutEpoch, PutSubscription, RemoveSubscription, Below, AllowGaps}
 
 -- ---- below the mailbox with this id
 
@@ -23,6 +23,7 @@ MakesOne mailbox (FlagMessage uid flags keywords place) old new = Replaces old n
 MakesOne mailbox (RemoveMessage uid) old new = Removes old new 4 (IsMessageOf mailbox uid)
 MakesOne mailbox (AddGone uid place) old new = Adds old new 6 (gone_row mailbox uid place)
 MakesOne mailbox (AddMark user own before uid seen) old new = Adds old new 8 (mark_row mailbox user own before uid seen)
+MakesOne mailbox (RemoveMark user own) old new = Removes old new 8 (IsMarkOf mailbox user own)
 MakesOne mailbox (Count uidnext shared) old new = Replaces old new 0 (HasId mailbox) (counted_row uidnext shared)
 
 abbrev pub MakesBelowAll : (mailbox : ℤ) → List StepBelow → (old new : Trees) → Type 0
@@ -37,6 +38,7 @@ one_of mailbox (below.FlagMessage m) old new h = h
 one_of mailbox (below.RemoveMessage uid) old new h = h
 one_of mailbox (below.AddGone uid place) old new h = h
 one_of mailbox (below.AddMark m) old new h = h
+one_of mailbox (below.RemoveMark user own) old new h = h
 one_of mailbox (below.Count uidnext shared) old new h = h
 
 pub all_below : (mailbox : ℤ) (changes : List ChangeBelow) (old new : Trees) → MakesAllBelow mailbox changes old new → MakesBelowAll mailbox (map below_of changes) old new
@@ -61,6 +63,7 @@ MakesStep (PutEpoch tree path greatest) old new = (mid : Trees) × Removes old m
 MakesStep (PutSubscription user tree path) old new = (mid : Trees) × Removes old mid 12 (IsSubOf user tree path) × Adds mid new 12 (sub_row user tree path)
 MakesStep (RemoveSubscription user tree path) old new = Removes old new 12 (IsSubOf user tree path)
 MakesStep (Below tree path steps) old new = (mailbox : ℤ) × IsIdOf old tree path mailbox × MakesBelowAll mailbox steps old new
+MakesStep AllowGaps old new = AllowsGaps old new
 
 abbrev pub MakesSteps : List Step → (old new : Trees) → Type 0
 MakesSteps [] old new = new ≡ old
@@ -74,6 +77,7 @@ step_made (change.PutEpoch key greatest) old new h = h
 step_made (change.PutSubscription user key) old new h = h
 step_made (change.RemoveSubscription user key) old new h = h
 step_made (change.Below key changes) old new (mailbox, found, made) = (mailbox, found, all_below mailbox changes.items old new made)
+step_made change.AllowGaps old new h = h
 
 pub all_made : (changes : List RowChange) (old new : Trees) → MakesAll changes old new → MakesSteps (steps_in changes) old new
 all_made [] old new h = h

@@ -16,7 +16,7 @@ use Rattle.imap_mailbox.proofs.ExpungedAll.{all_stay, filter_twice}
 use Rattle.imap_names.specs.Name.{Name}
 use Rattle.imap_world.specs.World.{World}
 use Rattle.imap_records.specs.Columns.{flag_bits, gone_values, keywords_text, message_values, place_value}
-use Rattle.imap_records.specs.Standing.{IsGone, IsMessage}
+use Rattle.imap_records.specs.Standing.{IsGone, IsMessage, Kept}
 use Rattle.imap_records.specs.Steps.{RemoveMessage, flag_step, gone_step, message_step}
 use Rattle.imap_records.proofs.Beside.{IsBeside, IsFree, IsIt, alike, gone_added, message_added, message_flagged, message_removed, same_id, with_flags}
 use Rattle.imap_records.proofs.Making.{MakesBelowAll}
@@ -148,38 +148,38 @@ left i uid ms v = (to, from)
 
 -- ---- lists of them
 
-module _ (B : World) (id : Name → ℤ) (i : ℤ) (free : IsFree B id i) (own : Row) (E : Row → Type 0) where
+module _ (B : World) (id : Name → ℤ) (kept : Name → Kept) (i : ℤ) (free : IsFree B id i) (own : Row) (E : Row → Type 0) where
   abbrev Has4 : Trees → List Message → (G K : Row → Type 0) → Type 0
-  Has4 db ms G K = IsBeside B id db own E (IsMessage ms i) G K
+  Has4 db ms G K = IsBeside B id kept db own E (IsMessage ms i) G K
 
-  there_alike : (db : Trees) (M : Row → Type 0) (ms : List Message) (G K : Row → Type 0) → ((v : Row) → M v ↔ IsMessage ms i v) → IsBeside B id db own E M G K → Has4 db ms G K
-  there_alike db M ms G K iff b = alike B id db own E M G K b E (IsMessage ms i) G K (λ v. (λ h. h, λ h. h)) iff (λ v. (λ h. h, λ h. h)) (λ v. (λ h. h, λ h. h))
+  there_alike : (db : Trees) (M : Row → Type 0) (ms : List Message) (G K : Row → Type 0) → ((v : Row) → M v ↔ IsMessage ms i v) → IsBeside B id kept db own E M G K → Has4 db ms G K
+  there_alike db M ms G K iff b = alike B id kept db own E M G K b E (IsMessage ms i) G K (λ v. (λ h. h, λ h. h)) iff (λ v. (λ h. h, λ h. h)) (λ v. (λ h. h, λ h. h))
 
   pub all_added : (xs ms : List Message) (db new : Trees) (G K : Row → Type 0) → MakesBelowAll i (map message_step xs) db new → Has4 db ms G K → Has4 new (ms ++ xs) G K
   all_added [] ms db new G K made b = subst (λ l. Has4 new l G K) (sym (append-nil ms)) (subst (λ (d : Trees). Has4 d ms G K) (sym made) b)
   all_added (x ∷ xs) ms db new G K (mid, adds, rest) b =
       subst (λ l. Has4 new l G K) (append_assoc ms (x ∷ []) xs)
       (all_added xs (ms ++ x ∷ []) mid new G K rest
-      (there_alike mid (λ v. IsMessage ms i v ⊎ (v ≡ message_values i x)) (ms ++ x ∷ []) G K (message_more i ms x) (message_added B id db mid own E (IsMessage ms i) G K b (message_values i x) adds)))
+      (there_alike mid (λ v. IsMessage ms i v ⊎ (v ≡ message_values i x)) (ms ++ x ∷ []) G K (message_more i ms x) (message_added B id kept db mid own E (IsMessage ms i) G K b (message_values i x) adds)))
 
   pub all_flagged : (cs : List FlagChange) (ms : List Message) (db new : Trees) (G K : Row → Type 0) → MakesBelowAll i (map flag_step cs) db new → Has4 db ms G K → Has4 new (with_flag_changes cs ms) G K
   all_flagged [] ms db new G K made b = subst (λ (d : Trees). Has4 d ms G K) (sym made) b
   all_flagged (c ∷ cs) ms db new G K (mid, flags, rest) b =
       all_flagged cs (map (flags_in c.uid c.flags c.place) ms) mid new G K rest
       (there_alike mid (WithFlags i c ms) (map (flags_in c.uid c.flags c.place) ms) G K (flagged i c ms)
-      (message_flagged B id db mid own E (IsMessage ms i) G K b i free c.uid (flag_bits c.flags) (keywords_text c.flags.keywords) (place_value c.place) flags))
+      (message_flagged B id kept db mid own E (IsMessage ms i) G K b i free c.uid (flag_bits c.flags) (keywords_text c.flags.keywords) (place_value c.place) flags))
 
   pub all_removed : (uids : List ℕ) (ms : List Message) (db new : Trees) (G K : Row → Type 0) → MakesBelowAll i (map RemoveMessage uids) db new → Has4 db ms G K → Has4 new (without_all uids ms) G K
   all_removed [] ms db new G K made b = subst (λ l. Has4 new l G K) (sym (all_stay ms)) (subst (λ (d : Trees). Has4 d ms G K) (sym made) b)
   all_removed (uid ∷ uids) ms db new G K (mid, removes, rest) b =
       subst (λ l. Has4 new l G K) (filter_twice uid uids ms)
       (all_removed uids (without uid ms) mid new G K rest
-      (there_alike mid (λ v. IsMessage ms i v × ¬ IsIt i uid v) (without uid ms) G K (left i uid ms) (message_removed B id db mid own E (IsMessage ms i) G K b i free uid removes)))
+      (there_alike mid (λ v. IsMessage ms i v × ¬ IsIt i uid v) (without uid ms) G K (left i uid ms) (message_removed B id kept db mid own E (IsMessage ms i) G K b i free uid removes)))
 
   pub all_gone : (xs gs : List GoneMessage) (ms : List Message) (db new : Trees) (K : Row → Type 0) → MakesBelowAll i (map gone_step xs) db new → Has4 db ms (IsGone gs i) K → Has4 new ms (IsGone (gs ++ xs) i) K
   all_gone [] gs ms db new K made b = subst (λ l. Has4 new ms (IsGone l i) K) (sym (append-nil gs)) (subst (λ (d : Trees). Has4 d ms (IsGone gs i) K) (sym made) b)
   all_gone (x ∷ xs) gs ms db new K (mid, adds, rest) b =
       subst (λ l. Has4 new ms (IsGone l i) K) (append_assoc gs (x ∷ []) xs)
       (all_gone xs (gs ++ x ∷ []) ms mid new K rest
-      (alike B id mid own E (IsMessage ms i) (λ v. IsGone gs i v ⊎ (v ≡ gone_values i x)) K (gone_added B id db mid own E (IsMessage ms i) (IsGone gs i) K b (gone_values i x) adds)
+      (alike B id kept mid own E (IsMessage ms i) (λ v. IsGone gs i v ⊎ (v ≡ gone_values i x)) K (gone_added B id kept db mid own E (IsMessage ms i) (IsGone gs i) K b (gone_values i x) adds)
       E (IsMessage ms i) (IsGone (gs ++ x ∷ []) i) K (λ v. (λ h. h, λ h. h)) (λ v. (λ h. h, λ h. h)) (gone_more i gs x) (λ v. (λ h. h, λ h. h))))

@@ -24,7 +24,7 @@ use Rattle.imap_records.specs.Columns.{row_of_mailbox, tree_at, tree_text}
 use Rattle.imap_records.specs.Standing.{IsEntry, IsEpoch, IsGone, IsMailbox, IsMark, IsMessage, IsSubscription, IsUnder, StandFor}
 use Rattle.imap_records.specs.Standing.{entries, messages, gone, marks}
 use Rattle.imap_records.specs.Steps.{arrival_steps}
-use Rattle.imap_records.proofs.Closing.{IsSetBeside, none_left, others_apart, others_free, others_named, put_among, set_beside, with_mailbox}
+use Rattle.imap_records.proofs.Closing.{IsSetBeside, none_left, others_apart, others_found, others_free, others_named, put_among, set_beside, with_mailbox}
 use Rattle.imap_records.proofs.Keys.{same_key, same_text}
 use Rattle.imap_records.proofs.Making.{MakesSteps}
 use Rattle.imap_records.proofs.Others.{epoch_put}
@@ -43,7 +43,7 @@ module _ (old new : Trees) (world : World) (stand : StandFor old world) (from to
   abbrev n : Mailbox
   n = record m { validity = validity }
 
-  b : IsSetBeside B stand.id i old (row_of_mailbox from m i) m
+  b : IsSetBeside B stand.id stand.kept i old (row_of_mailbox from m i) m (stand.kept from)
   b = set_beside world from m there old stand
 
   -- no other row has the name
@@ -79,19 +79,20 @@ module _ (old new : Trees) (world : World) (stand : StandFor old world) (from to
       subst (λ (r : Row). Has (new 0) r) (moved_is ∙ sym is) (replaces.replaced (row_of_mailbox from m i) ((b.mailboxes (row_of_mailbox from m i)).1 (inl refl)) (refl, refl))
   from_row row (inr u) = replaces.kept row ((b.mailboxes row).1 (inr u)) (other row u)
 
-  moved_beside : IsSetBeside B stand.id i new (row_of_mailbox to n i) n
+  moved_beside : IsSetBeside B stand.id stand.kept i new (row_of_mailbox to n i) n (stand.kept from)
   moved_beside = record {
     mailboxes = λ row. (to_row row, from_row row);
-    acl = same_rows (old 2) (new 2) (λ v. IsEntry m.acl i v ⊎ IsUnder B stand.id entries v) (acl_stays old new 0 replaces.others refl) b.acl;
-    there = same_rows (old 4) (new 4) (λ v. IsMessage m.messages.messages i v ⊎ IsUnder B stand.id messages v) (message_stays old new 0 replaces.others refl) b.there;
-    went = same_rows (old 6) (new 6) (λ v. IsGone m.messages.gone i v ⊎ IsUnder B stand.id gone v) (gone_stays old new 0 replaces.others refl) b.went;
-    seen = same_rows (old 8) (new 8) (λ v. IsMark m.messages.own i v ⊎ IsUnder B stand.id marks v) (mark_stays old new 0 replaces.others refl) b.seen;
+    acl = same_rows (old 2) (new 2) (λ v. IsEntry m.acl i v ⊎ IsUnder B stand.id stand.kept entries v) (acl_stays old new 0 replaces.others refl) b.acl;
+    there = same_rows (old 4) (new 4) (λ v. IsMessage m.messages.messages i v ⊎ IsUnder B stand.id stand.kept messages v) (message_stays old new 0 replaces.others refl) b.there;
+    went = same_rows (old 6) (new 6) (λ v. IsGone m.messages.gone i v ⊎ IsUnder B stand.id stand.kept gone v) (gone_stays old new 0 replaces.others refl) b.went;
+    seen = same_rows (old 8) (new 8) (λ v. IsMark (stand.kept from) i v ⊎ IsUnder B stand.id stand.kept marks v) (mark_stays old new 0 replaces.others refl) b.seen;
     epochs = same_rows (old 10) (new 10) (IsEpoch B.epochs) (epoch_stays old new 0 replaces.others refl) b.epochs;
     subscriptions = same_rows (old 12) (new 12) (IsSubscription B) (sub_stays old new 0 replaces.others refl) b.subscriptions;
   }
 
   pub mailbox_moved : IsName to → map.get world.mailboxes to ≡ None → StandFor new (with_mailbox B to n)
-  mailbox_moved valid absent = put_among B stand.id to i n none (others_free world from m there old stand) (others_apart world from m there old stand) (others_named world from m there old stand) valid new moved_beside
+  mailbox_moved valid absent = put_among B stand.id stand.kept to i (stand.kept from) n none (others_free world from m there old stand) (others_apart world from m there old stand) (others_named world from m there old stand)
+      (others_found world from m there old stand) valid (stand.found from m there) new moved_beside
     where
       by : (c : Bool) → cond c None (map.get world.mailboxes to) ≡ None
       by true = refl

@@ -41,6 +41,8 @@ new_stores_stand db world made mailboxes epochs subscriptions =
     let empty = made.empty in
     record {
       id = λ q. pos 0;
+      kept = λ q user. [];
+      found = λ q m is. absurd (none q m is);
       apart = λ a b m n ha hb same. absurd (none a m ha);
       named = record {
         mailboxes = λ q m is. absurd (none q m is);
@@ -53,11 +55,11 @@ new_stores_stand db world made mailboxes epochs subscriptions =
       subscriptions = no_rows (db 12) (IsSubscription world) empty.1.1.1.1.1.1.0 (λ v s. no_names world mailboxes epochs subscriptions s.user s.name s.there);
     }
   where
-    under : (child : Child) (v : Row) → IsUnder world (λ q. pos 0) child v → ⊥
+    under : (child : Child) (v : Row) → IsUnder world (λ q. pos 0) (λ q user. []) child v → ⊥
     under child v u = no_mailbox world mailboxes epochs subscriptions u.name u.mailbox u.there
 
-    below : (child : Child) → AreRows (db (tree_of child)) (IsUnder world (λ q. pos 0) child)
-    below entries = no_rows (db 2) (IsUnder world (λ q. pos 0) entries) made.empty.1.0 (under entries)
-    below messages = no_rows (db 4) (IsUnder world (λ q. pos 0) messages) made.empty.1.1.0 (under messages)
-    below gone = no_rows (db 6) (IsUnder world (λ q. pos 0) gone) made.empty.1.1.1.0 (under gone)
-    below marks = no_rows (db 8) (IsUnder world (λ q. pos 0) marks) made.empty.1.1.1.1.0 (under marks)
+    below : (child : Child) → AreRows (db (tree_of child)) (IsUnder world (λ q. pos 0) (λ q user. []) child)
+    below entries = no_rows (db 2) (IsUnder world (λ q. pos 0) (λ q user. []) entries) made.empty.1.0 (under entries)
+    below messages = no_rows (db 4) (IsUnder world (λ q. pos 0) (λ q user. []) messages) made.empty.1.1.0 (under messages)
+    below gone = no_rows (db 6) (IsUnder world (λ q. pos 0) (λ q user. []) gone) made.empty.1.1.1.0 (under gone)
+    below marks = no_rows (db 8) (IsUnder world (λ q. pos 0) (λ q user. []) marks) made.empty.1.1.1.1.0 (under marks)

@@ -1,6 +1,6 @@
 -- Tables stand for one world at most.
 use Rattle.std.proofs.Common.{◌≡◌, ◌≢◌, ◌⊎◌, inl, inr, ℕ, suc, ◌+◌, ◌<◌, ◌≤◌, Bool, true, false, List, [], ◌∷◌, map as map_list, Option, Some, None, is_some, refl, sym, ap, subst, ◌∙◌, true≢false, arith}
-use Rattle.std.specs.Prelude.{option_and_then, slice_get, unwrap_or}
+use Rattle.std.specs.Prelude.{option_and_then, unwrap_or}
 use Rattle.std.specs.Cmp.Lexicographic.{nat_list_cmp_total, slice_cmp}
 use Rattle.std.specs.Ordering.{is_lt, nat_cmp, ordering_reverse}
 use Rattle.std.specs.declared.cmp.Ordering.{Ordering}
@@ -15,9 +15,10 @@ use Rattle.sqlite.specs.Tree.{Trees}
 use Rattle.sqlite_rules.specs.Lists.{Has}
 use Rattle.imap_mailbox.specs.declared.message.GoneMessage.{GoneMessage}
 use Rattle.imap_mailbox.specs.declared.message.Message.{Message}
-use Rattle.imap_mailbox.specs.declared.own.SeenChange.{SeenChange}
+use Rattle.imap_mailbox.specs.declared.kept_change.KeptChange.{KeptChange}
 use Rattle.imap_mailbox.specs.Held.{IsKept}
-use Rattle.imap_mailbox.specs.History.{own_at}
+use Rattle.imap_mailbox.specs.KeptRows.{AreKept}
+use Rattle.imap_mailbox.specs.Own.{Own, found_in, no_own, own_at}
 use Rattle.imap_mailbox.specs.Summary.{Rises}
 use Rattle.imap_names.specs.Name.{Name, path_of}
 use Rattle.imap_names.proofs.NameLaws.{same_names}
@@ -118,12 +119,15 @@ same_acl : (a b : AclMap) → ((e : List ℕ × ℕ) → Has (map.entries a) e �
 same_acl a b to from =
     same_entries_map a b (same_lists IsLess one_less (map.entries a) (map.entries b) (entries_in_order (map.entries a) (is_true _ (entries_sorted a))) (entries_in_order (map.entries b) (is_true _ (entries_sorted b))) to from)
 
--- lists with the same elements at all places
-same_places : {X : Type 0} (xs ys : List X) → ((j : ℕ) (x : X) → slice_get xs j ≡ Some x → slice_get ys j ≡ Some x) → ((j : ℕ) (x : X) → slice_get ys j ≡ Some x → slice_get xs j ≡ Some x) → xs ≡ ys
-same_places [] [] to from = refl
-same_places [] (y ∷ ys) to from = absurd (cc (from 0 y refl))
-same_places (x ∷ xs) [] to from = absurd (cc (to 0 x refl))
-same_places (x ∷ xs) (y ∷ ys) to from = λ i. sym (same_some y x (to 0 x refl)) i ∷ same_places xs ys (λ j z. to (suc j) z) (λ j z. from (suc j) z) i
+-- changes in the order of their places
+later_than : (rows : List KeptChange) (done low high : ℕ) → AreKept done low high rows → (y : KeptChange) → Has rows y → done ≤ y.place
+later_than [] done low high h y none = absurd none
+later_than (k ∷ rows) done low high h y (inl e) = subst (λ (z : KeptChange). done ≤ z.place) (sym e) h.0.place
+later_than (k ∷ rows) done low high h y (inr there) = let at = h.0.place in let more = later_than rows (k.place + 1) k.before high h.1 y there in omega (arith, at, more)
+
+kept_order : (rows : List KeptChange) (done low high : ℕ) → AreKept done low high rows → InOrder (λ (x y : KeptChange). x.place < y.place) (λ x y a b. omega (arith, a, b)) rows
+kept_order [] done low high h = tt
+kept_order (k ∷ rows) done low high h = (λ y there. let more = later_than rows (k.place + 1) k.before high h.1 y there in omega (arith, more), kept_order rows (k.place + 1) k.before high h.1)
 
 -- two answers that are there alike
 same_options : {X : Type 0} (o p : Option X) → ((x : X) → o ≡ Some x → p ≡ Some x) → ((x : X) → p ≡ Some x → o ≡ Some x) → o ≡ p
@@ -136,11 +140,11 @@ same_tests true c to from = sym (to refl)
 same_tests false true to from = from refl
 same_tests false false to from = refl
 
--- maps without empty lists that give each user the same
-same_own : (own other : Users (List SeenChange)) → ((user : List ℕ) → map.get own user ≢ Some []) → ((user : List ℕ) → map.get other user ≢ Some []) → ((user : List ℕ) → own_at own user ≡ own_at other user) → own ≡ other
+-- maps without users that have no change, which give each user the same
+same_own : (own other : Users Own) → ((user : List ℕ) → map.get own user ≢ Some no_own) → ((user : List ℕ) → map.get other user ≢ Some no_own) → ((user : List ℕ) → own_at own user ≡ own_at other user) → own ≡ other
 same_own own other filled full same = same_answers own other (λ user. by (map.get own user) (map.get other user) (filled user) (full user) (same user))
   where
-    by : (a b : Option (List SeenChange)) → a ≢ Some [] → b ≢ Some [] → unwrap_or a [] ≡ unwrap_or b [] → a ≡ b
+    by : (a b : Option Own) → a ≢ Some no_own → b ≢ Some no_own → unwrap_or a no_own ≡ unwrap_or b no_own → a ≡ b
     by None None f g e = refl
     by None (Some l) f g e = absurd (g (ap Some (sym e)))
     by (Some l) None f g e = absurd (f (ap Some e))
@@ -174,16 +178,17 @@ module _ (db : Trees) (s t : World) (ks : (q : Name) (m : Mailbox) → map.get s
       }
 
   -- what is below a mailbox of the first is below that of the second
-  below_also : (child : Child) (q : Name) (m n : Mailbox) → map.get s.mailboxes q ≡ Some m → map.get t.mailboxes q ≡ Some n → a.id q ≡ b.id q → (v : Row) → IsOf child m (a.id q) v → IsOf child n (b.id q) v
+  below_also : (child : Child) (q : Name) (m n : Mailbox) → map.get s.mailboxes q ≡ Some m → map.get t.mailboxes q ≡ Some n → a.id q ≡ b.id q → (v : Row) → IsOf child m (a.kept q) (a.id q) v → IsOf child n (b.kept q) (b.id q) v
   below_also child q m n hm hn ids v is =
       let row = (a.below child).complete v (record { name = q; mailbox = m; there = hm; shown = is }) in
       let found = (b.below child).sound (Int row.0 ∷ v) row.1 in
-      let u : IsUnder t b.id child found.values = found.meant in
+      let u : IsUnder t b.id b.kept child found.values = found.meant in
       let same_values : v ≡ found.values = ap (λ (r : Row). tail_of r) found.shown in
       let same : u.name ≡ q = b.apart u.name q u.mailbox n u.there hn
-      (same_id (b.id u.name) (b.id q) (sym (first_of child u.mailbox (b.id u.name) found.values u.shown) ∙ ap (λ (r : Row). column r 0) (sym same_values) ∙ first_of child m (a.id q) v is ∙ ap (λ n. Int n) ids)) in
+      (same_id (b.id u.name) (b.id q) (sym (first_of child u.mailbox (b.kept u.name) (b.id u.name) found.values u.shown) ∙ ap (λ (r : Row). column r 0) (sym same_values) ∙ first_of child m (a.kept q) (a.id q) v is ∙ ap (λ n. Int n) ids)) in
       let k : u.mailbox ≡ n = same_some u.mailbox n (sym u.there ∙ ap (map.get t.mailboxes) same ∙ hn) in
-      subst (λ (w : Row). IsOf child n (b.id q) w) (sym same_values) (subst (λ (x : Mailbox). IsOf child x (b.id q) found.values) k (subst (λ (x : Name). IsOf child u.mailbox (b.id x) found.values) same u.shown))
+      subst (λ (w : Row). IsOf child n (b.kept q) (b.id q) w) (sym same_values)
+      (subst (λ (x : Mailbox). IsOf child x (b.kept q) (b.id q) found.values) k (subst (λ (x : Name). IsOf child u.mailbox (b.kept x) (b.id x) found.values) same u.shown))
 
   entries_also : (q : Name) (m n : Mailbox) → map.get s.mailboxes q ≡ Some m → map.get t.mailboxes q ≡ Some n → a.id q ≡ b.id q → (e : List ℕ × ℕ) → Has (map.entries m.acl) e → Has (map.entries n.acl) e
   entries_also q m n hm hn ids e there =
@@ -203,12 +208,11 @@ module _ (db : Trees) (s t : World) (ks : (q : Name) (m : Mailbox) → map.get s
       let h = below_also gone q m n hm hn ids (gone_values (a.id q) x) (record { message = x; there = there; shown = refl }) in
       subst (λ (y : GoneMessage). Has n.messages.gone y) (sym (same_gone (a.id q) (b.id q) x h.message h.shown)) h.there
 
-  marks_also : (q : Name) (m n : Mailbox) → map.get s.mailboxes q ≡ Some m → map.get t.mailboxes q ≡ Some n → a.id q ≡ b.id q → (user : List ℕ) (j : ℕ) (x : SeenChange)
-      → slice_get (own_at m.messages.own user) j ≡ Some x → slice_get (own_at n.messages.own user) j ≡ Some x
-  marks_also q m n hm hn ids user j x there =
-      let h = below_also marks q m n hm hn ids (mark_values (a.id q) user j x) (record { user = user; place = j; change = x; there = there; shown = refl }) in
-      let k = same_mark (a.id q) (b.id q) user h.user j h.place x h.change h.shown in
-      (λ i. slice_get (own_at n.messages.own (k.users i)) (k.places i)) ∙ h.there ∙ ap Some (sym k.changes)
+  marks_also : (q : Name) (m n : Mailbox) → map.get s.mailboxes q ≡ Some m → map.get t.mailboxes q ≡ Some n → a.id q ≡ b.id q → (user : List ℕ) (x : KeptChange) → Has (a.kept q user) x → Has (b.kept q user) x
+  marks_also q m n hm hn ids user x there =
+      let h = below_also marks q m n hm hn ids (mark_values (a.id q) user x) (record { user = user; change = x; there = there; shown = refl }) in
+      let k = same_mark (a.id q) (b.id q) user h.user x h.change h.shown in
+      subst (λ (u : List ℕ). Has (b.kept q u) x) (sym k.users) (subst (λ (y : KeptChange). Has (b.kept q h.user) y) (sym k.changes) h.there)
 
   epochs_also : (q : Name) (n : ℕ) → map.get s.epochs q ≡ Some n → map.get t.epochs q ≡ Some n
   epochs_also q n there =
@@ -249,7 +253,13 @@ module _ (db : Trees) (s t : World) (ks : (q : Name) (m : Mailbox) → map.get s
       (in_order (λ (x : GoneMessage). x.place) m.messages.gone 0 m.messages.shared x.sound.places) (in_order (λ (x : GoneMessage). x.place) n.messages.gone 0 n.messages.shared y.sound.places)
       (gone_also db s t ks kt vs vt a b q m n there o.there ids) (gone_also db t s kt ks vt vs b a q n m o.there there (sym ids)) in
       let own_are = same_own m.messages.own n.messages.own x.filled y.filled
-      (λ user. same_places (own_at m.messages.own user) (own_at n.messages.own user) (marks_also db s t ks kt vs vt a b q m n there o.there ids user) (marks_also db t s kt ks vt vs b a q n m o.there there (sym ids) user)) in
+      (λ user.
+      let one = a.found q m there in
+      let two = b.found q n o.there in
+      let kept = same_lists (λ (x y : KeptChange). x.place < y.place) (λ x y h k. omega (arith, h, k)) (a.kept q user) (b.kept q user)
+      (kept_order (a.kept q user) 0 0 m.messages.shared (one.order user)) (kept_order (b.kept q user) 0 0 n.messages.shared (two.order user))
+      (marks_also db s t ks kt vs vt a b q m n there o.there ids user) (marks_also db t s kt ks vt vs b a q n m o.there there (sym ids) user) in
+      sym (one.found user) ∙ ap found_in kept ∙ two.found user) in
       o.there
       ∙ ap Some (sym (λ i. record {
         validity = o.validity i;

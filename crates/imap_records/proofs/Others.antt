@@ -18,9 +18,9 @@ use Rattle.imap_world.specs.World.{NameSet, World, set_of, subscribed_by}
 use Rattle.imap_tables.specs.Edits.{IsEpochOf, IsSubOf, KeepsOthers}
 use Rattle.imap_world.proofs.Sets.{get_with_option, set_of-if_filled}
 use Rattle.imap_records.specs.Columns.{epoch_values, subscription_values, tree_text}
-use Rattle.imap_records.specs.Standing.{AreRows, Child, IsEpoch, IsMailbox, IsSubscription, IsUnder, StandFor, tree_of}
+use Rattle.imap_records.specs.Standing.{AreRows, Child, IsEpoch, IsMailbox, IsSubscription, IsUnder, Kept, StandFor, tree_of}
 use Rattle.imap_records.specs.Standing.{entries, messages, gone, marks}
-use Rattle.imap_records.specs.Steps.{PutSubscription, RemoveSubscription, epoch_step}
+use Rattle.imap_records.specs.Steps.{AllowGaps, PutSubscription, RemoveSubscription, epoch_step}
 use Rattle.imap_records.proofs.Closing.{same_some}
 use Rattle.imap_records.proofs.Keys.{same_key, same_text}
 use Rattle.imap_records.proofs.Making.{MakesStep}
@@ -39,8 +39,8 @@ module _ (old new : Trees) (tree : ℕ) (keeps : KeepsOthers old new tree) where
 mailbox_of : (w x : World) (id : Name → ℤ) (row : Row) → w.mailboxes ≡ x.mailboxes → IsMailbox w id row → IsMailbox x id row
 mailbox_of w x id row same u = record { name = u.name; mailbox = u.mailbox; there = ap (λ m. map.get m u.name) (sym same) ∙ u.there; shown = u.shown }
 
-under_of : (w x : World) (id : Name → ℤ) (child : Child) (v : Row) → w.mailboxes ≡ x.mailboxes → IsUnder w id child v → IsUnder x id child v
-under_of w x id child v same u = record { name = u.name; mailbox = u.mailbox; there = ap (λ m. map.get m u.name) (sym same) ∙ u.there; shown = u.shown }
+under_of : (w x : World) (id : Name → ℤ) (kept : Name → Kept) (child : Child) (v : Row) → w.mailboxes ≡ x.mailboxes → IsUnder w id kept child v → IsUnder x id kept child v
+under_of w x id kept child v same u = record { name = u.name; mailbox = u.mailbox; there = ap (λ m. map.get m u.name) (sym same) ∙ u.there; shown = u.shown }
 
 -- ---- a UIDVALIDITY is put
 
@@ -103,6 +103,8 @@ with_epoch world name greatest = record world { epochs = map.insert world.epochs
 pub epoch_put : (old new : Trees) (world : World) (name : Name) (greatest : ℕ) → IsName name → StandFor old world → MakesStep (epoch_step name greatest) old new → StandFor new (with_epoch world name greatest)
 epoch_put old new world name greatest valid stand (mid, removes, adds) = record {
   id = stand.id;
+  kept = stand.kept;
+  found = stand.found;
   apart = stand.apart;
   named = record {
     mailboxes = stand.named.mailboxes;
@@ -111,10 +113,10 @@ epoch_put old new world name greatest valid stand (mid, removes, adds) = record 
   };
   mailboxes = λ row. subst (λ (rows : List Row). Has rows row ↔ IsMailbox (with_epoch world name greatest) stand.id row) (sym (mailbox_stays mid new 10 adds.others refl ∙ mailbox_stays old mid 10 removes.others refl))
       (λ has. mailbox_of world (with_epoch world name greatest) stand.id row refl ((stand.mailboxes row).0 has), λ u. (stand.mailboxes row).1 (mailbox_of (with_epoch world name greatest) world stand.id row refl u));
-  below = λ child. same_rows (old (tree_of child)) (new (tree_of child)) (IsUnder (with_epoch world name greatest) stand.id child)
+  below = λ child. same_rows (old (tree_of child)) (new (tree_of child)) (IsUnder (with_epoch world name greatest) stand.id stand.kept child)
       (children_stay mid new 10 adds.others refl refl refl refl child ∙ children_stay old mid 10 removes.others refl refl refl refl child)
-      (rows_alike (old (tree_of child)) (IsUnder world stand.id child) (IsUnder (with_epoch world name greatest) stand.id child)
-      (λ v. under_of world (with_epoch world name greatest) stand.id child v refl) (λ v. under_of (with_epoch world name greatest) world stand.id child v refl) (stand.below child));
+      (rows_alike (old (tree_of child)) (IsUnder world stand.id stand.kept child) (IsUnder (with_epoch world name greatest) stand.id stand.kept child)
+      (λ v. under_of world (with_epoch world name greatest) stand.id stand.kept child v refl) (λ v. under_of (with_epoch world name greatest) world stand.id stand.kept child v refl) (stand.below child));
   epochs = rows_alike (new 10) (λ v. (IsEpoch world.epochs v × ¬ IsAt name v) ⊎ (v ≡ epoch_values name greatest)) (IsEpoch (map.insert world.epochs name greatest))
       (epoch_to world.epochs name greatest valid stand.named.epochs) (epoch_from world.epochs name greatest valid stand.named.epochs)
       (rows_added mid new 10 (λ v. IsEpoch world.epochs v × ¬ IsAt name v)
@@ -266,6 +268,8 @@ subscriptions_changed : (old new : Trees) (world after : World) → StandFor old
     → AreRows (new 12) (IsSubscription after) → StandFor new after
 subscriptions_changed old new world after stand same epochs z children ten named rows = record {
   id = stand.id;
+  kept = stand.kept;
+  found = λ q m h. stand.found q m (ap (λ k. map.get k q) (sym same) ∙ h);
   apart = λ a b m n ha hb e. stand.apart a b m n (ap (λ k. map.get k a) (sym same) ∙ ha) (ap (λ k. map.get k b) (sym same) ∙ hb) e;
   named = record {
     mailboxes = λ q m h. stand.named.mailboxes q m (ap (λ k. map.get k q) (sym same) ∙ h);
@@ -274,8 +278,8 @@ subscriptions_changed old new world after stand same epochs z children ten named
   };
   mailboxes = λ row. subst (λ (rows : List Row). Has rows row ↔ IsMailbox after stand.id row) (sym z)
       (λ has. mailbox_of world after stand.id row (sym same) ((stand.mailboxes row).0 has), λ u. (stand.mailboxes row).1 (mailbox_of after world stand.id row same u));
-  below = λ child. same_rows (old (tree_of child)) (new (tree_of child)) (IsUnder after stand.id child) (children child)
-      (rows_alike (old (tree_of child)) (IsUnder world stand.id child) (IsUnder after stand.id child) (λ v. under_of world after stand.id child v (sym same)) (λ v. under_of after world stand.id child v same) (stand.below child));
+  below = λ child. same_rows (old (tree_of child)) (new (tree_of child)) (IsUnder after stand.id stand.kept child) (children child)
+      (rows_alike (old (tree_of child)) (IsUnder world stand.id stand.kept child) (IsUnder after stand.id stand.kept child) (λ v. under_of world after stand.id stand.kept child v (sym same)) (λ v. under_of after world stand.id stand.kept child v same) (stand.below child));
   epochs = same_rows (old 10) (new 10) (IsEpoch after.epochs) ten (subst (λ k. AreRows (old 10) (IsEpoch k)) (sym epochs) stand.epochs);
   subscriptions = rows;
 }
@@ -306,3 +310,9 @@ subscription_removed old new world user name valid stand removes =
     (rows_alike (new 12) (λ v. IsSubscription world v × ¬ IsSubAt user name v) (IsSubscription after)
     (λ v h. stays world after user name valid named elsewhere v h.0 h.1) (gone_from world after user name valid named elsewhere (sub_absent world user name))
     (rows_left old new 12 (IsSubscription world) stand.subscriptions (IsSubOf user (tree_text name) (path_of name)) (IsSubAt user name) (λ n v h. h) (λ n v h. h) removes))
+
+-- the tables say that own changes may be missing
+pub gaps_allowed : (old new : Trees) (world : World) → StandFor old world → MakesStep AllowGaps old new → StandFor new world
+gaps_allowed old new world stand sets =
+    subscriptions_changed old new world world stand refl refl (mailbox_stays old new 14 sets.others refl) (λ child. children_stay old new 14 sets.others refl refl refl refl child)
+    (epoch_stays old new 14 sets.others refl) stand.named.subscriptions (same_rows (old 12) (new 12) (IsSubscription world) (sub_stays old new 14 sets.others refl) stand.subscriptions)

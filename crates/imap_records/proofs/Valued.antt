@@ -22,8 +22,8 @@ use Rattle.imap_batch.specs.declared.write.BatchWrite.{BatchWrite}
 use Rattle.imap_batch.proofs.Entering.{writes_are_entered}
 use Rattle.imap_mailbox.specs.declared.flags.SharedFlags.{SharedFlags}
 use Rattle.imap_mailbox.specs.declared.message.Message.{Message}
-use Rattle.imap_mailbox.specs.declared.own.SeenChange.{SeenChange}
-use Rattle.imap_mailbox.specs.History.{end_uid, own_at}
+use Rattle.imap_mailbox.specs.History.{end_uid}
+use Rattle.imap_mailbox.specs.Own.{Own, no_own, own_at}
 use Rattle.imap_modseq.specs.Numbers.{max_events}
 use Rattle.imap_mailbox.specs.Rows.{is_among}
 use Rattle.imap_mailbox.specs.Summary.{Summary, flags_in}
@@ -125,13 +125,13 @@ batch_keeps w s may valid has = record { next = batch_next w s may has.next; mes
         (joined_have s.messages (messages_added w) has.messages (added_have w.first_uid w.first_place w.batch.added valid.added)) m
         (has_filtered (λ (x : Message). not (is_among x.uid w.batch.expunged)) all m (subst (λ l. Has l m) e.messages there)).0
 
-    users : (user : List ℕ) (change : SeenChange) → Has (own_at (with_batch w.batch s).own user) change → is_utf8 user ≡ true
-    users user change there = by (bytes_eq user w.batch.user) refl
+    users : (user : List ℕ) (before : ℕ) → Has (own_at (with_batch w.batch s).own user).befores before → is_utf8 user ≡ true
+    users user before there = by (bytes_eq user w.batch.user) refl
       where
         by : (b : Bool) → bytes_eq user w.batch.user ≡ b → is_utf8 user ≡ true
         by true e = ap is_utf8 ((bytes_eq-Decides user w.batch.user).0 e) ∙ valid.user
         by false e =
-            has.users user change (subst (λ l. Has l change) ((writes_are_entered s w may).others user (λ h. true≢false (sym ((bytes_eq-Decides user w.batch.user).1 h) ∙ e))) there)
+            has.users user before (subst (λ (o : Own). Has o.befores before) ((writes_are_entered s w may).others user (λ h. true≢false (sym ((bytes_eq-Decides user w.batch.user).1 h) ∙ e))) there)
 
 -- ---- mailboxes
 
@@ -219,11 +219,11 @@ write_keeps (write.Put row) world may valid has = record {
   filled = has.filled;
 }
   where
-    nothing : (user : List ℕ) → own_at map.empty user ≡ []
-    nothing user = ap (λ o. unwrap_or o []) (get-empty (slice_cmp nat_cmp) user)
+    nothing : (user : List ℕ) → own_at map.empty user ≡ no_own
+    nothing user = ap (λ o. unwrap_or o no_own) (get-empty (slice_cmp nat_cmp) user)
 
     empty : HasValues no_messages
-    empty = record { next = omega (arith); messages = λ m none. absurd none; users = λ user c there. absurd (subst (λ l. Has l c) (nothing user) there) }
+    empty = record { next = omega (arith); messages = λ m none. absurd none; users = λ user before there. absurd (subst (λ (o : Own). Has o.befores before) (nothing user) there) }
 write_keeps (write.SetAcl name acl) world may valid has = record { mailboxes = list_keeps world.mailboxes name acl valid has.mailboxes (map.get world.mailboxes name) refl; epochs = has.epochs; users = has.users; filled = has.filled }
 write_keeps (write.Remove name) world may valid has = record { mailboxes = removed_keeps world.mailboxes name has.mailboxes; epochs = has.epochs; users = has.users; filled = has.filled }
 write_keeps (write.Move old new arrivals) world may valid has =

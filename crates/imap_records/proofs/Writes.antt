@@ -1,9 +1,10 @@
 -- Tables stand for the changed world once the rows of a change are written.
-use Rattle.std.proofs.Common.{◌≡◌, ◌≤◌, ◌+◌, length, false, cond, List, [], ◌∷◌, ◌++◌, Option, Some, None, is_some, refl, sym, ap, subst, ◌∙◌}
+use Rattle.std.proofs.Common.{◌≡◌, ◌<◌, ◌≤◌, ◌+◌, length, false, cond, ℕ, List, [], ◌∷◌, ◌++◌, Option, Some, None, is_some, refl, sym, ap, subst, ◌∙◌}
 use Rattle.std.specs.FinMap as map
-use Rattle.std.specs.List.{list_all}
+use Rattle.std.specs.List.{AllByRecursion, list_all}
 use Rattle.std.proofs.lemmas.Bool.{and_parts, leb-true}
 use Rattle.sqlite.specs.Tree.{Trees}
+use Rattle.imap_batch.proofs.OwnRows.{dropped_small}
 use Rattle.imap_batch.specs.Batch.{event_count, has_uids}
 use Rattle.imap_batch.specs.declared.write.BatchWrite.{BatchWrite}
 use Rattle.imap_batch.specs.Written.{MayWrite as MayWriteBatch, with_batch}
@@ -26,14 +27,14 @@ use Rattle.imap_world.proofs.Moves.{arrivals_within}
 use Rattle.imap_tables.specs.Changes.{MakesAll}
 use Rattle.imap_tables.specs.declared.changes.RowChange.{RowChange}
 use Rattle.imap_records.specs.Bounds.{AreBounded, AreNamed, IsBounded, IsBoundedWrite, IsNamedWrite}
-use Rattle.imap_records.specs.Standing.{StandFor}
-use Rattle.imap_records.specs.Steps.{StepBelow, batch_steps, other_steps, part_steps, steps_for, steps_in, steps_of, steps_under}
+use Rattle.imap_records.specs.Standing.{Kept, StandFor}
+use Rattle.imap_records.specs.Steps.{StepBelow, batch_steps, gap_steps, other_steps, part_steps, steps_for, steps_in, steps_of, steps_under}
 use Rattle.imap_records.proofs.Arriving.{all_moved}
-use Rattle.imap_records.proofs.Batches.{batch_made}
-use Rattle.imap_records.proofs.Closing.{none_left, others_apart, others_free, others_named, put_again, put_among, set_beside}
+use Rattle.imap_records.proofs.Batches.{batch_made, found_after, kept_after}
+use Rattle.imap_records.proofs.Closing.{none_left, others_apart, others_found, others_free, others_named, put_again, put_among, set_beside}
 use Rattle.imap_records.proofs.Keys.{IsFound, found}
 use Rattle.imap_records.proofs.Making.{MakesBelowAll, MakesSteps, all_made, steps_split}
-use Rattle.imap_records.proofs.Others.{subscription_put, subscription_removed}
+use Rattle.imap_records.proofs.Others.{gaps_allowed, subscription_put, subscription_removed}
 use Rattle.imap_records.proofs.Mailboxes.{list_set, mailbox_put, mailbox_removed}
 
 -- ---- messages
@@ -45,15 +46,31 @@ under_made old new world stand name valid (step ∷ steps) (mid, (i, at, below),
     let f : IsFound world stand.id name i = found old world stand name valid i at in
     subst (λ (db : Trees). MakesBelowAll (stand.id name) (step ∷ steps) old db) (sym end) (subst (λ k. MakesBelowAll k (step ∷ steps) old mid) f.same below)
 
-part_made : (old new : Trees) (world : World) (w : NamedWrite) (m : Mailbox) → map.get world.mailboxes w.name ≡ Some m → MayWriteBatch w.write m.messages → StandFor old world → MakesSteps (part_steps w) old new
+batch_part : (old new : Trees) (world : World) (w : NamedWrite) (m : Mailbox) → map.get world.mailboxes w.name ≡ Some m → MayWriteBatch w.write m.messages → StandFor old world → MakesSteps (steps_under w.name (batch_steps w.write)) old new
     → StandFor new (record world { mailboxes = with_part world.mailboxes w })
-part_made old new world w m there may stand made =
+batch_part old new world w m there may stand made =
     let valid : IsName w.name = stand.named.mailboxes w.name m there in
     let n : Mailbox = record m { messages = with_batch w.write.batch m.messages } in
     let free = others_free world w.name m there old stand in
-    let done = batch_made (without world w.name) stand.id (stand.id w.name) free w.name m w.write may old new (under_made old new world stand w.name valid (batch_steps w.write) made) (set_beside world w.name m there old stand) in
-    let whole = put_among (without world w.name) stand.id w.name (stand.id w.name) n (none_left world w.name m there) free (others_apart world w.name m there old stand) (others_named world w.name m there old stand) valid new done in
+    let k : Kept = stand.kept w.name in
+    let B : World = without world w.name in
+    let done = batch_made B stand.id stand.kept (stand.id w.name) free w.name m k w.write may old new (under_made old new world stand w.name valid (batch_steps w.write) made) (set_beside world w.name m there old stand) in
+    let found = found_after B stand.id stand.kept (stand.id w.name) free w.name m k w.write may (stand.found w.name m there) in
+    let after : Kept = kept_after B stand.id stand.kept (stand.id w.name) free w.name m k w.write may in
+    let whole = put_among B stand.id stand.kept w.name (stand.id w.name) after n (none_left world w.name m there) free (others_apart world w.name m there old stand) (others_named world w.name m there old stand)
+    (others_found world w.name m there old stand) valid found new done in
     subst (StandFor new) (sym (ap (λ o. record world { mailboxes = messages_changed w.write.batch world.mailboxes w.name o }) there)) (subst (StandFor new) (put_again world w.name m there n) whole)
+
+-- the version is set first, if own changes go
+gaps_made : (old new : Trees) (world : World) (dropped : List ℕ) → StandFor old world → MakesSteps (gap_steps dropped) old new → StandFor new world
+gaps_made old new world [] stand made = subst (λ (db : Trees). StandFor db world) (sym made) stand
+gaps_made old new world (place ∷ dropped) stand (mid, sets, end) = subst (λ (db : Trees). StandFor db world) (sym end) (gaps_allowed old mid world stand sets)
+
+part_made : (old new : Trees) (world : World) (w : NamedWrite) (m : Mailbox) → map.get world.mailboxes w.name ≡ Some m → MayWriteBatch w.write m.messages → StandFor old world → MakesSteps (part_steps w) old new
+    → StandFor new (record world { mailboxes = with_part world.mailboxes w })
+part_made old new world w m there may stand made =
+    let parts = steps_split (gap_steps w.write.dropped) (steps_under w.name (batch_steps w.write)) old new made in
+    batch_part parts.0 new world w m there may (gaps_made old parts.0 world w.write.dropped stand parts.1) parts.2
 
 pub record IsThere (mailboxes : Names Mailbox) (w : NamedWrite) : Type 0 where
   pub mailbox : Mailbox
@@ -131,6 +148,7 @@ bounded_part mailboxes w change =
     record {
       uids = ap (λ n. has_uids (length w.write.batch.added) n) (ap (λ (x : BatchWrite). x.first_uid) t.may.current) ∙ numbers.0;
       places = subst (λ n. n + event_count w.write.batch ≤ max_events) (sym (ap (λ (x : BatchWrite). x.first_place) t.may.current)) (leb-true _ _ numbers.1);
+      dropped = subst (λ (x : BatchWrite). AllByRecursion (λ (p : ℕ). p < max_events) x.dropped) (sym t.may.current) (dropped_small _ _ _);
     }
 
 bounded : (w : Write) (world : World) → MayWrite w world → IsBoundedWrite w

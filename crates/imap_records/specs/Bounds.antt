@@ -1,6 +1,6 @@
 -- What each change meets that was found for some world: its numbers are small, and mailboxes move where it
 -- says.
-use Rattle.std.specs.Prelude.{◌≡◌, ◌≤◌, ◌+◌, true, List, length, Option, Some, None}
+use Rattle.std.specs.Prelude.{◌≡◌, ◌<◌, ◌≤◌, ◌+◌, true, List, length, Option, Some, None}
 use Rattle.std.specs.List.{AllByRecursion, list_all}
 use Rattle.imap_batch.specs.Batch.{event_count, has_uids}
 use Rattle.imap_batch.specs.declared.write.BatchWrite.{BatchWrite}
@@ -11,10 +11,11 @@ use Rattle.imap_world.specs.declared.change.Write.{Write}
 use Rattle.imap_world.specs.declared.change.Write.TheVariants as write
 use Rattle.imap_world.specs.declared.named_batch.NamedWrite.{NamedWrite}
 
--- UIDs and shared events are left for the batch
+-- UIDs and shared events are left for the batch, and own changes that go are among those that a user may have
 pub record IsBounded (w : BatchWrite) : Type 0 where
   pub uids : has_uids (length w.batch.added) w.first_uid ≡ true
   pub places : w.first_place + event_count w.batch ≤ max_events
+  pub dropped : AllByRecursion (λ p. p < max_events) w.dropped
 
 abbrev pub IsOtherBounded : Option NamedWrite → Type 0
 IsOtherBounded None = Unit {0}

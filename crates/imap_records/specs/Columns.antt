@@ -6,7 +6,7 @@ use Rattle.sqlite.specs.Order.{Row}
 use Rattle.imap_mailbox.specs.declared.flags.SharedFlags.{SharedFlags}
 use Rattle.imap_mailbox.specs.declared.message.GoneMessage.{GoneMessage}
 use Rattle.imap_mailbox.specs.declared.message.Message.{Message}
-use Rattle.imap_mailbox.specs.declared.own.SeenChange.{SeenChange}
+use Rattle.imap_mailbox.specs.declared.kept_change.KeptChange.{KeptChange}
 use Rattle.imap_names.specs.Name.{Name, is_empty, path_of, root_of}
 use Rattle.imap_syntax.specs.Moments.{Moment}
 use Rattle.imap_syntax.specs.WrittenDates.{date_time_text}
@@ -60,11 +60,11 @@ message_values id m =
 abbrev pub gone_values : (id : ℤ) → GoneMessage → Row
 gone_values id g = Int id ∷ Int (pos g.uid) ∷ Int (place_value g.place) ∷ []
 
--- a user's change of his own \Seen, which has the place among those of the user
-abbrev pub mark_values : (id : ℤ) (user : List ℕ) (place : ℕ) → SeenChange → Row
-mark_values id user place s =
-    Int id ∷ Words user ∷ Int (place_value place) ∷ Int (pos s.before) ∷ Int (pos s.uid)
-    ∷ Int (flag_of s.seen) ∷ []
+-- a user's change of his own \Seen
+abbrev pub mark_values : (id : ℤ) (user : List ℕ) → KeptChange → Row
+mark_values id user k =
+    Int id ∷ Words user ∷ Int (place_value k.place) ∷ Int (pos k.before) ∷ Int (pos k.uid)
+    ∷ Int (flag_of k.seen) ∷ []
 
 abbrev pub epoch_values : Name → (greatest : ℕ) → Row
 epoch_values name greatest = Words (tree_text name) ∷ Words (path_of name) ∷ Int (pos greatest) ∷ []

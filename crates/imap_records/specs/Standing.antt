@@ -1,5 +1,5 @@
 -- Tables that stand for a world.
-use Rattle.std.specs.Prelude.{◌≡◌, ◌↔◌, ℕ, ℤ, true, List, ◌∷◌, Some, slice_get}
+use Rattle.std.specs.Prelude.{◌≡◌, ◌↔◌, ℕ, ℤ, true, List, ◌∷◌, Some}
 use Rattle.std.specs.FinMap as map
 use Rattle.sqlite.specs.declared.types.Value.TheVariants.{Int}
 use Rattle.sqlite.specs.Order.{Row}
@@ -7,15 +7,16 @@ use Rattle.sqlite.specs.Tree.{Trees}
 use Rattle.sqlite_rules.specs.Lists.{Has}
 use Rattle.imap_mailbox.specs.declared.message.GoneMessage.{GoneMessage}
 use Rattle.imap_mailbox.specs.declared.message.Message.{Message}
-use Rattle.imap_mailbox.specs.declared.own.SeenChange.{SeenChange}
-use Rattle.imap_mailbox.specs.History.{own_at}
+use Rattle.imap_mailbox.specs.declared.kept_change.KeptChange.{KeptChange}
+use Rattle.imap_mailbox.specs.KeptRows.{AreKept}
+use Rattle.imap_mailbox.specs.Own.{found_in, own_at}
+use Rattle.imap_mailbox.specs.Summary.{Summary}
 use Rattle.imap_names.specs.Name.{Name}
 use Rattle.imap_names.specs.Order.{Names}
 use Rattle.imap_names.specs.Valid.{IsName}
 use Rattle.imap_records.specs.Columns.{entry_values, epoch_values, gone_values, mark_values, message_values}
 use Rattle.imap_records.specs.Columns.{row_of_mailbox, subscription_values}
 use Rattle.imap_rights.specs.Acl.{AclMap}
-use Rattle.imap_user_map.specs.Rows.{Users}
 use Rattle.imap_world.specs.Mailbox.{Mailbox}
 use Rattle.imap_world.specs.World.{World, subscribed_by}
 
@@ -51,12 +52,20 @@ pub record IsGone (gone : List GoneMessage) (id : ℤ) (values : Row) : Type 0 w
   pub there : Has gone message
   pub shown : values ≡ gone_values id message
 
-pub record IsMark (own : Users (List SeenChange)) (id : ℤ) (values : Row) : Type 0 where
+-- of each user the own changes that are kept
+abbrev pub Kept : Type 0
+Kept = (user : List ℕ) → List KeptChange
+
+pub record IsMark (kept : Kept) (id : ℤ) (values : Row) : Type 0 where
   pub user : List ℕ
-  pub place : ℕ
-  pub change : SeenChange
-  pub there : slice_get (own_at own user) place ≡ Some change
-  pub shown : values ≡ mark_values id user place change
+  pub change : KeptChange
+  pub there : Has (kept user) change
+  pub shown : values ≡ mark_values id user change
+
+-- each user's own changes are found of those that are kept, which are in order
+pub record AreFound (kept : Kept) (s : Summary) : Type 0 where
+  pub order : (user : List ℕ) → AreKept 0 0 s.shared (kept user)
+  pub found : (user : List ℕ) → found_in (kept user) ≡ own_at s.own user
 
 -- the tables below a mailbox
 pub data Child : Type 0 where
@@ -71,11 +80,11 @@ tree_of messages = 4
 tree_of gone = 6
 tree_of marks = 8
 
-abbrev pub IsOf : Child → Mailbox → (id : ℤ) → (values : Row) → Type 0
-IsOf entries m id values = IsEntry m.acl id values
-IsOf messages m id values = IsMessage m.messages.messages id values
-IsOf gone m id values = IsGone m.messages.gone id values
-IsOf marks m id values = IsMark m.messages.own id values
+abbrev pub IsOf : Child → Mailbox → Kept → (id : ℤ) → (values : Row) → Type 0
+IsOf entries m kept id values = IsEntry m.acl id values
+IsOf messages m kept id values = IsMessage m.messages.messages id values
+IsOf gone m kept id values = IsGone m.messages.gone id values
+IsOf marks m kept id values = IsMark kept id values
 
 -- ---- what a world has in the tables, with these ids of its mailboxes
 
@@ -87,12 +96,12 @@ module _ (world : World) (id : Name → ℤ) where
     pub there : map.get world.mailboxes name ≡ Some mailbox
     pub shown : row ≡ row_of_mailbox name mailbox (id name)
 
-  -- the row is below a mailbox
-  pub record IsUnder (child : Child) (values : Row) : Type 0 where
+  -- the row is below a mailbox, of which these own changes are kept
+  pub record IsUnder (kept : Name → Kept) (child : Child) (values : Row) : Type 0 where
     pub name : Name
     pub mailbox : Mailbox
     pub there : map.get world.mailboxes name ≡ Some mailbox
-    pub shown : IsOf child mailbox (id name) values
+    pub shown : IsOf child mailbox (kept name) (id name) values
 
 pub record IsEpoch (epochs : Names ℕ) (values : Row) : Type 0 where
   pub name : Name
@@ -119,12 +128,20 @@ AreApart world id =
     (a b : Name) (m n : Mailbox)
     → map.get world.mailboxes a ≡ Some m → map.get world.mailboxes b ≡ Some n → id a ≡ id b → a ≡ b
 
--- The tables are those of the world, with some ids of its mailboxes.
+-- of the own changes that are kept those of each mailbox are found
+abbrev pub AreAllFound : World → (kept : Name → Kept) → Type 0
+AreAllFound world kept =
+    (name : Name) (m : Mailbox) → map.get world.mailboxes name ≡ Some m → AreFound (kept name) m.messages
+
+-- The tables are those of the world, with some ids of its mailboxes. Of a user's own changes no more are kept than
+-- all are found of.
 pub record StandFor (db : Trees) (world : World) : Type 0 where
   pub id : Name → ℤ
+  pub kept : Name → Kept
   pub apart : AreApart world id
   pub named : AreNames world
+  pub found : AreAllFound world kept
   pub mailboxes : (row : Row) → Has (db 0) row ↔ IsMailbox world id row
-  pub below : (child : Child) → AreRows (db (tree_of child)) (IsUnder world id child)
+  pub below : (child : Child) → AreRows (db (tree_of child)) (IsUnder world id kept child)
   pub epochs : AreRows (db 10) (IsEpoch world.epochs)
   pub subscriptions : AreRows (db 12) (IsSubscription world)

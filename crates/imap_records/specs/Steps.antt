@@ -7,7 +7,9 @@ use Rattle.imap_batch.specs.Entered.{FlagChange, flag_changes, gone_added, messa
 use Rattle.imap_batch.specs.declared.write.BatchWrite.{BatchWrite}
 use Rattle.imap_mailbox.specs.declared.message.GoneMessage.{GoneMessage}
 use Rattle.imap_mailbox.specs.declared.message.Message.{Message}
+use Rattle.imap_mailbox.specs.declared.kept_change.KeptChange.{KeptChange}
 use Rattle.imap_mailbox.specs.declared.own.SeenChange.{SeenChange}
+use Rattle.imap_mailbox.specs.Own.{numbered}
 use Rattle.imap_names.specs.Name.{Name, path_of}
 use Rattle.imap_names.specs.Order.{moved}
 use Rattle.imap_records.specs.Columns.{date_text, flag_bits, keywords_text, place_value, tree_text}
@@ -30,6 +32,7 @@ pub data StepBelow : Type 0 where
   RemoveMessage : (uid : ℕ) → StepBelow
   AddGone : (uid : ℕ) (place : ℤ) → StepBelow
   AddMark : (user : List ℕ) (own before : ℤ) (uid : ℕ) (seen : Bool) → StepBelow
+  RemoveMark : (user : List ℕ) (own : ℤ) → StepBelow
   Count : (uidnext : ℕ) (shared : ℤ) → StepBelow
 
 pub data Step : Type 0 where
@@ -40,6 +43,7 @@ pub data Step : Type 0 where
   PutSubscription : (user tree path : List ℕ) → Step
   RemoveSubscription : (user tree path : List ℕ) → Step
   Below : (tree path : List ℕ) (steps : List StepBelow) → Step
+  AllowGaps : Step
 
 abbrev pub below_of : ChangeBelow → StepBelow
 below_of below.RemoveAcl = RemoveAcl
@@ -50,6 +54,7 @@ below_of (below.FlagMessage m) = FlagMessage m.uid m.flags (string_bytes m.keywo
 below_of (below.RemoveMessage uid) = RemoveMessage uid
 below_of (below.AddGone uid place) = AddGone uid place
 below_of (below.AddMark m) = AddMark (string_bytes m.user) m.own m.before m.uid m.seen
+below_of (below.RemoveMark user own) = RemoveMark (string_bytes user) own
 below_of (below.Count uidnext shared) = Count uidnext shared
 
 abbrev pub step_of : RowChange → Step
@@ -64,6 +69,7 @@ step_of (change.RemoveSubscription user key) =
     RemoveSubscription (string_bytes user) (string_bytes key.tree) (string_bytes key.path)
 step_of (change.Below key changes) =
     Below (string_bytes key.tree) (string_bytes key.path) (map below_of changes.items)
+step_of change.AllowGaps = AllowGaps
 
 abbrev pub steps_in : List RowChange → List Step
 steps_in changes = map step_of changes
@@ -84,11 +90,16 @@ flag_step c = FlagMessage c.uid (flag_bits c.flags) (keywords_text c.flags.keywo
 abbrev pub gone_step : GoneMessage → StepBelow
 gone_step g = AddGone g.uid (place_value g.place)
 
+abbrev pub mark_step : (user : List ℕ) → KeptChange → StepBelow
+mark_step user k = AddMark user (place_value k.place) (pos k.before) k.uid k.seen
+
 -- of a user's own changes, the first of which has the place
 abbrev pub mark_steps : (user : List ℕ) (place : ℕ) → List SeenChange → List StepBelow
-mark_steps user place [] = []
-mark_steps user place (s ∷ own) =
-    AddMark user (place_value place) (pos s.before) s.uid s.seen ∷ mark_steps user (place + 1) own
+mark_steps user place own = map (mark_step user) (numbered place own)
+
+-- the own change of the user at the place goes
+abbrev pub drop_step : (user : List ℕ) (place : ℕ) → StepBelow
+drop_step user place = RemoveMark user (place_value place)
 
 -- UIDNEXT and the number of shared events, if there are new ones
 abbrev pub count_steps : BatchWrite → List StepBelow
@@ -104,9 +115,10 @@ message_steps w =
     ++ (map RemoveMessage w.batch.expunged ++ map gone_step (gone_added w)))
 
 abbrev pub own_steps : BatchWrite → List StepBelow
-own_steps w = mark_steps w.batch.user w.own_before (own_changes w)
+own_steps w =
+    map (drop_step w.batch.user) w.dropped ++ mark_steps w.batch.user w.own_before (own_changes w)
 
--- first the messages, then the user's own changes, last the numbers
+-- first the messages, then the user's own changes, of which those that go come first, last the numbers
 abbrev pub batch_steps : BatchWrite → List StepBelow
 batch_steps w = message_steps w ++ (own_steps w ++ count_steps w)
 
@@ -117,8 +129,13 @@ abbrev pub steps_under : Name → List StepBelow → List Step
 steps_under name [] = []
 steps_under name (step ∷ steps) = Below (tree_text name) (path_of name) (step ∷ steps) ∷ []
 
+-- the tables say that own changes may be missing, if some go
+abbrev pub gap_steps : (dropped : List ℕ) → List Step
+gap_steps [] = []
+gap_steps (place ∷ dropped) = AllowGaps ∷ []
+
 abbrev pub part_steps : NamedWrite → List Step
-part_steps w = steps_under w.name (batch_steps w.write)
+part_steps w = gap_steps w.write.dropped ++ steps_under w.name (batch_steps w.write)
 
 abbrev pub other_steps : Option NamedWrite → List Step
 other_steps None = []

@@ -10,8 +10,7 @@ use Rattle.imap_batch.specs.declared.batch.FlagUpdate.{FlagUpdate}
 use Rattle.imap_batch.specs.declared.batch.NewMessage.{NewMessage}
 use Rattle.imap_mailbox.specs.declared.flags.SharedFlags.{SharedFlags}
 use Rattle.imap_mailbox.specs.declared.message.Message.{Message}
-use Rattle.imap_mailbox.specs.declared.own.SeenChange.{SeenChange}
-use Rattle.imap_mailbox.specs.History.{own_at}
+use Rattle.imap_mailbox.specs.Own.{own_at}
 use Rattle.imap_mailbox.specs.Summary.{Summary}
 use Rattle.imap_names.specs.Name.{Name}
 use Rattle.imap_syntax.specs.Keywords.{AreKeywords}
@@ -37,7 +36,7 @@ pub record AreValues (d : Moment) (f : SharedFlags) : Type 0 where
 pub record HasValues (s : Summary) : Type 0 where
   pub next : IsShort s.next
   pub messages : (m : Message) → Has s.messages m → AreValues m.date m.flags
-  pub users : (user : List ℕ) (change : SeenChange) → Has (own_at s.own user) change → is_utf8 user ≡ true
+  pub users : (user : List ℕ) (before : ℕ) → Has (own_at s.own user).befores before → is_utf8 user ≡ true
 
 pub record MailboxHasValues (m : Mailbox) : Type 0 where
   pub validity : IsShort m.validity

@@ -1,23 +1,24 @@
 //! Rows of the messages of a mailbox.
 
 ghost use Rattle.std.specs.Prelude.{◌≡◌, ◌<◌, ◌≤◌, ◌+◌, ◌-◌, ◌++◌, ◌∷◌, [], is_some, length, map, take, IfOk};
-ghost use Rattle.std.specs.Prelude.{OnOk, true, if◌then◌else◌};
+ghost use Rattle.std.specs.Prelude.{OnOk, true};
 ghost use Rattle.std.specs.List.{All, AllByRecursion};
+ghost use Rattle.std.specs.Str.{is_utf8};
 ghost use Rattle.imap_batch.specs.Batch.{event_count, flag_count, one_if};
-ghost use Rattle.imap_batch.specs.Entered.{flag_change, flags_from, messages_from, own_added, own_change};
-ghost use Rattle.imap_batch.specs.Entered.{mark_place, own_marked};
+ghost use Rattle.imap_batch.specs.Entered.{flag_change, flags_from, messages_from};
 ghost use Rattle.imap_mailbox.specs.Expunging.{gone_at};
 ghost use Rattle.imap_mailbox.specs.History.{end_uid};
 ghost use Rattle.imap_modseq.specs.Numbers.{max_events};
 ghost use Rattle.imap_records.specs.Bounds.{IsBounded};
-ghost use Rattle.imap_records.specs.Steps.{batch_steps, below_of, count_steps, flag_step, gone_step};
-ghost use Rattle.imap_records.specs.Steps.{RemoveMessage, mark_steps, message_step, message_steps};
+ghost use Rattle.imap_records.specs.Steps.{batch_steps, below_of, count_steps, drop_step, flag_step};
+ghost use Rattle.imap_records.specs.Steps.{gone_step, RemoveMessage, mark_steps, message_step, message_steps};
+ghost use Rattle.imap_records.specs.Steps.{own_steps};
 ghost use Rattle.imap_records.specs.Values.{BatchHasValues, IsNewMark, IsNewValue};
 ghost use Rattle.imap_syntax.specs.Keywords.{AreKeywords};
 
 use crate::columns::{date_text, flag_bits, keywords_text, place_value};
 use crate::list::push;
-use imap_batch::{BatchWrite, FlagUpdate, NewMessage, flag_count};
+use imap_batch::{BatchWrite, FlagUpdate, NewMessage, flag_count, own_changes};
 use imap_mailbox::{SeenChange, SharedFlags};
 use imap_modseq::MAX_EVENTS;
 use imap_tables::{ChangeBelow, FlagsRow, MessageRow, SeenFlagRow};
@@ -161,94 +162,35 @@ fn push_gone(changes: &mut Vec<ChangeBelow>, uids: &[u32], place: u64) -> Result
     Ok(())
 }
 
-/// Appends the user's own changes of messages that are added.
-fn push_own_added(
-    own: &mut Vec<SeenChange>,
-    added: &[NewMessage],
-    uid: u32,
+/// Appends that the user's own changes at these places go.
+fn push_dropped(
+    changes: &mut Vec<ChangeBelow>,
+    alloc: Global,
+    user: &str,
+    places: &[u64],
+) -> Result<(), AllocError>
+    requires { AllByRecursion (λ p. p < max_events) places.now }
+    ensures { OnOk result (map below_of changes.new.items
+        ≡ map below_of changes.old.items ++ map (drop_step user.now) places.now) }
+{
+    for place in places {
+        push_drop(changes, alloc, user, *place)?;
+    }
+    Ok(())
+}
+
+fn push_drop(
+    changes: &mut Vec<ChangeBelow>,
+    alloc: Global,
+    user: &str,
     place: u64,
 ) -> Result<(), AllocError>
-    requires uids { uid + length added.now ≤ end_uid }
-    requires places { place + length added.now ≤ max_events }
-    ensures { OnOk result (own.new.items ≡ own.old.items ++ own_added uid place added.now) }
+    requires { place < max_events }
+    ensures { OnOk result (map below_of changes.new.items
+        ≡ map below_of changes.old.items ++ drop_step user.now place ∷ []) }
 {
-    let mut next = uid;
-    let mut at = place;
-    for message in added {
-        at += 1;
-        push_seen(own, message.seen, next, at)?;
-        next += 1;
-    }
-    Ok(())
-}
-
-/// Appends the change by which the user has seen a message, if `seen`. It comes after `before` shared events.
-fn push_seen(own: &mut Vec<SeenChange>, seen: bool, uid: u32, before: u64) -> Result<(), AllocError>
-    ensures { OnOk result (own.new.items ≡ own.old.items
-        ++ (if seen then record { before = before; uid = uid; seen = true } ∷ [] else [])) }
-{
-    if !seen {
-        return Ok(());
-    }
-    own.push(SeenChange {
-        before,
-        uid,
-        seen: true,
-    })?;
-    Ok(())
-}
-
-/// Appends the user's own change of a mark, if there is one. Returns the place after its event.
-fn push_own_mark(
-    own: &mut Vec<SeenChange>,
-    mark: &FlagUpdate,
-    place: u64,
-) -> Result<u64, AllocError>
-    requires { place + one_if (is_some mark.now.flags) ≤ max_events }
-    ensures own { OnOk result (own.new.items ≡ own.old.items
-        ++ own_change (place + one_if (is_some mark.now.flags)) mark.now.uid mark.now.seen) }
-    ensures place { IfOk result (λ next. next ≡ place + one_if (is_some mark.now.flags)) }
-{
-    let before = place + u64::from(mark.flags.is_some());
-    if let Some(seen) = mark.seen {
-        own.push(SeenChange {
-            before,
-            uid: mark.uid,
-            seen,
-        })?;
-    }
-    Ok(before)
-}
-
-/// Appends the user's own changes of marks, the first event of which has the place.
-fn push_own_marks(
-    own: &mut Vec<SeenChange>,
-    marks: &[FlagUpdate],
-    place: u64,
-) -> Result<(), AllocError>
-    requires { place + flag_count marks.now ≤ max_events }
-    ensures { OnOk result (own.new.items ≡ own.old.items ++ own_marked place marks.now) }
-{
-    let mut at = place;
-    for mark in marks {
-        at = push_own_mark(own, mark, at)?;
-    }
-    Ok(())
-}
-
-/// The user's own changes.
-fn own_of(alloc: Global, write: &BatchWrite) -> Result<Vec<SeenChange>, AllocError>
-    requires { IsBounded write.now }
-    ensures { IfOk result (λ own. own.items
-        ≡ own_added write.now.first_uid write.now.first_place write.now.batch.added
-        ++ own_marked (mark_place write.now) write.now.batch.marks) }
-{
-    let added = write.batch.added.as_slice();
-    let mut own = Vec::new(alloc);
-    push_own_added(&mut own, added, write.first_uid, write.first_place)?;
-    let place = write.first_place + added.len() as u64;
-    push_own_marks(&mut own, write.batch.marks.as_slice(), place)?;
-    Ok(own)
+    let user = String::from_str(alloc, user)?;
+    push(changes, ChangeBelow::RemoveMark(user, place_value(place)))
 }
 
 fn push_mark(
@@ -353,9 +295,26 @@ pub(crate) fn rows_of_batch(
 {
     let mut changes = Vec::new(alloc);
     let events = push_messages(&mut changes, alloc, write)?;
-    let own = own_of(alloc, write)?;
-    let user = write.batch.user.as_str();
-    push_marks(&mut changes, alloc, user, write.own_before, own.as_slice())?;
+    push_own(&mut changes, alloc, write)?;
     push_count(&mut changes, write, events)?;
     Ok(changes)
+}
+
+/// Appends the rows of the user's own changes that go, and of those that come.
+fn push_own(
+    changes: &mut Vec<ChangeBelow>,
+    alloc: Global,
+    write: &BatchWrite,
+) -> Result<(), AllocError>
+    requires { IsBounded write.now }
+    ensures rows { OnOk result (map below_of changes.new.items
+        ≡ map below_of changes.old.items ++ own_steps write.now) }
+    ensures valid { OnOk result (is_utf8 write.now.batch.user ≡ true) }
+{
+    let user = write.batch.user.as_str();
+    push_dropped(changes, alloc, user, write.dropped.as_slice())?;
+    let own = own_changes(alloc, &write.batch, write.first_uid, write.first_place)?;
+    let own = own.as_slice();
+    push_marks(changes, alloc, user, write.own_before, own)?;
+    Ok(())
 }

@@ -5,8 +5,8 @@ ghost use Rattle.std.specs.List.{AllByRecursion};
 ghost use Rattle.imap_records.specs.Bounds.{AreBounded, AreNamed, IsBounded, IsBoundedWrite, IsNamedWrite};
 ghost use Rattle.imap_records.specs.Bounds.{IsOtherBounded};
 ghost use Rattle.imap_records.specs.Standing.{StandFor};
-ghost use Rattle.imap_records.specs.Steps.{below_of, other_steps, part_steps, steps_for, steps_in, steps_of};
-ghost use Rattle.imap_records.specs.Steps.{steps_under};
+ghost use Rattle.imap_records.specs.Steps.{below_of, gap_steps, other_steps, part_steps, steps_for, steps_in};
+ghost use Rattle.imap_records.specs.Steps.{steps_of, steps_under};
 ghost use Rattle.imap_records.specs.Values.{BatchHasValues, OtherHasValues, WorldHasValues, WriteHasValues};
 ghost use Rattle.imap_tables.specs.Changes.{MakesAll};
 ghost use Rattle.imap_world.specs.Effects.{after_writes};
@@ -36,8 +36,19 @@ fn push_part(
         (steps_in changes.new.items ≡ steps_in changes.old.items ++ part_steps part.now) }
     ensures values { OnOk result (BatchHasValues part.now.write.batch) }
 {
+    push_gaps(changes, part.write.dropped.as_slice())?;
     let below = rows_of_batch(alloc, &part.write)?;
     push_below(changes, alloc, &part.name, below)
+}
+
+/// Appends that own changes may be missing, if some go.
+fn push_gaps(changes: &mut Vec<RowChange>, dropped: &[u64]) -> Result<(), AllocError>
+    ensures { OnOk result (steps_in changes.new.items ≡ steps_in changes.old.items ++ gap_steps dropped.now) }
+{
+    if dropped.is_empty() {
+        return Ok(());
+    }
+    push(changes, RowChange::AllowGaps)
 }
 
 /// Appends changes below a mailbox, if there are any.
@@ -123,7 +134,8 @@ fn rows_of_writes(alloc: Global, writes: &[Write]) -> Result<Vec<RowChange>, All
 }
 
 /// The changes of rows that a change asks for. They are none if it changes nothing. A batch of messages
-/// changes a row of each message, of each own `\Seen` that is changed, and of its mailbox.
+/// changes a row of each message, of each own `\Seen` that is changed, and of its mailbox, and deletes at
+/// most one row for each own `\Seen`.
 ///
 /// Tables that stand for the world stand for the changed world once these are made.
 pub fn row_changes(alloc: Global, change: &Change) -> Result<Vec<RowChange>, AllocError>

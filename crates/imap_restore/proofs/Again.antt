@@ -1,6 +1,6 @@
 -- What is read again below a mailbox of tables that hold a world is what the world has there.
 use Rattle.std.proofs.Common.{◌≡◌, ℕ, ℤ, pos, List, [], ◌∷◌, Some, IsPermutation, refl, sym, ap, subst, ◌∙◌}
-use Rattle.std.specs.Prelude.{drop, slice_get, string_bytes}
+use Rattle.std.specs.Prelude.{drop, string_bytes}
 use Rattle.std.specs.FinMap as map
 use Rattle.std.specs.List.{AllZip}
 use Rattle.std.specs.Ordering.{int_eq, nat_cmp}
@@ -11,15 +11,14 @@ use Rattle.sqlite.specs.declared.types.Value.TheVariants.{Int, Text as Words, Bl
 use Rattle.sqlite_rules.specs.Lists.{Has}
 use Rattle.sqlite_rules.proofs.ProbeLemmas.{has_mapped, mapped_has}
 use Rattle.imap_mailbox.specs.Held.{IsKept}
-use Rattle.imap_mailbox.specs.History.{own_at}
 use Rattle.imap_mailbox.specs.Parts.{AreOwn}
-use Rattle.imap_mailbox.specs.UserChange.{UserChange}
+use Rattle.imap_mailbox.specs.UserChange.{UserChange, row_of}
 use Rattle.imap_mailbox.specs.declared.message.GoneMessage.{GoneMessage}
 use Rattle.imap_mailbox.specs.declared.message.Message.{Message}
 use Rattle.imap_names.specs.Name.{Name}
 use Rattle.imap_records.specs.Columns.{entry_values, gone_values, mark_values, message_values, place_value}
-use Rattle.imap_records.specs.Standing.{entries, messages, gone, marks}
-use Rattle.imap_records.proofs.Injective.{same_gone, same_mark, same_message, same_number}
+use Rattle.imap_records.specs.Standing.{AreFound, Kept, entries, messages, gone, marks}
+use Rattle.imap_records.proofs.Injective.{same_gone, same_message, same_number}
 use Rattle.imap_records.proofs.Keys.{same_text}
 use Rattle.imap_rights.specs.Entries.{pair_of, pairs_of}
 use Rattle.imap_rights.specs.declared.acl.Entry.{Entry}
@@ -36,6 +35,7 @@ use Rattle.imap_restore.specs.Holding.{Hold}
 use Rattle.imap_restore.specs.Parts.{IsChangeFor, IsEntryFor, IsGoneMessageFor, IsMessageFor, below}
 use Rattle.imap_restore.proofs.Children.{same_test, tested}
 use Rattle.imap_restore.proofs.Flat.{all_own, all_own_apart, all_own_of, itself, own_put, own_taken, place_of}
+use Rattle.imap_restore.proofs.UserChanges.{change_of, mark_shown, same_own}
 use Rattle.imap_restore.proofs.Keyed.{Apart, apart_mapped, below_apart, entries_apart, rises_apart, same_sets, zip_apart}
 use Rattle.imap_restore.proofs.Matching.{filtered_zip, zip_filtered}
 use Rattle.imap_restore.proofs.Same.{same_change, same_entry, same_lost, same_stored}
@@ -51,20 +51,11 @@ message_shown x y is n = λ i. Int n ∷ Int (pos (is.0.uid i)) ∷ Words (is.0.
 gone_shown : (x : StoredGone) (y : GoneMessage) → IsGoneMessageFor x y → (n : ℤ) → gone_values n y ≡ Int n ∷ Int (pos x.uid) ∷ Int x.place ∷ []
 gone_shown x y is n = λ i. Int n ∷ Int (pos (is.0 i)) ∷ Int (is.1 i) ∷ []
 
-mark_shown : (x : StoredSeenFlag) (y : UserChange) → IsChangeFor x y → (n : ℤ)
-    → mark_values n y.user y.place y.change ≡ Int n ∷ Words (string_bytes x.row.user) ∷ Int x.row.own ∷ Int x.row.before ∷ Int (pos x.row.uid) ∷ Int (flag_of x.row.seen) ∷ []
-mark_shown x y is n = λ i. Int n ∷ Words (is.0.user i) ∷ Int (is.0.place i) ∷ Int (is.0.before i) ∷ Int (pos (is.0.uid i)) ∷ Int (flag_of (is.0.seen i)) ∷ []
-
 abbrev value_of : UserChange → List ℕ × ℤ
 value_of y = (y.user, place_value y.place)
 
 abbrev mark_key : StoredSeenFlag → List ℕ × ℤ
 mark_key x = (string_bytes x.row.user, x.row.own)
-
-same_own : (n k : ℤ) (x y : UserChange) → mark_values n x.user x.place x.change ≡ mark_values k y.user y.place y.change → x ≡ y
-same_own n k x y e =
-    let s = same_mark n k x.user y.user x.place y.place x.change y.change e in
-    λ i. record { user = s.users i; place = s.places i; change = s.changes i }
 
 module _ (db : Trees) (w : World) (hold : Hold db w) (b : Rows db) (distinct : AreAllApart b.t) (name : Name) (m : Mailbox) (there : map.get w.mailboxes name ≡ Some m) (s : StoredMailbox) (is_id : hold.0.stands.id name ≡ s.id) where
   -- a row below it is below no other
@@ -167,34 +158,45 @@ module _ (db : Trees) (w : World) (hold : Hold db w) (b : Rows db) (distinct : A
 
   -- ---- users' own changes
 
-  pub own_again : (items : List UserChange) → AllZip IsChangeFor (below (λ (r : StoredSeenFlag). r.mailbox) s.id b.t.marks.items) items → AreOwn items m.messages.own
+  pub own_again : (items : List UserChange) → AllZip IsChangeFor (below (λ (r : StoredSeenFlag). r.mailbox) s.id b.t.marks.items) items → AreOwn m.messages.shared items m.messages.own
   own_again items zip = (
-    all_own m.messages.own,
-    same_sets value_of place_of items (all_own m.messages.own) apart (all_own_apart m.messages.own) to from,
-    all_own_of m.messages.own,
+    all_own kept m.messages are,
+    same_sets value_of place_of items (all_own kept m.messages are) apart (all_own_apart kept m.messages are) to from,
+    all_own_of kept m.messages are,
   )
     where
+      kept : Kept
+      kept = hold.0.stands.kept name
+
+      are : AreFound (hold.0.stands.kept name) m.messages
+      are = hold.0.stands.found name m there
+
       apart : Apart value_of items
       apart =
           zip_apart IsChangeFor mark_key value_of (λ x y is. λ i. (sym is.0.user i, sym is.0.place i)) (below (λ (r : StoredSeenFlag). r.mailbox) s.id b.t.marks.items) items zip
           (below_apart (λ (r : StoredSeenFlag). r.mailbox) mark_key (λ (r : StoredSeenFlag). r.rowid) b.t.marks.items s.id distinct.marks
           (λ x y hx hy at e. same_change db b x y hx hy at (ap (λ (t : List ℕ × ℤ). t.0) e) (ap (λ (t : List ℕ × ℤ). t.1) e)))
 
-      to : (y : UserChange) → Has items y → Has (all_own m.messages.own) y
+      to : (y : UserChange) → Has items y → Has (all_own (hold.0.stands.kept name) m.messages are) y
       to y h =
           let x = filtered_zip IsChangeFor (λ (r : StoredSeenFlag). int_eq r.mailbox s.id) b.t.marks.items items zip y h in
           let t = mark_told db w hold.0.stands b x.0 x.1 in
-          let own = owned_by t.name t.mailbox x.0.mailbox t.there t.id_is (tested x.0.mailbox s.id x.2) in
-          let z : UserChange = record { user = t.user; place = t.place; change = t.change } in
-          let shown : mark_values (pos 0) z.user z.place z.change ≡ mark_values (pos 0) y.user y.place y.change =
+          let names = (one_with db w hold.0.stands b t.name name t.mailbox m t.there there (t.id_is ∙ tested x.0.mailbox s.id x.2 ∙ sym is_id)).0 in
+          let z : UserChange = change_of t.user t.change in
+          let shown : mark_values (pos 0) z.user (row_of z) ≡ mark_values (pos 0) y.user (row_of y) =
           (λ i. Int (pos 0) ∷ Words (t.is.user i) ∷ Int (t.is.place i) ∷ Int (t.is.before i) ∷ Int (pos (t.is.uid i)) ∷ Int (flag_of (t.is.seen i)) ∷ []) ∙ sym (mark_shown x.0 y x.3 (pos 0)) in
-          subst (Has (all_own m.messages.own)) (same_own (pos 0) (pos 0) z y shown)
-          (own_put m.messages.own t.user t.place t.change (subst (λ (n : Mailbox). slice_get (own_at n.messages.own t.user) t.place ≡ Some t.change) own t.listed))
+          subst (Has (all_own (hold.0.stands.kept name) m.messages are)) (same_own (pos 0) (pos 0) z y shown)
+          (own_put (hold.0.stands.kept name) m.messages are t.user t.change (subst (λ (q : Name). Has (hold.0.stands.kept q t.user) t.change) names t.listed))
 
-      from : (y : UserChange) → Has (all_own m.messages.own) y → Has items y
+      from : (y : UserChange) → Has (all_own (hold.0.stands.kept name) m.messages are) y → Has items y
       from y h =
-          let values = mark_values (hold.0.stands.id name) y.user y.place y.change in
-          let row = (hold.0.stands.below marks).complete values (record { name = name; mailbox = m; there = there; shown = record { user = y.user; place = y.place; change = y.change; there = own_taken m.messages.own y h; shown = refl } }) in
+          let values = mark_values (hold.0.stands.id name) y.user (row_of y) in
+          let row = (hold.0.stands.below marks).complete values (record {
+            name = name;
+            mailbox = m;
+            there = there;
+            shown = record { user = y.user; change = row_of y; there = own_taken (hold.0.stands.kept name) m.messages are y h; shown = refl };
+          }) in
           let x = (mark_rows db b).to (Int row.0 ∷ values) row.1 in
           let same : Int row.0 ∷ values ≡ mark_row x.0.mailbox (string_bytes x.0.row.user) x.0.row.own x.0.row.before x.0.row.uid x.0.row.seen x.0.rowid = mark_is db b (Int row.0 ∷ values) row.1 x.0 x.2 in
           let ids = same_int (hold.0.stands.id name) x.0.mailbox (ap (λ (v : Row). column v 1) same) in

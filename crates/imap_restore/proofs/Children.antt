@@ -12,7 +12,8 @@ use Rattle.sqlite_rules.proofs.ProbeLemmas.{has_mapped, mapped_has}
 use Rattle.imap_mailbox.specs.declared.message.GoneMessage.{GoneMessage}
 use Rattle.imap_mailbox.specs.declared.message.Message.{Message}
 use Rattle.imap_records.specs.Columns.{entry_values, gone_values, message_values}
-use Rattle.imap_records.specs.Standing.{AreRows, IsEntry as EntryOf, IsGone as GoneOf, IsMessage as MessageOf, IsUnder, entries, messages, gone}
+use Rattle.imap_names.specs.Name.{Name}
+use Rattle.imap_records.specs.Standing.{AreRows, IsEntry as EntryOf, IsGone as GoneOf, IsMessage as MessageOf, IsUnder, Kept, entries, messages, gone}
 use Rattle.imap_rights.specs.Entries.{pair_of, pairs_of}
 use Rattle.imap_tables.specs.declared.stored.StoredEntry.{StoredEntry}
 use Rattle.imap_tables.specs.declared.stored.StoredGone.{StoredGone}
@@ -48,8 +49,8 @@ module _ (db : Trees) (w : World) (c : Read db w) where
 
   -- ---- entries of access control lists
 
-  pub entries_stand : AreRows (db 2) (IsUnder w (id db w c) entries)
-  entries_stand = record {
+  pub entries_stand : (kept : Name → Kept) → AreRows (db 2) (IsUnder w (id db w c) kept entries)
+  entries_stand kept = record {
     sound = λ row h.
         let x = (entry_rows db c.rows).to row h in
         let form = entry_is db c.rows row h x.0 x.2 in
@@ -95,8 +96,8 @@ module _ (db : Trees) (w : World) (c : Read db w) where
   message_same x y is n e =
       λ i. Int (e i) ∷ Int (pos (is.0.uid i)) ∷ Words (is.0.date i) ∷ Bytes (is.0.octets i) ∷ Int (pos (is.0.flags.0 i)) ∷ Words (is.0.flags.1 i) ∷ Int (is.0.place i) ∷ []
 
-  pub messages_stand : AreRows (db 4) (IsUnder w (id db w c) messages)
-  messages_stand = record {
+  pub messages_stand : (kept : Name → Kept) → AreRows (db 4) (IsUnder w (id db w c) kept messages)
+  messages_stand kept = record {
     sound = λ row h.
         let x = (message_rows db c.rows).to row h in
         let form = message_is db c.rows row h x.0 x.2 in
@@ -134,8 +135,8 @@ module _ (db : Trees) (w : World) (c : Read db w) where
   gone_same : (x : StoredGone) (y : GoneMessage) → IsGoneMessageFor x y → (n : ℤ) → n ≡ x.mailbox → gone_values n y ≡ Int x.mailbox ∷ Int (pos x.uid) ∷ Int x.place ∷ []
   gone_same x y is n e = λ i. Int (e i) ∷ Int (pos (is.0 i)) ∷ Int (is.1 i) ∷ []
 
-  pub gone_stand : AreRows (db 6) (IsUnder w (id db w c) gone)
-  gone_stand = record {
+  pub gone_stand : (kept : Name → Kept) → AreRows (db 6) (IsUnder w (id db w c) kept gone)
+  gone_stand kept = record {
     sound = λ row h.
         let x = (gone_rows db c.rows).to row h in
         let form = gone_is db c.rows row h x.0 x.2 in

@@ -1,9 +1,7 @@
 -- The own changes of all users in one list.
-use Rattle.std.proofs.Common.{◌≡◌, ◌≢◌, ◌≤◌, ◌+◌, inl, inr, ℕ, Bool, true, false, cond, List, [], ◌∷◌, ◌++◌, Option, Some, None, unwrap_or, refl, sym, ap, subst, ◌∙◌, arith, true≢false}
-use Rattle.std.specs.Prelude.{bytes_eq, slice_get}
+use Rattle.std.proofs.Common.{◌≡◌, ◌≢◌, ◌≤◌, ◌+◌, ◌-◌, ◌⊎◌, inl, inr, ℕ, suc, Bool, true, false, cond, List, [], ◌∷◌, ◌++◌, map as map_list, replicate, Option, Some, None, unwrap_or, refl, sym, ap, subst, ◌∙◌, arith, true≢false}
+use Rattle.std.specs.Prelude.{bytes_eq}
 use Rattle.std.specs.FinMap as map
-use Rattle.std.specs.FinMap.{get-entries}
-use Rattle.std.specs.FinMap.Entries.{find}
 use Rattle.std.specs.Ordering.{eq_by_cmp, nat_cmp}
 use Rattle.std.specs.Cmp.Lexicographic.{nat_list_cmp_total, slice_cmp}
 use Rattle.std.specs.FinMap.{nat_cmp-IsAntisymmetric, slice_cmp-IsAntisymmetric}
@@ -11,13 +9,17 @@ use Rattle.std.proofs.lemmas.List.Elements.{filter-append}
 use Rattle.std.proofs.lemmas.Map.Text.{is_eq-slice_cmp}
 use Rattle.std.proofs.lemmas.Slice.Eq.{bytes_eq-Decides}
 use Rattle.sqlite_rules.specs.Lists.{Has}
-use Rattle.imap_mailbox.specs.declared.own.SeenChange.{SeenChange}
-use Rattle.imap_mailbox.specs.History.{own_at}
-use Rattle.imap_mailbox.specs.UserChange.{UserChange, changes_from, of_user}
-use Rattle.imap_user_map.specs.Rows.{Users}
-use Rattle.imap_restore.proofs.Keyed.{Apart, entries_apart}
-use Rattle.imap_restore.proofs.Listed.{entry_get, get_entry}
-use Rattle.imap_restore.proofs.Marks.{put_at, taken_at}
+use Rattle.sqlite_rules.proofs.ProbeLemmas.{has_mapped, mapped_has}
+use Rattle.imap_mailbox.specs.declared.kept_change.KeptChange.{KeptChange}
+use Rattle.imap_mailbox.specs.KeptRows.{AreKept}
+use Rattle.imap_mailbox.specs.Own.{Own, filled, found_in, no_own}
+use Rattle.imap_mailbox.specs.Parts.{AreInPlace}
+use Rattle.imap_mailbox.specs.Summary.{Summary}
+use Rattle.imap_mailbox.specs.UserChange.{UserChange, of_user, row_of, rows_of_user}
+use Rattle.imap_records.specs.Standing.{AreFound, Kept}
+use Rattle.imap_restore.proofs.Keyed.{Apart, apart_mapped, entries_apart}
+use Rattle.imap_restore.proofs.Listed.{get_entry}
+use Rattle.imap_restore.proofs.UserChanges.{change_of}
 
 -- ---- lists that are joined
 
@@ -47,77 +49,71 @@ apart_joined f (z ∷ xs) ys a b differ = (
 abbrev pub place_of : UserChange → List ℕ × ℕ
 place_of c = (c.user, c.place)
 
-pub user_of : (user : List ℕ) (k : ℕ) (own : List SeenChange) (c : UserChange) → Has (changes_from user k own) c → c.user ≡ user
-user_of user k [] c h = absurd h
-user_of user k (s ∷ own) c (inl is) = ap (λ (d : UserChange). d.user) is
-user_of user k (s ∷ own) c (inr h) = user_of user (k + 1) own c h
+abbrev pub changes_for : (user : List ℕ) → List KeptChange → List UserChange
+changes_for user kept = map_list (change_of user) kept
 
-place_from : (user : List ℕ) (k : ℕ) (own : List SeenChange) (c : UserChange) → Has (changes_from user k own) c → k ≤ c.place
-place_from user k [] c h = absurd h
-place_from user k (s ∷ own) c (inl is) = omega (arith, ap (λ (d : UserChange). d.place) is)
-place_from user k (s ∷ own) c (inr h) = let later = place_from user (k + 1) own c h in omega (arith, later)
+rows_again : (user : List ℕ) (kept : List KeptChange) → map_list row_of (changes_for user kept) ≡ kept
+rows_again user [] = refl
+rows_again user (k ∷ kept) = ap (λ l. k ∷ l) (rows_again user kept)
 
-own_apart : (user : List ℕ) (k : ℕ) (own : List SeenChange) → Apart place_of (changes_from user k own)
-own_apart user k [] = tt
-own_apart user k (s ∷ own) = (
-  λ y h e. let later = place_from user (k + 1) own y h in let same : k ≡ y.place = ap (λ (t : List ℕ × ℕ). t.1) e in omega (arith, later, same),
-  own_apart user (k + 1) own,
+user_of : (user : List ℕ) (kept : List KeptChange) (c : UserChange) → Has (changes_for user kept) c → (k : KeptChange) × Has kept k × (c ≡ change_of user k)
+user_of user kept c h = has_mapped (change_of user) kept c h
+
+later_of : (user : List ℕ) (kept : List KeptChange) (done low high : ℕ) → AreKept done low high kept → (c : UserChange) → Has (changes_for user kept) c → done ≤ c.place
+later_of user [] done low high h c none = absurd none
+later_of user (k ∷ kept) done low high h c (inl is) = let at = h.0.place in let same = ap (λ (d : UserChange). d.place) is in omega (arith, at, same)
+later_of user (k ∷ kept) done low high h c (inr there) = let at = h.0.place in let more = later_of user kept (k.place + 1) k.before high h.1 c there in omega (arith, at, more)
+
+own_apart : (user : List ℕ) (kept : List KeptChange) (done low high : ℕ) → AreKept done low high kept → Apart place_of (changes_for user kept)
+own_apart user [] done low high h = tt
+own_apart user (k ∷ kept) done low high h = (
+  λ y there e.
+      let more = later_of user kept (k.place + 1) k.before high h.1 y there in
+      let same : k.place ≡ y.place = ap (λ (t : List ℕ × ℕ). t.1) e in
+      omega (arith, more, same),
+  own_apart user kept (k.place + 1) k.before high h.1,
 )
 
-filter_all : (user : List ℕ) (k : ℕ) (own : List SeenChange) (q : List ℕ) → bytes_eq user q ≡ true → of_user q (changes_from user k own) ≡ changes_from user k own
-filter_all user k [] q same = refl
-filter_all user k (s ∷ own) q same =
-    let c : UserChange = record { user = user; place = k; change = s } in
-    ap (λ b. cond b (c ∷ of_user q (changes_from user (k + 1) own)) (of_user q (changes_from user (k + 1) own))) same ∙ ap (λ l. c ∷ l) (filter_all user (k + 1) own q same)
+filter_all : (user : List ℕ) (kept : List KeptChange) (q : List ℕ) → bytes_eq user q ≡ true → of_user q (changes_for user kept) ≡ changes_for user kept
+filter_all user [] q same = refl
+filter_all user (k ∷ kept) q same =
+    ap (λ b. cond b (change_of user k ∷ of_user q (changes_for user kept)) (of_user q (changes_for user kept))) same ∙ ap (λ l. change_of user k ∷ l) (filter_all user kept q same)
 
-filter_none : (user : List ℕ) (k : ℕ) (own : List SeenChange) (q : List ℕ) → bytes_eq user q ≡ false → of_user q (changes_from user k own) ≡ []
-filter_none user k [] q other = refl
-filter_none user k (s ∷ own) q other =
-    let c : UserChange = record { user = user; place = k; change = s } in
-    ap (λ b. cond b (c ∷ of_user q (changes_from user (k + 1) own)) (of_user q (changes_from user (k + 1) own))) other ∙ filter_none user (k + 1) own q other
+filter_none : (user : List ℕ) (kept : List KeptChange) (q : List ℕ) → bytes_eq user q ≡ false → of_user q (changes_for user kept) ≡ []
+filter_none user [] q other = refl
+filter_none user (k ∷ kept) q other =
+    ap (λ b. cond b (change_of user k ∷ of_user q (changes_for user kept)) (of_user q (changes_for user kept))) other ∙ filter_none user kept q other
 
 -- ---- of all users
 
-pub flat : List (List ℕ × List SeenChange) → List UserChange
-flat [] = []
-flat (e ∷ es) = changes_from e.0 0 e.1 ++ flat es
+abbrev pub flat : Kept → List (List ℕ) → List UserChange
+flat kept [] = []
+flat kept (u ∷ us) = changes_for u (kept u) ++ flat kept us
 
-pub record InFlat (es : List (List ℕ × List SeenChange)) (c : UserChange) : Type 0 where
-  pub own : List SeenChange
-  pub listed : Has es (c.user, own)
-  pub among : Has (changes_from c.user 0 own) c
+in_flat : (kept : Kept) (us : List (List ℕ)) (c : UserChange) → Has (flat kept us) c → Has us c.user × ((k : KeptChange) × Has (kept c.user) k × (c ≡ change_of c.user k))
+in_flat kept [] c h = absurd h
+in_flat kept (u ∷ us) c h =
+    has_joined (λ (c : UserChange). Has (u ∷ us) c.user × ((k : KeptChange) × Has (kept c.user) k × (c ≡ change_of c.user k))) (changes_for u (kept u)) (flat kept us)
+    (λ d there.
+    let it = user_of u (kept u) d there in
+    let same : d.user ≡ u = ap (λ (e : UserChange). e.user) it.2 in
+    (inl same, (it.0, subst (λ q. Has (kept q) it.0) (sym same) it.1, it.2 ∙ ap (λ q. change_of q it.0) (sym same))))
+    (λ d there. let it = in_flat kept us d there in (inr it.0, it.1)) c h
 
-pub in_flat : (es : List (List ℕ × List SeenChange)) (c : UserChange) → Has (flat es) c → InFlat es c
-unfolding flat
-in_flat [] c h = absurd h
-in_flat (e ∷ es) c h =
-    has_joined (InFlat (e ∷ es)) (changes_from e.0 0 e.1) (flat es)
-    (λ d k.
-    let u = user_of e.0 0 e.1 d k in
-    record { own = e.1; listed = inl (λ i. (u i, e.1)); among = subst (λ q. Has (changes_from q 0 e.1) d) (sym u) k })
-    (λ d k. let it = in_flat es d k in record { own = it.own; listed = inr it.listed; among = it.among }) c h
+flat_has : (kept : Kept) (us : List (List ℕ)) (u : List ℕ) (k : KeptChange) → Has us u → Has (kept u) k → Has (flat kept us) (change_of u k)
+flat_has kept [] u k none h = absurd none
+flat_has kept (v ∷ us) u k (inl is) h =
+    has_front (changes_for v (kept v)) (flat kept us) (change_of u k) (subst (λ q. Has (changes_for q (kept q)) (change_of u k)) is (mapped_has (change_of u) (kept u) k h))
+flat_has kept (v ∷ us) u k (inr there) h = has_back (changes_for v (kept v)) (flat kept us) (change_of u k) (flat_has kept us u k there h)
 
-pub flat_has : (es : List (List ℕ × List SeenChange)) (e : List ℕ × List SeenChange) (c : UserChange) → Has es e → Has (changes_from e.0 0 e.1) c → Has (flat es) c
-unfolding flat
-flat_has [] e c h k = absurd h
-flat_has (d ∷ es) e c (inl is) k = has_front (changes_from d.0 0 d.1) (flat es) c (subst (λ (x : List ℕ × List SeenChange). Has (changes_from x.0 0 x.1) c) is k)
-flat_has (d ∷ es) e c (inr h) k = has_back (changes_from d.0 0 d.1) (flat es) c (flat_has es e c h k)
-
-pub flat_apart : (es : List (List ℕ × List SeenChange)) → Apart (λ (e : List ℕ × List SeenChange). e.0) es → Apart place_of (flat es)
-unfolding flat
-flat_apart [] a = tt
-flat_apart (e ∷ es) a =
-    apart_joined place_of (changes_from e.0 0 e.1) (flat es) (own_apart e.0 0 e.1) (flat_apart es a.1)
+flat_apart : (kept : Kept) (shared : ℕ) → ((user : List ℕ) → AreKept 0 0 shared (kept user)) → (us : List (List ℕ)) → Apart (λ (q : List ℕ). q) us → Apart place_of (flat kept us)
+flat_apart kept shared order [] a = tt
+flat_apart kept shared order (u ∷ us) a =
+    apart_joined place_of (changes_for u (kept u)) (flat kept us) (own_apart u (kept u) 0 0 shared (order u)) (flat_apart kept shared order us a.1)
     (λ x y hx hy same.
-    let there = in_flat es y hy in
-    a.0 (y.user, there.own) there.listed (sym (user_of e.0 0 e.1 x hx) ∙ ap (λ (t : List ℕ × ℕ). t.0) same))
-
-absent : (es : List (List ℕ × List SeenChange)) (q : List ℕ) → ((e : List ℕ × List SeenChange) → Has es e → bytes_eq e.0 q ≡ false) → of_user q (flat es) ≡ []
-unfolding flat
-absent [] q none = refl
-absent (e ∷ es) q none =
-    filter-append (λ (c : UserChange). bytes_eq c.user q) (changes_from e.0 0 e.1) (flat es)
-    ∙ (λ i. filter_none e.0 0 e.1 q (none e (inl refl)) i ++ absent es q (λ d h. none d (inr h)) i)
+    let here = user_of u (kept u) x hx in
+    let there = in_flat kept us y hy in
+    a.0 y.user there.0 (sym (ap (λ (e : UserChange). e.user) here.2) ∙ ap (λ (t : List ℕ × ℕ). t.0) same))
 
 not_same : (a b : List ℕ) → a ≢ b → bytes_eq a b ≡ false
 not_same a b differ = by (bytes_eq a b) refl
@@ -130,61 +126,90 @@ app_nil : {X : Type 0} (xs : List X) → xs ++ [] ≡ xs
 app_nil [] = refl
 app_nil (x ∷ xs) = λ i. x ∷ app_nil xs i
 
-found_flat : (es : List (List ℕ × List SeenChange)) (q : List ℕ) → Apart (λ (e : List ℕ × List SeenChange). e.0) es → of_user q (flat es) ≡ changes_from q 0 (unwrap_or (find (slice_cmp nat_cmp) q es) [])
-unfolding flat
-found_flat [] q a = refl
-found_flat (e ∷ es) q a =
-    filter-append (λ (c : UserChange). bytes_eq c.user q) (changes_from e.0 0 e.1) (flat es)
-    ∙ by (found_flat es q a.1) (bytes_eq q e.0) refl
-  where
-    asked : (b : Bool) → bytes_eq q e.0 ≡ b → find (slice_cmp nat_cmp) q (e ∷ es) ≡ cond b (Some e.1) (find (slice_cmp nat_cmp) q es)
-    asked b is = ap (λ t. cond t (Some e.1) (find (slice_cmp nat_cmp) q es)) (is_eq-slice_cmp q e.0 ∙ is)
+absent : (kept : Kept) (us : List (List ℕ)) (q : List ℕ) → ((u : List ℕ) → Has us u → bytes_eq u q ≡ false) → of_user q (flat kept us) ≡ []
+absent kept [] q none = refl
+absent kept (u ∷ us) q none =
+    filter-append (λ (c : UserChange). bytes_eq c.user q) (changes_for u (kept u)) (flat kept us)
+    ∙ (λ i. filter_none u (kept u) q (none u (inl refl)) i ++ absent kept us q (λ d h. none d (inr h)) i)
 
-    by : of_user q (flat es) ≡ changes_from q 0 (unwrap_or (find (slice_cmp nat_cmp) q es) []) → (b : Bool) → bytes_eq q e.0 ≡ b → of_user q (changes_from e.0 0 e.1) ++ of_user q (flat es) ≡ changes_from q 0 (unwrap_or (find (slice_cmp nat_cmp) q (e ∷ es)) [])
+-- a user's changes are found among those of all, if each user who has some is one of these
+found_flat : (kept : Kept) (us : List (List ℕ)) (q : List ℕ) → Apart (λ (q : List ℕ). q) us → (((k : KeptChange) → Has (kept q) k → Has us q)) → of_user q (flat kept us) ≡ changes_for q (kept q)
+found_flat kept [] q a there = by (kept q) there
+  where
+    by : (l : List KeptChange) → ((k : KeptChange) → Has l k → ⊥) → [] ≡ changes_for q l
+    by [] none = refl
+    by (k ∷ l) none = absurd (none k (inl refl))
+found_flat kept (u ∷ us) q a there =
+    filter-append (λ (c : UserChange). bytes_eq c.user q) (changes_for u (kept u)) (flat kept us)
+    ∙ by (λ there. found_flat kept us q a.1 there) (bytes_eq q u) refl
+  where
+    later : bytes_eq q u ≡ false → (k : KeptChange) → Has (kept q) k → Has us q
+    later other k h = not_first (there k h)
+      where
+        not_first : (q ≡ u) ⊎ Has us q → Has us q
+        not_first (inl e) = absurd (true≢false (sym ((bytes_eq-Decides q u).1 e) ∙ other))
+        not_first (inr h) = h
+
+    by : (((k : KeptChange) → Has (kept q) k → Has us q) → of_user q (flat kept us) ≡ changes_for q (kept q)) → (b : Bool) → bytes_eq q u ≡ b
+        → of_user q (changes_for u (kept u)) ++ of_user q (flat kept us) ≡ changes_for q (kept q)
     by rest true is =
-        let same : q ≡ e.0 = (bytes_eq-Decides q e.0).0 is in
-        let back : bytes_eq e.0 q ≡ true = (bytes_eq-Decides e.0 q).1 (sym same) in
-        (λ i. filter_all e.0 0 e.1 q back i ++ absent es q (λ d h. not_same d.0 q (λ is_q. a.0 d h (sym same ∙ sym is_q))) i)
-        ∙ app_nil (changes_from e.0 0 e.1)
-        ∙ ap (λ u. changes_from u 0 e.1) (sym same)
-        ∙ ap (λ (o : Option (List SeenChange)). changes_from q 0 (unwrap_or o [])) (sym (asked true is))
+        let same : q ≡ u = (bytes_eq-Decides q u).0 is in
+        let back : bytes_eq u q ≡ true = (bytes_eq-Decides u q).1 (sym same) in
+        (λ i. filter_all u (kept u) q back i ++ absent kept us q (λ d h. not_same d q (λ is_q. a.0 d h (sym same ∙ sym is_q))) i)
+        ∙ app_nil (changes_for u (kept u))
+        ∙ ap (λ v. changes_for v (kept v)) (sym same)
     by rest false is =
-        let differ : bytes_eq e.0 q ≡ false = not_same e.0 q (λ same. true≢false (sym ((bytes_eq-Decides q e.0).1 (sym same)) ∙ is)) in
-        (λ i. filter_none e.0 0 e.1 q differ i ++ rest i)
-        ∙ ap (λ (o : Option (List SeenChange)). changes_from q 0 (unwrap_or o [])) (sym (asked false is))
+        (λ i. filter_none u (kept u) q (not_same u q (λ same. true≢false (sym ((bytes_eq-Decides q u).1 (sym same)) ∙ is))) i ++ rest (later is) i)
 
 pub itself : (k : List ℕ) → eq_by_cmp (slice_cmp nat_cmp) k k ≡ true
 itself k = is_eq-slice_cmp k k ∙ (bytes_eq-Decides k k).1 refl
 
-module _ (own : Users (List SeenChange)) where
+module _ (kept : Kept) (s : Summary) (are : AreFound kept s) where
+  users : List (List ℕ)
+  users = map_list (λ (e : List ℕ × Own). e.0) (map.entries s.own)
+
   pub all_own : List UserChange
-  all_own = flat (map.entries own)
+  all_own = flat kept users
+
+  users_apart : Apart (λ (q : List ℕ). q) users
+  unfolding users
+  users_apart = apart_mapped (λ (e : List ℕ × Own). e.0) (λ (q : List ℕ). q) (map.entries s.own) (entries_apart (slice_cmp nat_cmp) itself s.own)
+
+  some_found : (rows : List KeptChange) (k : KeptChange) → Has rows k → filled 0 rows ≡ [] → AreKept 0 0 s.shared rows → ⊥
+  some_found [] k none e h = none
+  some_found (r ∷ rows) k there e h = by (r.place + 1 - 0) (let z : r.place + 1 - 0 ≡ suc r.place = omega arith in z) e
+    where
+      by : (n : ℕ) → n ≡ suc r.place → replicate n r.before ++ filled (r.place + 1) rows ≡ [] → ⊥
+      by n is e = let z : replicate (suc r.place) r.before ++ filled (r.place + 1) rows ≡ [] = ap (λ m. replicate m r.before ++ filled (r.place + 1) rows) (sym is) ∙ e in cc z
+
+  -- who has a change is one of the users
+  listed : (user : List ℕ) (k : KeptChange) → Has (kept user) k → Has users user
+  unfolding users
+  listed user k h = by (map.get s.own user) refl
+    where
+      by : (o : Option Own) → map.get s.own user ≡ o → Has (map_list (λ (e : List ℕ × Own). e.0) (map.entries s.own)) user
+      by None is =
+          absurd (some_found (kept user) k h (ap (λ (x : Own). x.befores) (are.found user ∙ ap (λ o. unwrap_or o no_own) is)) (are.order user))
+      by (Some own) is =
+          mapped_has (λ (e : List ℕ × Own). e.0) (map.entries s.own) (user, own)
+          (get_entry (slice_cmp nat_cmp) nat_list_cmp_total (slice_cmp-IsAntisymmetric nat_cmp-IsAntisymmetric) itself s.own user own is)
 
   pub all_own_apart : Apart place_of all_own
   unfolding all_own
-  all_own_apart = flat_apart (map.entries own) (entries_apart (slice_cmp nat_cmp) itself own)
+  all_own_apart = flat_apart kept s.shared are.order users users_apart
 
-  pub all_own_of : (user : List ℕ) → of_user user all_own ≡ changes_from user 0 (own_at own user)
+  pub all_own_of : AreInPlace s.shared all_own s.own
   unfolding all_own
-  all_own_of user = found_flat (map.entries own) user (entries_apart (slice_cmp nat_cmp) itself own) ∙ ap (λ (o : Option (List SeenChange)). changes_from user 0 (unwrap_or o [])) (sym (get-entries own user))
+  all_own_of user =
+      let same : rows_of_user user (flat kept users) ≡ kept user = ap (map_list row_of) (found_flat kept users user users_apart (listed user)) ∙ rows_again user (kept user) in
+      (subst (AreKept 0 0 s.shared) (sym same) (are.order user), ap found_in same ∙ are.found user)
 
-  by_get : (user : List ℕ) (j : ℕ) (s : SeenChange) (o : Option (List SeenChange)) → map.get own user ≡ o → slice_get (unwrap_or o []) j ≡ Some s → (l : List SeenChange) × (map.get own user ≡ Some l) × (slice_get l j ≡ Some s)
-  by_get user j s (Some l) is at = (l, is, at)
-  by_get user j s None is at = absurd (cc at)
-
-  pub own_put : (user : List ℕ) (place : ℕ) (s : SeenChange) → slice_get (own_at own user) place ≡ Some s → Has all_own (record { user = user; place = place; change = s })
+  pub own_put : (user : List ℕ) (k : KeptChange) → Has (kept user) k → Has all_own (change_of user k)
   unfolding all_own
-  own_put user place s at =
-      let g = by_get user place s (map.get own user) refl at in
-      flat_has (map.entries own) (user, g.0) (record { user = user; place = place; change = s })
-      (get_entry (slice_cmp nat_cmp) nat_list_cmp_total (slice_cmp-IsAntisymmetric nat_cmp-IsAntisymmetric) itself own user g.0 g.1)
-      (put_at user 0 g.0 place place s (omega (arith)) g.2)
+  own_put user k h = flat_has kept users user k (listed user k h) h
 
-  pub own_taken : (c : UserChange) → Has all_own c → slice_get (own_at own c.user) c.place ≡ Some c.change
+  pub own_taken : (c : UserChange) → Has all_own c → Has (kept c.user) (row_of c)
   unfolding all_own
   own_taken c h =
-      let it = in_flat (map.entries own) c h in
-      let got = entry_get (slice_cmp nat_cmp) nat_list_cmp_total (slice_cmp-IsAntisymmetric nat_cmp-IsAntisymmetric) itself own (c.user, it.own) it.listed in
-      let at = taken_at c.user 0 it.own c it.among in
-      let place : at.0 ≡ c.place = omega (arith, at.2) in
-      ap (λ (o : Option (List SeenChange)). slice_get (unwrap_or o []) c.place) got ∙ ap (slice_get it.own) (sym place) ∙ at.1
+      let it = (in_flat kept users c h).1 in
+      subst (Has (kept c.user)) (ap row_of (sym it.2)) it.1

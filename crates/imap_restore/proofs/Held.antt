@@ -3,13 +3,15 @@ use Rattle.std.proofs.Common.{◌≡◌, ◌+◌, inl, inr, ℕ, true, List, [],
 use Rattle.std.specs.Prelude.{bytes_eq}
 use Rattle.std.specs.FinMap as map
 use Rattle.std.specs.Str.{is_utf8}
+use Rattle.std.proofs.lemmas.Slice.Eq.{bytes_eq-Decides}
 use Rattle.std.proofs.lemmas.List.Sorted.{IsPermutation-sym}
 use Rattle.sqlite.specs.Tree.{Trees}
 use Rattle.sqlite_rules.specs.Lists.{Has}
-use Rattle.imap_mailbox.specs.declared.own.SeenChange.{SeenChange}
-use Rattle.imap_mailbox.specs.History.{own_at}
-use Rattle.imap_mailbox.specs.UserChange.{UserChange, changes_from}
+use Rattle.imap_mailbox.specs.declared.kept_change.KeptChange.{KeptChange}
+use Rattle.imap_mailbox.specs.Own.{Own, filled}
+use Rattle.imap_mailbox.specs.UserChange.{UserChange, of_user, row_of, rows_of_user}
 use Rattle.sqlite_rules.proofs.ListLemmas.{has_filtered}
+use Rattle.sqlite_rules.proofs.ProbeLemmas.{has_mapped}
 use Rattle.imap_names.specs.Name.{Name}
 use Rattle.imap_records.specs.Values.{HasValues, WorldHasValues}
 use Rattle.imap_rights.specs.Acl.{IsAcl}
@@ -25,11 +27,10 @@ use Rattle.imap_restore.proofs.Owners.{Read, owner}
 use Rattle.imap_restore.proofs.Standing.{epoch_read, sub_read}
 use Rattle.imap_restore.proofs.TableRows.{epoch_rows, mailbox_rows}
 
--- a change of the list is one of those that are numbered
-pub numbered : (user : List ℕ) (k : ℕ) (own : List SeenChange) (s : SeenChange) → Has own s → (x : UserChange) × Has (changes_from user k own) x × (x.user ≡ user)
-numbered user k [] s h = absurd h
-numbered user k (y ∷ own) s (inl is) = (record { user = user; place = k; change = y }, inl refl, refl)
-numbered user k (y ∷ own) s (inr h) = let r = numbered user (k + 1) own s h in (r.0, inr r.1, r.2)
+-- there are numbers of shared events only if a change is kept
+one_kept : (rows : List KeptChange) (done before : ℕ) → Has (filled done rows) before → (k : KeptChange) × Has rows k
+one_kept [] done before none = absurd none
+one_kept (k ∷ rows) done before h = (k, inl refl)
 
 module _ (db : Trees) (w : World) (c : Read db w) (lists : (name : Name) (m : Mailbox) → map.get w.mailboxes name ≡ Some m → IsAcl m.acl)
     (filled : (user : List ℕ) → map.get w.subscriptions user ≡ if_filled (subscribed_by w user)) where
@@ -42,12 +43,13 @@ module _ (db : Trees) (w : World) (c : Read db w) (lists : (name : Name) (m : Ma
         messages = λ x h.
             let y = has_moved m.messages.messages o.1.row.messages.messages.items (IsPermutation-sym o.1.row.messages.messages.items m.messages.messages o.1.is.messages.messages) x h in
             (filtered_zip IsMessageFor _ c.rows.t.messages.items o.1.row.messages.messages.items o.1.for_it.messages.messages x y).3.1;
-        users = λ user change h.
+        users = λ user before h.
             let own = o.1.is.messages.own in
-            let x = numbered user 0 (own_at m.messages.own user) change h in
-            let among = has_filtered (λ (d : UserChange). bytes_eq d.user user) own.0 x.0 (subst (λ l. Has l x.0) (sym (own.2 user)) x.1) in
-            let there = has_moved own.0 o.1.row.messages.own.items (IsPermutation-sym o.1.row.messages.own.items own.0 own.1) x.0 among.0 in
-            subst (λ u. is_utf8 u ≡ true) x.2 (filtered_zip IsChangeFor _ c.rows.t.marks.items o.1.row.messages.own.items o.1.for_it.messages.own x.0 there).3.1;
+            let k = one_kept (rows_of_user user own.0) 0 before (subst (λ (x : Own). Has x.befores before) (sym (own.2 user).1) h) in
+            let y = has_mapped row_of (of_user user own.0) k.0 k.1 in
+            let among = has_filtered (λ (d : UserChange). bytes_eq d.user user) own.0 y.0 y.1 in
+            let there = has_moved own.0 o.1.row.messages.own.items (IsPermutation-sym o.1.row.messages.own.items own.0 own.1) y.0 among.0 in
+            subst (λ u. is_utf8 u ≡ true) ((bytes_eq-Decides y.0.user user).0 among.1) (filtered_zip IsChangeFor _ c.rows.t.marks.items o.1.row.messages.own.items o.1.for_it.messages.own y.0 there).3.1;
       }
 
   pub world_has : WorldHasValues w

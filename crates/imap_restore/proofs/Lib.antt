@@ -6,6 +6,7 @@ pub mod Listed
 mod TableRows
 mod Owners
 mod Children
+mod UserChanges
 mod Marks
 mod Standing
 mod Held

@@ -90,7 +90,7 @@ module _ (db : Trees) (w : World) (c : Read db w) where
 
   -- ---- ids
 
-  abbrev id_by : (name : Name) (o : Option Mailbox) → map.get w.mailboxes name ≡ o → ℤ
+  abbrev pub id_by : (name : Name) (o : Option Mailbox) → map.get w.mailboxes name ≡ o → ℤ
   id_by name None is = pos 0
   id_by name (Some m) is = (owner name m is).0.id
 

@@ -28,6 +28,7 @@ use Rattle.imap_stored_values.specs.Restored.{IsEpochFor, IsSubscriptionFor}
 use Rattle.imap_stored_values.proofs.Kept.{string_utf8}
 use Rattle.imap_restore.proofs.Keyed.{zip_all}
 use Rattle.imap_restore.proofs.TableRows.{Rows}
+use Rattle.imap_restore.proofs.UserChanges.{change_of}
 use Rattle.imap_restore.proofs.Told.{entry_told, epoch_told, gone_told, known_at, mark_told, message_told, subscription_told, told}
 
 module _ (db : Trees) (w : World) (hold : Hold db w) (b : Rows db) where
@@ -49,7 +50,7 @@ module _ (db : Trees) (w : World) (hold : Hold db w) (b : Rows db) where
   mark_part : (x : StoredSeenFlag) → Has b.t.marks.items x → (y : UserChange) × IsChangeFor x y
   mark_part x h =
       let t = mark_told db w hold.0.stands b x h in
-      (record { user = t.user; place = t.place; change = t.change }, (t.is, subst (λ u. is_utf8 u ≡ true) (sym t.is.user) (string_utf8 x.row.user)))
+      (change_of t.user t.change, (t.is, subst (λ u. is_utf8 u ≡ true) (sym t.is.user) (string_utf8 x.row.user)))
 
   epoch_part : (x : StoredEpoch) → Has b.t.epochs.items x → (y : Name × ℕ) × IsEpochFor x y
   epoch_part x h =

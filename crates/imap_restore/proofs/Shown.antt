@@ -1,6 +1,6 @@
 -- Rows of tables that hold a world can be read.
-use Rattle.std.proofs.Common.{◌≡◌, ◌<◌, ◌≤◌, ◌+◌, inl, inr, ℕ, zero, suc, pos, Bool, true, false, cond, List, [], ◌∷◌, ◌++◌, map as map_list, Option, Some, refl, sym, ap, subst, ◌∙◌, arith}
-use Rattle.std.specs.Prelude.{codes, slice_get, not, ◌==◌}
+use Rattle.std.proofs.Common.{◌≡◌, ◌<◌, ◌≤◌, ◌+◌, ◌-◌, ◌⊎◌, inl, inr, ℕ, suc, eqb, pos, Bool, true, false, cond, List, [], ◌∷◌, ◌++◌, map as map_list, replicate, Some, refl, sym, ap, subst, ◌∙◌, true≢false, arith}
+use Rattle.std.specs.Prelude.{codes, not, ◌==◌}
 use Rattle.std.specs.FinMap as map
 use Rattle.std.specs.Str.{IsAscii, IsUtf8, is_utf8}
 use Rattle.std.proofs.lemmas.Bool.{and_parts, eq-eqb, eqb-true}
@@ -11,16 +11,18 @@ use Rattle.sqlite.specs.Order.{Row}
 use Rattle.sqlite.specs.Tree.{Trees}
 use Rattle.sqlite.specs.declared.types.Value.TheVariants.{Int}
 use Rattle.sqlite_rules.specs.Lists.{Has}
-use Rattle.sqlite_rules.proofs.ListLemmas.{test_has}
+use Rattle.sqlite_rules.proofs.ListLemmas.{has_right, test_has}
 use Rattle.imap_mailbox.specs.Held.{IsKept}
-use Rattle.imap_mailbox.specs.History.{own_at}
+use Rattle.imap_mailbox.specs.KeptRows.{AreKept}
+use Rattle.imap_mailbox.specs.Own.{Latest, Own, filled, found_in, latest_after, own_at}
 use Rattle.imap_mailbox.specs.Rows.{WasGiven}
 use Rattle.imap_mailbox.specs.Summary.{AreOfGiven, Rises, count_of, gone_uids, given_once, uids_in}
+use Rattle.imap_mailbox.proofs.Found.{got}
 use Rattle.imap_mailbox.proofs.Reordered.{given_within}
 use Rattle.imap_mailbox.specs.declared.flags.SharedFlags.{SharedFlags}
 use Rattle.imap_mailbox.specs.declared.message.GoneMessage.{GoneMessage}
 use Rattle.imap_mailbox.specs.declared.message.Message.{Message}
-use Rattle.imap_mailbox.specs.declared.own.SeenChange.{SeenChange}
+use Rattle.imap_mailbox.specs.declared.kept_change.KeptChange.{KeptChange}
 use Rattle.imap_names.specs.Name.{Name, is_empty, path_of, root_of}
 use Rattle.imap_names.specs.Valid.{IsName}
 use Rattle.imap_names.proofs.Composed.{ascii_by_test, is_utf8-front}
@@ -98,21 +100,34 @@ gone_below next uids lost once g h =
     let some = counted_in (λ (x : GoneMessage). x.uid) lost g h in
     (given_within next g.uid (subst (λ n. 0 < n) (once g.uid) (omega (arith, some)))).1
 
-given_at : (next : ℕ) (own : List SeenChange) (j : ℕ) (s : SeenChange) → AreOfGiven next own → slice_get own j ≡ Some s → WasGiven next s.uid
-given_at next [] j s all is = absurd (cc is)
-given_at next (y ∷ own) zero s all is = subst (λ (x : SeenChange). WasGiven next x.uid) (same y s is) all.0
+-- the message of a change that is kept has a last change
+last_there : (rows : List KeptChange) (m : Latest) (uid : ℕ) → ((c : KeptChange) × Has rows c × (c.uid ≡ uid)) ⊎ ((k : KeptChange) × (map.get m uid ≡ Some k)) → (k : KeptChange) × (map.get (latest_after m rows) uid ≡ Some k)
+last_there [] m uid (inl it) = absurd it.1
+last_there [] m uid (inr it) = it
+last_there (r ∷ rows) m uid it = last_there rows (map.insert m r.uid r) uid (by it (eqb uid r.uid) refl)
   where
-    same : (x z : SeenChange) → ◌≡◌ {A = Option SeenChange} (Some x) (Some z) → x ≡ z
-    same x z e = cc e
-given_at next (y ∷ own) (suc j) s all is = given_at next own j s all.1 is
+    by : ((c : KeptChange) × Has (r ∷ rows) c × (c.uid ≡ uid)) ⊎ ((k : KeptChange) × (map.get m uid ≡ Some k)) → (b : Bool) → eqb uid r.uid ≡ b
+        → ((c : KeptChange) × Has rows c × (c.uid ≡ uid)) ⊎ ((k : KeptChange) × (map.get (map.insert m r.uid r) uid ≡ Some k))
+    by it true e = inr (r, got m r.uid r uid ∙ ap (λ b. cond b (Some r) (map.get m uid)) e)
+    by (inl (c, inl is, same)) false e = absurd (true≢false (sym (eq-eqb uid r.uid (sym same ∙ ap (λ (x : KeptChange). x.uid) is)) ∙ e))
+    by (inl (c, inr there, same)) false e = inl (c, there, same)
+    by (inr (k, is)) false e = inr (k, got m r.uid r uid ∙ ap (λ b. cond b (Some r) (map.get m uid)) e ∙ is)
 
-at_has : {X : Type 0} (xs : List X) (j : ℕ) (x : X) → slice_get xs j ≡ Some x → Has xs x
-at_has [] j x is = absurd (cc is)
-at_has {X} (y ∷ xs) zero x is = inl (same x y is)
+given_kept : (next : ℕ) (rows : List KeptChange) (own : Own) (c : KeptChange) → found_in rows ≡ own → AreOfGiven next own → Has rows c → WasGiven next c.uid
+given_kept next rows own c found known h =
+    let last = last_there rows map.empty c.uid (inl (c, h, refl)) in
+    (known c.uid last.0 (ap (λ (o : Own). map.get o.latest c.uid) (sym found) ∙ last.1)).0
+
+-- a change that is kept has a number of shared events before it
+before_there : (rows : List KeptChange) (done low high : ℕ) → AreKept done low high rows → (c : KeptChange) → Has rows c → Has (filled done rows) c.before
+before_there [] done low high h c none = absurd none
+before_there (r ∷ rows) done low high h c (inl is) =
+    let at = h.0.place in
+    by (r.place + 1 - done) (let z : r.place + 1 - done ≡ suc (r.place - done) = omega (arith, at) in z)
   where
-    same : (x y : X) → ◌≡◌ {A = Option X} (Some y) (Some x) → x ≡ y
-    same x y e = cc e
-at_has (y ∷ xs) (suc j) x is = inr (at_has xs j x is)
+    by : (n : ℕ) → n ≡ suc (r.place - done) → Has (replicate n r.before ++ filled (r.place + 1) rows) c.before
+    by n e = subst (λ m. Has (replicate m r.before ++ filled (r.place + 1) rows) c.before) (sym e) (inl (ap (λ (x : KeptChange). x.before) is))
+before_there (r ∷ rows) done low high h c (inr there) = has_right (replicate (r.place + 1 - done) r.before) (filled (r.place + 1) rows) c.before (before_there rows (r.place + 1) r.before high h.1 c there)
 
 module _ (db : Trees) (w : World) (stand : Stand db w) (shows : MetaShows db) where
   mailbox_shows : (row : Row) → Has (db 0) row → ShowsMailbox (shown_at 0 row)
@@ -198,19 +213,23 @@ module _ (db : Trees) (w : World) (stand : Stand db w) (shows : MetaShows db) wh
       let s = stand.stands in
       let n = (s.below marks).sound row h in
       let u = n.meant in
-      let e : MarkOf u.mailbox.messages.own (s.id u.name) n.values = u.shown in
+      let e : MarkOf (s.kept u.name) (s.id u.name) n.values = u.shown in
       let v = (stand.values.mailboxes u.name u.mailbox u.there).messages in
       let k : IsKept u.mailbox.messages = stand.kept.at u.name u.mailbox u.there in
-      let given = given_at u.mailbox.messages.next (own_at u.mailbox.messages.own e.user) e.place e.change (k.sound.fits e.user).known e.there in
+      let are = s.found u.name u.mailbox u.there in
+      let own : Own = own_at u.mailbox.messages.own e.user in
+      let given = given_kept u.mailbox.messages.next (s.kept u.name e.user) own e.change (are.found e.user) (k.sound.fits e.user).known e.there in
+      let before : Has own.befores e.change.before =
+      subst (λ (o : Own). Has o.befores e.change.before) (are.found e.user) (before_there (s.kept u.name e.user) 0 0 u.mailbox.messages.shared (are.order e.user) e.change e.there) in
       subst (λ r. ShowsMark (shown_at 4 r)) (sym (n.shown ∙ ap (λ values. Int n.rowid ∷ values) e.shown)) (record {
         rowid = n.rowid;
         mailbox = s.id u.name;
         user = e.user;
-        own = place_value e.place;
+        own = place_value e.change.place;
         before = pos e.change.before;
         uid = e.change.uid;
         seen = e.change.seen;
-        texts = IsUtf8-from_is_utf8 e.user (v.users e.user e.change (at_has (own_at u.mailbox.messages.own e.user) e.place e.change e.there));
+        texts = IsUtf8-from_is_utf8 e.user (v.users e.user e.change.before before);
         short = omega (arith, given.1, v.next);
         shown = refl;
       })

@@ -39,15 +39,17 @@ rows_alike a b Is same are = record {
 pub stand_alike : (one other : Trees) (world : World) → ((table : Table) → Has store_tables table → (row : Row) → Has (one table.tree) row ↔ Has (other table.tree) row) → StandFor one world → StandFor other world
 stand_alike one other world same s = record {
   id = s.id;
+  kept = s.kept;
   apart = s.apart;
   named = s.named;
+  found = s.found;
   mailboxes = λ row. (λ h. (s.mailboxes row).0 ((same mailbox_table (inl refl) row).1 h), λ is. (same mailbox_table (inl refl) row).0 ((s.mailboxes row).1 is));
   below = below;
   epochs = rows_alike (one 10) (other 10) _ (same epoch_table (inr (inr (inr (inr (inr (inl refl))))))) s.epochs;
   subscriptions = rows_alike (one 12) (other 12) _ (same sub_table (inr (inr (inr (inr (inr (inr (inl refl)))))))) s.subscriptions;
 }
   where
-    below : (child : Child) → AreRows (other (tree_of child)) (IsUnder world s.id child)
+    below : (child : Child) → AreRows (other (tree_of child)) (IsUnder world s.id s.kept child)
     below entries = rows_alike (one 2) (other 2) _ (same acl_table (inr (inl refl))) (s.below entries)
     below messages = rows_alike (one 4) (other 4) _ (same message_table (inr (inr (inl refl)))) (s.below messages)
     below gone = rows_alike (one 6) (other 6) _ (same gone_table (inr (inr (inr (inl refl))))) (s.below gone)

@@ -27,7 +27,7 @@ use Rattle.imap_world.specs.World.{World, subscribed_by}
 use Rattle.imap_stored_values.specs.Restored.{IsEpochFor, IsSubscriptionFor}
 use Rattle.imap_restore.proofs.Children.{entries_stand, gone_stand, messages_stand}
 use Rattle.imap_restore.proofs.Listed.{entry_get, get_entry, has_moved}
-use Rattle.imap_restore.proofs.Marks.{marks_stand}
+use Rattle.imap_restore.proofs.Marks.{all_found, kept, marks_stand}
 use Rattle.imap_restore.proofs.Matching.{Match, zip_match}
 use Rattle.imap_restore.proofs.Owners.{Owner, Read, id, id_is, ids_apart, name_is, owned, owner, path_is, tree_is}
 use Rattle.imap_restore.proofs.TableRows.{epoch_is, epoch_rows, mailbox_is, mailbox_rows, sub_is, sub_rows}
@@ -171,17 +171,19 @@ module _ (db : Trees) (w : World) (c : Read db w) where
     subscriptions = λ user name there. (sub_read user name there).2.1;
   }
 
-  children_stand : (child : Child) → AreRows (db (tree_of child)) (IsUnder w (id db w c) child)
-  children_stand entries = entries_stand db w c
-  children_stand messages = messages_stand db w c
-  children_stand gone = gone_stand db w c
+  children_stand : (child : Child) → AreRows (db (tree_of child)) (IsUnder w (id db w c) (kept db w c) child)
+  children_stand entries = entries_stand db w c (kept db w c)
+  children_stand messages = messages_stand db w c (kept db w c)
+  children_stand gone = gone_stand db w c (kept db w c)
   children_stand marks = marks_stand db w c
 
   pub tables_stand : StandFor db w
   tables_stand = record {
     id = id db w c;
+    kept = kept db w c;
     apart = ids_apart db w c;
     named = names_are;
+    found = all_found db w c;
     mailboxes = λ row. (mailboxes_to row, mailboxes_from row);
     below = children_stand;
     epochs = epochs_stand;

@@ -69,8 +69,10 @@ module _ (old new one : Trees) (split : IsSplit new one) (same : IsSameButVersio
   stand_taken world s = record {
     stands = record {
       id = s.stands.id;
+      kept = s.stands.kept;
       apart = s.stands.apart;
       named = s.stands.named;
+      found = s.stands.found;
       mailboxes = subst (λ (l : List Row). (row : Row) → Has l row ↔ IsMailbox world s.stands.id row) (sym (others_same mailbox_table (inl refl) (ne 0 4 refl, ne 0 16 refl, ne 0 18 refl, ne 0 20 refl) (ne 0 14 refl))) s.stands.mailboxes;
       below = below;
       epochs = rows_same epoch_table (inr (inr (inr (inr (inr (inl refl)))))) (ne 10 4 refl, ne 10 16 refl, ne 10 18 refl, ne 10 20 refl) (ne 10 14 refl) (IsEpoch world.epochs) s.stands.epochs;
@@ -81,11 +83,11 @@ module _ (old new one : Trees) (split : IsSplit new one) (same : IsSameButVersio
     kept = s.kept;
   }
     where
-      below : (child : Child) → AreRows (one (tree_of child)) (IsUnder world s.stands.id child)
-      below entries = rows_same acl_table (inr (inl refl)) (ne 2 4 refl, ne 2 16 refl, ne 2 18 refl, ne 2 20 refl) (ne 2 14 refl) (IsUnder world s.stands.id entries) (s.stands.below entries)
-      below messages = messages_same (IsUnder world s.stands.id messages) (s.stands.below messages)
-      below gone = rows_same gone_table (inr (inr (inr (inl refl)))) (ne 6 4 refl, ne 6 16 refl, ne 6 18 refl, ne 6 20 refl) (ne 6 14 refl) (IsUnder world s.stands.id gone) (s.stands.below gone)
-      below marks = rows_same mark_table (inr (inr (inr (inr (inl refl))))) (ne 8 4 refl, ne 8 16 refl, ne 8 18 refl, ne 8 20 refl) (ne 8 14 refl) (IsUnder world s.stands.id marks) (s.stands.below marks)
+      below : (child : Child) → AreRows (one (tree_of child)) (IsUnder world s.stands.id s.stands.kept child)
+      below entries = rows_same acl_table (inr (inl refl)) (ne 2 4 refl, ne 2 16 refl, ne 2 18 refl, ne 2 20 refl) (ne 2 14 refl) (IsUnder world s.stands.id s.stands.kept entries) (s.stands.below entries)
+      below messages = messages_same (IsUnder world s.stands.id s.stands.kept messages) (s.stands.below messages)
+      below gone = rows_same gone_table (inr (inr (inr (inl refl)))) (ne 6 4 refl, ne 6 16 refl, ne 6 18 refl, ne 6 20 refl) (ne 6 14 refl) (IsUnder world s.stands.id s.stands.kept gone) (s.stands.below gone)
+      below marks = rows_same mark_table (inr (inr (inr (inr (inl refl))))) (ne 8 4 refl, ne 8 16 refl, ne 8 18 refl, ne 8 20 refl) (ne 8 14 refl) (IsUnder world s.stands.id s.stands.kept marks) (s.stands.below marks)
 
   -- ---- what is said of the store
 

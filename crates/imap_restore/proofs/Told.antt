@@ -1,6 +1,6 @@
 -- What the rows of tables that hold a world tell of it.
 use Rattle.std.proofs.Common.{◌≡◌, ℕ, ℤ, pos, Bool, true, false, List, [], ◌∷◌, Option, Some, refl, sym, ap, subst, ◌∙◌}
-use Rattle.std.specs.Prelude.{slice_get, string_bytes}
+use Rattle.std.specs.Prelude.{string_bytes}
 use Rattle.std.specs.FinMap as map
 use Rattle.sqlite.specs.Order.{Row, column}
 use Rattle.sqlite.specs.Tree.{Trees}
@@ -9,8 +9,7 @@ use Rattle.sqlite.specs.declared.types.Value.TheVariants.{Null, Int, Real, Text 
 use Rattle.sqlite_rules.specs.Lists.{Has}
 use Rattle.imap_mailbox.specs.declared.message.GoneMessage.{GoneMessage}
 use Rattle.imap_mailbox.specs.declared.message.Message.{Message}
-use Rattle.imap_mailbox.specs.declared.own.SeenChange.{SeenChange}
-use Rattle.imap_mailbox.specs.History.{own_at}
+use Rattle.imap_mailbox.specs.declared.kept_change.KeptChange.{KeptChange}
 use Rattle.imap_names.specs.Name.{Name, path_of}
 use Rattle.imap_records.specs.Columns.{date_text, entry_values, epoch_values, flag_bits, gone_values, keywords_text, mark_values, message_values, place_value, row_of_mailbox, subscription_values, tree_text}
 use Rattle.imap_records.specs.Standing.{IsEntry as EntryOf, IsGone as GoneOf, IsMailbox as MailboxOf, IsMark as MarkOf, IsMessage as MessageOf, StandFor, entries, messages, gone, marks}
@@ -30,6 +29,7 @@ use Rattle.imap_world.specs.Mailbox.{Mailbox}
 use Rattle.imap_world.specs.World.{World, subscribed_by}
 use Rattle.imap_restore.specs.Parts.{IsOneOf}
 use Rattle.imap_stored_values.specs.Restored.{HasKeyOf, IsGoneFor, IsMarkFor, IsRowFor}
+use Rattle.imap_restore.proofs.UserChanges.{change_of}
 use Rattle.imap_restore.proofs.TableRows.{Rows, entry_is, entry_rows, epoch_is, epoch_rows, gone_is, gone_rows, mailbox_is, mailbox_rows, mark_is, mark_rows, message_is, message_rows, sub_is, sub_rows}
 
 abbrev number_in : Value → ℤ
@@ -201,30 +201,28 @@ module _ (db : Trees) (w : World) (stands : StandFor db w) (b : Rows db) where
     pub there : map.get w.mailboxes name ≡ Some mailbox
     pub id_is : stands.id name ≡ x.mailbox
     pub user : List ℕ
-    pub place : ℕ
-    pub change : SeenChange
-    pub listed : slice_get (own_at mailbox.messages.own user) place ≡ Some change
-    pub is : IsMarkFor x.row (record { user = user; place = place; change = change })
+    pub change : KeptChange
+    pub listed : Has (stands.kept name user) change
+    pub is : IsMarkFor x.row (change_of user change)
 
   pub mark_told : (x : StoredSeenFlag) → Has b.t.marks.items x → MarkTold x
   mark_told x h =
       let r = (mark_rows db b).from x h in
       let n = (stands.below marks).sound r.0 r.1 in
       let u = n.meant in
-      let e : MarkOf u.mailbox.messages.own (stands.id u.name) n.values = u.shown in
-      let same : Int n.rowid ∷ mark_values (stands.id u.name) e.user e.place e.change ≡ mark_row x.mailbox (string_bytes x.row.user) x.row.own x.row.before x.row.uid x.row.seen x.rowid = ap (λ v. Int n.rowid ∷ v) (sym e.shown) ∙ sym n.shown ∙ mark_is db b r.0 r.1 x r.2 in
+      let e : MarkOf (stands.kept u.name) (stands.id u.name) n.values = u.shown in
+      let same : Int n.rowid ∷ mark_values (stands.id u.name) e.user e.change ≡ mark_row x.mailbox (string_bytes x.row.user) x.row.own x.row.before x.row.uid x.row.seen x.rowid = ap (λ v. Int n.rowid ∷ v) (sym e.shown) ∙ sym n.shown ∙ mark_is db b r.0 r.1 x r.2 in
       record {
         name = u.name;
         mailbox = u.mailbox;
         there = u.there;
         id_is = same_int (stands.id u.name) x.mailbox (ap (λ (v : Row). column v 1) same);
         user = e.user;
-        place = e.place;
         change = e.change;
         listed = e.there;
         is = record {
           user = same_text e.user (string_bytes x.row.user) (ap (λ (v : Row). column v 2) same);
-          place = same_int (place_value e.place) x.row.own (ap (λ (v : Row). column v 3) same);
+          place = same_int (place_value e.change.place) x.row.own (ap (λ (v : Row). column v 3) same);
           before = same_int (pos e.change.before) x.row.before (ap (λ (v : Row). column v 4) same);
           uid = same_number e.change.uid x.row.uid (ap (λ (v : Row). column v 5) same);
           seen = same_flag e.change.seen x.row.seen (same_int (flag_of e.change.seen) (flag_of x.row.seen) (ap (λ (v : Row). column v 6) same));

@@ -9,6 +9,7 @@ use Rattle.sqlite.specs.Order.{Row, column}
 use Rattle.sqlite.specs.Tree.{Trees}
 use Rattle.sqlite.specs.declared.types.Value.TheVariants.{Int}
 use Rattle.sqlite_rules.specs.Lists.{Has}
+use Rattle.imap_mailbox.specs.Parts.{AreOwn}
 use Rattle.imap_names.specs.Name.{Name, path_of}
 use Rattle.imap_names.specs.Order.{name_cmp}
 use Rattle.imap_names.proofs.NameLaws.{equal_names, is_name_at, is_name_at-same}
@@ -173,7 +174,8 @@ module _ (db : Trees) (w : World) (hold : Hold db w) (b : Rows db) (distinct : A
       shared = same_count t.mailbox.messages.shared r.messages.shared (t.shared ∙ sym is.messages.shared);
       messages = messages_again db w hold b distinct t.name t.mailbox t.there s t.id_is r.messages.messages.items is.messages.messages;
       gone = gone_again db w hold b distinct t.name t.mailbox t.there s t.id_is r.messages.gone.items is.messages.gone;
-      own = own_again db w hold b distinct t.name t.mailbox t.there s t.id_is r.messages.own.items is.messages.own;
+      own = subst (λ n. AreOwn n r.messages.own.items t.mailbox.messages.own) (same_count t.mailbox.messages.shared r.messages.shared (t.shared ∙ sym is.messages.shared))
+          (own_again db w hold b distinct t.name t.mailbox t.there s t.id_is r.messages.own.items is.messages.own);
     };
   }
 

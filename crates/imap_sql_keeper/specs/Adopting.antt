@@ -8,7 +8,7 @@ use Rattle.sqlite_rules.specs.Lists.{Has}
 use Rattle.imap_restore.specs.Holding.{HoldFirst, HoldSplit, MetaShows}
 use Rattle.imap_tables.specs.Reading.{shown_at}
 use Rattle.imap_tables.specs.Rows.{IsOrderly}
-use Rattle.imap_tables.specs.Steps.{IsNewStore, first_version, store_version}
+use Rattle.imap_tables.specs.Steps.{IsNewStore, first_version, gaps_version, store_version}
 use Rattle.imap_tables.specs.Tables.{meta_tree, no_schema, store_schema}
 use Rattle.imap_tables.specs.Texts.{first_schema}
 use Rattle.imap_world.specs.World.{World}
@@ -20,6 +20,11 @@ IsVersion version shown = (column shown 1 ≡ Words (codes "version")) × (colum
 -- the tables say that they are of this version
 abbrev pub SaysVersion : (version : ℕ) → Trees → Type 0
 SaysVersion version db = (row : Row) × Has (db meta_tree) row × IsVersion version (shown_at 7 row)
+
+-- the tables say that they are of a version that is read as it is: a store of the later one may lack own
+-- changes of users among the others
+abbrev pub SaysStore : Trees → Type 0
+SaysStore db = SaysVersion store_version db ⊎ SaysVersion gaps_version db
 
 -- the tables are new, and in order
 abbrev pub IsNew : Trees → Type 0
@@ -36,12 +41,12 @@ pub record IsTakenOver (first db : Trees) : Type 0 where
   pub holds : HoldSplit db world
   pub version : SaysVersion store_version db
 
--- the tables were made, where there were none; or they are as before, and of this version; or they were of
--- the first version
+-- the tables were made, where there were none; or they are as before, and of a version that is read as it is;
+-- or they were of the first version
 abbrev pub FindsStore : (old new : State) → Type 0
 FindsStore old new =
     ((old.now.schema ≡ no_schema) × IsNewStore new.now.trees × IsOrderly new.now.trees)
-    ⊎ (((new.now ≡ old.now) × SaysVersion store_version old.now.trees)
+    ⊎ (((new.now ≡ old.now) × SaysStore old.now.trees)
     ⊎ ((old.now.schema ≡ first_schema) × IsTakenOver old.now.trees new.now.trees))
 
 -- these tables may be committed: new ones where there were none, or those that take the place of the first
@@ -55,5 +60,5 @@ IsAdopted s db =
 abbrev pub IsDamaged : State → Type 0
 IsDamaged s =
     (s.now.schema ≢ no_schema)
-    × (s.now.schema ≡ store_schema → MetaShows s.now.trees → SaysVersion store_version s.now.trees → ⊥)
+    × (s.now.schema ≡ store_schema → MetaShows s.now.trees → SaysStore s.now.trees → ⊥)
     × (s.now.schema ≡ first_schema → IsFirst s.now.trees → ⊥)

@@ -1,15 +1,15 @@
 //! Taking a database over.
 
-ghost use Rattle.std.specs.Prelude.{◌≡◌, ◌≢◌, ◌↔◌, false, Err, IfErr, IfOk, IsTrue, OnErr, OnOk};
+ghost use Rattle.std.specs.Prelude.{◌≡◌, ◌≢◌, ◌↔◌, ◌⊎◌, false, Err, IfErr, IfOk, IsTrue, OnErr, OnOk};
 ghost use Rattle.std.specs.List.{AllByRecursion};
 ghost use Rattle.imap_keeper.specs.declared.error.KeepError.TheVariants.{Damaged};
 ghost use Rattle.imap_keeper.specs.Keeping.{LeavesOnly};
 ghost use Rattle.imap_restore.specs.Holding.{MetaShows};
 ghost use Rattle.imap_sql_keeper.specs.Adopting.{FindsStore, IsAdopted, IsDamaged, IsNew, IsTakenOver};
-ghost use Rattle.imap_sql_keeper.specs.Adopting.{IsVersion, SaysVersion};
+ghost use Rattle.imap_sql_keeper.specs.Adopting.{IsVersion, SaysStore, SaysVersion};
 ghost use Rattle.imap_sql_keeper.specs.Keeping.{IsAtRest};
 ghost use Rattle.imap_tables.specs.Rows.{IsOrderly};
-ghost use Rattle.imap_tables.specs.Steps.{HasTables, IsBack, IsNewStore, store_version};
+ghost use Rattle.imap_tables.specs.Steps.{HasTables, IsBack, IsNewStore};
 ghost use Rattle.imap_tables.specs.Tables.{no_schema};
 ghost use Rattle.imap_tables.specs.Texts.{first_schema};
 ghost use Rattle.imap_tables.specs.Stored.{IsMeta, ShowsMeta};
@@ -26,7 +26,8 @@ use crate::refusal::{damage, refusal};
 use crate::taking::take_over;
 use imap_keeper::KeepError;
 use imap_tables::{
-    FromRow, STORE_VERSION, StoredMeta, is_blank, is_first_store, is_store, make_store, read_meta,
+    FromRow, GAPS_VERSION, STORE_VERSION, StoredMeta, is_blank, is_first_store, is_store,
+    make_store, read_meta,
 };
 use sqlite::{Alter, Connection, Error, Row};
 use std::alloc::Global;
@@ -55,22 +56,39 @@ fn have_version(rows: &[Row], version: u32) -> Result<bool, Error>
     Ok(false)
 }
 
-/// Checks that the tables say that they are of this version. Fails with `Damaged` if they don't, or
-/// if a row of `meta` can't be read. Returns the allocator of the connection.
+/// Whether one of the rows of `meta` says that the tables are of one of two versions.
+fn have_either(rows: &[Row], version: u32, other: u32) -> Result<bool, Error>
+    ensures ok { IfOk result (λ have. IsTrue have
+        ↔ (((row : Values) × Has rows.now row × IsVersion version row)
+        ⊎ ((row : Values) × Has rows.now row × IsVersion other row))) }
+    ensures unread { IfErr result (λ e. e ≢ SqliteFailure OutOfMemory
+        → ((row : Values) → Has rows.now row → ShowsMeta row) → ⊥) }
+{
+    if have_version(rows, version)? {
+        return Ok(true);
+    }
+    have_version(rows, other)
+}
+
+/// Checks that the tables say that they are of one of two versions. Fails with `Damaged` if they
+/// don't, or if a row of `meta` can't be read. Returns the allocator of the connection.
 pub(crate) fn check_version<S: Alter>(
     conn: &mut Connection<S>,
     version: u32,
+    other: u32,
 ) -> Result<Global, KeepError>
     requires schema { HasTables (state S.Store conn.old) }
     requires autocommit { conn.old.in_transaction ≡ false }
     ensures autocommit { conn.new.in_transaction ≡ false }
     ensures says { HasCleanDisk (state S.Store conn.new)
-        → OnOk result (SaysVersion version (state S.Store conn.old).now.trees) }
+        → OnOk result (SaysVersion version (state S.Store conn.old).now.trees
+        ⊎ SaysVersion other (state S.Store conn.old).now.trees) }
     ensures kept { HasCleanDisk (state S.Store conn.new) → IsTrue (state S.Store conn.new).is_open
         → IsBack (state S.Store conn.old) (state S.Store conn.new) }
     ensures damaged { HasCleanDisk (state S.Store conn.new) → result ≡ Err Damaged
         → MetaShows (state S.Store conn.old).now.trees
-        → SaysVersion version (state S.Store conn.old).now.trees → ⊥ }
+        → SaysVersion version (state S.Store conn.old).now.trees
+        ⊎ SaysVersion other (state S.Store conn.old).now.trees → ⊥ }
     ensures crash { Survives (state S.Store conn.old) (state S.Store conn.new) (λ _. ⊥) }
 {
     let rows = match read_meta(conn) {
@@ -78,27 +96,27 @@ pub(crate) fn check_version<S: Alter>(
         Err(error) => return Err(refusal(error)),
     };
     let alloc = *rows.allocator();
-    match have_version(rows.as_slice(), version) {
+    match have_either(rows.as_slice(), version, other) {
         Ok(true) => Ok(alloc),
         Ok(false) => Err(KeepError::Damaged),
         Err(error) => Err(damage(error)),
     }
 }
 
-/// Checks that the tables are those of a store of this version.
+/// Checks that the tables are those of a store of a version that is read as it is.
 fn check_store<S: Alter>(conn: &mut Connection<S>) -> Result<(), KeepError>
     requires rest { IsAtRest (state S.Store conn.old) }
     ensures rest { IsAtRest (state S.Store conn.new) }
     ensures says { HasCleanDisk (state S.Store conn.new)
-        → OnOk result (SaysVersion store_version (state S.Store conn.old).now.trees) }
+        → OnOk result (SaysStore (state S.Store conn.old).now.trees) }
     ensures kept { HasCleanDisk (state S.Store conn.new) → IsTrue (state S.Store conn.new).is_open
         → IsBack (state S.Store conn.old) (state S.Store conn.new) }
     ensures damaged { HasCleanDisk (state S.Store conn.new) → result ≡ Err Damaged
         → MetaShows (state S.Store conn.old).now.trees
-        → SaysVersion store_version (state S.Store conn.old).now.trees → ⊥ }
+        → SaysStore (state S.Store conn.old).now.trees → ⊥ }
     ensures crash { Survives (state S.Store conn.old) (state S.Store conn.new) (λ _. ⊥) }
 {
-    match check_version(conn, STORE_VERSION) {
+    match check_version(conn, STORE_VERSION, GAPS_VERSION) {
         Ok(_) => Ok(()),
         Err(error) => Err(error),
     }

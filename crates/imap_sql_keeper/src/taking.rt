@@ -67,7 +67,7 @@ fn check_first<S: Alter>(conn: &mut Connection<S>) -> Result<Global, KeepError>
         → IsBack (state S.Store conn.old) (state S.Store conn.new) }
     ensures crash { Survives (state S.Store conn.old) (state S.Store conn.new) (λ _. ⊥) }
 {
-    match check_version(conn, FIRST_VERSION) {
+    match check_version(conn, FIRST_VERSION, FIRST_VERSION) {
         Ok(alloc) => check_world(conn, alloc),
         Err(error) => Err(error),
     }

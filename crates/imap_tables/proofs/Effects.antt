@@ -23,7 +23,7 @@ use Rattle.sqlite_rules.specs.Cast.{cast_row}
 use Rattle.sqlite_rules.specs.Edit.{numbered as with_rowids, taken_by, without_all}
 use Rattle.sqlite_rules.proofs.ActionLemmas.{no_works}
 use Rattle.sqlite_tied.specs.Compute.{everything}
-use Rattle.imap_tables.specs.Edits.{Adds, HasId, IsBelow, IsEpochOf, IsNamed, IsSubOf, Removes, RemovesMailboxes, Replaces, counted_row, moved_row}
+use Rattle.imap_tables.specs.Edits.{Adds, HasId, IsBelow, IsEpochOf, IsMarkOf, IsNamed, IsSubOf, Removes, RemovesMailboxes, Replaces, counted_row, moved_row}
 use Rattle.imap_tables.specs.Rows.{IsOrderly, IsRowOf, acl_row, epoch_row, flag_of, gone_row, mailbox_row, mark_row, meta_row, sub_row}
 use Rattle.imap_tables.specs.Tables.{store_schema, mailbox_table, acl_table, gone_table, mark_table, epoch_table, sub_table, meta_table}
 use Rattle.imap_tables.proofs.Added.{Becomes, added_orderly, adds}
@@ -33,7 +33,7 @@ use Rattle.imap_tables.proofs.Edited.{IsPlainTable, deleted, inserted, updated}
 use Rattle.imap_tables.proofs.Replaced.{AreTests, removed_orderly, removes, replaced_orderly, replaces}
 use Rattle.imap_tables.proofs.Shapes.{mailbox_is}
 use Rattle.imap_tables.proofs.Statements as text
-use Rattle.imap_tables.proofs.Tested.{tests_entries, tests_epoch, tests_id, tests_name, tests_sub}
+use Rattle.imap_tables.proofs.Tested.{tests_entries, tests_epoch, tests_id, tests_mark, tests_name, tests_sub}
 use Rattle.imap_tables.proofs.Turned.{Made}
 
 -- ---- the tables by their places
@@ -178,6 +178,10 @@ quiet_acl olds news = by (length news == 0)
     by true = refl
     by false = refl
 
+quiet_mark : (olds : List Row) → works store_schema Enforced 0 8 olds [] ≡ []
+unfolding everything
+quiet_mark olds = refl
+
 quiet_epoch : (olds : List Row) → works store_schema Enforced 0 10 olds [] ≡ []
 unfolding everything
 quiet_epoch olds = refl
@@ -207,6 +211,12 @@ module _ (old new : State) (count : ℕ) (has : old.now.schema ≡ store_schema)
   pub drops_entries : (mailbox : ℤ) → Executes text.delete_acl (Int mailbox ∷ []) old new (Ok count) → Made (λ db after. Removes db after 2 (IsBelow mailbox)) old new
   drops_entries mailbox h =
       removing 1 acl_table entries old new (Int mailbox ∷ []) text.delete_acl text.below count text.delete_acl_is (IsBelow mailbox) (λ o. tests_entries old.now.trees o [] mailbox) (λ olds. quiet_acl olds []) has h
+
+  pub drops_mark : (mailbox : ℤ) (user : List ℕ) (own : ℤ) → Executes text.delete_mark (Int mailbox ∷ Words user ∷ Int own ∷ []) old new (Ok count)
+      → Made (λ db after. Removes db after 8 (IsMarkOf mailbox user own)) old new
+  drops_mark mailbox user own h =
+      removing 4 mark_table marks old new (Int mailbox ∷ Words user ∷ Int own ∷ []) text.delete_mark text.marked count text.delete_mark_is (IsMarkOf mailbox user own)
+      (λ o. tests_mark old.now.trees o [] mailbox user own) quiet_mark has h
 
   pub drops_epoch : (tree path : List ℕ) → Executes text.delete_epoch (Words tree ∷ Words path ∷ []) old new (Ok count) → Made (λ db after. Removes db after 10 (IsEpochOf tree path)) old new
   drops_epoch tree path h =

@@ -149,6 +149,16 @@ pub insert_mark_is : IsText insert_mark (Insert 4 (Values (lit Null ∷ col 0 0 
 unfolding understood everything
 insert_mark_is = record { means = refl; plain = (refl, refl) }
 
+abbrev pub marked : List Term
+marked = is_given 1 0 ∷ is_given 2 1 ∷ is_given 3 2 ∷ []
+
+abbrev pub delete_mark : List ℕ
+delete_mark = codes "DELETE FROM mark WHERE mailbox = ?1 AND user = ?2 AND own = ?3"
+
+pub delete_mark_is : IsText delete_mark (Delete 4 (record { lets = []; body = rowids_where 8 marked }))
+unfolding understood everything
+delete_mark_is = record { means = refl; plain = (refl, refl) }
+
 -- ---- what outlives mailboxes
 
 abbrev pub insert_epoch : List ℕ

@@ -22,14 +22,14 @@ mod updates;
 pub use changes::{ChangeBelow, FlagsRow, MailboxKey, MessageRow, RowChange, SeenFlagRow};
 pub use deletes::{
     delete_acl, delete_body, delete_epoch, delete_head, delete_keyword, delete_keywords,
-    delete_mailbox, delete_messages, delete_subscription,
+    delete_mailbox, delete_mark, delete_messages, delete_subscription,
 };
 pub use finding::{check_head, find_keywords, find_mailbox};
 pub use inserts::{
     insert_acl, insert_body, insert_epoch, insert_gone, insert_head, insert_keyword,
     insert_mailbox, insert_mark, insert_meta, insert_subscription,
 };
-pub use making::{FIRST_VERSION, STORE_VERSION, make_added, make_store};
+pub use making::{FIRST_VERSION, GAPS_VERSION, STORE_VERSION, make_added, make_store};
 pub use message_rows::{StoredBody, StoredHead, StoredKeyword};
 pub use reading::{check_open, read_added, read_meta, read_tables};
 pub use schema::{is_blank, is_first_store, is_store};

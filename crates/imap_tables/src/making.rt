@@ -16,6 +16,9 @@ use sqlite::{Alter, Connection, Error, Transaction};
 /// The version of the tables.
 pub const STORE_VERSION: u32 = 2;
 
+/// The version of the tables once own changes of a user may be missing among the others.
+pub const GAPS_VERSION: u32 = 3;
+
 /// The version before, which had each message in one row.
 pub const FIRST_VERSION: u32 = 1;
 

@@ -20,5 +20,8 @@ returns-in-AddGone-clause-call g c = rw c.in-AddGone.is (made_so (state g.S.Stor
 pub returns-in-AddMark-clause-call : goal.returns-in-AddMark-clause-call
 returns-in-AddMark-clause-call g c = rw c.in-AddMark.is (rw c.deref-in-AddMark.ensures at (made_so (state g.S.Store c.args.tx.now.conn.now) (state g.S.Store c.insert_mark.new.tx.conn.now) _ c.insert_mark.result c.made-in-AddMark.result c.made-in-AddMark.ensures c.insert_mark.ensures.call))
 
+pub returns-in-RemoveMark-clause-call : goal.returns-in-RemoveMark-clause-call
+returns-in-RemoveMark-clause-call g c = rw c.in-RemoveMark.is (rw c.deref-in-RemoveMark.ensures at (made_so (state g.S.Store c.args.tx.now.conn.now) (state g.S.Store c.delete_mark.new.tx.conn.now) _ c.delete_mark.result c.made-in-RemoveMark.result c.made-in-RemoveMark.ensures c.delete_mark.ensures.call))
+
 pub returns-in-Count-clause-call : goal.returns-in-Count-clause-call
 returns-in-Count-clause-call g c = rw c.in-Count.is (made_so (state g.S.Store c.args.tx.now.conn.now) (state g.S.Store c.count_mailbox.new.tx.conn.now) _ c.count_mailbox.result c.made-in-Count.result c.made-in-Count.ensures c.count_mailbox.ensures.call)

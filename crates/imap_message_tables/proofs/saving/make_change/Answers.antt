@@ -16,3 +16,6 @@ returns-in-PutEpoch-clause-call g c = rw c.in-PutEpoch.is c.put_epoch.ensures.ca
 
 pub returns-in-RemoveSubscription-clause-call : goal.returns-in-RemoveSubscription-clause-call
 returns-in-RemoveSubscription-clause-call g c = rw c.in-RemoveSubscription.is (rw (c.deref-in-RemoveSubscription.ensures, c.deref-in-RemoveSubscription-2.ensures, c.deref-in-RemoveSubscription-3.ensures) at (made_so (state g.S.Store c.args.tx.now.conn.now) (state g.S.Store c.delete_subscription.new.tx.conn.now) _ c.delete_subscription.result c.made-in-RemoveSubscription.result c.made-in-RemoveSubscription.ensures c.delete_subscription.ensures.call))
+
+pub returns-in-AllowGaps-clause-call : goal.returns-in-AllowGaps-clause-call
+returns-in-AllowGaps-clause-call g c = rw c.in-AllowGaps.is (made_so (state g.S.Store c.args.tx.now.conn.now) (state g.S.Store c.allow_gaps.new.tx.conn.now) _ c.allow_gaps.result c.made-in-AllowGaps.result c.made-in-AllowGaps.ensures c.allow_gaps.ensures.call)
