@@ -6,7 +6,7 @@ use Rattle.std.proofs.lemmas.Bool.{cases_lt, eqb-true, eq-eqb}
 use Rattle.std.specs.Bool.{Decides}
 use Rattle.std.proofs.lemmas.Slice.Eq.{starts_is}
 use Rattle.std.proofs.lemmas.List.{length-take-le}
-use Rattle.memchr.specs.Find.{OccursAt, FindsNeedle}
+use Rattle.bstr.specs.Find.{OccursAt, FindsNeedle}
 use Rattle.imap_lex.specs.Chars.{crlf}
 use Rattle.imap_text.specs.Folds.{IsWithin}
 use Rattle.imap_text.specs.Sections.{header, text}

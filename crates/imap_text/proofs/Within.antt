@@ -3,7 +3,7 @@ use Rattle.std.proofs.Common.{◌≡◌, ◌∙◌, ap, sym, refl, ℕ, ◌+◌,
 use Rattle.std.specs.Option.{is_some}
 use Rattle.std.proofs.lemmas.List.{take-append-drop}
 use Rattle.std.proofs.lemmas.List.Prefix.{front_rest, at_from_reads, at_reads}
-use Rattle.memchr.specs.Find.{OccursAt, FindsNeedle}
+use Rattle.bstr.specs.Find.{OccursAt, FindsNeedle}
 use Rattle.imap_text.specs.Folds.{IsWithin}
 
 abbrev pub within_at : (whole part : List ℕ) (at : ℕ) → OccursAt whole part at → IsWithin part whole

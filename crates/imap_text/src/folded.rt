@@ -5,8 +5,7 @@ ghost use Rattle.imap_text.specs.Folds.{fold, IsWithin};
 
 use crate::composing::is_composed;
 use crate::folding::fold_runs;
-use memchr::memmem;
-use memchr::memmem::Finder;
+use bstr::{ByteSlice, Finder};
 use std::alloc::{AllocError, Global};
 use std::marker::Model;
 use unicode_normalization::to_nfc;
@@ -39,7 +38,7 @@ impl Folded {
     pub fn contains(&self, wanted: &Folded) -> bool
         ensures { IsTrue result ↔ IsWithin wanted.now self.now }
     {
-        memmem::find(self.0.as_slice(), wanted.0.as_slice()).is_some()
+        self.0.as_slice().find(wanted.0.as_slice()).is_some()
     }
 }
 

@@ -6,8 +6,8 @@ ghost use Rattle.imap_lex.specs.Chars.{crlf};
 ghost use Rattle.imap_text.specs.Sections.{header, text, partial};
 
 use crate::line::CRLF;
+use bstr::ByteSlice;
 use imap_lex::Octets;
-use memchr::memmem;
 use std::alloc::AllocError;
 
 /// The end of a line, and an empty line after it.
@@ -22,7 +22,7 @@ pub fn header_length(octets: &[u8]) -> usize
     if begins_with_empty_line(octets) {
         return CRLF.len();
     }
-    match memmem::find(octets, EMPTY_LINE) {
+    match octets.find(EMPTY_LINE) {
         Some(at) => at + EMPTY_LINE.len(),
         None => octets.len(),
     }

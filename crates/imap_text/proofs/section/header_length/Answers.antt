@@ -1,5 +1,5 @@
 use Rattle.std.proofs.Common.{◌∙◌, sym, subst, Option, ℕ}
-use Rattle.memchr.specs.Find.{FindsNeedle}
+use Rattle.bstr.specs.Find.{FindsNeedle}
 use Rattle.imap_text.proofs.HeaderLength.{two_lines, length-found, length-none}
 use Rattle.imap_text.proofs.section.header_length.Goals as goal
 

@@ -1,5 +1,5 @@
 use Rattle.std.proofs.Common.{◌∙◌, List, ℕ, sym, subst}
-use Rattle.memchr.specs.Find.{FindsNeedle}
+use Rattle.bstr.specs.Find.{FindsNeedle}
 use Rattle.imap_text.proofs.Within.{found_within}
 use Rattle.imap_text.proofs.folded.Needle.is_in.Goals as goal
 
