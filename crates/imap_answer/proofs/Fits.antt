@@ -29,33 +29,35 @@ fits_enabling view enables answer done fit = record { asks = fit.asks; refused =
 pub fits_telling : (view : View) (uids : List ℕ) (answer : Answer) → list_any is_refusal (lines_of answer) ≡ false → IsFit view answer → IsFit view (telling uids answer)
 fits_telling view uids answer done fit = record { asks = fit.asks; refused = λ e. absurd (true≢false (sym e ∙ done)); available = fit.available }
 
+-- lines in front that don't pass a test
+pub any_preceded : (test : Response → Bool) (front : List Response) (answer : Answer) → list_any test front ≡ false → list_any test (lines_of (preceded_by front answer)) ≡ list_any test (lines_of answer)
+any_preceded test front answer absent =
+    ap (list_any test) (append_assoc front answer.untagged (answer.last ∷ []))
+    ∙ list_any-append test front (lines_of answer) ∙ ap (λ b. b || list_any test (lines_of answer)) absent
+
 -- lines in front that refuse nothing
 pub fits_preceded : (view : View) (front : List Response) (answer : Answer) → list_any is_refusal front ≡ false → list_any is_unavailable front ≡ false → IsFit view answer → IsFit view (preceded_by front answer)
 fits_preceded view front answer none available fit = record {
   asks = fit.asks;
-  refused = λ e. fit.refused (sym (behind is_refusal none) ∙ e);
-  available = behind is_unavailable available ∙ fit.available;
+  refused = λ e. fit.refused (sym (any_preceded is_refusal front answer none) ∙ e);
+  available = any_preceded is_unavailable front answer available ∙ fit.available;
 }
-  where
-    behind : (test : Response → Bool) → list_any test front ≡ false → list_any test (lines_of (preceded_by front answer)) ≡ list_any test (lines_of answer)
-    behind test absent =
-        ap (list_any test) (append_assoc front answer.untagged (answer.last ∷ []))
-        ∙ list_any-append test front (lines_of answer) ∙ ap (λ b. b || list_any test (lines_of answer)) absent
+
+-- lines behind that don't pass a test
+pub any_followed : (test : Response → Bool) (back : List Response) (answer : Answer) → list_any test back ≡ false → list_any test (lines_of (followed_by back answer)) ≡ list_any test (lines_of answer)
+any_followed test back answer absent =
+    ap (list_any test) (append_assoc answer.untagged back (answer.last ∷ []))
+    ∙ list_any-append test answer.untagged (back ++ answer.last ∷ [])
+    ∙ ap (λ b. list_any test answer.untagged || b) (list_any-append test back (answer.last ∷ []) ∙ ap (λ b. b || list_any test (answer.last ∷ [])) absent)
+    ∙ sym (list_any-append test answer.untagged (answer.last ∷ []))
 
 -- lines behind that refuse nothing
 pub fits_followed : (view : View) (back : List Response) (answer : Answer) → list_any is_refusal back ≡ false → list_any is_unavailable back ≡ false → IsFit view answer → IsFit view (followed_by back answer)
 fits_followed view back answer none available fit = record {
   asks = fit.asks;
-  refused = λ e. fit.refused (sym (between is_refusal none) ∙ e);
-  available = between is_unavailable available ∙ fit.available;
+  refused = λ e. fit.refused (sym (any_followed is_refusal back answer none) ∙ e);
+  available = any_followed is_unavailable back answer available ∙ fit.available;
 }
-  where
-    between : (test : Response → Bool) → list_any test back ≡ false → list_any test (lines_of (followed_by back answer)) ≡ list_any test (lines_of answer)
-    between test absent =
-        ap (list_any test) (append_assoc answer.untagged back (answer.last ∷ []))
-        ∙ list_any-append test answer.untagged (back ++ answer.last ∷ [])
-        ∙ ap (λ b. list_any test answer.untagged || b) (list_any-append test back (answer.last ∷ []) ∙ ap (λ b. b || list_any test (answer.last ∷ [])) absent)
-        ∙ sym (list_any-append test answer.untagged (answer.last ∷ []))
 
 -- what is asked for may be asked for in each view of a world
 pub fits_asking_there : (view : View) (tag : List ℕ) (code : Option Code) (effect : Effect) → (IsViewed view → MayAsk view effect) → IsFit view (done_with_code tag code effect)

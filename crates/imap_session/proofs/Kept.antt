@@ -7,12 +7,13 @@ use Rattle.imap_mailbox.specs.Summary.{Rises}
 use Rattle.imap_mailbox.specs.Lent.{row_uids}
 use Rattle.imap_mailbox.specs.Order.{AreAtMost}
 use Rattle.imap_mailbox.specs.Shown.{Content}
-use Rattle.imap_mailbox.specs.Brought.{told_of, known_uids, highest_in, AreToldBy, Agree, IsOrdered}
+use Rattle.imap_mailbox.specs.Brought.{told_of, known_uids, highest_in, AreToldBy, Agree, IsBrought, IsOrdered}
 use Rattle.imap_mailbox.proofs.Rising.{rises_end}
 use Rattle.imap_mailbox.proofs.BroughtUp.{rises_all}
 use Rattle.imap_session.specs.ByUid.{IsBroughtByUid}
 use Rattle.imap_session.specs.Compared.{Expunged, Present, comparisons, new_rows, uids_after, known_after}
 use Rattle.imap_session.specs.Laws.{ToldIsThere}
+use Rattle.imap_session.specs.Listed.{kept_with}
 use Rattle.imap_session.specs.InStep.{NoticesKeepInStep}
 use Rattle.imap_session.proofs.ByUid.{all_told_by_uid, told_uids}
 
@@ -22,50 +23,46 @@ agree_all n (r ∷ rows) =
     subst (λ b. MatchBool b ((r.number ≤ n → told_of r ≡ told_of r) × Agree n (map told_of rows) rows) ((r.uid < r.uid) × Agree n (map told_of rows) (r ∷ rows)))
     (sym (eq-eqb r.uid r.uid refl)) (λ le. refl, agree_all n rows)
 
--- the messages, if expunged ones stay
-abbrev kept : List KnownMessage → List Row → List KnownMessage
-kept [] rows = map told_of rows
-kept (k ∷ known) [] = k ∷ kept known []
-kept (k ∷ known) (r ∷ rows) = cond (eqb k.uid r.uid) (told_of r ∷ kept known rows) (k ∷ kept known (r ∷ rows))
+-- ---- the messages, if expunged ones stay
 
-kept_uids : (known : List KnownMessage) (rows : List Row) → known_uids (kept known rows) ≡ known_after false (known_uids known) rows
+pub kept_uids : (known : List KnownMessage) (rows : List Row) → known_uids (kept_with known rows) ≡ known_after false (known_uids known) rows
 kept_uids [] rows = told_uids rows
 kept_uids (k ∷ known) [] = ap (λ l. k.uid ∷ l) (kept_uids known [])
 kept_uids (k ∷ known) (r ∷ rows) = by (eqb k.uid r.uid) (kept_uids known rows) (kept_uids known (r ∷ rows))
   where
-    by : (b : Bool) → known_uids (kept known rows) ≡ known_after false (known_uids known) rows → known_uids (kept known (r ∷ rows)) ≡ known_after false (known_uids known) (r ∷ rows)
-        → known_uids (cond b (told_of r ∷ kept known rows) (k ∷ kept known (r ∷ rows)))
+    by : (b : Bool) → known_uids (kept_with known rows) ≡ known_after false (known_uids known) rows → known_uids (kept_with known (r ∷ rows)) ≡ known_after false (known_uids known) (r ∷ rows)
+        → known_uids (cond b (told_of r ∷ kept_with known rows) (k ∷ kept_with known (r ∷ rows)))
         ≡ uids_after false (cond b (Present r ∷ comparisons (known_uids known) rows) (Expunged k.uid ∷ comparisons (known_uids known) (r ∷ rows))) ++ row_uids (cond b (new_rows (known_uids known) rows) (new_rows (known_uids known) (r ∷ rows)))
     by true there gone = ap (λ l. r.uid ∷ l) there
     by false there gone = ap (λ l. k.uid ∷ l) gone
 
-agree_kept : (n m : ℕ) (known : List KnownMessage) (rows : List Row) → Agree n known rows → Agree m (kept known rows) rows
+agree_kept : (n m : ℕ) (known : List KnownMessage) (rows : List Row) → Agree n known rows → Agree m (kept_with known rows) rows
 agree_kept n m [] rows h = agree_all m rows
 agree_kept n m (k ∷ known) [] h = agree_kept n m known [] h
 agree_kept n m (k ∷ known) (r ∷ rows) h = by (eqb k.uid r.uid) refl (agree_kept n m known rows) (agree_kept n m known (r ∷ rows)) h
   where
-    by : (b : Bool) → eqb k.uid r.uid ≡ b → (Agree n known rows → Agree m (kept known rows) rows) → (Agree n known (r ∷ rows) → Agree m (kept known (r ∷ rows)) (r ∷ rows))
+    by : (b : Bool) → eqb k.uid r.uid ≡ b → (Agree n known rows → Agree m (kept_with known rows) rows) → (Agree n known (r ∷ rows) → Agree m (kept_with known (r ∷ rows)) (r ∷ rows))
         → MatchBool b ((r.number ≤ n → told_of r ≡ k) × Agree n known rows) ((k.uid < r.uid) × Agree n known (r ∷ rows))
-        → Agree m (cond b (told_of r ∷ kept known rows) (k ∷ kept known (r ∷ rows))) (r ∷ rows)
+        → Agree m (cond b (told_of r ∷ kept_with known rows) (k ∷ kept_with known (r ∷ rows))) (r ∷ rows)
     by true is there gone h =
-        subst (λ b. MatchBool b ((r.number ≤ m → told_of r ≡ told_of r) × Agree m (kept known rows) rows) ((r.uid < r.uid) × Agree m (kept known rows) (r ∷ rows)))
+        subst (λ b. MatchBool b ((r.number ≤ m → told_of r ≡ told_of r) × Agree m (kept_with known rows) rows) ((r.uid < r.uid) × Agree m (kept_with known rows) (r ∷ rows)))
         (sym (eq-eqb r.uid r.uid refl)) (λ le. refl, there h.1)
     by false is there gone h =
-        subst (λ b. MatchBool b ((r.number ≤ m → told_of r ≡ k) × Agree m (kept known (r ∷ rows)) rows) ((k.uid < r.uid) × Agree m (kept known (r ∷ rows)) (r ∷ rows)))
+        subst (λ b. MatchBool b ((r.number ≤ m → told_of r ≡ k) × Agree m (kept_with known (r ∷ rows)) rows) ((k.uid < r.uid) × Agree m (kept_with known (r ∷ rows)) (r ∷ rows)))
         (sym is) (h.0, gone h.1)
 
 rises_kept : (n low high : ℕ) (known : List KnownMessage) (rows : List Row) → Agree n known rows → Rises low high (known_uids known) → Rises low high (row_uids rows)
-    → Rises low high (known_uids (kept known rows))
+    → Rises low high (known_uids (kept_with known rows))
 rises_kept n low high [] rows h ks rs = rises_all low high rows rs
 rises_kept n low high (k ∷ known) [] h ks rs = (ks.0, rises_kept n (k.uid + 1) high known [] h ks.1 (rises_end (k.uid + 1) high (known_uids known) ks.1))
 rises_kept n low high (k ∷ known) (r ∷ rows) h ks rs =
     by (eqb k.uid r.uid) refl (λ h. rises_kept n (r.uid + 1) high known rows h) (λ h. rises_kept n (k.uid + 1) high known (r ∷ rows) h) h
   where
     by : (b : Bool) → eqb k.uid r.uid ≡ b
-        → (Agree n known rows → Rises (r.uid + 1) high (known_uids known) → Rises (r.uid + 1) high (row_uids rows) → Rises (r.uid + 1) high (known_uids (kept known rows)))
-        → (Agree n known (r ∷ rows) → Rises (k.uid + 1) high (known_uids known) → Rises (k.uid + 1) high (row_uids (r ∷ rows)) → Rises (k.uid + 1) high (known_uids (kept known (r ∷ rows))))
+        → (Agree n known rows → Rises (r.uid + 1) high (known_uids known) → Rises (r.uid + 1) high (row_uids rows) → Rises (r.uid + 1) high (known_uids (kept_with known rows)))
+        → (Agree n known (r ∷ rows) → Rises (k.uid + 1) high (known_uids known) → Rises (k.uid + 1) high (row_uids (r ∷ rows)) → Rises (k.uid + 1) high (known_uids (kept_with known (r ∷ rows))))
         → MatchBool b ((r.number ≤ n → told_of r ≡ k) × Agree n known rows) ((k.uid < r.uid) × Agree n known (r ∷ rows))
-        → Rises low high (known_uids (cond b (told_of r ∷ kept known rows) (k ∷ kept known (r ∷ rows))))
+        → Rises low high (known_uids (cond b (told_of r ∷ kept_with known rows) (k ∷ kept_with known (r ∷ rows))))
     by true is there gone h = (rs.0, there h.1 (subst (λ u. Rises (u + 1) high (known_uids known)) (eqb-true k.uid r.uid is) ks.1) rs.1)
     by false is there gone h = let lt : k.uid < r.uid = h.0 in (ks.0, gone h.1 ks.1 (omega arith, rs.1))
 
@@ -77,13 +74,13 @@ told_by_all : (n : ℕ) (rows : List Row) → AreAtMost n rows → AreToldBy n (
 told_by_all n [] h = tt
 told_by_all n (r ∷ rows) h = (h.0, told_by_all n rows h.1)
 
-told_by_kept : (n : ℕ) (known : List KnownMessage) (rows : List Row) → AreToldBy n known → AreAtMost n rows → AreToldBy n (kept known rows)
+told_by_kept : (n : ℕ) (known : List KnownMessage) (rows : List Row) → AreToldBy n known → AreAtMost n rows → AreToldBy n (kept_with known rows)
 told_by_kept n [] rows ks rs = told_by_all n rows rs
 told_by_kept n (k ∷ known) [] ks rs = (ks.0, told_by_kept n known [] ks.1 rs)
 told_by_kept n (k ∷ known) (r ∷ rows) ks rs = by (eqb k.uid r.uid) (told_by_kept n known rows ks.1 rs.1) (told_by_kept n known (r ∷ rows) ks.1 rs)
   where
-    by : (b : Bool) → AreToldBy n (kept known rows) → AreToldBy n (kept known (r ∷ rows))
-        → AreToldBy n (cond b (told_of r ∷ kept known rows) (k ∷ kept known (r ∷ rows)))
+    by : (b : Bool) → AreToldBy n (kept_with known rows) → AreToldBy n (kept_with known (r ∷ rows))
+        → AreToldBy n (cond b (told_of r ∷ kept_with known rows) (k ∷ kept_with known (r ∷ rows)))
     by true there gone = (rs.0, there)
     by false there gone = (ks.0, gone)
 
@@ -100,6 +97,14 @@ told_all (u ∷ uids) (r ∷ rows) = by (eqb u r.uid) (told_all uids rows) (told
 pub told_is_there : ToldIsThere
 told_is_there uids rows = told_all uids rows
 
+pub kept_brought : (c : Content) (up_to : ℕ) (known : List KnownMessage) → IsOrdered c → IsBrought up_to known c → IsBrought (highest_in c) (kept_with known c.rows) c
+kept_brought c up_to known ordered h = record {
+  before = omega arith;
+  uids = rises_kept up_to first_uid c.next known c.rows h.agree h.uids ordered.uids;
+  told = told_by_kept (highest_in c) known c.rows (told_by_more up_to (highest_in c) known h.before h.told) ordered.numbers;
+  agree = agree_kept up_to (highest_in c) known c.rows h.agree;
+}
+
 pub told_is_brought : (c : Content) (expunges : Bool) (up_to : ℕ) (uids : List ℕ) → IsOrdered c → IsBroughtByUid up_to uids c
     → IsBroughtByUid (highest_in c) (known_after expunges uids c.rows) c
 told_is_brought c expunges up_to uids ordered h = by expunges
@@ -107,14 +112,9 @@ told_is_brought c expunges up_to uids ordered h = by expunges
     by : (b : Bool) → IsBroughtByUid (highest_in c) (known_after b uids c.rows) c
     by true = subst (λ l. IsBroughtByUid (highest_in c) l c) (sym (told_is_there uids c.rows)) (all_told_by_uid c ordered)
     by false = record {
-      messages = kept h.messages c.rows;
+      messages = kept_with h.messages c.rows;
       known = kept_uids h.messages c.rows ∙ ap (λ us. known_after false us c.rows) h.known;
-      brought = record {
-        before = omega arith;
-        uids = rises_kept up_to first_uid c.next h.messages c.rows h.brought.agree h.brought.uids ordered.uids;
-        told = told_by_kept (highest_in c) h.messages c.rows (told_by_more up_to (highest_in c) h.messages h.brought.before h.brought.told) ordered.numbers;
-        agree = agree_kept up_to (highest_in c) h.messages c.rows h.brought.agree;
-      };
+      brought = kept_brought c up_to h.messages ordered h.brought;
     }
 
 pub notices_keep_in_step : NoticesKeepInStep

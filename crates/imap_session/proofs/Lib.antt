@@ -4,6 +4,7 @@ pub mod Applying
 pub mod Kept
 pub mod Quieting
 pub mod Following
+pub mod Listed
 pub mod Differing
 pub mod Alike
 pub mod Finding

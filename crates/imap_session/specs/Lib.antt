@@ -10,6 +10,7 @@ pub mod InStep
 pub mod Following
 pub mod Walked
 pub mod Laws
+pub mod Listed
 pub mod Select
 pub mod Shared
 pub mod State

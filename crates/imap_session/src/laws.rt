@@ -2,6 +2,7 @@
 ghost use Rattle.imap_session.specs.Laws.{ToldIsThere, ToldIfDifferent, AllKnownIsQuiet, AlikeIsToldAlike};
 ghost use Rattle.imap_session.specs.Laws.{ChangesAreApplied, ToldOnce};
 ghost use Rattle.imap_session.specs.ByUid.{LaterByUid};
+ghost use Rattle.imap_session.specs.Listed.{ClientFollowsList, NoticesAreByList, NoticesLeaveList};
 ghost use Rattle.imap_session.specs.InStep.{InStepIsQuiet, NoticesKeepInStep};
 ghost use Rattle.imap_session.specs.Following.{ClientFollows, ClientHoldsMailbox};
 ghost use Rattle.imap_session.specs.Told.{NotesWhatIsTold, NoticesKeepSelectionInStep, NoticesTellSelection};
@@ -101,4 +102,22 @@ pub fn untold_session_is_silent()
 /// A session that selects a mailbox is in step with it.
 pub fn selecting_is_in_step()
     ensures { SelectingIsInStep }
+{}
+
+/// Notices are the difference of the messages that are there and of the list of messages as the session was last told
+/// of each, with its flags and its mod-sequence, though it keeps UIDs and one mod-sequence alone.
+pub fn notices_are_by_list()
+    ensures { NoticesAreByList }
+{}
+
+/// After notices the session was told of each message as it is, and of no other one if expunges may be told: the list
+/// is that of the messages that are there, with their flags and mod-sequences.
+pub fn notices_leave_list()
+    ensures { NoticesLeaveList }
+{}
+
+/// A client that holds the messages as the session was told of them, and follows the lines, holds those that are still
+/// there as they are, and knows that new ones are there. Nothing is asked of the messages that are there.
+pub fn client_follows_list()
+    ensures { ClientFollowsList }
 {}
