@@ -2,6 +2,7 @@ pub mod Fitting
 pub mod Gathered
 pub mod Merged
 pub mod StoreFitting
+pub mod StorePasses
 pub mod Gone
 pub mod Taken
 pub mod Told

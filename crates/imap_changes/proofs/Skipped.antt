@@ -4,7 +4,7 @@ use Rattle.std.specs.Prelude.{is_some, nat_lt}
 use Rattle.std.proofs.lemmas.Bool.{eqb-true, ne_eqb}
 use Rattle.imap_batch.specs.declared.batch.FlagUpdate.{FlagUpdate}
 use Rattle.imap_batch.specs.Batch.{mark_uids, one_if}
-use Rattle.imap_batch.specs.Planned.{own_after, row_marked, row_with_flags, row_with_seen, rows_marked}
+use Rattle.imap_batch.specs.Planned.{own_after, row_marked, rows_marked}
 use Rattle.imap_commands.specs.declared.commands.store.StoreSpec.{StoreSpec}
 use Rattle.imap_mailbox.specs.declared.flags.SharedFlags.{SharedFlags}
 use Rattle.imap_mailbox.specs.Lent.{row_uids}
@@ -18,34 +18,12 @@ use Rattle.imap_changes.specs.declared.store_outcome.StoreOutcome.{StoreOutcome}
 use Rattle.imap_changes.specs.Laws.{SkippedMessagesStay}
 use Rattle.imap_changes.specs.Store.{marks_of, number_with, stored_all, stored_if_named, stored_of}
 use Rattle.imap_changes.proofs.StoreFitting.{marks_known}
-use Rattle.imap_changes.proofs.ToldLeft.{rows_after}
+use Rattle.imap_changes.proofs.ToldLeft.{marked_uid, rows_after}
 use Rattle.imap_targets.specs.UnchangedSince.{is_skipped, unskipped, was_changed}
 
 both_false : (a b : Bool) → (a || b) ≡ false → (a ≡ false) × (b ≡ false)
 both_false true b e = absurd (cc e)
 both_false false b e = (refl, e)
-
--- ---- a mark leaves the UID
-
-flags_uid : (number : ℕ) (flags : Option SharedFlags) (r : Row) → (row_with_flags number flags r).uid ≡ r.uid
-flags_uid number None r = refl
-flags_uid number (Some flags) r = refl
-
-seen_uid : (own number : ℕ) (seen : Option Bool) (r : Row) → (row_with_seen own number seen r).uid ≡ r.uid
-seen_uid own number None r = refl
-seen_uid own number (Some seen) r = by (nat_lt own max_events)
-  where
-    changed : Row
-    changed = record { uid = r.uid; date = r.date; octets = r.octets; flags = r.flags; seen = seen; number = number }
-
-    by : (b : Bool) → (cond b changed r).uid ≡ r.uid
-    by true = refl
-    by false = refl
-
-marked_uid : (shared own : ℕ) (k : FlagUpdate) (r : Row) → (row_marked shared own k r).uid ≡ r.uid
-marked_uid shared own k r =
-    seen_uid own (number_after (shared + one_if (is_some k.flags)) own) k.seen (row_with_flags (number_after shared own) k.flags r)
-    ∙ flags_uid (number_after shared own) k.flags r
 
 -- ---- a message without a mark
 

@@ -141,7 +141,7 @@ module _ (test : Response → Bool) (fetch : (number : ℕ) (items : FetchedItem
       by false true = ap (λ t. t || list_any test rest) (fetch m.number _)
       by false false = refl
 
-  lines_pass : (highest : ℕ) (messages : List StoreOutcome) (rest : List Response) → list_any test (lines_from silent condstore highest messages ++ rest) ≡ list_any test rest
+  pub lines_pass : (highest : ℕ) (messages : List StoreOutcome) (rest : List Response) → list_any test (lines_from silent condstore highest messages ++ rest) ≡ list_any test rest
   lines_pass highest [] rest = refl
   lines_pass highest (m ∷ messages) rest =
       let after = highest + event_count m in

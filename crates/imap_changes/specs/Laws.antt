@@ -1,7 +1,7 @@
 -- What EXPUNGE takes, message by message, and what STORE tells and leaves (RFC 9051, sections 6.4.3, 6.4.6 and 6.4.9;
 -- RFC 7162, section 3.1.3).
-use Rattle.std.specs.Prelude.{◌≡◌, ℕ, ◌+◌, ◌==◌, ◌≤◌, Bool, true, false, ◌&&◌, List, [], ◌∷◌, ◌++◌, length}
-use Rattle.std.specs.Prelude.{Option, Some, None}
+use Rattle.std.specs.Prelude.{◌≡◌, ℕ, ◌+◌, ◌==◌, ◌≤◌, Bool, true, false, not, ◌&&◌, ◌||◌, List, [], ◌∷◌, ◌++◌}
+use Rattle.std.specs.Prelude.{length, Option, Some, None, if◌then◌else◌}
 use Rattle.std.specs.List.{list_any}
 use Rattle.imap_batch.specs.declared.batch.Batch.{Batch}
 use Rattle.imap_batch.specs.declared.batch.FlagUpdate.{FlagUpdate}
@@ -20,7 +20,8 @@ use Rattle.imap_targets.specs.Left.{events_left}
 use Rattle.imap_targets.specs.MessageNumbers.{last_of, row_with}
 use Rattle.imap_view.specs.declared.readable.Readable.{Readable}
 use Rattle.imap_changes.specs.Expunge.{expunged_uids, is_wanted}
-use Rattle.imap_changes.specs.Store.{full_line, lines_from, marks_of, number_with, seen_changes, stored_all}
+use Rattle.imap_changes.specs.Store.{full_line, is_behind, lines_from, marks_of, number_with, seen_changes, short_line}
+use Rattle.imap_changes.specs.Store.{stored_all}
 use Rattle.imap_targets.specs.UnchangedSince.{is_skipped, unskipped}
 
 -- ---- EXPUNGE
@@ -71,6 +72,37 @@ StoreTellsWhatItLeaves =
     mailbox.own + seen_changes stored ≤ max_events
     → lines_from false condstore (highest_in mailbox) stored
     ≡ lines_of condstore messages (content_batched (marking user (marks_of stored)) mailbox).rows
+
+-- The lines of a message that the command names, as it was before and is after it. With .SILENT its flags are told
+-- only if the session was not told all of it before, and else the mod-sequence alone, if any.
+abbrev pub lines_if_named : (silent condstore : Bool) → Selection → (number : Option ℕ) → (before after : Row) →
+    List Response
+lines_if_named silent condstore s None before after = []
+lines_if_named silent condstore s (Some number) before after =
+    if not silent || is_behind s before then full_line condstore number (told_of after) ∷ []
+    else if condstore then short_line number (told_of after) ∷ []
+    else []
+
+-- of all messages
+abbrev pub lines_left : (silent condstore : Bool) → Selection → List Numbered → (before after : List Row) →
+    List Response
+lines_left silent condstore s messages [] after = []
+lines_left silent condstore s messages (b ∷ before) [] = []
+lines_left silent condstore s messages (b ∷ before) (a ∷ after) =
+    lines_if_named silent condstore s (number_with b.uid messages) b a
+    ++ lines_left silent condstore s messages before after
+
+-- A STORE, silent or not, tells each message that it names of which another changed what the session was told, as
+-- its user then sees it.
+abbrev pub SilentStoreTellsOthersChanges : Type 0
+SilentStoreTellsOthersChanges =
+    (user : List ℕ) (rights : ℕ) (spec : StoreSpec) (s : Selection) (silent condstore : Bool)
+    (messages : List Numbered) (mailbox : Content) → IsOrdered mailbox →
+    let stored = stored_all rights spec s messages mailbox.rows in
+    mailbox.own + seen_changes stored ≤ max_events
+    → lines_from silent condstore (highest_in mailbox) stored
+    ≡ lines_left silent condstore s messages mailbox.rows
+    (content_batched (marking user (marks_of stored)) mailbox).rows
 
 -- A message that UNCHANGEDSINCE skips is afterwards as it was, whatever the command names.
 abbrev pub SkippedMessagesStay : Type 0

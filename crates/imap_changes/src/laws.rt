@@ -4,7 +4,8 @@ ghost use Rattle.std.specs.Prelude.{ℕ, List, Option};
 ghost use Rattle.imap_answer.specs.Alike.{AnswersAlike};
 ghost use Rattle.imap_changes.specs.CopyLaws.{CopiesAreAppended, MovesAddFirst};
 ghost use Rattle.imap_changes.specs.Expunge.{close_answer, expunge_answer};
-ghost use Rattle.imap_changes.specs.Laws.{ExpungesAll, ExpungesDeleted, SkippedMessagesStay, StoreTellsWhatItLeaves};
+ghost use Rattle.imap_changes.specs.Laws.{ExpungesAll, ExpungesDeleted, SilentStoreTellsOthersChanges};
+ghost use Rattle.imap_changes.specs.Laws.{SkippedMessagesStay, StoreTellsWhatItLeaves};
 ghost use Rattle.imap_changes.specs.Store.{StoreArguments, store_answer};
 ghost use Rattle.imap_changes.specs.Transfer.{TransferArguments, transfer_answer};
 ghost use Rattle.imap_targets.specs.State.{SessionState};
@@ -34,6 +35,13 @@ pub fn deleted_messages_are_expunged()
 /// its user sees afterwards, if the user's own changes suffice, without which STORE is refused.
 pub fn stored_messages_are_told()
     ensures { StoreTellsWhatItLeaves }
+{}
+
+/// A STORE, silent or not, tells each message that it stores with the flags and the mod-sequence that its user sees
+/// afterwards, if the session was not told all of it before. Of others a silent one tells the mod-sequence alone, with
+/// CONDSTORE.
+pub fn others_changes_are_told()
+    ensures { SilentStoreTellsOthersChanges }
 {}
 
 /// A message with a mod-sequence greater than the number of UNCHANGEDSINCE is after STORE as it was before.

@@ -80,7 +80,7 @@ module _ (test : Response → Bool) (fetch : (number : ℕ) (items : FetchedItem
   line_passes highest own number rest None = refl
   line_passes highest own number rest (Some row) = ap (λ b. b || list_any test rest) (fetch number _)
 
-  lines_pass : (highest own : ℕ) (messages : List Numbered) (rest : List Response) → list_any test (lines_from wanted sets rows highest own messages ++ rest) ≡ list_any test rest
+  pub lines_pass : (highest own : ℕ) (messages : List Numbered) (rest : List Response) → list_any test (lines_from wanted sets rows highest own messages ++ rest) ≡ list_any test rest
   lines_pass highest own [] rest = refl
   lines_pass highest own (m ∷ messages) rest =
       let row = row_with m.uid rows in

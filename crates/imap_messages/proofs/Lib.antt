@@ -8,3 +8,4 @@ pub mod ReadPossible
 pub mod SameSections
 pub mod UpToDate
 pub use Rattle.imap_resync.proofs.Fitting as SelectFitting
+pub mod Told

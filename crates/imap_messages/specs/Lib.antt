@@ -8,3 +8,4 @@ pub mod Found
 pub mod Reading
 -- what a machine says of SELECT
 pub use Rattle.imap_resync.specs.Select
+pub mod Told
