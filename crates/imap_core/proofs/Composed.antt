@@ -1,12 +1,15 @@
 -- All runs, by the laws of one step alone: no command is named, nor what a view is.
 use Rattle.std.proofs.Common.{◌≡◌, ℕ, Bool, true, false, cond, List, [], ◌∷◌, ◌++◌, Option, Some, None, refl, sym, ap, subst, ◌∙◌}
-use Rattle.std.specs.Prelude.{option_map}
 use Rattle.std.specs.Str.{bytes_eq}
 use Rattle.std.proofs.lemmas.Slice.Eq.{bytes_eq-Decides}
 use Rattle.imap_print.specs.declared.response.Response.{Response}
 use Rattle.imap_view.specs.View.{View}
 use Rattle.imap_world.specs.Kept.{AreKept}
+use Rattle.imap_sessions.proofs.Alike.{alike_stay, equal_alike}
+use Rattle.imap_sessions.specs.Alike.{AreBoth, AreOwnAlike}
+use Rattle.imap_sessions.specs.Sessions.{Own}
 use Rattle.imap_core.specs.declared.step.Step.{Step}
+use Rattle.imap_core.specs.Histories.{RunsGrowMessages}
 use Rattle.imap_core.specs.Laws.{OtherUsersStay, QuietPollsChangeNothing, StepsAreAlike}
 use Rattle.imap_core.specs.Machine.{State, after_steps, answer, answers, next, own_in, view_in}
 use Rattle.imap_core.specs.OwnSteps.{GivenBackTellsNothing, IsolationAtOwnSteps, UnseenStepsAreSilent, are_others, moments, own_moments, since}
@@ -21,26 +24,29 @@ abbrev sends : Bool → Step → List Response → Sent → Sent
 sends b step replies later = cond b (with_replies step.who.number replies later) later
 
 itself : (user : List ℕ) (s : State) → AreKept s.world.mailboxes → Alike user s s
-itself user s kept = record { views = refl; sessions = refl; kept = kept; kept_other = kept }
+itself user s kept = record { views = refl; sessions = equal_alike s.world user (own_in s user) (own_in s user) refl; kept = kept; kept_other = kept }
 
-joined : (user : List ℕ) (s t r : State) → Alike user s t → Alike user t r → Alike user s r
-joined user s t r a b = record {
-  views = a.views ∙ b.views;
-  sessions = a.sessions ∙ b.sessions;
-  kept = a.kept;
-  kept_other = b.kept_other;
-}
-
-back : (user : List ℕ) (s t : State) → Alike user s t → Alike user t s
-back user s t a = record { views = sym a.views; sessions = sym a.sessions; kept = a.kept_other; kept_other = a.kept }
-
--- a state that differs for the user in nothing but the view
+-- a state that differs for the user in nothing but the view, and in which sessions are alike that were so
 record Passes (user : List ℕ) (s t : State) : Type 0 where
   sessions : own_in s user ≡ own_in t user
+  alike : (own other : Option Own) → AreBoth (AreOwnAlike s.world user) own other → AreBoth (AreOwnAlike t.world user) own other
   kept : AreKept t.world.mailboxes
 
-passes_on : (user : List ℕ) (s t r : State) → own_in s user ≡ own_in t user → Passes user t r → Passes user s r
-passes_on user s t r sessions p = record { sessions = sessions ∙ p.sessions; kept = p.kept }
+stays_here : (user : List ℕ) (s : State) → AreKept s.world.mailboxes → Passes user s s
+stays_here user s kept = record { sessions = refl; alike = λ own other h. h; kept = kept }
+
+passes_on : (user : List ℕ) (s t r : State) → Passes user s t → Passes user t r → Passes user s r
+passes_on user s t r first p = record {
+  sessions = first.sessions ∙ p.sessions;
+  alike = λ own other h. p.alike own other (first.alike own other h);
+  kept = p.kept;
+}
+
+-- sessions that were alike, after each of two runs has gone on
+passed : (user : List ℕ) (s t p q : State) → AreBoth (AreOwnAlike s.world user) (own_in s user) (own_in t user) → Passes user s p → Passes user t q → AreBoth (AreOwnAlike p.world user) (own_in p user) (own_in q user)
+passed user s t p q alike left right =
+    subst (λ (own : Option Own). AreBoth (AreOwnAlike p.world user) own (own_in q user)) left.sessions
+    (subst (λ (other : Option Own). AreBoth (AreOwnAlike p.world user) (own_in s user) other) right.sessions (left.alike (own_in s user) (own_in t user) alike))
 
 -- ---- a run, up to the first event of its trace
 
@@ -48,7 +54,8 @@ record UpToActs (user : List ℕ) (s : State) (steps : List Step) (step : Step) 
   reached : State
   left : List Step
   own : step.who.user ≡ user
-  alike : Alike user s reached
+  view : view_in s user ≡ view_in reached user
+  passes : Passes user s reached
   later : trace user (next reached step) left ≡ events
   sent : replies_to user s steps ≡ with_replies step.who.number (answer reached step) (replies_to user (next reached step) left)
 
@@ -78,26 +85,27 @@ Peels user s steps [] = replies_to user s steps ≡ []
 Peels user s steps (Acts step ∷ events) = UpToActs user s steps step events
 Peels user s steps (Sees seen ∷ events) = UpToSees user s steps seen events
 
-skip : (user : List ℕ) (s t : State) (steps rest : List Step) (events : List Event) → Alike user s t → replies_to user s steps ≡ replies_to user t rest → Peels user t rest events → Peels user s steps events
-skip user s t steps rest [] alike e p = e ∙ p
-skip user s t steps rest (Acts step ∷ events) alike e p = record {
+skip : (user : List ℕ) (s t : State) (steps rest : List Step) (events : List Event) → view_in s user ≡ view_in t user → Passes user s t → replies_to user s steps ≡ replies_to user t rest → Peels user t rest events → Peels user s steps events
+skip user s t steps rest [] same passes e p = e ∙ p
+skip user s t steps rest (Acts step ∷ events) same passes e p = record {
   reached = p.reached;
   left = p.left;
   own = p.own;
-  alike = joined user s t p.reached alike p.alike;
+  view = same ∙ p.view;
+  passes = passes_on user s t p.reached passes p.passes;
   later = p.later;
   sent = e ∙ p.sent;
 }
-skip user s t steps rest (Sees seen ∷ events) alike e p = record {
+skip user s t steps rest (Sees seen ∷ events) same passes e p = record {
   reached = p.reached;
   left = p.left;
   view = p.view;
-  passes = passes_on user s t p.reached alike.sessions p.passes;
+  passes = passes_on user s t p.reached passes p.passes;
   later = p.later;
   sent = e ∙ p.sent;
 }
 
-module _ (of_steps : StepsAreAlike) (of_others : OtherUsersStay) (of_polls : QuietPollsChangeNothing) (of_views : EqualViewsAreSame) where
+module _ (of_steps : StepsAreAlike) (of_others : OtherUsersStay) (of_polls : QuietPollsChangeNothing) (of_views : EqualViewsAreSame) (of_messages : RunsGrowMessages) where
   -- what the type of a mailbox keeps goes along, since a state is alike to itself
   kept_next : (s : State) (step : Step) → AreKept s.world.mailboxes → AreKept (next s step).world.mailboxes
   kept_next s step kept = (of_steps s s step (itself step.who.user s kept)).1.kept
@@ -110,14 +118,25 @@ module _ (of_steps : StepsAreAlike) (of_others : OtherUsersStay) (of_polls : Qui
   own_step user s t step is = subst (λ user. Alike user s t → (answer s step ≡ answer t step) × Alike user (next s step) (next t step)) is (λ alike. of_steps s t step alike)
 
   -- a poll to which nothing is answered
-  polled : (user : List ℕ) (s : State) (step : Step) → AreKept s.world.mailboxes → is_quiet step.act (answer s step) ≡ true → Alike user s (next s step)
-  polled user s step kept quiet = subst (λ (t : State). Alike user s t) (sym (of_polls s step quiet)) (itself user s kept)
+  polled : (user : List ℕ) (s : State) (step : Step) → AreKept s.world.mailboxes → is_quiet step.act (answer s step) ≡ true → Passes user s (next s step)
+  polled user s step kept quiet = subst (λ (t : State). Passes user s t) (sym (of_polls s step quiet)) (stays_here user s kept)
 
-  -- a step of another that leaves what the user sees
+  same_polled : (user : List ℕ) (s : State) (step : Step) → is_quiet step.act (answer s step) ≡ true → view_in s user ≡ view_in (next s step) user
+  same_polled user s step quiet = ap (λ (t : State). view_in t user) (sym (of_polls s step quiet))
+
+  -- a step of another
+  passed_by : (user : List ℕ) (s : State) (step : Step) → AreKept s.world.mailboxes → bytes_eq step.who.user user ≡ false → Passes user s (next s step)
+  passed_by user s step kept apart = record {
+    sessions = sym (stays user s step apart);
+    alike = alike_stay s.world (next s step).world kept (of_messages s (step ∷ []) kept) user;
+    kept = kept_next s step kept;
+  }
+
+  -- one that leaves what the user sees
   unseen : (user : List ℕ) (s : State) (step : Step) → AreKept s.world.mailboxes → bytes_eq step.who.user user ≡ false → view_in (next s step) user ≡ view_in s user → Alike user s (next s step)
   unseen user s step kept apart same = record {
     views = sym same;
-    sessions = sym (stays user s step apart);
+    sessions = equal_alike s.world user (own_in s user) (own_in (next s step) user) (sym (stays user s step apart));
     kept = kept;
     kept_other = kept_next s step kept;
   }
@@ -136,22 +155,23 @@ module _ (of_steps : StepsAreAlike) (of_others : OtherUsersStay) (of_polls : Qui
       by : (b : Bool) → bytes_eq step.who.user user ≡ b → (q : Bool) → is_quiet step.act (answer s step) ≡ q → (v : Bool) → same_view (view_in s user) (view_in (next s step) user) ≡ v → Peels user (next s step) steps (trace user (next s step) steps)
           → Peels user s (step ∷ steps) (cond b (cond q (trace user (next s step) steps) (Acts step ∷ trace user (next s step) steps))
           (cond v (trace user (next s step) steps) (Sees (view_in (next s step) user) ∷ trace user (next s step) steps)))
-      by true is true q v w rest = skip user s (next s step) (step ∷ steps) steps (trace user (next s step) steps) (polled user s step kept q)
+      by true is true q v w rest = skip user s (next s step) (step ∷ steps) steps (trace user (next s step) steps) (same_polled user s step q) (polled user s step kept q)
           (sent_by true is ∙ ap (λ replies. with_replies step.who.number replies Later) (quiet_act step.act (answer s step) q).1) rest
       by true is false q v w rest = record {
         reached = s;
         left = steps;
         own = (bytes_eq-Decides step.who.user user).0 is;
-        alike = itself user s kept;
+        view = refl;
+        passes = stays_here user s kept;
         later = refl;
         sent = sent_by true is;
       }
-      by false is q p true w rest = skip user s (next s step) (step ∷ steps) steps (trace user (next s step) steps) (unseen user s step kept is (sym ((of_views (view_in s user) (view_in (next s step) user)).0 w))) (sent_by false is) rest
+      by false is q p true w rest = skip user s (next s step) (step ∷ steps) steps (trace user (next s step) steps) ((of_views (view_in s user) (view_in (next s step) user)).0 w) (passed_by user s step kept is) (sent_by false is) rest
       by false is q p false w rest = record {
         reached = next s step;
         left = steps;
         view = refl;
-        passes = record { sessions = sym (stays user s step is); kept = kept_next s step kept };
+        passes = passed_by user s step kept is;
         later = refl;
         sent = sent_by false is;
       }
@@ -160,7 +180,12 @@ module _ (of_steps : StepsAreAlike) (of_others : OtherUsersStay) (of_polls : Qui
   agree : (user : List ℕ) (events : List Event) (s t : State) (steps others : List Step) → Alike user s t → Peels user s steps events → Peels user t others events → replies_to user s steps ≡ replies_to user t others
   agree user [] s t steps others alike p q = p ∙ sym q
   agree user (Acts step ∷ events) s t steps others alike p q =
-      let here : Alike user p.reached q.reached = joined user p.reached s q.reached (back user s p.reached p.alike) (joined user s t q.reached alike q.alike) in
+      let here : Alike user p.reached q.reached = record {
+        views = sym p.view ∙ alike.views ∙ q.view;
+        sessions = passed user s t p.reached q.reached alike.sessions p.passes q.passes;
+        kept = p.passes.kept;
+        kept_other = q.passes.kept;
+      } in
       let later = own_step user p.reached q.reached step p.own here in
       p.sent ∙ ap (λ replies. with_replies step.who.number replies (replies_to user (next p.reached step) p.left)) later.0
       ∙ ap (with_replies step.who.number (answer q.reached step))
@@ -171,7 +196,7 @@ module _ (of_steps : StepsAreAlike) (of_others : OtherUsersStay) (of_polls : Qui
   agree user (Sees seen ∷ events) s t steps others alike p q =
       let here : Alike user p.reached q.reached = record {
         views = p.view ∙ sym q.view;
-        sessions = sym p.passes.sessions ∙ alike.sessions ∙ q.passes.sessions;
+        sessions = passed user s t p.reached q.reached alike.sessions p.passes q.passes;
         kept = p.passes.kept;
         kept_other = q.passes.kept;
       } in
@@ -190,12 +215,12 @@ module _ (of_steps : StepsAreAlike) (of_others : OtherUsersStay) (of_polls : Qui
   -- ---- others' steps that leave what the user sees
 
   others_leave : (user : List ℕ) (s : State) (between : List Step) → AreKept s.world.mailboxes → are_others user between ≡ true → Passes user s (after_steps s between)
-  others_leave user s [] kept apart = record { sessions = refl; kept = kept }
+  others_leave user s [] kept apart = stays_here user s kept
   others_leave user s (step ∷ steps) kept apart = by (bytes_eq step.who.user user) refl apart (others_leave user (next s step) steps (kept_next s step kept))
     where
       by : (b : Bool) → bytes_eq step.who.user user ≡ b → cond b false (are_others user steps) ≡ true → (are_others user steps ≡ true → Passes user (next s step) (after_steps (next s step) steps)) → Passes user s (after_steps (next s step) steps)
       by true is apart rest = absurd (cc apart)
-      by false is apart rest = passes_on user s (next s step) (after_steps (next s step) steps) (sym (stays user s step is)) (rest apart)
+      by false is apart rest = passes_on user s (next s step) (after_steps (next s step) steps) (passed_by user s step kept is) (rest apart)
 
   others_unsent : (user : List ℕ) (s : State) (between later : List Step) → are_others user between ≡ true → replies_to user s (between ++ later) ≡ replies_to user (after_steps s between) later
   others_unsent user s [] later apart = refl
@@ -212,7 +237,12 @@ module _ (of_steps : StepsAreAlike) (of_others : OtherUsersStay) (of_polls : Qui
   pub given_back : GivenBackTellsNothing
   given_back user s between later others kept apart same traces =
       let left = others_leave user s between kept apart in
-      let alike : Alike user (after_steps s between) s = record { views = same; sessions = sym left.sessions; kept = left.kept; kept_other = kept } in
+      let alike : Alike user (after_steps s between) s = record {
+        views = same;
+        sessions = equal_alike (after_steps s between).world user (own_in (after_steps s between) user) (own_in s user) (sym left.sessions);
+        kept = left.kept;
+        kept_other = kept;
+      } in
       others_unsent user s between later apart ∙ replies_isolated user (after_steps s between) s later others alike traces
 
   pub silent : UnseenStepsAreSilent
@@ -230,13 +260,13 @@ module _ (of_steps : StepsAreAlike) (of_others : OtherUsersStay) (of_polls : Qui
 
   -- ---- a run, up to the user's next own step
 
-  passing : (user : List ℕ) (last : View) (s t : State) (steps rest : List Step) (later : List (Option View × Step)) → own_in s user ≡ own_in t user → replies_to user s steps ≡ replies_to user t rest → Comes user last t rest later → Comes user last s steps later
-  passing user last s t steps rest [] sessions e p = e ∙ p
-  passing user last s t steps rest (m ∷ later) sessions e p = record {
+  passing : (user : List ℕ) (last : View) (s t : State) (steps rest : List Step) (later : List (Option View × Step)) → Passes user s t → replies_to user s steps ≡ replies_to user t rest → Comes user last t rest later → Comes user last s steps later
+  passing user last s t steps rest [] passes e p = e ∙ p
+  passing user last s t steps rest (m ∷ later) passes e p = record {
     reached = p.reached;
     left = p.left;
     own = p.own;
-    passes = passes_on user s t p.reached sessions p.passes;
+    passes = passes_on user s t p.reached passes p.passes;
     seen = p.seen;
     later = p.later;
     sent = e ∙ p.sent;
@@ -256,19 +286,18 @@ module _ (of_steps : StepsAreAlike) (of_others : OtherUsersStay) (of_polls : Qui
           → Comes user last s (step ∷ steps) (cond b (cond q (own_moments user last (next s step) steps) ((since last (view_in s user), step) ∷ own_moments user (view_in (next s step) user) (next s step) steps))
           (own_moments user last (next s step) steps))
       by true is true q rest =
-          let alike = polled user s step kept q in
-          passing user last s (next s step) (step ∷ steps) steps (own_moments user last (next s step) steps) alike.sessions
+          passing user last s (next s step) (step ∷ steps) steps (own_moments user last (next s step) steps) (polled user s step kept q)
           (sent_by true is ∙ ap (λ replies. with_replies step.who.number replies Later) (quiet_act step.act (answer s step) q).1) rest
       by true is false q rest = record {
         reached = s;
         left = steps;
         own = (bytes_eq-Decides step.who.user user).0 is;
-        passes = record { sessions = refl; kept = kept };
+        passes = stays_here user s kept;
         seen = refl;
         later = refl;
         sent = sent_by true is;
       }
-      by false is q p rest = passing user last s (next s step) (step ∷ steps) steps (own_moments user last (next s step) steps) (sym (stays user s step is)) (sent_by false is) rest
+      by false is q p rest = passing user last s (next s step) (step ∷ steps) steps (own_moments user last (next s step) steps) (passed_by user s step kept is) (sent_by false is) rest
 
   -- a view is known by what is seen since the last one
   seen_since : (last v w : View) → since last v ≡ since last w → v ≡ w
@@ -280,13 +309,13 @@ module _ (of_steps : StepsAreAlike) (of_others : OtherUsersStay) (of_polls : Qui
       by false p true q e = absurd (cc e)
       by false p false q e = cc e
 
-  agree_at : (user : List ℕ) (last : View) (moments : List (Option View × Step)) (s t : State) (steps others : List Step) → own_in s user ≡ own_in t user
+  agree_at : (user : List ℕ) (last : View) (moments : List (Option View × Step)) (s t : State) (steps others : List Step) → AreBoth (AreOwnAlike s.world user) (own_in s user) (own_in t user)
       → Comes user last s steps moments → Comes user last t others moments → replies_to user s steps ≡ replies_to user t others
   agree_at user last [] s t steps others sessions p q = p ∙ sym q
   agree_at user last (m ∷ later) s t steps others sessions p q =
       let here : Alike user p.reached q.reached = record {
         views = seen_since last (view_in p.reached user) (view_in q.reached user) (sym p.seen ∙ q.seen);
-        sessions = sym p.passes.sessions ∙ sessions ∙ q.passes.sessions;
+        sessions = passed user s t p.reached q.reached sessions p.passes q.passes;
         kept = p.passes.kept;
         kept_other = q.passes.kept;
       } in

@@ -202,8 +202,8 @@ module _ (view : View) (own : Option Own) (number : ℕ) (what : Act) where
       let lines = notice_lines o answer.told active.selected mailbox in
       let told = notice_telling o active.selected mailbox in
       noted_fits answer lines told
-      (no_line_refuses is_refusal (λ n. refl) (λ e uids. refl) (λ n. refl) (λ n items. refl) o answer.told active.selected mailbox)
-      (no_line_refuses is_unavailable (λ n. refl) (λ e uids. refl) (λ n. refl) (λ n items. refl) o answer.told active.selected mailbox)
+      (no_line_refuses is_refusal (λ n. refl) (λ n items. refl) (λ n. refl) (λ e uids. refl) o answer.told active.selected mailbox)
+      (no_line_refuses is_unavailable (λ n. refl) (λ n items. refl) (λ n. refl) (λ e uids. refl) o answer.told active.selected mailbox)
       fit
       (λ effect enables untold. subst (IsTied view (lines_of (followed_by lines answer)) told) (sym there) (notices_tied active expunges answer effect enables untold))
 
@@ -224,15 +224,15 @@ module _ (view : View) (own : Option Own) (number : ℕ) (what : Act) where
       told : Option Telling
       told = idle_telling view active
 
-      none : (test : Response → Bool) → ((n : ℕ) → test (response.Expunge n) ≡ false) → ((earlier : Bool) (uids : List ℕ) → test (response.Vanished earlier uids) ≡ false)
-          → ((n : ℕ) → test (response.Exists n) ≡ false) → ((n : ℕ) (items : FetchedItems) → test (response.Fetch n items) ≡ false) → list_any test lines ≡ false
-      none test expunge vanished exists fetch = no_line_refuses test expunge vanished exists fetch (notice_options true active.enabled) [] active.selected (mailbox_left view active)
+      none : (test : Response → Bool) → ((n : ℕ) → test (response.Exists n) ≡ false) → ((n : ℕ) (items : FetchedItems) → test (response.Fetch n items) ≡ false)
+          → ((n : ℕ) → test (response.Expunge n) ≡ false) → ((earlier : Bool) (uids : List ℕ) → test (response.Vanished earlier uids) ≡ false) → list_any test lines ≡ false
+      none test exists fetch expunge vanished = no_line_refuses test exists fetch expunge vanished (notice_options true active.enabled) [] active.selected (mailbox_left view active)
 
       refuses : list_any is_refusal lines ≡ false
-      refuses = none is_refusal (λ n. refl) (λ e uids. refl) (λ n. refl) (λ n items. refl)
+      refuses = none is_refusal (λ n. refl) (λ n items. refl) (λ n. refl) (λ e uids. refl)
 
       unavailable : list_any is_unavailable lines ≡ false
-      unavailable = none is_unavailable (λ n. refl) (λ e uids. refl) (λ n. refl) (λ n items. refl)
+      unavailable = none is_unavailable (λ n. refl) (λ n items. refl) (λ n. refl) (λ e uids. refl)
 
       ended : (tag : List ℕ) (test : Response → Bool) → test (done_line tag) ≡ false → list_any test lines ≡ false → list_any test (lines ++ done_line tag ∷ []) ≡ false
       ended tag test last rest = list_any-append test lines (done_line tag ∷ []) ∙ (λ i. rest i || (last i || false))

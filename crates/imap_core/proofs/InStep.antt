@@ -153,6 +153,25 @@ module _ (site : Site) (user : List ℕ) (world : World) (kept : AreKept world.m
       by None is e = absurd (cc e)
       by (Some m) is e = if_kept m is (eqb m.validity s.validity) refl e
 
+-- ---- what an answer leaves of it
+
+module _ (site : Site) (user : List ℕ) (world : World) (kept : AreKept world.mailboxes) (answer : Answer) (fit : IsFit (view_of site user world) answer) where
+  abbrev pub after_answer : World
+  after_answer = after_all (effects_of answer.effect) world
+
+  pub kept_after_answer : AreKept after_answer.mailboxes
+  kept_after_answer = all_stay_kept world (effects_of answer.effect ∷ []) (one_is_apart answer.effect, tt) kept
+
+  viewed_after : view_of site user after_answer ≡ view_after_asking answer.effect (view_of site user world)
+  viewed_after = after_asking site user world answer.effect kept (fit.asks (viewed site user world kept))
+
+  not_bad : (own : SessionState) (bad : Bool) (r : Readable) → cond bad None (mailbox_left (view_after_asking answer.effect (view_of site user world)) own) ≡ Some r → mailbox_left (view_of site user after_answer) own ≡ Some r
+  not_bad own true r is = absurd (cc is)
+  not_bad own false r is = ap (λ view. mailbox_left view own) viewed_after ∙ is
+
+  pub left_after_answer : (own : SessionState) (s : Selection) (r : Readable) → own.selected ≡ Some s → mailbox_after (view_of site user world) own answer ≡ Some r → IsLeft site user after_answer kept_after_answer s r
+  left_after_answer own s r selected is = left_is site user after_answer kept_after_answer own s r selected (not_bad own (is_bad answer.last) r is)
+
 -- ---- after a step
 
 -- a session after what a step asks of it
@@ -292,24 +311,10 @@ module _ (site : Site) (user : List ℕ) (world : World) (sound : IsSound world)
     notices_keep : (expunges : Bool) (answer : Answer) → IsFit seen answer → Keeps (Some own) (with_notices seen own expunges answer)
     notices_keep expunges answer fit =
         let o = options_after expunges own answer in
+        let after = after_answer site user world kept answer fit in
         noting_stays after user own answer.enables (notice_telling o own.selected (mailbox_after seen own answer))
-        (told_of_mailbox after kept_after o own.selected (after_asked answer.effect) (mailbox_after seen own answer) (λ s r selected is. left_is site user after kept_after own s r selected (left is)))
-      where
-        after : World
-        after = after_all (effects_of answer.effect) world
-
-        kept_after : AreKept after.mailboxes
-        kept_after = all_stay_kept world (effects_of answer.effect ∷ []) (one_is_apart answer.effect, tt) kept
-
-        viewed_after : view_of site user after ≡ view_after_asking answer.effect seen
-        viewed_after = after_asking site user world answer.effect kept (fit.asks (viewed site user world kept))
-
-        not_bad : (bad : Bool) (r : Readable) → cond bad None (mailbox_left (view_after_asking answer.effect seen) own) ≡ Some r → mailbox_left (view_of site user after) own ≡ Some r
-        not_bad true r is = absurd (cc is)
-        not_bad false r is = ap (λ view. mailbox_left view own) viewed_after ∙ is
-
-        left : {r : Readable} → mailbox_after seen own answer ≡ Some r → mailbox_left (view_of site user after) own ≡ Some r
-        left {r} is = not_bad (is_bad answer.last) r is
+        (told_of_mailbox after (kept_after_answer site user world kept answer fit) o own.selected (after_asked answer.effect) (mailbox_after seen own answer)
+        (λ s r selected is. left_after_answer site user world kept answer fit own s r selected is))
 
     answer_keeps : (expunges : Bool) (answer : Answer) → IsFit seen answer → Keeps (Some own) (outcome_of_answer seen own expunges answer)
     answer_keeps expunges answer fit = by (newly_enables_condstore own answer)

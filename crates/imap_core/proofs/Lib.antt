@@ -7,10 +7,14 @@ pub mod InStep
 pub mod MadeByEvents
 pub mod MessagesKnown
 pub mod Noticed
+pub mod NumbersStay
 pub mod Preparing
 pub mod Quiet
 pub mod Runs
+pub mod SameAnswers
+pub mod SameOutcomes
 pub mod Sameness
+pub mod SelectedAgain
 pub mod Silent
 pub mod Starting
 pub mod StartsAlike

@@ -9,7 +9,8 @@ use Rattle.imap_batch.specs.declared.batch.Batch.{Batch}
 use Rattle.imap_batch.proofs.Events.{batches_are_events}
 use Rattle.imap_mailbox.specs.Called.{IsHistoryOf}
 use Rattle.imap_mailbox.specs.History.{History}
-use Rattle.imap_mailbox.specs.Summary.{Summary, gone_of, highest_of, rows_of}
+use Rattle.imap_mailbox.proofs.Merged.{found_empty}
+use Rattle.imap_mailbox.specs.Summary.{Summary, gone_of, highest_of, new_summary, rows_of}
 use Rattle.imap_mailbox.proofs.Bridge.{counts_are_those_of_events, gone_are_those_of_events, rows_are_those_of_events}
 use Rattle.imap_mailbox.proofs.Client.{client_is_brought_up}
 use Rattle.imap_mailbox.proofs.Lawful.{lawful_stays}
@@ -55,7 +56,7 @@ made_of s history is = record {
 }
 
 new_is_made : IsMadeByEvents no_messages
-new_is_made = made_of no_messages (record { shared = []; own = map.empty }) (record { summary = refl; lawful = lawful_stays.0 })
+new_is_made = made_of no_messages (record { shared = []; own = map.empty }) (record { summary = ap new_summary found_empty; lawful = lawful_stays.0 })
 
 batch_is_made : (b : Batch) (s : Summary) → IsMadeByEvents s → IsMadeByEvents (with_batch b s)
 batch_is_made b s before = by (batches_are_events b s)

@@ -14,22 +14,12 @@ use Rattle.imap_session.specs.State.{Selection}
 use Rattle.imap_view.specs.declared.readable.Readable.{Readable}
 use Rattle.imap_sessions.specs.Notices.{notice_lines}
 
-module _ (test : Response → Bool) (expunge : (n : ℕ) → test (response.Expunge n) ≡ false) (vanished : (earlier : Bool) (uids : List ℕ) → test (response.Vanished earlier uids) ≡ false)
-    (exists : (n : ℕ) → test (response.Exists n) ≡ false) (fetch : (n : ℕ) (items : FetchedItems) → test (response.Fetch n items) ≡ false) where
+module _ (test : Response → Bool) (exists : (n : ℕ) → test (response.Exists n) ≡ false) (fetch : (n : ℕ) (items : FetchedItems) → test (response.Fetch n items) ≡ false) where
   first : (line : Response) (lines : List Response) → test line ≡ false → list_any test lines ≡ false → list_any test (line ∷ lines) ≡ false
   first line lines one rest = ap (λ b. b || list_any test lines) one ∙ rest
 
   both : (front back : List Response) → list_any test front ≡ false → list_any test back ≡ false → list_any test (front ++ back) ≡ false
   both front back one rest = list_any-append test front back ∙ ap (λ b. b || list_any test back) one ∙ rest
-
-  no_expunge : (n : ℕ) (cs : List Comparison) → list_any test (expunge_lines n cs) ≡ false
-  no_expunge n [] = refl
-  no_expunge n (Expunged k ∷ cs) = first (response.Expunge n) (expunge_lines n cs) (expunge n) (no_expunge n cs)
-  no_expunge n (Present r ∷ cs) = no_expunge (n + 1) cs
-
-  no_vanished : (uids : List ℕ) → list_any test (vanished_line uids) ≡ false
-  no_vanished [] = refl
-  no_vanished (u ∷ uids) = first (response.Vanished false (u ∷ uids)) [] (vanished false (u ∷ uids)) refl
 
   no_exists : (count : ℕ) (new : List Row) → list_any test (exists_line count new) ≡ false
   no_exists count [] = refl
@@ -48,22 +38,41 @@ module _ (test : Response → Bool) (expunge : (n : ℕ) → test (response.Expu
       by true next = next
       by false next = first (fetch_line o n (told_of r)) (fetch_lines o up_to told (n + 1) cs) (fetch n (notice_items o.condstore (told_of r))) next
 
-  no_expunges : (o : NoticeOptions) (cs : List Comparison) → list_any test (expunge_notices o cs) ≡ false
-  no_expunges o cs = by o.expunges o.qresync
-    where
-      by : (e q : Bool) → list_any test (cond e (cond q (vanished_line (expunged_uids cs)) (expunge_lines 1 cs)) []) ≡ false
-      by false q = refl
-      by true true = no_vanished (expunged_uids cs)
-      by true false = no_expunge 1 cs
+  -- with these lines of expunged messages
+  module _ (o : NoticeOptions) (gone : (cs : List Comparison) → list_any test (expunge_notices o cs) ≡ false) where
+    no_notice : (up_to : ℕ) (told known : List ℕ) (rows : List Row) → list_any test (notices o up_to told known rows) ≡ false
+    no_notice up_to told known rows =
+        let cs = comparisons known rows in
+        let count = length (known_after o.expunges known rows) in
+        both (expunge_notices o cs) (exists_line count (new_rows known rows) ++ fetch_lines o up_to told 1 cs) (gone cs)
+        (both (exists_line count (new_rows known rows)) (fetch_lines o up_to told 1 cs) (no_exists count (new_rows known rows)) (no_fetch o up_to told 1 cs))
 
-  no_notice : (o : NoticeOptions) (up_to : ℕ) (told known : List ℕ) (rows : List Row) → list_any test (notices o up_to told known rows) ≡ false
-  no_notice o up_to told known rows =
-      let cs = comparisons known rows in
-      let count = length (known_after o.expunges known rows) in
-      both (expunge_notices o cs) (exists_line count (new_rows known rows) ++ fetch_lines o up_to told 1 cs) (no_expunges o cs)
-      (both (exists_line count (new_rows known rows)) (fetch_lines o up_to told 1 cs) (no_exists count (new_rows known rows)) (no_fetch o up_to told 1 cs))
+    no_line_passes : (told : List ℕ) (selected : Option Selection) (mailbox : Option Readable) → list_any test (notice_lines o told selected mailbox) ≡ false
+    no_line_passes told selected None = refl
+    no_line_passes told None (Some mailbox) = refl
+    no_line_passes told (Some s) (Some mailbox) = no_notice s.up_to told s.known mailbox.rows
 
-  pub no_line_refuses : (o : NoticeOptions) (told : List ℕ) (selected : Option Selection) (mailbox : Option Readable) → list_any test (notice_lines o told selected mailbox) ≡ false
-  no_line_refuses o told selected None = refl
-  no_line_refuses o told None (Some mailbox) = refl
-  no_line_refuses o told (Some s) (Some mailbox) = no_notice o s.up_to told s.known mailbox.rows
+  -- where expunges may not be told
+  pub no_line_held_back : (o : NoticeOptions) → o.expunges ≡ false → (told : List ℕ) (selected : Option Selection) (mailbox : Option Readable) → list_any test (notice_lines o told selected mailbox) ≡ false
+  no_line_held_back o held = no_line_passes o (λ cs. ap (λ b. list_any test (cond b (cond o.qresync (vanished_line (expunged_uids cs)) (expunge_lines 1 cs)) [])) held)
+
+  module _ (expunge : (n : ℕ) → test (response.Expunge n) ≡ false) (vanished : (earlier : Bool) (uids : List ℕ) → test (response.Vanished earlier uids) ≡ false) where
+    no_expunge : (n : ℕ) (cs : List Comparison) → list_any test (expunge_lines n cs) ≡ false
+    no_expunge n [] = refl
+    no_expunge n (Expunged k ∷ cs) = first (response.Expunge n) (expunge_lines n cs) (expunge n) (no_expunge n cs)
+    no_expunge n (Present r ∷ cs) = no_expunge (n + 1) cs
+
+    no_vanished : (uids : List ℕ) → list_any test (vanished_line uids) ≡ false
+    no_vanished [] = refl
+    no_vanished (u ∷ uids) = first (response.Vanished false (u ∷ uids)) [] (vanished false (u ∷ uids)) refl
+
+    no_expunges : (o : NoticeOptions) (cs : List Comparison) → list_any test (expunge_notices o cs) ≡ false
+    no_expunges o cs = by o.expunges o.qresync
+      where
+        by : (e q : Bool) → list_any test (cond e (cond q (vanished_line (expunged_uids cs)) (expunge_lines 1 cs)) []) ≡ false
+        by false q = refl
+        by true true = no_vanished (expunged_uids cs)
+        by true false = no_expunge 1 cs
+
+    pub no_line_refuses : (o : NoticeOptions) (told : List ℕ) (selected : Option Selection) (mailbox : Option Readable) → list_any test (notice_lines o told selected mailbox) ≡ false
+    no_line_refuses o = no_line_passes o (no_expunges o)

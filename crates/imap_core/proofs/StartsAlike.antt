@@ -2,7 +2,7 @@
 use Rattle.std.proofs.Common.{◌≡◌, ℕ, ◌+◌, ◌<◌, Bool, true, false, true≢false, cond, not, ◌&&◌, ◌||◌, eqb, nat_lt, List, [], ◌∷◌, length, Some, None, Result, Ok, Err, is_some, refl, sym, ap, subst, ◌∙◌, arith}
 use Rattle.std.specs.Str.{bytes_eq}
 use Rattle.std.specs.List.{AllByRecursion, IsDistinct, list_all}
-use Rattle.std.specs.Prelude.{option_map, unwrap_or}
+use Rattle.std.specs.Prelude.{unwrap_or}
 use Rattle.std.proofs.lemmas.Bool.{false_from_ne_true, not-true}
 use Rattle.std.proofs.lemmas.Map.Keys.{IsDistinct-head, IsDistinct-tail}
 use Rattle.std.proofs.lemmas.Slice.Eq.{bytes_eq-Decides}
@@ -29,6 +29,7 @@ use Rattle.imap_world.specs.Kept.{AreKept}
 use Rattle.imap_world.specs.NewMailbox.{NewMailbox}
 use Rattle.imap_world.specs.Tree.{created_rows, with_last, with_rows}
 use Rattle.imap_world.specs.World.{World, epoch, inbox, max_validity}
+use Rattle.imap_sessions.proofs.Alike.{equal_alike}
 use Rattle.imap_sessions.specs.Accounts.{Accounts}
 use Rattle.imap_core.specs.Opening.{Admission, admission, needs_inbox, nobody, with_user, with_users}
 use Rattle.imap_core.specs.Starting.{StartsAreAlike, gets_inbox, is_one_of}
@@ -261,7 +262,8 @@ starts_alike of_others of_creations of_hidden administrator users groups limits 
     let site : Site = record { administrator = administrator; limits = limits; groups = groups } in
     record {
       views = starts_seen of_others of_creations administrator users site user valid one other (of_hidden site user one other differ);
-      sessions = ap (λ (accounts : Accounts). map.get accounts user) (same_users one other (administrator ∷ users) nobody nobody refl);
+      sessions = equal_alike (after_all (admission one administrator users).effects one) user _ _
+          (ap (λ (accounts : Accounts). map.get accounts user) (same_users one other (administrator ∷ users) nobody nobody refl));
       kept = kept_start administrator users one kept;
       kept_other = kept_start administrator users other kept_other;
     }

@@ -1,6 +1,6 @@
 -- A step in two states that are alike to its user, by the laws of the commands.
-use Rattle.std.proofs.Common.{◌≡◌, ℕ, Bool, true, false, cond, List, [], ◌∷◌, Option, Some, None, refl, sym, ap, ◌∙◌}
-use Rattle.std.specs.Prelude.{nat_le, option_map}
+use Rattle.std.proofs.Common.{◌≡◌, ℕ, Bool, true, false, cond, List, [], ◌∷◌, Option, Some, None, refl, sym, ap, subst, ◌∙◌}
+use Rattle.std.specs.Prelude.{nat_le}
 use Rattle.std.specs.FinMap as map
 use Rattle.imap_answer.specs.Alike.{AnswersAlike, effects_of}
 use Rattle.imap_answer.specs.Answer.{Answer, nothing_enabled, preceded_by, refusal}
@@ -25,6 +25,10 @@ use Rattle.imap_world.specs.Effects.{after_all}
 use Rattle.imap_world.specs.Kept.{AreKept}
 use Rattle.imap_world.specs.World.{World}
 use Rattle.imap_core.specs.Answers.{command_answer}
+use Rattle.imap_sessions.proofs.Alike.{alike_stay, both_with}
+use Rattle.imap_sessions.proofs.InStep.{grown_by}
+use Rattle.imap_sessions.specs.Alike.{AreBoth, AreOwnAlike}
+use Rattle.imap_sessions.specs.declared.sessions.SessionEffect.{SessionEffect}
 use Rattle.imap_sessions.specs.declared.sessions.SessionEffect.TheVariants as session
 use Rattle.imap_core.specs.declared.step.Act.{Act}
 use Rattle.imap_core.specs.declared.step.Act.TheVariants as act
@@ -37,7 +41,8 @@ use Rattle.imap_core.specs.Reply.{command_outcome, highest_line, if_selected, ke
 use Rattle.imap_core.specs.Reply.{reply_when_closed, reply_when_open, request_outcome, select_outcome, unless_lost}
 use Rattle.imap_sessions.specs.Sessions.{Own, max_sessions}
 use Rattle.imap_core.specs.Trace.{Alike}
-use Rattle.imap_core.proofs.Steps.{kept_next, own_after, own_in-next}
+use Rattle.imap_core.proofs.SameOutcomes.{outcomes_same}
+use Rattle.imap_core.proofs.Steps.{kept_next, own_after_change, own_in-next}
 
 -- what is asked of the mailboxes, by the view, leaves worlds alike that are alike
 abbrev AsksAlike : (View → Option Effect) → Type 0
@@ -76,6 +81,14 @@ unless_lost_asks test f law site user world other kept kept_other same = by (tes
     by false false e = law site user world other kept kept_other same
     by true false e = absurd (cc e)
     by false true e = absurd (cc e)
+
+-- what a step asks of one of the sessions
+both_changed : (world : World) (user : List ℕ) (number : ℕ) (change : SessionEffect) (own other : Option Own) → AreBoth (AreOwnAlike world user) own other
+    → AreBoth (AreOwnAlike world user) (own_after_change own number change) (own_after_change other number change)
+both_changed world user number change None None h = tt
+both_changed world user number change None (Some other) h = h
+both_changed world user number change (Some own) None h = h
+both_changed world user number change (Some own) (Some other) h = both_with world user own other h number change
 
 module _ (of_commands : (own : SessionState) (tag : List ℕ) (at : Moment) (what : Command) → AnswersAlike (λ view. command_answer view own tag at what)) (of_select : (own : SessionState) (tag : List ℕ) (read_only : Bool) (mailbox : List ℕ) (parameters : SelectParameters) → AnswersAlike (λ view. (select_with_parameters view own tag read_only mailbox parameters).answer)) (of_close : (own : SessionState) (tag : List ℕ) → AnswersAlike (λ view. close_answer view own tag)) where
   -- notices ask for nothing
@@ -165,20 +178,36 @@ module _ (of_commands : (own : SessionState) (tag : List ℕ) (at : Moment) (wha
     one_site : view_of s.site user s.world ≡ view_of s.site user t.world
     one_site = alike.views ∙ sym (ap (λ (site : Site). view_of site user t.world) sites)
 
+    -- the sessions of the second state, by what is seen in the first
+    here : outcome s step ≡ outcome_for (view_in s user) (own_in t user) step
+    here = outcomes_same s.site user s.world alike.kept step (own_in s user) (own_in t user) alike.sessions
+
+    outcomes : outcome s step ≡ outcome t step
+    outcomes = here ∙ (λ i. outcome_for (alike.views i) (own_in t user) step)
+
     views_after : view_in (next s step) user ≡ view_in (next t step) user
     views_after =
-        step_asks (own_in s user) step s.site user s.world t.world alike.kept alike.kept_other one_site
-        ∙ (λ i. view_of (sites i) user (after_all (effects_of (outcome_for (view_of (sites i) user t.world) (alike.sessions i) step).effect) t.world))
+        ap (λ (outcome : Outcome). view_of s.site user (after_all (effects_of outcome.effect) s.world)) here
+        ∙ step_asks (own_in t user) step s.site user s.world t.world alike.kept alike.kept_other one_site
+        ∙ (λ i. view_of (sites i) user (after_all (effects_of (outcome_for (view_of (sites i) user t.world) (own_in t user) step).effect) t.world))
 
-    answers_after : (outcome s step).replies ≡ (outcome t step).replies
-    answers_after = λ i. (outcome_for (alike.views i) (alike.sessions i) step).replies
+    sessions_after : AreBoth (AreOwnAlike (next s step).world user) (own_in (next s step) user) (own_in (next t step) user)
+    sessions_after =
+        let after = (next s step).world in
+        let change = (outcome s step).session in
+        let grown = grown_by s.world alike.kept (outcome s step).effect in
+        let still = alike_stay s.world after alike.kept grown user (own_in s user) (own_in t user) alike.sessions in
+        subst (λ (own : Option Own). AreBoth (AreOwnAlike after user) own (own_in (next t step) user)) (sym (own_in-next s step))
+        (subst (λ (other : Option Own). AreBoth (AreOwnAlike after user) (own_after_change (own_in s user) step.who.number change) other)
+        (sym (own_in-next t step ∙ ap (λ (outcome : Outcome). own_after_change (own_in t user) step.who.number outcome.session) (sym outcomes)))
+        (both_changed after user step.who.number change (own_in s user) (own_in t user) still))
 
   pub alike_on : StepsAreAlike
   alike_on s t step alike = (
-    answers_after s t step alike,
+    ap (λ (outcome : Outcome). outcome.replies) (outcomes s t step alike),
     record {
       views = views_after s t step alike;
-      sessions = own_in-next s step ∙ (λ i. own_after (alike.views i) (alike.sessions i) step) ∙ sym (own_in-next t step);
+      sessions = sessions_after s t step alike;
       kept = kept_next s step alike.kept;
       kept_other = kept_next t step alike.kept_other;
     },

@@ -29,6 +29,8 @@ use Rattle.imap_world.specs.Kept.{AreKept}
 use Rattle.imap_world.specs.Mailbox.{Mailbox}
 use Rattle.imap_world.specs.World.{World}
 use Rattle.imap_print.specs.declared.response.Response.{Response}
+use Rattle.imap_print.specs.declared.response.Response.TheVariants as response
+use Rattle.imap_targets.specs.MessageNumbers.{is_by_uid}
 use Rattle.imap_view.specs.declared.readable.Readable.{Readable}
 use Rattle.imap_view.specs.View.{View}
 use Rattle.imap_core.specs.Machine.{State, answer, next, outcome, own_in, view_in}
@@ -187,6 +189,30 @@ MessagesAreKnown = (state : State) (step : Step) (before after : SessionState)
     → may_be_told before.idle step.act ≡ true → list_any is_bad (answer state step) ≡ false
     → session_in (next state step) step.who.user step.who.number ≡ Some after
     → KnowsMessages (view_in (next state step) step.who.user) after
+
+-- ---- numbers of messages (RFC 9051, section 7.5.1)
+
+-- FETCH, STORE or SEARCH that names messages by their numbers
+abbrev pub names_numbers : Command → Bool
+names_numbers (command.Fetch numbering messages items since vanished) = not (is_by_uid numbering)
+names_numbers (command.Search numbering returns charset keys) = not (is_by_uid numbering)
+names_numbers (command.Store numbering messages store) = not (is_by_uid numbering)
+names_numbers _ = false
+
+abbrev pub is_by_number : Act → Bool
+is_by_number (act.Do (request.Command tag command)) = names_numbers command
+is_by_number _ = false
+
+-- the line says that a message is gone
+abbrev pub tells_of_expunge : Response → Bool
+tells_of_expunge (response.Expunge n) = true
+tells_of_expunge (response.Vanished earlier uids) = true
+tells_of_expunge _ = false
+
+-- No line of an answer to such a command says that a message is gone: the numbers that its client counts stay.
+abbrev pub NumbersStay : Type 0
+NumbersStay = (state : State) (step : Step) → is_by_number step.act ≡ true
+    → list_any tells_of_expunge (answer state step) ≡ false
 
 -- UNAVAILABLE (RFC 5530) is for a host to say, when it can't save a change.
 abbrev pub NeverUnavailable : Type 0

@@ -14,6 +14,7 @@ pub mod Pending
 pub mod Planned
 pub mod Reply
 pub mod Same
+pub mod SameKnowledge
 pub mod Starting
 pub mod Trace
 pub mod Version

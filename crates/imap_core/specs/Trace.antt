@@ -5,6 +5,7 @@ use Rattle.imap_print.specs.declared.response.Response.{Response}
 use Rattle.imap_print.specs.Printed.{printed}
 use Rattle.imap_view.specs.View.{View, view_code}
 use Rattle.imap_world.specs.Kept.{AreKept}
+use Rattle.imap_sessions.specs.Alike.{AreBoth, AreOwnAlike}
 use Rattle.imap_core.specs.declared.step.Act.{Act}
 use Rattle.imap_core.specs.declared.step.Act.TheVariants as act
 use Rattle.imap_core.specs.declared.step.Step.{Step}
@@ -82,11 +83,13 @@ transcript user state steps = sent_to user steps (answers state steps)
 
 -- ---- isolation
 
--- The user sees the same in both states, and has the same sessions. What the type of a mailbox keeps holds of the
--- messages of each in both, as it does in every state of the machine.
+-- The user sees the same in both states, and has sessions open that are alike: in mailbox, UIDVALIDITY, mode, the
+-- UIDs and messages that they know, what is enabled, and the tag of IDLE. What the user may read is the same in both,
+-- so that what is known of it is asked of the first. What the type of a mailbox keeps holds of the messages of each in
+-- both, as it does in every state of the machine.
 pub record Alike (user : List ℕ) (s t : State) : Type 0 where
   pub views : view_in s user ≡ view_in t user
-  pub sessions : own_in s user ≡ own_in t user
+  pub sessions : AreBoth (AreOwnAlike s.world user) (own_in s user) (own_in t user)
   pub kept : AreKept s.world.mailboxes
   pub kept_other : AreKept t.world.mailboxes
 

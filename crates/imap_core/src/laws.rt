@@ -4,10 +4,12 @@ ghost use Rattle.std.specs.FinMap as map;
 ghost use Rattle.imap_core.specs.Histories.{RunsGrowMessages, RunsKeepValidities};
 ghost use Rattle.imap_core.specs.InStep.{AreInStep, SessionsStayInStep};
 ghost use Rattle.imap_core.specs.Laws.{EffectsAreMade, HiddenIsAlike, HiddenSubtreesAreAbsent};
-ghost use Rattle.imap_core.specs.Laws.{MessagesAreKnown, NeverUnavailable, OtherSessionsStay, OtherUsersStay};
+ghost use Rattle.imap_core.specs.Laws.{MessagesAreKnown, NeverUnavailable, NumbersStay};
+ghost use Rattle.imap_core.specs.Laws.{OtherSessionsStay, OtherUsersStay};
 ghost use Rattle.imap_core.specs.Laws.{QuietPollsChangeNothing, QuotasAreKept, RefusalsChangeNothing, StepsAreAlike};
 ghost use Rattle.imap_core.specs.MadeByEvents.{AreMadeByEvents, RunsAreMadeByEvents, StartsAreMadeByEvents};
 ghost use Rattle.imap_core.specs.OwnSteps.{GivenBackTellsNothing, IsolationAtOwnSteps, UnseenStepsAreSilent};
+ghost use Rattle.imap_core.specs.SameKnowledge.{KnownByOneList, SameKnowledgeIsAlike, SelectingAgainIsAlike};
 ghost use Rattle.imap_core.specs.Starting.{StartsAreAlike, StartsWithInboxes};
 ghost use Rattle.imap_core.specs.Trace.{EqualViewsAreSame, Isolation, IsolationOfReplies};
 ghost use Rattle.imap_world.specs.Kept.{AreKept, IsSound};
@@ -24,6 +26,7 @@ pub fn isolation()
     other_sessions_stay();
     quiet_polls_change_nothing();
     equal_views_are_same();
+    messages_grow();
 }
 
 /// They send the same replies, however these are written.
@@ -34,6 +37,7 @@ pub fn isolation_of_replies()
     other_sessions_stay();
     quiet_polls_change_nothing();
     equal_views_are_same();
+    messages_grow();
 }
 
 /// To each user, two runs that begin alike send the same replies if the user takes the same steps in both and
@@ -45,6 +49,7 @@ pub fn isolation_at_own_steps()
     other_sessions_stay();
     quiet_polls_change_nothing();
     equal_views_are_same();
+    messages_grow();
 }
 
 /// What others change and change back between two steps of the user tells the user nothing.
@@ -55,6 +60,7 @@ pub fn what_is_given_back_tells_nothing()
     other_sessions_stay();
     quiet_polls_change_nothing();
     equal_views_are_same();
+    messages_grow();
 }
 
 /// A step of another that changes nothing of what the user may see is in no trace, and leaves the state
@@ -66,6 +72,7 @@ pub fn unseen_steps_are_silent()
     other_sessions_stay();
     quiet_polls_change_nothing();
     equal_views_are_same();
+    messages_grow();
 }
 
 /// A trace has another's step exactly if the step changed what the user may see: the test of two views passes
@@ -86,6 +93,25 @@ pub fn steps_are_alike()
     imap_search::laws::commands_are_alike();
     imap_tree::laws::commands_are_alike();
 }
+
+/// A session that was told all of its mailbox up to a mod-sequence, and one that was told all up to another, know the
+/// same exactly if one list of messages may be what both were told.
+pub fn the_same_is_known_by_one_list()
+    ensures { KnownByOneList }
+{}
+
+/// Sessions in step that differ in nothing but the mod-sequence up to which they were told all are alike exactly if
+/// each message of their mailbox is known as it is to both or to neither.
+pub fn same_knowledge_is_alike()
+    ensures { SameKnowledgeIsAlike }
+{}
+
+/// A session that knows the messages of its mailbox and was told all of each, as after each step of which
+/// [`messages_are_known`] speaks, is alike to one that selects the mailbox now. So by [`isolation`] it makes no
+/// difference to what follows when the session was last told all.
+pub fn selecting_again_is_alike()
+    ensures { SelectingAgainIsAlike }
+{}
 
 /// States are alike to a user that differ in mailboxes alone which are hidden from the user. Under a name of
 /// which the user may not know they may come and go, and leave used UIDVALIDITYs. Under another name a
@@ -201,4 +227,9 @@ pub fn quiet_polls_change_nothing()
 /// is answered BAD, and a poll or DONE of a session that idles.
 pub fn messages_are_known()
     ensures { MessagesAreKnown }
+{}
+
+/// FETCH, STORE and SEARCH by number are answered by no EXPUNGE and no VANISHED (RFC 9051, section 7.5.1).
+pub fn numbers_stay()
+    ensures { NumbersStay }
 {}

@@ -1,7 +1,9 @@
+pub mod Alike
 pub mod InStep
 pub mod Lent
 pub mod MailboxLeft
 pub mod Numbered
 pub mod Opened
 pub mod Roomless
+pub mod SameKnown
 pub use Rattle.imap_upcoming.proofs.Reading

@@ -1,5 +1,6 @@
 -- The open sessions of all users, what a step asks of one, and the notices of one.
 pub mod Accounts
+pub mod Alike
 pub mod Held
 pub mod InStep
 pub mod Notices

@@ -2,4 +2,4 @@ use Rattle.imap_core.proofs.Composed.{isolated_at_own}
 use Rattle.imap_core.proofs.laws.isolation_at_own_steps.Goals as goal
 
 pub returns : goal.returns
-returns c = isolated_at_own c.steps_are_alike.ensures c.other_sessions_stay.ensures.users c.quiet_polls_change_nothing.ensures c.equal_views_are_same.ensures
+returns c = isolated_at_own c.steps_are_alike.ensures c.other_sessions_stay.ensures.users c.quiet_polls_change_nothing.ensures c.equal_views_are_same.ensures c.messages_grow.ensures

@@ -2,4 +2,4 @@ use Rattle.imap_core.proofs.Composed.{silent}
 use Rattle.imap_core.proofs.laws.unseen_steps_are_silent.Goals as goal
 
 pub returns : goal.returns
-returns c = silent c.steps_are_alike.ensures c.other_sessions_stay.ensures.users c.quiet_polls_change_nothing.ensures c.equal_views_are_same.ensures
+returns c = silent c.steps_are_alike.ensures c.other_sessions_stay.ensures.users c.quiet_polls_change_nothing.ensures c.equal_views_are_same.ensures c.messages_grow.ensures
