@@ -3,6 +3,7 @@ pub mod Counts
 pub mod Hall
 pub mod Journal
 pub mod Laws
+pub mod Made
 pub mod Opening
 pub mod Receipts
 pub mod Saving

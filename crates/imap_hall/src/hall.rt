@@ -17,6 +17,7 @@ ghost use Rattle.imap_saving.specs.Performing.{HasRisen};
 use crate::advancing::advance;
 use crate::error::{HallError, OpenError};
 use crate::journal::{Entry, OldBase, Receipt};
+use crate::made_step::MadeStep;
 use crate::opening::{Start, base_of, begin};
 use crate::own_counts::OwnCounts;
 use crate::room::Room;
@@ -127,29 +128,54 @@ impl<K: Keeper> Hall<K> {
 
     /// Makes a step, saves its change, and appends its entry to the journal. If the store refuses, the receipt
     /// says UNAVAILABLE (RFC 5530), and nothing else changed. Fails with `Memory`, and with `Exhausted` after
-    /// 2^63 entries.
+    /// 2^63 entries: no save is tried then.
     pub fn step(&mut self, alloc: Global, step: &Step) -> Result<Receipt, HallError>
         ensures ok { IfOk result (λ r. HasStepped K.failed self.old step.now r self.new) }
         ensures err { OnErr result (IsUntouched K.failed self.old self.new) }
         ensures exhausted { IsErrOf result HallError.Exhausted
             ↔ (self.old.before + length self.old.entries ≡ max_entries) }
+        ensures ended { IfErr result (λ e. e ≡ HallError.Exhausted → self.new ≡ self.old) }
         ensures saved { IsSaved K.content K.is_honest K.leaves K.stands
             self.old.now.state self.old.keeper step.now self.new.now.state self.new.keeper }
         ensures alone { IfOk result (λ r. IsAlone K.failed K.is_honest K.leaves K.stands self.old.now.state
             self.old.keeper step.now r.replies self.new.now.state self.new.keeper) }
     {
-        let (first, second) = self.step_pair(alloc, step)?;
+        let (first, second) = self.receipts(alloc, step)?;
         drop(second);
         Ok(first)
     }
 
+    /// As [`Hall::step`]. Returns the receipt twice, once with its step.
+    pub fn step_pair(&mut self, alloc: Global, step: Step) -> Result<(Receipt, MadeStep), HallError>
+        ensures ok { IfOk result (λ r. HasStepped K.failed self.old step r.0 self.new) }
+        ensures step { IfOk result (λ r. r.1.step ≡ step) }
+        ensures same { IfOk result (λ r. IsSameReceipt r.0 r.1.receipt) }
+        ensures err { OnErr result (IsUntouched K.failed self.old self.new) }
+        ensures exhausted { IsErrOf result HallError.Exhausted
+            ↔ (self.old.before + length self.old.entries ≡ max_entries) }
+        ensures ended { IfErr result (λ e. e ≡ HallError.Exhausted → self.new ≡ self.old) }
+        ensures saved { IsSaved K.content K.is_honest K.leaves K.stands
+            self.old.now.state self.old.keeper step self.new.now.state self.new.keeper }
+        ensures alone { IfOk result (λ r. IsAlone K.failed K.is_honest K.leaves K.stands self.old.now.state
+            self.old.keeper step r.0.replies self.new.now.state self.new.keeper) }
+    {
+        match self.receipts(alloc, &step) {
+            Ok((first, second)) => Ok((first, MadeStep::new(step, second))),
+            Err(error) => {
+                drop(step);
+                Err(error)
+            }
+        }
+    }
+
     /// As [`Hall::step`]. Returns the receipt twice.
-    pub fn step_pair(&mut self, alloc: Global, step: &Step) -> Result<(Receipt, Receipt), HallError>
+    fn receipts(&mut self, alloc: Global, step: &Step) -> Result<(Receipt, Receipt), HallError>
         ensures ok { IfOk result (λ r. HasStepped K.failed self.old step.now r.0 self.new) }
         ensures same { IfOk result (λ r. IsSameReceipt r.0 r.1) }
         ensures err { OnErr result (IsUntouched K.failed self.old self.new) }
         ensures exhausted { IsErrOf result HallError.Exhausted
             ↔ (self.old.before + length self.old.entries ≡ max_entries) }
+        ensures ended { IfErr result (λ e. e ≡ HallError.Exhausted → self.new ≡ self.old) }
         ensures saved { IsSaved K.content K.is_honest K.leaves K.stands
             self.old.now.state self.old.keeper step.now self.new.now.state self.new.keeper }
         ensures alone { IfOk result (λ r. IsAlone K.failed K.is_honest K.leaves K.stands self.old.now.state

@@ -10,6 +10,7 @@ mod error;
 mod hall;
 mod journal;
 pub mod laws;
+mod made_step;
 mod memory;
 mod opening;
 mod own_counts;
@@ -21,5 +22,6 @@ pub use imap_saving::{
     Act, Core, MailboxVersion, Moment, SessionId, SessionNumber, SharedReplies, Step,
 };
 pub use journal::{Entry, OldBase, Receipt};
+pub use made_step::MadeStep;
 pub use memory::{entry_octets, reply_octets};
 pub use room::Room;

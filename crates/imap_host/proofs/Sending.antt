@@ -8,7 +8,7 @@ use denote.Struct.Field.{mut_ref_field, shr_ref_field, u64-field}
 use denote.Struct.Tuple.{TupleAt}
 use denote.Enum.Enum.{Enum}
 use denote.Enum.Declared as E
-use denote.Param.Send.{IsSend, IsSync, enum_send, recorded_send, sendable}
+use denote.Param.Send.{IsSend, IsSync, enum_send, recorded_send, sendable, view_send}
 use denote.Param.SendFields.{as_row_send, declared_send}
 use denote.Hole.FixLaws.{layer_row}
 use denote.Hole.FixSend.{Sends, fix_send}
@@ -54,7 +54,8 @@ use Rattle.imap_serve.proofs.ReceiptSend.{the_send as receipt_send}
 use Rattle.imap_serve.proofs.SharedRepliesSend.{the_send as shared_replies_send}
 use Rattle.imap_host.specs.contracts.host_state.HostState.{the_row as host_state_row, the_type as host_state_type}
 use Rattle.imap_host.specs.contracts.host.Host.{the_row as host_row}
-use Rattle.imap_receipts.specs.contracts.kept.Kept.{the_row as kept_row, the_type as kept_type}
+use Rattle.imap_serve.specs.MadeStepInside.{the_row as inside_row, the_type as inside_type}
+use Rattle.imap_serve.specs.MadeStepType.{the_row as made_row}
 use Rattle.imap_host.specs.contracts.seat.Seat.{the_row as seat_row, the_type as seat_type}
 use Rattle.std.specs.contracts.alloc.Global.{the_row as global_row}
 use Rattle.std.specs.declared.sync.ledger.Ledger as ledger
@@ -99,11 +100,14 @@ entry_send = declared_send entry_type (step_send, (search (sendable, as_row_send
 pub hall_send : (K : RattleType) (g : keeper.Ghosts K.Denot) → IsSend K → IsSend (hall_row K g)
 hall_send K g send = search (sendable, crosses, core_send, user_map_send, own_counts_send, entry_send) depth 60 fits 20000
 
-pub kept_send : IsSend kept_row
-kept_send = declared_send kept_type (step_send, (receipt_send, tt))
+inside_send : IsSend inside_row
+inside_send = declared_send inside_type (step_send, (receipt_send, tt))
+
+pub made_send : IsSend made_row
+made_send = search (view_send, inside_send) depth 10
 
 pub seat_send : (L : RattleType) (g : ledger.Ghosts L.Denot) → IsSend L → IsSend (seat_row L g)
-seat_send L g send = declared_send (seat_type L g) (session_send, (search sendable, (search sendable, (Deque-send kept_row kept_send, (share_send L g, (search sendable, tt))))))
+seat_send L g send = declared_send (seat_type L g) (session_send, (search sendable, (search sendable, (Deque-send made_row made_send, (share_send L g, (search sendable, tt))))))
 
 pub host_state_send : (K L : RattleType) (g : keeper.Ghosts K.Denot) (h : ledger.Ghosts L.Denot) → IsSend K → IsSend L → IsSend (host_state_row K L g h)
 host_state_send K L g h k l = declared_send (host_state_type K L g h) (hall_send K g k, (search sendable, (book_send L h, (share_send L h, tt))))

@@ -14,8 +14,10 @@ use crate::numbers::next_session;
 use crate::seat::{Seat, SeatError};
 use imap_keeper::Keeper;
 use imap_names::UserName;
-use imap_receipts::{ReceiptPair, keep, let_go_but_newest};
-use imap_serve::{Hall, HallError, MailboxVersion, Receipt, SessionId, Step, entry_octets};
+use imap_receipts::{keep, let_go_but_newest};
+use imap_serve::{
+    Hall, HallError, MadeStep, MailboxVersion, Receipt, SessionId, Step, entry_octets,
+};
 use imap_user_map::UserMap;
 use std::alloc::{AllocError, Global};
 use std::sync::atomic::{AtomicU64, Ordering};
@@ -124,25 +126,17 @@ impl<K: Keeper, L: Ledger> Host<K, L> {
         } = seat;
         receipts.reserve(1)?;
         let copy = step.try_copy(alloc)?;
-        let called = self.state.lock(rt).call(alloc, share, step);
-        match called {
-            Ok(pair) => {
-                self.changes.note(&step.act);
-                let more = self.note_octets(step, &pair);
-                *octets = octets_with(*octets, more, pair.base != *base);
-                *base = pair.base;
-                Ok(keep(receipts, copy, pair))
-            }
-            Err(error) => {
-                drop(copy);
-                Err(error)
-            }
-        }
+        let pair = self.state.lock(rt).call(alloc, share, copy)?;
+        self.changes.note(&step.act);
+        let more = self.note_octets(&pair.made);
+        *octets = octets_with(*octets, more, pair.base != *base);
+        *base = pair.base;
+        Ok(keep(receipts, pair))
     }
 
     /// Counts what the entry of a step holds, and returns that.
-    fn note_octets(&self, step: &Step, pair: &ReceiptPair) -> u64 {
-        let octets = entry_octets(step, pair.first.replies.as_slice());
+    fn note_octets(&self, made: &MadeStep) -> u64 {
+        let octets = entry_octets(made.step(), made.receipt().replies.as_slice());
         self.octets.fetch_add(octets, Ordering::SeqCst);
         octets
     }

@@ -6,7 +6,7 @@ ghost use Rattle.imap_serve.specs.Receipts.{IsSameReceipt};
 
 use imap_keeper::Keeper;
 use imap_receipts::{PARTS, ReceiptPair};
-use imap_serve::{Hall, HallError, OldBase, Receipt, Step};
+use imap_serve::{Hall, HallError, OldBase, Step};
 use std::alloc::{AllocError, Global};
 use std::sync::ledger::{Blank, Book, Ledger, Share};
 
@@ -65,12 +65,13 @@ impl<K: Keeper, L: Ledger> HostState<K, L> {
         &mut self,
         alloc: Global,
         share: &mut Share<L>,
-        step: &Step,
+        step: Step,
     ) -> Result<ReceiptPair, HallError>
         requires { 0 < share.old.parts }
         ensures stepped { IfOk result (λ c.
-            HasStepped K.failed self.old.hall step.now c.first self.new.hall) }
-        ensures same { IfOk result (λ c. IsSameReceipt c.first c.second) }
+            HasStepped K.failed self.old.hall step c.receipt self.new.hall) }
+        ensures step { IfOk result (λ c. c.made.step ≡ step) }
+        ensures same { IfOk result (λ c. IsSameReceipt c.receipt c.made.receipt) }
         ensures base { IfOk result (λ c. c.base ≡ self.new.hall.before) }
         ensures parts { share.new.parts ≡ share.old.parts }
         ensures amount { OnOk result (share.new.amount ≡ share.old.amount + 1) }
@@ -83,11 +84,11 @@ impl<K: Keeper, L: Ledger> HostState<K, L> {
             book,
             rest: _,
         } = self;
-        let (first, second) = hall.step_pair(alloc, step)?;
+        let (receipt, made) = hall.step_pair(alloc, step)?;
         book.add(share, 1);
         Ok(ReceiptPair {
-            first,
-            second,
+            receipt,
+            made,
             base: hall.before(),
         })
     }

@@ -23,7 +23,7 @@ pub use desk::Desk;
 pub use door::Door;
 pub use host::{Host, OpenHost};
 pub use host_state::HostState;
-pub use imap_receipts::{Kept, PARTS, ReceiptPair, SettleError};
+pub use imap_receipts::{PARTS, ReceiptPair, SettleError};
 pub use imap_serve::{End, Gate, Hall, Moment, Moments, OpenError, ServeError, SessionId};
 pub use seat::{Seat, SeatError};
 pub use workers::{CrewError, crew};

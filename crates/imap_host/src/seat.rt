@@ -6,8 +6,7 @@
 
 ghost use Rattle.std.specs.Prelude.{◌≡◌, []};
 
-use imap_receipts::Kept;
-use imap_serve::SessionId;
+use imap_serve::{MadeStep, SessionId};
 use std::alloc::{AllocError, Global};
 use std::collections::VecDeque;
 use std::sync::ledger::{Ledger, Share};
@@ -21,7 +20,7 @@ pub struct Seat<L: Ledger> {
     pub base: u64,
     /// The same, as of the seat's last call of [`Host::turn_over`](crate::Host::turn_over); 0 if there was none.
     pub told_base: u64,
-    pub receipts: VecDeque<Kept>,
+    pub receipts: VecDeque<MadeStep>,
     pub(crate) share: Share<L>,
     /// About how much memory the receipts hold. It is a hint.
     pub(crate) octets: u64,

@@ -2,38 +2,38 @@
 use Rattle.std.specs.Prelude.{◌≡◌, ℕ, ◌-◌, ◌<◌, List, [], ◌∷◌, Some, ⊤, length, max, nat_le, if◌then◌else◌, slice_get, sum_by}
 use Rattle.imap_hall.specs.SessionId.{SessionId}
 use Rattle.imap_hall.specs.Journal.{JournalEntry}
-use Rattle.imap_receipts.specs.declared.kept.Kept.{Kept}
+use Rattle.imap_hall.specs.Made.{Made}
 use Rattle.imap_receipts.specs.Keeping.{kept_entry}
 
 -- what a seat keeps: its session, the place of the base as a turn-over told it, and the receipts
 pub record SeatNotes : Type 0 where
   pub who : SessionId
   pub base : ℕ
-  pub receipts : List Kept
+  pub receipts : List Made
 
 -- the receipts of entries since the base, before which `before` entries were made
-abbrev pub since : (before : ℕ) → List Kept → List Kept
+abbrev pub since : (before : ℕ) → List Made → List Made
 since before [] = []
 since before (k ∷ ks) = if nat_le k.receipt.place before then since before ks else k ∷ since before ks
 
 -- the receipts stand at rising places, all after this one
-abbrev pub Rise : (place : ℕ) → List Kept → Type 0
+abbrev pub Rise : (place : ℕ) → List Made → Type 0
 Rise place [] = ⊤
 Rise place (k ∷ ks) = (place < k.receipt.place) × Rise k.receipt.place ks
 
 -- the receipt is of the session, and of the entry at its place
-pub record IsOfEntry (before : ℕ) (journal : List JournalEntry) (session : SessionId) (k : Kept)
+pub record IsOfEntry (before : ℕ) (journal : List JournalEntry) (session : SessionId) (k : Made)
     : Type 0 where
   pub who : k.step.who ≡ session
   pub entry : slice_get journal (k.receipt.place - before - 1) ≡ Some (kept_entry k)
 
-abbrev pub AreOfEntries : (before : ℕ) → List JournalEntry → SessionId → List Kept → Type 0
+abbrev pub AreOfEntries : (before : ℕ) → List JournalEntry → SessionId → List Made → Type 0
 AreOfEntries before journal session [] = ⊤
 AreOfEntries before journal session (k ∷ ks) =
     IsOfEntry before journal session k × AreOfEntries before journal session ks
 
 -- the receipts since the base are of entries, in the order of the journal
-pub record IsSettled (before : ℕ) (journal : List JournalEntry) (session : SessionId) (kept : List Kept)
+pub record IsSettled (before : ℕ) (journal : List JournalEntry) (session : SessionId) (kept : List Made)
     : Type 0 where
   pub rising : Rise before (since before kept)
   pub entries : AreOfEntries before journal session (since before kept)

@@ -5,8 +5,7 @@ ghost use Rattle.imap_hall.specs.Hall.{journal_entry};
 ghost use Rattle.imap_receipts.specs.Keeping.{kept_entry};
 ghost use Rattle.imap_receipts.specs.Settling.{IsOfEntry, IsSettled, since};
 
-use crate::kept::Kept;
-use imap_hall::{Entry, SessionId};
+use imap_hall::{Entry, MadeStep, SessionId};
 use imap_syntax::are_same;
 use std::collections::VecDeque;
 
@@ -16,7 +15,7 @@ pub fn count_since(
     before: u64,
     entries: &[Entry],
     session: &SessionId,
-    receipts: &VecDeque<Kept>,
+    receipts: &VecDeque<MadeStep>,
 ) -> Option<u64>
     ensures settled { IfSome result (λ n.
         IsSettled before (map journal_entry entries.now) session.now receipts.now.items) }
@@ -27,7 +26,7 @@ pub fn count_since(
     let mut last = before;
     let mut count: u64 = 0;
     for kept in receipts {
-        let place = kept.receipt.place;
+        let place = kept.receipt().place;
         if place <= before {
             continue;
         }
@@ -44,21 +43,22 @@ pub fn count_since(
 }
 
 /// Whether the receipt is of the session, and of the entry at its place.
-fn is_of_entry(before: u64, entries: &[Entry], session: &SessionId, kept: &Kept) -> bool
+fn is_of_entry(before: u64, entries: &[Entry], session: &SessionId, kept: &MadeStep) -> bool
     requires { before < kept.now.receipt.place }
     ensures { IsTrue result ↔ IsOfEntry before (map journal_entry entries.now) session.now kept.now }
 {
-    match entries.get((kept.receipt.place - before - 1) as usize) {
-        Some(entry) => kept.step.who.is_same(session) && is_noted(entry, kept),
+    match entries.get((kept.receipt().place - before - 1) as usize) {
+        Some(entry) => kept.step().who.is_same(session) && is_noted(entry, kept),
         None => false,
     }
 }
 
 /// Whether the receipt is of this entry.
-fn is_noted(entry: &Entry, kept: &Kept) -> bool
+fn is_noted(entry: &Entry, kept: &MadeStep) -> bool
     ensures { IsTrue result ↔ (journal_entry entry.now ≡ kept_entry kept.now) }
 {
-    entry.own == kept.receipt.own
-        && entry.step.is_same(&kept.step)
-        && are_same(entry.replies.as_slice(), kept.receipt.replies.as_slice())
+    let receipt = kept.receipt();
+    entry.own == receipt.own
+        && entry.step.is_same(kept.step())
+        && are_same(entry.replies.as_slice(), receipt.replies.as_slice())
 }

@@ -23,8 +23,8 @@ mod watched;
 pub use error::{End, ServeError};
 pub use gate::{Gate, OpenGate};
 pub use imap_hall::{
-    Act, Core, Entry, Hall, HallError, MailboxVersion, Moment, OldBase, OpenError, Receipt, Room,
-    SessionId, SessionNumber, SharedReplies, Step, entry_octets,
+    Act, Core, Entry, Hall, HallError, MadeStep, MailboxVersion, Moment, OldBase, OpenError,
+    Receipt, Room, SessionId, SessionNumber, SharedReplies, Step, entry_octets,
 };
 pub use moments::Moments;
 pub use serving::serve_in;

@@ -99,9 +99,8 @@ pub(crate) fn talk<R: Room, D: Dialect, I: Read, O: Write, C: Moments, G: Gate, 
                     }
                 }
                 // An idling session is told what changed (RFC 2177).
-                let now = room.change_count();
-                if idles && now != polled {
-                    polled = now;
+                if idles && room.change_count() != polled {
+                    polled = room.change_count();
                     match make(session, room, dialect, None, Act::Poll, flow, output) {
                         Ok(flow) => {
                             if flow.closed {

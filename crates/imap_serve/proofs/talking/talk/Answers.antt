@@ -37,8 +37,8 @@ loop-preserved-in-Ok g c =
     let heard = heard_more c.args.max_octets s p q i j k a b d f ys c.loop.invariant.2 took.0 c.take_piece.new.framer t next c.in-Ok.ensures.next in
     search (rules, heard)
 
-pub loop-preserved-then-now-polled : goal.loop-preserved-then-now-polled
-loop-preserved-then-now-polled g c =
+pub loop-preserved-then-change_count-polled : goal.loop-preserved-then-change_count-polled
+loop-preserved-then-change_count-polled g c =
     let s : Site _ = site c.args.session.now.who.now g.R.Room.keeps_all g.D.Dialect.telling in
     let p = c.args.idles in
     let q = c.loop.idles in

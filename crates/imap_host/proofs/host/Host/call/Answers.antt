@@ -1,17 +1,17 @@
 use Rattle.std.proofs.Common.{rules, ◌∙◌, ap, sym, subst, [], ◌∷◌, ◌++◌}
-use Rattle.imap_receipts.specs.declared.kept.Kept.{Kept}
+use Rattle.imap_serve.specs.Made.{Made}
 use Rattle.imap_serve.specs.Receipts.{IsSameReceipt}
 use Rattle.imap_receipts.specs.Keeping.{from_base}
 use Rattle.imap_host.proofs.host.Host.call.Goals as goal
 
-pub returns-in-Ok-clause-kept : goal.returns-in-Ok-clause-kept
-returns-in-Ok-clause-kept g c =
-    let kept : Kept = record { step = c.in_ok-copy.copy; receipt = c.in-Ok.pair.second } in
+pub returns-clause-kept : goal.returns-clause-kept
+returns-clause-kept g c =
+    let made : Made = c.in_ok-pair.pair.made in
     record {
-      kept = kept;
+      kept = made;
       is = record {
-        step = search rules;
-        receipt = subst (λ r. IsSameReceipt r c.in-Ok.pair.second) (sym c.keep.ensures.first) c.in-Ok.ensures.same;
+        step = c.in_ok-pair.ensures.step ∙ c.in_ok-copy.ensures;
+        receipt = subst (λ r. IsSameReceipt r made.receipt) (sym c.keep.ensures.receipt) c.in_ok-pair.ensures.same;
       };
-      receipts = c.keep.ensures.kept ∙ ap (λ ks. from_base c.in-Ok.pair.base ks ++ kept ∷ []) c.in_ok-reserve.ensures.items;
+      receipts = c.keep.ensures.kept ∙ ap (λ ks. from_base c.in_ok-pair.pair.base ks ++ made ∷ []) c.in_ok-reserve.ensures.items;
     }

@@ -2,7 +2,7 @@ use Rattle.std.proofs.Common.{rules, subst, IfOk, OnErr}
 use Rattle.imap_hall.specs.Hall.{HallState, IsUntouched, hall_state}
 use Rattle.imap_hall.specs.Saving.{IsAlone}
 use Rattle.imap_hall.proofs.Kept.{kept_result, untouched_result}
-use Rattle.imap_hall.proofs.hall.Hall.step_pair.Goals as goal
+use Rattle.imap_hall.proofs.hall.Hall.receipts.Goals as goal
 
 pub invariant_of-self : goal.invariant_of-self
 invariant_of-self g c =
