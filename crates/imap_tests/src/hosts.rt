@@ -24,7 +24,7 @@ pub(crate) fn user(alloc: Global, text: &str) -> Result<UserName, AllocError> {
     UserName::read(alloc, text)?.ok_or(AllocError)
 }
 
-fn users(alloc: Global, texts: &[&str]) -> Result<Vec<UserName>, AllocError> {
+pub(crate) fn users(alloc: Global, texts: &[&str]) -> Result<Vec<UserName>, AllocError> {
     let mut users = Vec::new(alloc);
     for text in texts {
         push(&mut users, user(alloc, text))?;

@@ -83,4 +83,6 @@ mod store_refusals;
 #[cfg(test)]
 mod texts;
 #[cfg(test)]
+mod told_scenes;
+#[cfg(test)]
 mod wanted;

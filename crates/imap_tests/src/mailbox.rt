@@ -92,16 +92,30 @@ fn push_gone(alloc: Global, text: &mut String, gone: &GoneUids<'_>) -> Result<()
     Ok(())
 }
 
-/// The messages that are gone, each with the place of its event, bob's own changes, and how many keywords the
-/// second message has.
+/// The place of the row that goes with a change of the second message after this number of shared events: a row stays
+/// that is the last before a shared event.
+fn push_dropped(
+    alloc: Global,
+    text: &mut String,
+    mailbox: &Mailbox,
+    before: u64,
+) -> Result<(), AllocError> {
+    match mailbox.dropped_by("bob", 2, before) {
+        Some(place) => push_text(text, format!(in alloc; "{place} goes after {before}; ")),
+        None => push_text(text, format!(in alloc; "none goes after {before}; ")),
+    }
+}
+
+/// The messages that are gone, each with the place of its event, how many own changes bob made, which row of these
+/// goes with one more of the second message, and how many keywords that has.
 fn push_kept(alloc: Global, text: &mut String, mailbox: &Mailbox) -> Result<(), AllocError> {
     for gone in mailbox.gone_messages() {
         push_text(text, format!(in alloc; "{}@{}; ", gone.uid, gone.place))?;
     }
-    for change in mailbox.own_changes("bob") {
-        let (uid, seen, before) = (change.uid, change.seen, change.before);
-        push_text(text, format!(in alloc; "{uid}={seen} after {before}; "))?;
-    }
+    let own = mailbox.own_len("bob");
+    push_text(text, format!(in alloc; "own changes: {own}; "))?;
+    push_dropped(alloc, text, mailbox, 6)?;
+    push_dropped(alloc, text, mailbox, 7)?;
     match mailbox.find(2) {
         Some(message) => push_text(
             text,
@@ -162,6 +176,7 @@ fn changes_are_made_or_refused(rt: HostRuntime) {
     const WANTED: &str =
         "the mailbox has no message with this UID; a limit of the mailbox is reached; \
         the mailbox is full; a limit of the mailbox is reached; the mailbox has no message with this UID; \
-        the mailbox has no message with this UID; 1=8; 3@4; 1@5; 2=true after 3; 2=false after 6; keywords: 1";
+        the mailbox has no message with this UID; 1=8; 3@4; 1@5; own changes: 2; \
+        1 goes after 6; none goes after 7; keywords: 1";
     expect_text(&rt, run(rt.alloc(), ACTS), WANTED);
 }

@@ -10,6 +10,9 @@ use imap_session::{NoticeOptions, Selected, notices_plain};
 use imap_world::World;
 use std::alloc::{AllocError, Global};
 
+/// A session: its user, and its number.
+pub(crate) type At = (&'static str, u32);
+
 /// What the sessions begin with.
 const OPENING: &[(u32, &[u8])] = &[
     (1, b"a SELECT INBOX\r\n"),
@@ -55,7 +58,7 @@ fn machine(alloc: Global) -> Result<Core, AllocError> {
     ))
 }
 
-fn first<A: Drop, B: Drop>(both: Result<(A, B), AllocError>) -> Result<A, AllocError> {
+pub(crate) fn first<A: Drop, B: Drop>(both: Result<(A, B), AllocError>) -> Result<A, AllocError> {
     let (one, _other) = both?;
     Ok(one)
 }
@@ -66,16 +69,17 @@ fn alone<T: Drop>(alloc: Global, item: Result<T, AllocError>) -> Result<Vec<T>, 
     Ok(items)
 }
 
-fn session(alloc: Global, number: u32) -> Result<SessionId, AllocError> {
+pub(crate) fn session(alloc: Global, at: At) -> Result<SessionId, AllocError> {
+    let (name, number) = at;
     let number = SessionNumber::new(number).ok_or(AllocError)?;
     Ok(SessionId {
-        user: user(alloc, "ann")?,
+        user: user(alloc, name)?,
         number,
     })
 }
 
-fn step(alloc: Global, number: u32, act: Result<Act, AllocError>) -> Result<Step, AllocError> {
-    let (who, act) = both(session(alloc, number), act)?;
+fn step(alloc: Global, at: At, act: Result<Act, AllocError>) -> Result<Step, AllocError> {
+    let (who, act) = both(session(alloc, at), act)?;
     Ok(Step {
         who,
         at: Moment::epoch(),
@@ -83,14 +87,14 @@ fn step(alloc: Global, number: u32, act: Result<Act, AllocError>) -> Result<Step
     })
 }
 
-/// What the session with this number is answered.
-fn reply(
+/// What the session is answered.
+pub(crate) fn reply(
     alloc: Global,
     core: &mut Core,
-    number: u32,
+    at: At,
     act: Result<Act, AllocError>,
 ) -> Result<Vec<u8>, AllocError> {
-    let steps = alone(alloc, step(alloc, number, act))?;
+    let steps = alone(alloc, step(alloc, at, act))?;
     let said = core.run(alloc, &steps);
     drop(steps);
     printed(alloc, said)
@@ -111,10 +115,10 @@ fn printed(
 
 fn begin(alloc: Global, core: &mut Core) -> Result<(), AllocError> {
     for number in 1..4 {
-        drop(reply(alloc, core, number, Ok(Act::Open))?);
+        drop(reply(alloc, core, ("ann", number), Ok(Act::Open))?);
     }
     for &(number, octets) in OPENING {
-        drop(reply(alloc, core, number, act(alloc, octets))?);
+        drop(reply(alloc, core, ("ann", number), act(alloc, octets))?);
     }
     Ok(())
 }
@@ -137,12 +141,17 @@ fn plain_lines(
     }
 }
 
-/// The lines of which a session would be told now.
-fn session_lines(alloc: Global, core: &Core, who: &SessionId) -> Result<Vec<Response>, AllocError> {
+/// The lines of which a session would be told now, of expunged messages too if `expunges`.
+pub(crate) fn session_lines(
+    alloc: Global,
+    core: &Core,
+    who: &SessionId,
+    expunges: bool,
+) -> Result<Vec<Response>, AllocError> {
     match core.session(who) {
         Some(session) => {
             let options = NoticeOptions {
-                expunges: true,
+                expunges,
                 qresync: session.enabled.qresync,
                 condstore: session.enabled.condstore,
             };
@@ -169,15 +178,21 @@ fn sent(alloc: Global, lines: Result<Vec<Response>, AllocError>) -> Result<Vec<u
 
 /// What a NOOP of the session is to be answered.
 fn wanted(alloc: Global, core: &Core, number: u32) -> Result<Vec<u8>, AllocError> {
-    let who = session(alloc, number)?;
-    let lines = session_lines(alloc, core, &who);
+    let who = session(alloc, ("ann", number))?;
+    let lines = session_lines(alloc, core, &who, true);
     drop(who);
     sent(alloc, lines)
 }
 
-fn answer_of_copy(alloc: Global, core: &Core, number: u32) -> Result<Vec<u8>, AllocError> {
+/// What the session would be answered now.
+pub(crate) fn answer_of_copy(
+    alloc: Global,
+    core: &Core,
+    at: At,
+    act: Result<Act, AllocError>,
+) -> Result<Vec<u8>, AllocError> {
     let mut copy = core.try_copy(alloc)?;
-    let said = reply(alloc, &mut copy, number, act(alloc, b"a NOOP\r\n"));
+    let said = reply(alloc, &mut copy, at, act);
     drop(copy);
     said
 }
@@ -189,11 +204,11 @@ fn answer_of_copy(alloc: Global, core: &Core, number: u32) -> Result<Vec<u8>, Al
 fn turn(alloc: Global, core: &mut Core, turn: u32) -> Result<Option<usize>, AllocError> {
     let octets = COMMANDS.get(pick(turn, 1, 12)).ok_or(AllocError)?;
     let number = if pick(turn, 2, 2) == 0 { 1 } else { 2 };
-    drop(reply(alloc, core, number, act(alloc, octets))?);
+    drop(reply(alloc, core, ("ann", number), act(alloc, octets))?);
     let mut count: usize = 0;
     for number in 1..4 {
         let (said, wanted) = both(
-            answer_of_copy(alloc, core, number),
+            answer_of_copy(alloc, core, ("ann", number), act(alloc, b"a NOOP\r\n")),
             wanted(alloc, core, number),
         )?;
         if said.as_slice() != wanted.as_slice() {

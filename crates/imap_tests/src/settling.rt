@@ -37,8 +37,8 @@ enum Fault {
     Seat,
     /// A seat has lost its last receipt.
     Receipt,
-    /// The last receipt of a seat has another number.
-    Number,
+    /// The first two receipts of a seat have changed their places.
+    Order,
     /// The seats were told another base.
     Base,
 }
@@ -86,7 +86,7 @@ fn served<K: Keeper + Send, L: Ledger + Send + Sync, R: Threads + Wait + AllocGl
 ) -> Result<Vec<Seat<L>>, AllocError> {
     let mut posts = posts(rt.alloc(), host, rows)?;
     let slice = posts.as_mut_slice();
-    let _ran = crew(
+    let ran = crew(
         rt,
         rt.alloc(),
         host,
@@ -97,6 +97,10 @@ fn served<K: Keeper + Send, L: Ledger + Send + Sync, R: Threads + Wait + AllocGl
         DEFAULT_LIMITS.max_octets,
         IDLE_TICKS,
     );
+    if ran.is_err() {
+        drop(posts);
+        return Err(AllocError);
+    }
     firsts(rt.alloc(), posts)
 }
 
@@ -151,10 +155,8 @@ fn spoil_seat<L: Ledger>(seat: &mut Seat<L>, fault: Fault) {
     if fault == Fault::Receipt {
         drop(seat.receipts.pop_back());
     }
-    if fault == Fault::Number {
-        if let Some(kept) = seat.receipts.back_mut() {
-            kept.receipt.own = 1;
-        }
+    if fault == Fault::Order && seat.receipts.len() > 1 {
+        seat.receipts.swap(0, 1);
     }
 }
 
@@ -292,7 +294,7 @@ fn a_host_ends_with_its_seats(rt: HostRuntime) {
         (POSTS, false, Fault::Seat, 0, Err(SettleError::Missing)),
         (POSTS, true, Fault::Seat, 4, Err(SettleError::Missing)),
         (POSTS, true, Fault::Receipt, 4, Err(SettleError::Mismatch)),
-        (POSTS, true, Fault::Number, 4, Err(SettleError::Mismatch)),
+        (POSTS, true, Fault::Order, 4, Err(SettleError::Mismatch)),
         (POSTS, true, Fault::Base, 4, Err(SettleError::Mismatch)),
         (MANY_POSTS, false, Fault::None, 0, Ok(MANY)),
     ];
